@@ -18,9 +18,9 @@ use Rattle.lis_kept.specs.Telling.{words_told, bytes_told}
 use Rattle.lis_kept.proofs.Filed.{record_named}
 use Rattle.lis_store.specs.declared.change.Change.{Change}
 use Rattle.lis_store.specs.declared.change.Change.TheVariants.{Refused}
-use Rattle.lis_store.specs.Stored.{Stored, IsSound}
-use Rattle.lis_store.proofs.ToldBy.{ToldBy}
-use Rattle.lis_store.specs.Changes.{Changes, first_refusal}
+use Rattle.lis_store.specs.Stored.{Stored, IsSound, StoreHolds}
+use Rattle.lis_store.proofs.ToldBy.{ToldBy, told_held}
+use Rattle.lis_store.specs.Changes.{Holds, first_refusal}
 use Rattle.lis_store.specs.Judging.{is_among}
 use Rattle.lis_store.specs.Instead.{given_before, free_instead, overwriting_checks, renaming_checks, write_checks_of, rename_checks_of}
 use Rattle.lis_store.specs.Replacing.{MayReplace}
@@ -70,23 +70,8 @@ module _ (k : Stored) (sound : IsSound k) (place : List Formula) (name : List �
       rename_may k sound slot rec there place name other bytes form (omega (arith, size)) (rest_of_rename k.parts place name slot (given_before k.parts rec other bytes) here ∙ none)
 
 -- ---- calls that are done
-module _ (k : Stored) (s : State) (sound : IsSound k) (fits : ToldBy k s) (place : List Formula) (name : List ℕ) (slot : ℕ) (rec : FileRecord)
-    (named : slot_of k.parts.catalog name ≡ Some slot) (there : rec_at k.parts.catalog slot ≡ Some rec) (here : is_among k.parts place name ≡ true)
-    (assigned : List (List ℕ)) (words_are : assigned ≡ words_told k.parts.dict rec.tags) where
-  taken_named : rec.name ≡ name
-  taken_named = (filed_named k.parts sound.parts name slot rec named there).1
-
-  old_words : (file_of s.files name).assigned ≡ assigned
-  old_words = old_given k s sound fits name slot rec named there ∙ sym words_are
-
-  pub written_done : (payload : Payload) → payload.size ≤ file_limit k.parts.limits.version
-      → first_refusal (overwriting_checks k.parts slot rec (given_before k.parts rec name payload.bytes) payload.size) ≡ None
-      → write (record { state = s; place = place }) name payload ≡ changed (record { state = s; place = place }) (file_replaced s rec.name (new_file name assigned payload.bytes))
-  written_done payload small none =
-      let now : Situation = record { state = s; place = place } in
-      write_done k s sound fits place name slot rec (λ _. (named, there)) payload (rest_of_write k.parts place name slot rec (given_before k.parts rec name payload.bytes) payload.size small here ∙ none)
-      ∙ ap₂ (λ n ws. changed now (file_replaced s n (new_file name ws payload.bytes))) (sym taken_named) old_words
-
+module _ (k : Stored) (s : State) (sound : IsSound k) (fits : ToldBy k s) (name : List ℕ) (slot : ℕ) (rec : FileRecord)
+    (named : slot_of k.parts.catalog name ≡ Some slot) (there : rec_at k.parts.catalog slot ≡ Some rec) where
   bytes_are : (file_of s.files name).bytes ≡ bytes_told k.parts.limits fits.kept rec
   bytes_are = ap (λ (f : File). f.bytes) (old_is k s sound fits name slot rec named there)
 
@@ -111,15 +96,28 @@ module _ (k : Stored) (s : State) (sound : IsSound k) (fits : ToldBy k s) (place
       by true = omega arith
       by false = omega arith
 
-  pub renamed_done : (other bytes : List ℕ) → bytes_told k.parts.limits fits.kept rec ≡ bytes → first_refusal (renaming_checks k.parts slot (given_before k.parts rec other bytes)) ≡ None
-      → rename (record { state = s; place = place }) name other ≡ changed (record { state = s; place = place }) (file_replaced s rec.name (new_file other assigned bytes))
-  renamed_done other bytes told none =
-      let now : Situation = record { state = s; place = place } in
-      let same : (file_of s.files name).bytes ≡ bytes = bytes_are ∙ told in
-      let row = subst (λ bs. first_refusal (renaming_checks k.parts slot (given_before k.parts rec other bs)) ≡ None) (sym same) none in
-      rename_done k s sound fits place name slot rec (λ _. (named, there)) other (rest_of_rename k.parts place name slot (given_before k.parts rec other (file_of s.files name).bytes) here ∙ row)
-      ∙ (ap₂ (λ n ws. changed now (file_replaced s n (new_file other ws (file_of s.files name).bytes))) (sym taken_named) old_words
-      ∙ ap (λ bs. changed now (file_replaced s rec.name (new_file other assigned bs))) same)
+  module _ (place : List Formula) (here : is_among k.parts place name ≡ true) (assigned : List (List ℕ)) (words_are : assigned ≡ words_told k.parts.dict rec.tags) where
+    abbrev at_place : Situation
+    at_place = record { state = s; place = place }
+
+    old_words : (file_of s.files name).assigned ≡ assigned
+    old_words = old_given k s sound fits name slot rec named there ∙ sym words_are
+
+    pub written_done : (payload : Payload) → payload.size ≤ file_limit k.parts.limits.version
+        → first_refusal (overwriting_checks k.parts slot rec (given_before k.parts rec name payload.bytes) payload.size) ≡ None
+        → write at_place name payload ≡ changed at_place (file_replaced s name (new_file name assigned payload.bytes))
+    written_done payload small none =
+        write_done k s sound fits place name slot rec (λ _. (named, there)) payload (rest_of_write k.parts place name slot rec (given_before k.parts rec name payload.bytes) payload.size small here ∙ none)
+        ∙ ap (λ ws. changed at_place (file_replaced s name (new_file name ws payload.bytes))) old_words
+
+    pub renamed_done : (other bytes : List ℕ) → bytes_told k.parts.limits fits.kept rec ≡ bytes → first_refusal (renaming_checks k.parts slot (given_before k.parts rec other bytes)) ≡ None
+        → rename at_place name other ≡ changed at_place (file_replaced s rec.name (new_file other assigned bytes))
+    renamed_done other bytes told none =
+        let same : (file_of s.files name).bytes ≡ bytes = bytes_are ∙ told in
+        let row = subst (λ bs. first_refusal (renaming_checks k.parts slot (given_before k.parts rec other bs)) ≡ None) (sym same) none in
+        rename_done k s sound fits place name slot rec (λ _. (named, there)) other (rest_of_rename k.parts place name slot (given_before k.parts rec other (file_of s.files name).bytes) here ∙ row)
+        ∙ (ap₂ (λ n ws. changed at_place (file_replaced s n (new_file other ws (file_of s.files name).bytes))) (sym (filed_named k.parts sound.parts name slot rec named there).1) old_words
+        ∙ ap (λ bs. changed at_place (file_replaced s rec.name (new_file other assigned bs))) same)
 
 -- ---- calls that are refused
 -- the slot of a name, where there is one
@@ -133,30 +131,30 @@ slot_there k sound place name = by (slot_of k.catalog name) refl
         (0, record { name = []; size = 0; tags = []; blocks = [] }, λ some. absurd (both_ways (is_among k place name) (none_here k sound place name none) some))
     by (Some slot) is = let found = rec_at-slot_of k.catalog name slot sound.catalog is in (slot, found.0, λ some. (is, found.1))
 
-module _ {T : Type 0} (old : Stored) (m : Meaning) (place : List Formula) (name : List ℕ) (result : Result T Change) (sound : IsSound old) (s : State) (fits : StoreFits old m s) where
+module _ {T : Type 0} (old : Stored) (m : Meaning) (place : List Formula) (name : List ℕ) (result : Result T Change) (sound : IsSound old) (base s : State) (holds : StoreHolds old m base s) where
   abbrev now : Situation
   now = record { state = s; place = place }
 
   module _ (slot : ℕ) (rec : FileRecord) (there : is_among old.parts place name ≡ true → (slot_of old.parts.catalog name ≡ Some slot) × (rec_at old.parts.catalog slot ≡ Some rec)) where
     pub written_refused : (payload : Payload) (refusal : Refusal) → first_refusal (write_checks_of old.parts place name slot rec (given_before old.parts rec name payload.bytes) payload.size) ≡ Some refusal
-        → result ≡ Err (Refused refusal) → Changes now (write now name payload) old m m result
+        → result ≡ Err (Refused refusal) → Holds base now (write now name payload) old m m result
     written_refused payload refusal first ends =
-        change_refused old m now (write now name payload) refusal result fits (write_refused old m s sound fits place name slot rec there payload refusal first) ends
+        change_refused old m base now (write now name payload) refusal result holds (write_refused old s sound (told_held old m base s sound holds) place name slot rec there payload refusal first) ends
 
     pub renamed_refused : (other : List ℕ) (refusal : Refusal) → first_refusal (rename_checks_of old.parts place name slot (given_before old.parts rec other (file_of s.files name).bytes)) ≡ Some refusal
-        → result ≡ Err (Refused refusal) → Changes now (rename now name other) old m m result
+        → result ≡ Err (Refused refusal) → Holds base now (rename now name other) old m m result
     renamed_refused other refusal first ends =
-        change_refused old m now (rename now name other) refusal result fits (rename_refused old m s sound fits place name slot rec there other refusal first) ends
+        change_refused old m base now (rename now name other) refusal result holds (rename_refused old s sound (told_held old m base s sound holds) place name slot rec there other refusal first) ends
 
   pub written_nowhere : (payload : Payload) → payload.size ≤ file_limit old.parts.limits.version → is_among old.parts place name ≡ false → result ≡ Err (Refused NoFileHere)
-      → Changes now (write now name payload) old m m result
+      → Holds base now (write now name payload) old m m result
   written_nowhere payload small none ends =
       let at = slot_there old.parts sound.parts place name in
       let rest = first_refusal (overwriting_checks old.parts at.0 at.1 (given_before old.parts at.1 name payload.bytes) payload.size) in
       written_refused at.0 at.1 at.2 payload NoFileHere
       (ap (λ b. cond b (Some LargeFile) (cond (not (is_among old.parts place name)) (Some NoFileHere) rest)) (le-ltb (file_limit old.parts.limits.version) payload.size small) ∙ ap (λ b. cond (not b) (Some NoFileHere) rest) none) ends
 
-  pub renamed_nowhere : (other : List ℕ) → is_among old.parts place name ≡ false → result ≡ Err (Refused NoFileHere) → Changes now (rename now name other) old m m result
+  pub renamed_nowhere : (other : List ℕ) → is_among old.parts place name ≡ false → result ≡ Err (Refused NoFileHere) → Holds base now (rename now name other) old m m result
   renamed_nowhere other none ends =
       let at = slot_there old.parts sound.parts place name in
       let rest = first_refusal (renaming_checks old.parts at.0 (given_before old.parts at.1 other (file_of s.files name).bytes)) in
