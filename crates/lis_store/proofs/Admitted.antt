@@ -22,12 +22,12 @@ use Rattle.lis_laws.proofs.Named.{file_there}
 use Rattle.lis_laws.proofs.Locals.{same_tests}
 use Rattle.lis_kept.specs.Kept.{Kept}
 use Rattle.lis_kept.specs.Telling.{declared_of, axioms_of}
-use Rattle.lis_store.specs.Stored.{Stored, IsSound}
-use Rattle.lis_store.proofs.ToldBy.{ToldBy}
+use Rattle.lis_store.specs.Stored.{Stored, IsSound, StoreHolds}
+use Rattle.lis_store.proofs.ToldBy.{ToldBy, told_held}
 use Rattle.lis_store.specs.Admitting.{described_by, known_with, named_checks, room_checks, file_checks, add_checks_of, IsAdmitted}
 use Rattle.lis_store.specs.declared.change.Change.{Change}
 use Rattle.lis_store.specs.declared.change.Change.TheVariants.{Refused}
-use Rattle.lis_store.specs.Changes.{Changes, first_refusal}
+use Rattle.lis_store.specs.Changes.{Holds, first_refusal}
 use Rattle.lis_store.proofs.Assigned.{sorted_assigned}
 use Rattle.lis_store.proofs.Facts.{limits_told, known_told, name_filed, files_counted}
 use Rattle.lis_store.proofs.FreeBlocks.{used_told}
@@ -246,7 +246,7 @@ module _ (k : Stored) (s : State) (sound : IsSound k) (fits : ToldBy k s) (place
 -- a call that is refused changes nothing
 pub added_refused : {T : Type 0} (old : Stored) (m : Meaning) (place : List Formula) (name : List ℕ) (words : List (List ℕ)) (payload : Payload) (refusal : Refusal) (result : Result T Change)
     → IsSound old → first_refusal (add_checks_of old.parts place name words payload.bytes payload.size) ≡ Some refusal → result ≡ Err (Refused refusal)
-    → (s : State) → StoreFits old m s → Changes (record { state = s; place = place }) (add (record { state = s; place = place }) name words payload) old m m result
-added_refused old m place name words payload refusal result sound first ends s fits =
+    → (base s : State) → StoreHolds old m base s → Holds base (record { state = s; place = place }) (add (record { state = s; place = place }) name words payload) old m m result
+added_refused old m place name words payload refusal result sound first ends base s holds =
     let now : Situation = record { state = s; place = place } in
-    change_refused old m now (add now name words payload) refusal result fits (add_refused old m s sound fits place words name payload refusal first) ends
+    change_refused old m base now (add now name words payload) refusal result holds (add_refused old s sound (told_held old m base s sound holds) place words name payload refusal first) ends

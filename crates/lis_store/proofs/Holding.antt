@@ -32,7 +32,7 @@ fits_held k m s sound fits = record {
 }
 
 -- and one where nothing is staged fits
-pub held_fits : (k : Stored) (m : Meaning) (base s : State) → k.journal.staged ≡ [] → StoreHolds k m base s → StoreFits k m s
+abbrev pub held_fits : (k : Stored) (m : Meaning) (base s : State) → k.journal.staged ≡ [] → StoreHolds k m base s → StoreFits k m s
 held_fits k m base s settled holds = record {
   kept = holds.kept;
   journal = holds.journal;

@@ -18,6 +18,7 @@ pub mod Saved
 pub mod SavedAlone
 pub mod Holding
 pub mod Committed
+pub mod Large
 pub mod Judged
 pub mod Cleaned
 pub mod Told

@@ -176,7 +176,7 @@ module _ (k : Stored) (s : State) (sound : IsSound k) (fits : ToldBy k s) (place
   mv_here_done text next leads here none = mv_done text next leads (led_row text next leads ∙ (row_here next (text_words text) here ∙ none))
 
 -- ---- refusals before the slot is known
-pub mv_nowhere : (k : Stored) (m : Meaning) (s : State) → IsSound k → StoreFits k m s → (place next : List Formula) (name text : List ℕ)
+pub mv_nowhere : (k : Stored) (s : State) → IsSound k → ToldBy k s → (place next : List Formula) (name text : List ℕ)
     → resolved place text ≡ NewPlace next → is_among k.parts place name ≡ false
     → mv (record { state = s; place = place }) name text ≡ refused (record { state = s; place = place }) NoFileHere
 mv_nowhere k s sound fits place next name text leads none =

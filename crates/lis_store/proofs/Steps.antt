@@ -85,7 +85,7 @@ sound_lost q j form pairs image = record {
 }
 
 -- a content is not large, or it is alone
-small_or_alone : {X Y : Type 0} (size : ℕ) (placed : List X) (staged : List Y) → (is_large size ≡ false → placed ≡ []) → (is_large size ≡ true → staged ≡ []) → (placed ≡ []) ⊎ (staged ≡ [])
+pub small_or_alone : {X Y : Type 0} (size : ℕ) (placed : List X) (staged : List Y) → (is_large size ≡ false → placed ≡ []) → (is_large size ≡ true → staged ≡ []) → (placed ≡ []) ⊎ (staged ≡ [])
 small_or_alone size placed staged small large = by (is_large size) small large
   where
     by : (b : Bool) → (b ≡ false → placed ≡ []) → (b ≡ true → staged ≡ []) → (placed ≡ []) ⊎ (staged ≡ [])

@@ -375,6 +375,7 @@ impl Store {
         ensures holds { (base : State) (now : Situation) → StoreHolds self.old (D.meaning disk.old) base now.state
             → Holds base now (changed now (file_added now.state (new_file name.now assigned.now payload.now)))
             self.new (D.meaning disk.old) (D.meaning disk.new) result }
+        ensures settled { is_large (length payload.now) ≡ true → OnOk result (self.new.journal.staged ≡ []) }
         ensures limits { self.new.parts.limits ≡ self.old.parts.limits }
         ensures image { self.new.journal.blocks ≡ self.old.journal.blocks }
         ensures ended { SaveEnded self.new.is_broken result }

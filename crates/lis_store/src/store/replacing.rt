@@ -1,6 +1,6 @@
 //! Calls that change a file.
 
-ghost use Rattle.std.specs.Prelude.{◌≡◌, ℕ, ◌*◌, ◌≤◌, true, false, [], Some, length, Err, IsTrue, IsSomeAnd};
+ghost use Rattle.std.specs.Prelude.{◌≡◌, ℕ, ◌*◌, ◌≤◌, true, false, [], Some, length, Err, IsTrue, OnOk, IsSomeAnd};
 ghost use Rattle.std.specs.List.{list_all};
 ghost use Rattle.lis_ports.specs.Runs.{IsDiskRun};
 ghost use Rattle.lis_catalog.specs.Catalog.{slot_of, rec_at};
@@ -139,6 +139,7 @@ impl Store {
         ensures limits { self.new.parts.limits ≡ self.old.parts.limits }
         ensures image { self.new.journal.blocks ≡ self.old.journal.blocks }
         ensures ended { SaveEnded self.new.is_broken result }
+        ensures settled { is_large (length payload.now) ≡ true → OnOk result (self.new.journal.staged ≡ []) }
         ensures edits { EditsFew self.old self.new }
         ensures sound { IsSound self.new }
         ensures run { IsDiskRun (D.meaning disk.old) (D.meaning disk.new) }

@@ -1,245 +1,83 @@
-use Rattle.std.proofs.Common.{◌∙◌, nat_lt, List, ℕ, length, Err, sym, ap, subst, ◌≡◌}
-use Rattle.std.specs.List.{list_all}
+use Rattle.std.proofs.Common.{◌∙◌, sym, ap, subst, ℕ, ◌≤◌, List, Ok, Err, length}
 use Rattle.std.proofs.lemmas.Result.{err_from_is_err_and}
-use Rattle.arrayvec.specs.ArrayVec.{ArrayVec}
-use Rattle.lis_fields.specs.Layouts.{are_blocks}
-use Rattle.lis_model.specs.declared.limits.Limits.{Limits}
-use Rattle.lis_model.specs.Changes.{new_file}
-use Rattle.lis_model.specs.Step.{Situation, Payload, assigned_at, add}
-use Rattle.lis_eval.specs.Room.{HasRoom}
+use Rattle.lis_blockmap.specs.Bitmap.{free_count}
+use Rattle.lis_model.specs.Changes.{new_file, file_added}
+use Rattle.lis_model.specs.State.{blocks_taken}
+use Rattle.lis_model.specs.Step.{Situation, Outcome, Payload, changed, add}
 use Rattle.lis_kept.specs.Kept.{Kept}
 use Rattle.lis_store.specs.Admitting.{IsAdmitted}
-use Rattle.lis_store.specs.Stored.{Stored, StoreFits}
-use Rattle.lis_store.specs.Changes.{Changes}
-use Rattle.lis_store.specs.Adding.{PutsIn}
-use Rattle.lis_store.proofs.Edits.{edits_same, edits_saved}
-use Rattle.lis_store.proofs.AddFile.{form_put, limits_put, admitted_put, limits_then, added_sound, added_image, added_placed, added_marks, added_edits, added_changes, lost_sound, lost_limits, lost_ext, lost_image, lost_changes}
+use Rattle.lis_store.specs.Stored.{Stored, StoreHolds}
+use Rattle.lis_store.specs.Changes.{Holds, Commits}
 use Rattle.lis_store.proofs.Admitted.{whole_inside, admitted, enough_free, add_done, added_refused}
+use Rattle.lis_store.proofs.Holding.{fits_held}
+use Rattle.lis_store.proofs.Large.{held_behind_commit, held_lost_commit}
+use Rattle.lis_store.proofs.ToldBy.{told_held}
+use Rattle.lis_store.proofs.store.Store.add_file_held.Goals.{then-is_large+in_ok-commit, else-is_large}
 use Rattle.lis_store.proofs.store.Store.add_file_held.Goals as goal
 
 pub returns-in_err-assigned-clause-holds : goal.returns-in_err-assigned-clause-holds
-returns-in_err-assigned-clause-holds g c = λ s fits.
+returns-in_err-assigned-clause-holds g c = λ base s holds.
     let p = err_from_is_err_and c.from_residual.result c.from_residual.ensures.1 in
     let m = g.D.Disk.meaning c.args.disk.now in
     let old : Stored = record { parts = c.self.inside.parts; journal = c.self.inside.journal; is_broken = c.self.inside.is_broken } in
     let now : Situation = record { state = s; place = c.args.place.now } in
     let payload : Payload = record { size = c.args.size; bytes = c.args.payload.now } in
-    let P : Stored → Type 0 = λ k. StoreFits k m s in
-    let Q : Stored → Type 0 = λ k. Changes now (add now c.args.name.now c.args.tags.now payload) k m m c.from_residual.result in
+    let H : Stored → Type 0 = λ k. StoreHolds k m base s in
+    let Q : Stored → Type 0 = λ k. Holds base now (add now c.args.name.now c.args.tags.now payload) k m m c.from_residual.result in
     subst Q c.self.view_is
     (added_refused old m c.args.place.now c.args.name.now c.args.tags.now payload c.in_err-assigned.field-0.0 c.from_residual.result c.self.invariant
-    c.in_err-assigned.ensures.row (p.1 ∙ ap Err p.2) s (subst P (sym c.self.view_is) fits))
+    c.in_err-assigned.ensures.row (p.1 ∙ ap Err p.2) base s (subst H (sym c.self.view_is) holds))
 
-pub put_content-requires-clause-short : goal.put_content-requires-clause-short
-put_content-requires-clause-short g c = (admitted c.self.inside.parts c.args.place.now c.args.name.now c.args.tags.now c.args.payload.now c.args.size c.in_ok-assigned.ensures.name (whole_inside c.args.payload.now c.args.size c.self.view_is c.requires.whole) c.in_ok-assigned.ensures.row).small
-
-pub put_content-requires-clause-enough : goal.put_content-requires-clause-enough
-put_content-requires-clause-enough g c = enough_free c.self.inside.parts c.args.place.now c.args.name.now c.args.tags.now c.args.payload.now c.args.size c.in_ok-assigned.ensures.name (whole_inside c.args.payload.now c.args.size c.self.view_is c.requires.whole) c.in_ok-assigned.ensures.row
-
-pub invariant_of-self : goal.invariant_of-self
-invariant_of-self g c =
-    let old : Stored = record { parts = c.self.inside.parts; journal = c.self.inside.journal; is_broken = c.self.inside.is_broken } in
+pub returns-in_err-commit-clause-holds : goal.returns-in_err-commit-clause-holds
+returns-in_err-commit-clause-holds g c = λ base s holds.
+    let p = err_from_is_err_and c.from_residual-in_err-commit.result c.from_residual-in_err-commit.ensures.1 in
     let m = g.D.Disk.meaning c.args.disk.now in
-    let placed = g.D.Disk.meaning c.put_content.new.disk in
-    lost_sound (ArrayVec ℕ) old c.self.invariant c.args.payload.now c.put_content.new.parts c.put_content.new.journal c.put_content.new.is_broken c.in_err-blocks.field-0.0 m placed c.in_err-blocks.ensures.put c.in_err-blocks.ensures.ended c.put_content.ensures.sound
-
-pub returns-in_err-blocks-clause-sound : goal.returns-in_err-blocks-clause-sound
-returns-in_err-blocks-clause-sound g c =
-    let old : Stored = record { parts = c.self.inside.parts; journal = c.self.inside.journal; is_broken = c.self.inside.is_broken } in
-    let m = g.D.Disk.meaning c.args.disk.now in
-    let placed = g.D.Disk.meaning c.put_content.new.disk in
-    lost_sound (ArrayVec ℕ) old c.self.invariant c.args.payload.now c.put_content.new.parts c.put_content.new.journal c.put_content.new.is_broken c.in_err-blocks.field-0.0 m placed c.in_err-blocks.ensures.put c.in_err-blocks.ensures.ended c.put_content.ensures.sound
-
-pub returns-in_err-blocks-clause-holds : goal.returns-in_err-blocks-clause-holds
-returns-in_err-blocks-clause-holds g c = λ s fits.
-    let old : Stored = record { parts = c.self.inside.parts; journal = c.self.inside.journal; is_broken = c.self.inside.is_broken } in
-    let m = g.D.Disk.meaning c.args.disk.now in
-    let placed = g.D.Disk.meaning c.put_content.new.disk in
-    let r = err_from_is_err_and c.from_residual-in_err-blocks.result c.from_residual-in_err-blocks.ensures.1 in
     let now : Situation = record { state = s; place = c.args.place.now } in
-    let payload : Payload = record { size = c.args.size; bytes = c.args.payload.now } in
-    let F : Stored → Type 0 = λ k. StoreFits k m s in
-    lost_changes (ArrayVec ℕ) old c.self.invariant c.args.payload.now c.put_content.new.parts c.put_content.new.journal c.put_content.new.is_broken c.in_err-blocks.field-0.0 m placed c.in_err-blocks.ensures.put c.in_err-blocks.ensures.ended now (add now c.args.name.now c.args.tags.now payload) c.from_residual-in_err-blocks.result (r.1 ∙ ap Err r.2) (subst F (sym c.self.view_is) fits)
+    held_lost_commit base now (add now c.args.name.now c.args.tags.now (record { size = c.args.size; bytes = c.args.payload.now })) m m (g.D.Disk.meaning c.commit.new.disk)
+    c.commit.new.self c.in_err-commit.field-0.0 c.from_residual-in_err-commit.result (c.in_err-commit.ensures.commits base s holds) (p.1 ∙ ap Err p.2)
 
-pub returns-in_err-blocks-clause-limits : goal.returns-in_err-blocks-clause-limits
-returns-in_err-blocks-clause-limits g c =
-    let old : Stored = record { parts = c.self.inside.parts; journal = c.self.inside.journal; is_broken = c.self.inside.is_broken } in
-    let m = g.D.Disk.meaning c.args.disk.now in
-    let placed = g.D.Disk.meaning c.put_content.new.disk in
-    lost_limits (ArrayVec ℕ) old c.self.invariant c.args.payload.now c.put_content.new.parts c.put_content.new.journal c.put_content.new.is_broken c.in_err-blocks.field-0.0 m placed c.in_err-blocks.ensures.put c.in_err-blocks.ensures.ended ∙ ap (λ (k : Stored). k.parts.limits) c.self.view_is
-
-pub returns-in_err-blocks-clause-image : goal.returns-in_err-blocks-clause-image
-returns-in_err-blocks-clause-image g c =
-    let old : Stored = record { parts = c.self.inside.parts; journal = c.self.inside.journal; is_broken = c.self.inside.is_broken } in
-    let m = g.D.Disk.meaning c.args.disk.now in
-    let placed = g.D.Disk.meaning c.put_content.new.disk in
-    lost_image (ArrayVec ℕ) old c.self.invariant c.args.payload.now c.put_content.new.parts c.put_content.new.journal c.put_content.new.is_broken c.in_err-blocks.field-0.0 m placed c.in_err-blocks.ensures.put c.in_err-blocks.ensures.ended ∙ ap (λ (k : Stored). k.journal.blocks) c.self.view_is
-
-pub returns-in_err-blocks-clause-edits : goal.returns-in_err-blocks-clause-edits
-returns-in_err-blocks-clause-edits g c =
-    let old : Stored = record { parts = c.self.inside.parts; journal = c.self.inside.journal; is_broken = c.self.inside.is_broken } in
-    let m = g.D.Disk.meaning c.args.disk.now in
-    let placed = g.D.Disk.meaning c.put_content.new.disk in
-    let is : c.put_content.new.parts.ext ≡ c.args.self.now.parts.ext = lost_ext (ArrayVec ℕ) old c.self.invariant c.args.payload.now c.put_content.new.parts c.put_content.new.journal c.put_content.new.is_broken c.in_err-blocks.field-0.0 m placed c.in_err-blocks.ensures.put c.in_err-blocks.ensures.ended ∙ ap (λ (k : Stored). k.parts.ext) c.self.view_is in
-    edits_same c.args.self.now.parts.ext c.put_content.new.parts.ext is
-
-pub put_in-requires-clause-admitted : goal.put_in-requires-clause-admitted
-put_in-requires-clause-admitted g c =
-    let old : Stored = record { parts = c.self.inside.parts; journal = c.self.inside.journal; is_broken = c.self.inside.is_broken } in
-    let m = g.D.Disk.meaning c.args.disk.now in
-    let placed = g.D.Disk.meaning c.put_content.new.disk in
-    let given = assigned_at c.args.place.now c.args.tags.now in
+pub put_file-requires-clause-admitted : goal.put_file-requires-clause-admitted
+put_file-requires-clause-admitted g c =
     let one = admitted c.self.inside.parts c.args.place.now c.args.name.now c.args.tags.now c.args.payload.now c.args.size c.in_ok-assigned.ensures.name (whole_inside c.args.payload.now c.args.size c.self.view_is c.requires.whole) c.in_ok-assigned.ensures.row in
-    let put = c.in_ok-blocks.ensures.put in
-    let P : List (List ℕ) → Type 0 = λ ws. IsAdmitted c.put_content.new.parts (new_file c.args.name.now ws c.args.payload.now) in
-    subst P (sym (c.as_slice.ensures.value ∙ c.in_ok-assigned.ensures.words)) (admitted_put old c.put_content.new.parts c.put_content.new.journal c.args.payload.now c.in_ok-blocks.blocks.items m placed put c.self.invariant c.args.name.now given one)
+    let W : List (List ℕ) → Type 0 = λ ws. IsAdmitted c.self.inside.parts (new_file c.args.name.now ws c.args.payload.now) in
+    let A : Kept → Type 0 = λ k. IsAdmitted k (new_file c.args.name.now c.as_slice.result.now c.args.payload.now) in
+    let there = subst (λ (k : Stored). A k.parts) c.self.view_is (subst W (sym (c.as_slice.ensures.value ∙ c.in_ok-assigned.ensures.words)) one) in
+    elim c.if-is_large.branch [
+      then-is_large+in_ok-commit w ↦ subst A (sym (ap (λ (k : Stored). k.parts) w.self-is ∙ w.commit.ensures.parts)) there
+      | else-is_large w ↦ subst A (sym (ap (λ (k : Stored). k.parts) w.self-is)) there
+    ]
 
-pub put_in-requires-clause-free : goal.put_in-requires-clause-free
-put_in-requires-clause-free g c =
-    let old : Stored = record { parts = c.self.inside.parts; journal = c.self.inside.journal; is_broken = c.self.inside.is_broken } in
-    let m = g.D.Disk.meaning c.args.disk.now in
-    let placed = g.D.Disk.meaning c.put_content.new.disk in
-    let given = assigned_at c.args.place.now c.args.tags.now in
-    let one = admitted c.self.inside.parts c.args.place.now c.args.name.now c.args.tags.now c.args.payload.now c.args.size c.in_ok-assigned.ensures.name (whole_inside c.args.payload.now c.args.size c.self.view_is c.requires.whole) c.in_ok-assigned.ensures.row in
-    let put = c.in_ok-blocks.ensures.put in
-    (form_put old c.put_content.new.parts c.put_content.new.journal c.args.payload.now c.in_ok-blocks.blocks.items m placed put c.self.invariant).free
-
-pub put_in-requires-clause-in_form : goal.put_in-requires-clause-in_form
-put_in-requires-clause-in_form g c =
-    let old : Stored = record { parts = c.self.inside.parts; journal = c.self.inside.journal; is_broken = c.self.inside.is_broken } in
-    let m = g.D.Disk.meaning c.args.disk.now in
-    let placed = g.D.Disk.meaning c.put_content.new.disk in
-    let given = assigned_at c.args.place.now c.args.tags.now in
-    let one = admitted c.self.inside.parts c.args.place.now c.args.name.now c.args.tags.now c.args.payload.now c.args.size c.in_ok-assigned.ensures.name (whole_inside c.args.payload.now c.args.size c.self.view_is c.requires.whole) c.in_ok-assigned.ensures.row in
-    let put = c.in_ok-blocks.ensures.put in
-    ap (λ (l : Limits). are_blocks l.version (length c.args.payload.now) c.in_ok-blocks.blocks.items) (limits_put old c.put_content.new.parts c.put_content.new.journal c.args.payload.now c.in_ok-blocks.blocks.items m placed put c.self.invariant) ∙ put.in_form
-
-pub put_in-requires-clause-below : goal.put_in-requires-clause-below
-put_in-requires-clause-below g c =
-    let old : Stored = record { parts = c.self.inside.parts; journal = c.self.inside.journal; is_broken = c.self.inside.is_broken } in
-    let m = g.D.Disk.meaning c.args.disk.now in
-    let placed = g.D.Disk.meaning c.put_content.new.disk in
-    let given = assigned_at c.args.place.now c.args.tags.now in
-    let one = admitted c.self.inside.parts c.args.place.now c.args.name.now c.args.tags.now c.args.payload.now c.args.size c.in_ok-assigned.ensures.name (whole_inside c.args.payload.now c.args.size c.self.view_is c.requires.whole) c.in_ok-assigned.ensures.row in
-    let put = c.in_ok-blocks.ensures.put in
-    ap (λ (l : Limits). list_all (λ n. nat_lt n l.blocks) c.in_ok-blocks.blocks.items) (limits_put old c.put_content.new.parts c.put_content.new.journal c.args.payload.now c.in_ok-blocks.blocks.items m placed put c.self.invariant) ∙ put.below
-
-pub put_in-requires-clause-scratch : goal.put_in-requires-clause-scratch
-put_in-requires-clause-scratch g c =
-    let old : Stored = record { parts = c.self.inside.parts; journal = c.self.inside.journal; is_broken = c.self.inside.is_broken } in
-    let m = g.D.Disk.meaning c.args.disk.now in
-    let placed = g.D.Disk.meaning c.put_content.new.disk in
-    let given = assigned_at c.args.place.now c.args.tags.now in
-    let one = admitted c.self.inside.parts c.args.place.now c.args.name.now c.args.tags.now c.args.payload.now c.args.size c.in_ok-assigned.ensures.name (whole_inside c.args.payload.now c.args.size c.self.view_is c.requires.whole) c.in_ok-assigned.ensures.row in
-    let put = c.in_ok-blocks.ensures.put in
-    subst (λ (l : Limits). HasRoom c.may_add.new.scratch l) (sym (limits_put old c.put_content.new.parts c.put_content.new.journal c.args.payload.now c.in_ok-blocks.blocks.items m placed put c.self.invariant)) c.may_add.ensures.room
-
-pub hold-requires-clause-sound : goal.hold-requires-clause-sound
-hold-requires-clause-sound g c =
-    let old : Stored = record { parts = c.self.inside.parts; journal = c.self.inside.journal; is_broken = c.self.inside.is_broken } in
-    let m = g.D.Disk.meaning c.args.disk.now in
-    let placed = g.D.Disk.meaning c.put_content.new.disk in
-    let given = assigned_at c.args.place.now c.args.tags.now in
-    let one = admitted c.self.inside.parts c.args.place.now c.args.name.now c.args.tags.now c.args.payload.now c.args.size c.in_ok-assigned.ensures.name (whole_inside c.args.payload.now c.args.size c.self.view_is c.requires.whole) c.in_ok-assigned.ensures.row in
-    let put = c.in_ok-blocks.ensures.put in
-    let unbroken = ap (λ (k : Stored). k.is_broken) c.self.view_is ∙ c.requires.unbroken in
-    let P : List (List ℕ) → Type 0 = λ ws. PutsIn (new_file c.args.name.now ws c.args.payload.now) c.in_ok-blocks.blocks.items c.put_content.new.parts c.put_in.new.parts in
-    let puts = subst P (c.as_slice.ensures.value ∙ c.in_ok-assigned.ensures.words) c.put_in.ensures.put in
-    added_sound old c.put_content.new.parts c.put_content.new.journal c.args.payload.now c.in_ok-blocks.blocks.items m placed put c.self.invariant c.put_in.new.parts c.args.name.now given unbroken one puts
-
-pub hold-requires-clause-image : goal.hold-requires-clause-image
-hold-requires-clause-image g c =
-    let old : Stored = record { parts = c.self.inside.parts; journal = c.self.inside.journal; is_broken = c.self.inside.is_broken } in
-    let m = g.D.Disk.meaning c.args.disk.now in
-    let placed = g.D.Disk.meaning c.put_content.new.disk in
-    let given = assigned_at c.args.place.now c.args.tags.now in
-    let one = admitted c.self.inside.parts c.args.place.now c.args.name.now c.args.tags.now c.args.payload.now c.args.size c.in_ok-assigned.ensures.name (whole_inside c.args.payload.now c.args.size c.self.view_is c.requires.whole) c.in_ok-assigned.ensures.row in
-    let put = c.in_ok-blocks.ensures.put in
-    let unbroken = ap (λ (k : Stored). k.is_broken) c.self.view_is ∙ c.requires.unbroken in
-    let P : List (List ℕ) → Type 0 = λ ws. PutsIn (new_file c.args.name.now ws c.args.payload.now) c.in_ok-blocks.blocks.items c.put_content.new.parts c.put_in.new.parts in
-    let puts = subst P (c.as_slice.ensures.value ∙ c.in_ok-assigned.ensures.words) c.put_in.ensures.put in
-    added_image old c.put_content.new.parts c.put_content.new.journal c.args.payload.now c.in_ok-blocks.blocks.items m placed put c.self.invariant c.put_in.new.parts c.args.name.now given unbroken one puts
-
-pub hold-requires-clause-unbroken : goal.hold-requires-clause-unbroken
-hold-requires-clause-unbroken g c =
-    let old : Stored = record { parts = c.self.inside.parts; journal = c.self.inside.journal; is_broken = c.self.inside.is_broken } in
-    let m = g.D.Disk.meaning c.args.disk.now in
-    let placed = g.D.Disk.meaning c.put_content.new.disk in
-    let given = assigned_at c.args.place.now c.args.tags.now in
-    let one = admitted c.self.inside.parts c.args.place.now c.args.name.now c.args.tags.now c.args.payload.now c.args.size c.in_ok-assigned.ensures.name (whole_inside c.args.payload.now c.args.size c.self.view_is c.requires.whole) c.in_ok-assigned.ensures.row in
-    let put = c.in_ok-blocks.ensures.put in
-    let unbroken = ap (λ (k : Stored). k.is_broken) c.self.view_is ∙ c.requires.unbroken in
-    let P : List (List ℕ) → Type 0 = λ ws. PutsIn (new_file c.args.name.now ws c.args.payload.now) c.in_ok-blocks.blocks.items c.put_content.new.parts c.put_in.new.parts in
-    let puts = subst P (c.as_slice.ensures.value ∙ c.in_ok-assigned.ensures.words) c.put_in.ensures.put in
-    put.broken ∙ c.self.invariant.journal unbroken
-
-pub hold-requires-clause-placed : goal.hold-requires-clause-placed
-hold-requires-clause-placed g c =
-    let old : Stored = record { parts = c.self.inside.parts; journal = c.self.inside.journal; is_broken = c.self.inside.is_broken } in
-    let m = g.D.Disk.meaning c.args.disk.now in
-    let placed = g.D.Disk.meaning c.put_content.new.disk in
-    let given = assigned_at c.args.place.now c.args.tags.now in
-    let one = admitted c.self.inside.parts c.args.place.now c.args.name.now c.args.tags.now c.args.payload.now c.args.size c.in_ok-assigned.ensures.name (whole_inside c.args.payload.now c.args.size c.self.view_is c.requires.whole) c.in_ok-assigned.ensures.row in
-    let put = c.in_ok-blocks.ensures.put in
-    let unbroken = ap (λ (k : Stored). k.is_broken) c.self.view_is ∙ c.requires.unbroken in
-    let P : List (List ℕ) → Type 0 = λ ws. PutsIn (new_file c.args.name.now ws c.args.payload.now) c.in_ok-blocks.blocks.items c.put_content.new.parts c.put_in.new.parts in
-    let puts = subst P (c.as_slice.ensures.value ∙ c.in_ok-assigned.ensures.words) c.put_in.ensures.put in
-    added_placed old c.put_content.new.parts c.put_content.new.journal c.args.payload.now c.in_ok-blocks.blocks.items m placed put c.self.invariant c.put_in.new.parts c.args.name.now given unbroken one puts
-
-pub hold-requires-clause-room : goal.hold-requires-clause-room
-hold-requires-clause-room g c =
-    let old : Stored = record { parts = c.self.inside.parts; journal = c.self.inside.journal; is_broken = c.self.inside.is_broken } in
-    let m = g.D.Disk.meaning c.args.disk.now in
-    let placed = g.D.Disk.meaning c.put_content.new.disk in
-    let given = assigned_at c.args.place.now c.args.tags.now in
-    let one = admitted c.self.inside.parts c.args.place.now c.args.name.now c.args.tags.now c.args.payload.now c.args.size c.in_ok-assigned.ensures.name (whole_inside c.args.payload.now c.args.size c.self.view_is c.requires.whole) c.in_ok-assigned.ensures.row in
-    let put = c.in_ok-blocks.ensures.put in
-    let unbroken = ap (λ (k : Stored). k.is_broken) c.self.view_is ∙ c.requires.unbroken in
-    let P : List (List ℕ) → Type 0 = λ ws. PutsIn (new_file c.args.name.now ws c.args.payload.now) c.in_ok-blocks.blocks.items c.put_content.new.parts c.put_in.new.parts in
-    let puts = subst P (c.as_slice.ensures.value ∙ c.in_ok-assigned.ensures.words) c.put_in.ensures.put in
-    added_marks old c.put_content.new.parts c.put_content.new.journal c.args.payload.now c.in_ok-blocks.blocks.items m placed put c.self.invariant c.put_in.new.parts c.args.name.now given unbroken one puts
+pub put_file-requires-clause-enough : goal.put_file-requires-clause-enough
+put_file-requires-clause-enough g c =
+    let E : Kept → Type 0 = λ k. blocks_taken k.limits.version (length c.args.payload.now) ≤ free_count k.taken in
+    let enough = subst (λ (k : Stored). E k.parts) c.self.view_is (enough_free c.self.inside.parts c.args.place.now c.args.name.now c.args.tags.now c.args.payload.now c.args.size c.in_ok-assigned.ensures.name (whole_inside c.args.payload.now c.args.size c.self.view_is c.requires.whole) c.in_ok-assigned.ensures.row) in
+    elim c.if-is_large.branch [
+      then-is_large+in_ok-commit w ↦ subst E (sym (ap (λ (k : Stored). k.parts) w.self-is ∙ w.commit.ensures.parts)) enough
+      | else-is_large w ↦ subst E (sym (ap (λ (k : Stored). k.parts) w.self-is)) enough
+    ]
 
 pub returns-clause-holds : goal.returns-clause-holds
-returns-clause-holds g c = λ s fits.
-    let old : Stored = record { parts = c.self.inside.parts; journal = c.self.inside.journal; is_broken = c.self.inside.is_broken } in
+returns-clause-holds g c = λ base s holds.
     let m = g.D.Disk.meaning c.args.disk.now in
-    let placed = g.D.Disk.meaning c.put_content.new.disk in
-    let given = assigned_at c.args.place.now c.args.tags.now in
-    let one = admitted c.self.inside.parts c.args.place.now c.args.name.now c.args.tags.now c.args.payload.now c.args.size c.in_ok-assigned.ensures.name (whole_inside c.args.payload.now c.args.size c.self.view_is c.requires.whole) c.in_ok-assigned.ensures.row in
-    let put = c.in_ok-blocks.ensures.put in
-    let unbroken = ap (λ (k : Stored). k.is_broken) c.self.view_is ∙ c.requires.unbroken in
-    let P : List (List ℕ) → Type 0 = λ ws. PutsIn (new_file c.args.name.now ws c.args.payload.now) c.in_ok-blocks.blocks.items c.put_content.new.parts c.put_in.new.parts in
-    let puts = subst P (c.as_slice.ensures.value ∙ c.in_ok-assigned.ensures.words) c.put_in.ensures.put in
-    let new : Stored = record { parts = c.hold.new.parts; journal = c.hold.new.journal; is_broken = c.hold.new.is_broken } in
+    let mid = c.if-is_large.self in
+    let between = g.D.Disk.meaning c.if-is_large.disk in
+    let after = g.D.Disk.meaning c.put_file.new.disk in
+    let old : Stored = record { parts = c.self.inside.parts; journal = c.self.inside.journal; is_broken = c.self.inside.is_broken } in
     let now : Situation = record { state = s; place = c.args.place.now } in
     let payload : Payload = record { size = c.args.size; bytes = c.args.payload.now } in
-    let F : Stored → Type 0 = λ k. StoreFits k m s in
-    let told = subst F (sym c.self.view_is) fits in
-    added_changes old c.put_content.new.parts c.put_content.new.journal c.args.payload.now c.in_ok-blocks.blocks.items m placed put c.self.invariant c.put_in.new.parts c.args.name.now given unbroken one puts s told (enough_free c.self.inside.parts c.args.place.now c.args.name.now c.args.tags.now c.args.payload.now c.args.size c.in_ok-assigned.ensures.name (whole_inside c.args.payload.now c.args.size c.self.view_is c.requires.whole) c.in_ok-assigned.ensures.row) c.args.place.now new (g.D.Disk.meaning c.hold.new.disk) c.hold.result (add now c.args.name.now c.args.tags.now payload)
-    (add_done old m s c.self.invariant told c.args.place.now c.args.tags.now c.args.name.now payload c.in_ok-assigned.ensures.row) c.hold.ensures.saves
-
-pub returns-clause-limits : goal.returns-clause-limits
-returns-clause-limits g c =
-    let old : Stored = record { parts = c.self.inside.parts; journal = c.self.inside.journal; is_broken = c.self.inside.is_broken } in
-    let m = g.D.Disk.meaning c.args.disk.now in
-    let placed = g.D.Disk.meaning c.put_content.new.disk in
-    let given = assigned_at c.args.place.now c.args.tags.now in
-    let one = admitted c.self.inside.parts c.args.place.now c.args.name.now c.args.tags.now c.args.payload.now c.args.size c.in_ok-assigned.ensures.name (whole_inside c.args.payload.now c.args.size c.self.view_is c.requires.whole) c.in_ok-assigned.ensures.row in
-    let put = c.in_ok-blocks.ensures.put in
-    let unbroken = ap (λ (k : Stored). k.is_broken) c.self.view_is ∙ c.requires.unbroken in
-    let P : List (List ℕ) → Type 0 = λ ws. PutsIn (new_file c.args.name.now ws c.args.payload.now) c.in_ok-blocks.blocks.items c.put_content.new.parts c.put_in.new.parts in
-    let puts = subst P (c.as_slice.ensures.value ∙ c.in_ok-assigned.ensures.words) c.put_in.ensures.put in
-    ap (λ (k : Kept). k.limits) c.hold.ensures.parts ∙ (limits_then old c.put_content.new.parts c.put_content.new.journal c.args.payload.now c.in_ok-blocks.blocks.items m placed put c.self.invariant c.put_in.new.parts c.args.name.now given unbroken one puts ∙ ap (λ (k : Stored). k.parts.limits) c.self.view_is)
-
-pub returns-clause-edits : goal.returns-clause-edits
-returns-clause-edits g c =
-    let old : Stored = record { parts = c.self.inside.parts; journal = c.self.inside.journal; is_broken = c.self.inside.is_broken } in
-    let m = g.D.Disk.meaning c.args.disk.now in
-    let placed = g.D.Disk.meaning c.put_content.new.disk in
-    let given = assigned_at c.args.place.now c.args.tags.now in
-    let one = admitted c.self.inside.parts c.args.place.now c.args.name.now c.args.tags.now c.args.payload.now c.args.size c.in_ok-assigned.ensures.name (whole_inside c.args.payload.now c.args.size c.self.view_is c.requires.whole) c.in_ok-assigned.ensures.row in
-    let put = c.in_ok-blocks.ensures.put in
-    let unbroken = ap (λ (k : Stored). k.is_broken) c.self.view_is ∙ c.requires.unbroken in
-    let P : List (List ℕ) → Type 0 = λ ws. PutsIn (new_file c.args.name.now ws c.args.payload.now) c.in_ok-blocks.blocks.items c.put_content.new.parts c.put_in.new.parts in
-    let puts = subst P (c.as_slice.ensures.value ∙ c.in_ok-assigned.ensures.words) c.put_in.ensures.put in
-    edits_saved c.put_in.new.parts c.self.view_is c.hold.ensures.parts (added_edits old c.put_content.new.parts c.put_content.new.journal c.args.payload.now c.in_ok-blocks.blocks.items m placed put c.self.invariant c.put_in.new.parts c.args.name.now given unbroken one puts)
+    let made : List (List ℕ) → Outcome = λ ws. changed now (file_added s (new_file c.args.name.now ws c.args.payload.now)) in
+    let outcome = made c.as_slice.result.now in
+    let H : Stored → Type 0 = λ k. StoreHolds k m base s in
+    let held = subst H (sym c.self.view_is) holds in
+    let is = add_done old s c.self.invariant (told_held old m base s c.self.invariant held) c.args.place.now c.args.tags.now c.args.name.now payload c.in_ok-assigned.ensures.row ∙ ap made (sym (c.as_slice.ensures.value ∙ c.in_ok-assigned.ensures.words)) in
+    let O : Outcome → Type 0 = λ o. Holds base now o c.put_file.new.self m after c.put_file.result in
+    subst O (sym is)
+    (elim c.if-is_large.branch [
+      then-is_large+in_ok-commit w ↦
+        let commits : Commits {T = Unit {0}} base s mid m between (Ok tt) = rw (w.self-is, w.disk-is) (w.in_ok-commit.ensures.commits base s holds) in
+        held_behind_commit base now outcome m between after old mid c.put_file.new.self tt c.put_file.result c.self.invariant held commits
+        c.put_file.ensures.sound (c.put_file.ensures.settled (sym c.is_large.ensures ∙ w.if-is_large.true)) c.put_file.ensures.ended
+        (c.put_file.ensures.holds s now (fits_held mid between s (rw w.self-is w.commit.ensures.sound) commits.ended))
+      | else-is_large w ↦
+        rw (← w.disk-is) (c.put_file.ensures.holds base now (rw (w.self-is, w.disk-is) holds))
+    ])

@@ -3,6 +3,7 @@ use Rattle.std.proofs.lemmas.Result.{err_from_is_err_and}
 use Rattle.std.specs.List.{list_all}
 use Rattle.lis_catalog.specs.Catalog.{slot_of}
 use Rattle.lis_catalog.proofs.Laws.{rec_at-slot_of}
+use Rattle.lis_content.specs.Placing.{Asks}
 use Rattle.lis_fields.specs.Records.{FileRecord}
 use Rattle.lis_fields.specs.Layouts.{are_blocks}
 use Rattle.lis_model.specs.Changes.{new_file}
@@ -11,8 +12,8 @@ use Rattle.lis_kept.specs.Kept.{Kept}
 use Rattle.lis_kept.specs.Telling.{bytes_told}
 use Rattle.lis_journal.specs.Images.{Fits}
 use Rattle.lis_journal.specs.Phases.{looked}
-use Rattle.lis_store.specs.Stored.{Stored, IsSound, StoreFits}
-use Rattle.lis_store.specs.Changes.{Changes, first_refusal}
+use Rattle.lis_store.specs.Stored.{Stored, IsSound, StoreHolds}
+use Rattle.lis_store.specs.Changes.{Holds, first_refusal}
 use Rattle.lis_store.specs.Contents.{AreContentsWithin}
 use Rattle.lis_store.specs.Judging.{is_among}
 use Rattle.lis_store.specs.Replacing.{MayReplace}
@@ -21,15 +22,15 @@ use Rattle.lis_grammar.specs.Places.{resolved, text_words}
 use Rattle.lis_store.specs.Instead.{instead_checks}
 use Rattle.lis_store.specs.Retagging.{words_moved}
 use Rattle.lis_store.proofs.Edits.{edits_saved}
-use Rattle.lis_store.proofs.FileRead.{led_to, lost_read, moved_first, moved_nowhere, moving_refused, retagging_refused, retagging_changes}
+use Rattle.lis_store.proofs.FileRead.{led_to, lost_read, moved_first, moved_nowhere, moving_refused, retagging_refused, retagging_holds}
 use Rattle.lis_store.proofs.ReplaceFile.{still_in_form, still_below, refiled_limits, refiled_sound, refiled_image, refiled_placed, refiled_room, refiled_edits}
 use Rattle.lis_store.proofs.store.Store.retag_held.Goals as goal
 
 pub returns-in_default-clause-holds : goal.returns-in_default-clause-holds
-returns-in_default-clause-holds g c = λ s fits.
+returns-in_default-clause-holds g c = λ base s holds.
     let sound = subst (λ (k : Stored). IsSound k) c.self.view_is c.self.invariant in
     let leads = led_to (resolved c.args.place.now c.args.text.now) c.in_ok-next.next (sym c.in_ok-next.ensures) in
-    moved_nowhere c.args.self.now (g.D.Disk.meaning c.args.disk.now) s c.args.place.now c.in_ok-next.next c.args.name.now c.args.text.now _ sound fits leads (sym c.in_default.ensures.here) refl
+    moved_nowhere c.args.self.now (g.D.Disk.meaning c.args.disk.now) base s c.args.place.now c.in_ok-next.next c.args.name.now c.args.text.now _ sound holds leads (sym c.in_default.ensures.here) refl
 
 pub may_move-requires-clause-rec : goal.may_move-requires-clause-rec
 may_move-requires-clause-rec g c =
@@ -37,7 +38,7 @@ may_move-requires-clause-rec g c =
     ap is_some (rec_at-slot_of c.self.inside.parts.catalog c.args.name.now c.in-Some.slot c.self.invariant.parts.catalog named).1
 
 pub returns-in_err-words-clause-holds : goal.returns-in_err-words-clause-holds
-returns-in_err-words-clause-holds g c = λ s fits.
+returns-in_err-words-clause-holds g c = λ base s holds.
     let old : Stored = record { parts = c.self.inside.parts; journal = c.self.inside.journal; is_broken = c.self.inside.is_broken } in
     let named = ap (λ (k : Stored). slot_of k.parts.catalog c.args.name.now) c.self.view_is ∙ c.in-Some.ensures.slot in
     let found = rec_at-slot_of c.self.inside.parts.catalog c.args.name.now c.in-Some.slot c.self.invariant.parts.catalog named in
@@ -46,10 +47,10 @@ returns-in_err-words-clause-holds g c = λ s fits.
     let m = g.D.Disk.meaning c.args.disk.now in
     let now : Situation = record { state = s; place = c.args.place.now } in
     let e = err_from_is_err_and c.from_residual-in_err-words.result c.from_residual-in_err-words.ensures.1 in
-    let P : Stored → Type 0 = λ k. StoreFits k m s in
-    let Q : Stored → Type 0 = λ k. Changes now (mv now c.args.name.now c.args.text.now) k m m c.from_residual-in_err-words.result in
+    let P : Stored → Type 0 = λ k. StoreHolds k m base s in
+    let Q : Stored → Type 0 = λ k. Holds base now (mv now c.args.name.now c.args.text.now) k m m c.from_residual-in_err-words.result in
     subst Q c.self.view_is
-    (moving_refused old c.args.place.now c.args.name.now c.in-Some.slot found.0 c.self.invariant named found.1 here m s (subst P (sym c.self.view_is) fits) c.args.text.now c.in_ok-next.next c.in_err-words.field-0.0
+    (moving_refused old c.args.place.now c.args.name.now c.in-Some.slot found.0 c.self.invariant named found.1 here m base s (subst P (sym c.self.view_is) holds) c.args.text.now c.in_ok-next.next c.in_err-words.field-0.0
     c.from_residual-in_err-words.result leads (c.in_err-words.ensures.row found.0 found.1) (e.1 ∙ ap Err e.2))
 
 pub read_file-requires-clause-there : goal.read_file-requires-clause-there
@@ -58,7 +59,7 @@ read_file-requires-clause-there g c =
     ap is_some (rec_at-slot_of c.self.inside.parts.catalog c.args.name.now c.in-Some.slot c.self.invariant.parts.catalog named).1
 
 pub returns-in-Err-clause-holds : goal.returns-in-Err-clause-holds
-returns-in-Err-clause-holds g c = λ s fits.
+returns-in-Err-clause-holds g c = λ base s holds.
     let old : Stored = record { parts = c.self.inside.parts; journal = c.self.inside.journal; is_broken = c.self.inside.is_broken } in
     let named = ap (λ (k : Stored). slot_of k.parts.catalog c.args.name.now) c.self.view_is ∙ c.in-Some.ensures.slot in
     let found = rec_at-slot_of c.self.inside.parts.catalog c.args.name.now c.in-Some.slot c.self.invariant.parts.catalog named in
@@ -66,9 +67,10 @@ returns-in-Err-clause-holds g c = λ s fits.
     let m = g.D.Disk.meaning c.args.disk.now in
     let mid = g.D.Disk.meaning c.read_file.new.disk in
     let now : Situation = record { state = s; place = c.args.place.now } in
-    let P : Stored → Type 0 = λ k. StoreFits k m s in
-    let fits_old = subst P (sym c.self.view_is) fits in
-    lost_read old m mid now c.self.invariant fits_old c.read_file.ensures.same c.read_file.ensures.any_moment c.read_file.ensures.fits (mv now c.args.name.now c.args.text.now) _ _ refl (ap Err c.from.ensures)
+    let P : Stored → Type 0 = λ k. StoreHolds k m base s in
+    let holds_old = subst P (sym c.self.view_is) holds in
+    let asks : Asks c.self.inside.journal m mid = record { run = c.read_file.ensures.run; same = c.read_file.ensures.same; moments = c.read_file.ensures.any_moment; fits = c.read_file.ensures.fits } in
+    lost_read old base m mid now c.self.invariant holds_old asks (mv now c.args.name.now c.args.text.now) _ _ refl (ap Err c.from.ensures)
 
 pub has_room_instead-requires-clause-there : goal.has_room_instead-requires-clause-there
 has_room_instead-requires-clause-there g c =
@@ -76,7 +78,7 @@ has_room_instead-requires-clause-there g c =
     ap is_some (rec_at-slot_of c.self.inside.parts.catalog c.args.name.now c.in-Some.slot c.self.invariant.parts.catalog named).1
 
 pub returns-in_err-has_room_instead-clause-holds : goal.returns-in_err-has_room_instead-clause-holds
-returns-in_err-has_room_instead-clause-holds g c = λ s fits.
+returns-in_err-has_room_instead-clause-holds g c = λ base s holds.
     let e = err_from_is_err_and c.from_residual-in_err-has_room_instead.result c.from_residual-in_err-has_room_instead.ensures.1 in
     let old : Stored = record { parts = c.self.inside.parts; journal = c.self.inside.journal; is_broken = c.self.inside.is_broken } in
     let named = ap (λ (k : Stored). slot_of k.parts.catalog c.args.name.now) c.self.view_is ∙ c.in-Some.ensures.slot in
@@ -86,13 +88,14 @@ returns-in_err-has_room_instead-clause-holds g c = λ s fits.
     let m = g.D.Disk.meaning c.args.disk.now in
     let mid = g.D.Disk.meaning c.read_file.new.disk in
     let now : Situation = record { state = s; place = c.args.place.now } in
-    let P : Stored → Type 0 = λ k. StoreFits k m s in
-    let fits_old = subst P (sym c.self.view_is) fits in
+    let P : Stored → Type 0 = λ k. StoreHolds k m base s in
+    let holds_old = subst P (sym c.self.view_is) holds in
+    let asks : Asks c.self.inside.journal m mid = record { run = c.read_file.ensures.run; same = c.read_file.ensures.same; moments = c.read_file.ensures.any_moment; fits = c.read_file.ensures.fits } in
     let R : List ℕ → Type 0 = λ bs. (kept : ℕ → List ℕ) → Fits c.self.inside.journal m kept → AreContentsWithin c.self.inside.parts.limits (looked c.self.inside.journal.staged kept) found.0 → bs ≡ bytes_told c.self.inside.parts.limits (looked c.self.inside.journal.staged kept) found.0 in
     let read_now : R c.read_file.new.bytes = λ kept held within. c.in_default-read_file.ensures.read found.0 kept found.1 held within in
     let words_judged = c.as_slice.ensures.value ∙ c.in_ok-words.ensures.words found.0 found.1 in
     let J : List (List ℕ) → Type 0 = λ ws. first_refusal (instead_checks c.self.inside.parts c.in-Some.slot (new_file c.args.name.now ws c.bytes.result.now)) ≡ Some c.in_err-has_room_instead.field-0.0 in
-    retagging_refused old c.args.place.now c.args.name.now c.in-Some.slot found.0 c.self.invariant named found.1 here m s fits_old mid c.read_file.ensures.same c.read_file.ensures.any_moment c.read_file.ensures.fits
+    retagging_refused old c.args.place.now c.args.name.now c.in-Some.slot found.0 c.self.invariant named found.1 here m base s holds_old mid asks
     c.bytes.result.now (subst R (sym c.bytes.ensures.bytes) read_now) c.args.text.now c.in_ok-next.next c.in_err-has_room_instead.field-0.0 c.from_residual-in_err-has_room_instead.result leads
     (c.in_ok-words.ensures.row found.0 found.1) (subst J words_judged c.in_err-has_room_instead.ensures.row) (e.1 ∙ ap Err e.2)
 
@@ -240,7 +243,7 @@ returns-clause-edits g c =
     edits_saved c.refile.new.parts c.self.view_is c.hold.ensures.parts few
 
 pub returns-clause-holds : goal.returns-clause-holds
-returns-clause-holds g c = λ s fits.
+returns-clause-holds g c = λ base s holds.
     let old : Stored = record { parts = c.self.inside.parts; journal = c.self.inside.journal; is_broken = c.self.inside.is_broken } in
     let named = ap (λ (k : Stored). slot_of k.parts.catalog c.args.name.now) c.self.view_is ∙ c.in-Some.ensures.slot in
     let found = rec_at-slot_of c.self.inside.parts.catalog c.args.name.now c.in-Some.slot c.self.invariant.parts.catalog named in
@@ -263,14 +266,15 @@ returns-clause-holds g c = λ s fits.
     let m = g.D.Disk.meaning c.args.disk.now in
     let mid = g.D.Disk.meaning c.read_file.new.disk in
     let now : Situation = record { state = s; place = c.args.place.now } in
-    let P : Stored → Type 0 = λ k. StoreFits k m s in
-    let fits_old = subst P (sym c.self.view_is) fits in
+    let P : Stored → Type 0 = λ k. StoreHolds k m base s in
+    let holds_old = subst P (sym c.self.view_is) holds in
+    let asks : Asks c.self.inside.journal m mid = record { run = c.read_file.ensures.run; same = c.read_file.ensures.same; moments = c.read_file.ensures.any_moment; fits = c.read_file.ensures.fits } in
     let R : List ℕ → Type 0 = λ bs. (kept : ℕ → List ℕ) → Fits c.self.inside.journal m kept → AreContentsWithin c.self.inside.parts.limits (looked c.self.inside.journal.staged kept) found.0 → bs ≡ bytes_told c.self.inside.parts.limits (looked c.self.inside.journal.staged kept) found.0 in
     let read_now : R c.read_file.new.bytes = λ kept held within. c.in_default-read_file.ensures.read found.0 kept found.1 held within in
     let Again : List ℕ → Type 0 = λ ns. RefilesIn c.in-Some.slot (new_file c.args.name.now c.as_slice-2.result.now c.bytes-2.result.now) ns c.self.inside.parts c.refile.new.parts in
     let again = subst Again (c.blocks_in-blocks.ensures found.0 found.1) c.refile.ensures.refiled in
     let new : Stored = record { parts = c.hold.new.parts; journal = c.hold.new.journal; is_broken = c.hold.new.is_broken } in
-    retagging_changes old c.args.place.now c.args.name.now c.in-Some.slot found.0 c.self.invariant named found.1 here m s fits_old mid c.read_file.ensures.same c.read_file.ensures.any_moment c.read_file.ensures.fits
+    retagging_holds old c.args.place.now c.args.name.now c.in-Some.slot found.0 c.self.invariant named found.1 here m base s holds_old mid asks
     c.bytes-2.result.now (subst R (sym c.bytes-2.ensures.bytes) read_now) c.refile.new.parts c.args.text.now c.in_ok-next.next c.as_slice-2.result.now unbroken words leads first again
     moving none new (g.D.Disk.meaning c.hold.new.disk) c.hold.result c.hold.ensures.saves
 
