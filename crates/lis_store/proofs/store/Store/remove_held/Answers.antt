@@ -2,19 +2,20 @@ use Rattle.std.proofs.Common.{◌≡◌, ◌∙◌, refl, sym, ap, subst, is_som
 use Rattle.std.proofs.lemmas.Result.{err_from_is_err_and}
 use Rattle.lis_catalog.specs.Catalog.{slot_of}
 use Rattle.lis_catalog.proofs.Laws.{rec_at-slot_of}
-use Rattle.lis_store.specs.Stored.{Stored, IsSound, StoreFits}
+use Rattle.lis_store.specs.Stored.{Stored, IsSound, StoreHolds}
 use Rattle.lis_store.specs.Judging.{is_among}
 use Rattle.lis_model.specs.Image.{image_blocks}
+use Rattle.lis_model.specs.Step.{Situation, rm}
 use Rattle.lis_kept.specs.Kept.{Kept}
 use Rattle.lis_store.proofs.Edits.{edits_same, edits_saved}
-use Rattle.lis_store.proofs.RemoveFile.{removed_refused, lost_parts, lost_sound, lost_changes, form_given, there_given, same_limits, removed_sound, removed_placed, removed_marks, removed_edits, removed_changes}
+use Rattle.lis_store.proofs.RemoveFile.{removed_refused, lost_parts, lost_sound, lost_holds, form_given, there_given, same_limits, removed_sound, removed_marks, removed_edits, removed_holds}
 use Rattle.lis_store.proofs.store.Store.remove_held.Goals as goal
 
 pub returns-in_default-clause-holds : goal.returns-in_default-clause-holds
-returns-in_default-clause-holds g c = λ s fits.
+returns-in_default-clause-holds g c = λ base s holds.
     let P : Stored → Type 0 = λ k. IsSound k in
     let sound = subst P c.self.view_is c.self.invariant in
-    removed_refused c.args.self.now (g.D.Disk.meaning c.args.disk.now) c.args.place.now c.args.name.now _ sound (sym c.in_default.ensures.here) refl s fits
+    removed_refused c.args.self.now (g.D.Disk.meaning c.args.disk.now) c.args.place.now c.args.name.now _ sound (sym c.in_default.ensures.here) refl base s holds
 
 pub give_content-requires-clause-there : goal.give_content-requires-clause-there
 give_content-requires-clause-there g c =
@@ -36,13 +37,14 @@ returns-in_err-give_content-clause-sound g c =
     (g.D.Disk.meaning c.give_content.new.disk) c.in_err-give_content.ensures.given c.in_err-give_content.ensures.ended
 
 pub returns-in_err-give_content-clause-holds : goal.returns-in_err-give_content-clause-holds
-returns-in_err-give_content-clause-holds g c = λ s fits.
+returns-in_err-give_content-clause-holds g c = λ base s holds.
     let old : Stored = record { parts = c.self.inside.parts; journal = c.self.inside.journal; is_broken = c.self.inside.is_broken } in
     let named = ap (λ (k : Stored). slot_of k.parts.catalog c.args.name.now) c.self.view_is ∙ c.in-Some.ensures.slot in
     let p = err_from_is_err_and c.from_residual.result c.from_residual.ensures.1 in
-    let F : Stored → Type 0 = λ k. StoreFits k (g.D.Disk.meaning c.args.disk.now) s in
-    lost_changes (Unit {0}) old c.in-Some.slot c.args.name.now c.self.invariant named c.give_content.new.parts c.give_content.new.is_broken c.in_err-give_content.field-0.0 (g.D.Disk.meaning c.args.disk.now)
-    (g.D.Disk.meaning c.give_content.new.disk) c.in_err-give_content.ensures.given c.in_err-give_content.ensures.ended c.args.place.now c.from_residual.result (p.1 ∙ ap Err p.2) s (subst F (sym c.self.view_is) fits)
+    let now : Situation = record { state = s; place = c.args.place.now } in
+    let H : Stored → Type 0 = λ k. StoreHolds k (g.D.Disk.meaning c.args.disk.now) base s in
+    lost_holds (Unit {0}) old c.in-Some.slot c.args.name.now c.self.invariant named c.give_content.new.parts c.give_content.new.is_broken c.in_err-give_content.field-0.0 (g.D.Disk.meaning c.args.disk.now)
+    (g.D.Disk.meaning c.give_content.new.disk) c.in_err-give_content.ensures.given c.in_err-give_content.ensures.ended base now (rm now c.args.name.now) c.from_residual.result (p.1 ∙ ap Err p.2) (subst H (sym c.self.view_is) holds)
 
 pub returns-in_err-give_content-clause-limits : goal.returns-in_err-give_content-clause-limits
 returns-in_err-give_content-clause-limits g c =
@@ -118,17 +120,6 @@ hold-requires-clause-image g c =
     let here = ap (λ (k : Stored). is_among k.parts c.args.place.now c.args.name.now) c.self.view_is ∙ sym c.in-Some.ensures.here in
     c.self.invariant.image ∙ ap image_blocks (sym (same_limits old c.give_content.new.parts c.take_out.new.parts c.in-Some.slot c.args.place.now c.args.name.now found.0 m given.0 c.take_out.ensures c.self.invariant unbroken here named found.1))
 
-pub hold-requires-clause-placed : goal.hold-requires-clause-placed
-hold-requires-clause-placed g c =
-    let old : Stored = record { parts = c.self.inside.parts; journal = c.self.inside.journal; is_broken = c.self.inside.is_broken } in
-    let named = ap (λ (k : Stored). slot_of k.parts.catalog c.args.name.now) c.self.view_is ∙ c.in-Some.ensures.slot in
-    let found = rec_at-slot_of c.self.inside.parts.catalog c.args.name.now c.in-Some.slot c.self.invariant.parts.catalog named in
-    let given = c.in_ok-give_content.ensures.given found.0 found.1 in
-    let m = g.D.Disk.meaning c.args.disk.now in
-    let unbroken = ap (λ (k : Stored). k.is_broken) c.self.view_is ∙ c.requires.unbroken in
-    let here = ap (λ (k : Stored). is_among k.parts c.args.place.now c.args.name.now) c.self.view_is ∙ sym c.in-Some.ensures.here in
-    removed_placed old c.give_content.new.parts c.take_out.new.parts c.in-Some.slot c.args.place.now c.args.name.now found.0 m given.0 c.take_out.ensures c.self.invariant unbroken here named found.1
-
 pub hold-requires-clause-room : goal.hold-requires-clause-room
 hold-requires-clause-room g c =
     let old : Stored = record { parts = c.self.inside.parts; journal = c.self.inside.journal; is_broken = c.self.inside.is_broken } in
@@ -141,7 +132,7 @@ hold-requires-clause-room g c =
     removed_marks old c.give_content.new.parts c.take_out.new.parts c.in-Some.slot c.args.place.now c.args.name.now found.0 m given.0 c.take_out.ensures c.self.invariant unbroken here named found.1
 
 pub returns-clause-holds : goal.returns-clause-holds
-returns-clause-holds g c = λ s fits.
+returns-clause-holds g c = λ base s holds.
     let old : Stored = record { parts = c.self.inside.parts; journal = c.self.inside.journal; is_broken = c.self.inside.is_broken } in
     let named = ap (λ (k : Stored). slot_of k.parts.catalog c.args.name.now) c.self.view_is ∙ c.in-Some.ensures.slot in
     let found = rec_at-slot_of c.self.inside.parts.catalog c.args.name.now c.in-Some.slot c.self.invariant.parts.catalog named in
@@ -150,9 +141,9 @@ returns-clause-holds g c = λ s fits.
     let unbroken = ap (λ (k : Stored). k.is_broken) c.self.view_is ∙ c.requires.unbroken in
     let here = ap (λ (k : Stored). is_among k.parts c.args.place.now c.args.name.now) c.self.view_is ∙ sym c.in-Some.ensures.here in
     let new : Stored = record { parts = c.hold.new.parts; journal = c.hold.new.journal; is_broken = c.hold.new.is_broken } in
-    let F : Stored → Type 0 = λ k. StoreFits k m s in
-    removed_changes old c.give_content.new.parts c.take_out.new.parts c.in-Some.slot c.args.place.now c.args.name.now found.0 m given.0 c.take_out.ensures c.self.invariant unbroken here named found.1
-    s (subst F (sym c.self.view_is) fits) new (g.D.Disk.meaning c.give_content.new.disk) (g.D.Disk.meaning c.hold.new.disk) c.hold.result given.1 c.hold.ensures.saves
+    let H : Stored → Type 0 = λ k. StoreHolds k m base s in
+    removed_holds old c.give_content.new.parts c.take_out.new.parts c.in-Some.slot c.args.place.now c.args.name.now found.0 m given.0 c.take_out.ensures c.self.invariant unbroken here named found.1
+    base s (subst H (sym c.self.view_is) holds) new (g.D.Disk.meaning c.give_content.new.disk) (g.D.Disk.meaning c.hold.new.disk) c.hold.result given.1 c.hold.ensures.saves
 
 pub returns-clause-limits : goal.returns-clause-limits
 returns-clause-limits g c =
