@@ -392,14 +392,7 @@ impl Store {
             disk,
             payload,
         )?;
-        put_in(
-            &mut self.parts,
-            scratch,
-            name,
-            assigned,
-            payload,
-            blocks,
-        );
+        put_in(&mut self.parts, scratch, name, assigned, payload, blocks);
         hold(
             &mut self.parts,
             &mut self.journal,

@@ -43,7 +43,7 @@ put_file-requires-clause-admitted g c =
     let A : Kept → Type 0 = λ k. IsAdmitted k (new_file c.args.name.now c.as_slice.result.now c.args.payload.now) in
     let there = subst (λ (k : Stored). A k.parts) c.self.view_is (subst W (sym (c.as_slice.ensures.value ∙ c.in_ok-assigned.ensures.words)) one) in
     elim c.if-is_large.branch [
-      then-is_large+in_ok-commit w ↦ subst A (sym (ap (λ (k : Stored). k.parts) w.self-is ∙ w.commit.ensures.parts)) there
+      | then-is_large+in_ok-commit w ↦ subst A (sym (ap (λ (k : Stored). k.parts) w.self-is ∙ w.commit.ensures.parts)) there
       | else-is_large w ↦ subst A (sym (ap (λ (k : Stored). k.parts) w.self-is)) there
     ]
 
@@ -52,7 +52,7 @@ put_file-requires-clause-enough g c =
     let E : Kept → Type 0 = λ k. blocks_taken k.limits.version (length c.args.payload.now) ≤ free_count k.taken in
     let enough = subst (λ (k : Stored). E k.parts) c.self.view_is (enough_free c.self.inside.parts c.args.place.now c.args.name.now c.args.tags.now c.args.payload.now c.args.size c.in_ok-assigned.ensures.name (whole_inside c.args.payload.now c.args.size c.self.view_is c.requires.whole) c.in_ok-assigned.ensures.row) in
     elim c.if-is_large.branch [
-      then-is_large+in_ok-commit w ↦ subst E (sym (ap (λ (k : Stored). k.parts) w.self-is ∙ w.commit.ensures.parts)) enough
+      | then-is_large+in_ok-commit w ↦ subst E (sym (ap (λ (k : Stored). k.parts) w.self-is ∙ w.commit.ensures.parts)) enough
       | else-is_large w ↦ subst E (sym (ap (λ (k : Stored). k.parts) w.self-is)) enough
     ]
 
@@ -73,11 +73,11 @@ returns-clause-holds g c = λ base s holds.
     let O : Outcome → Type 0 = λ o. Holds base now o c.put_file.new.self m after c.put_file.result in
     subst O (sym is)
     (elim c.if-is_large.branch [
-      then-is_large+in_ok-commit w ↦
-        let commits : Commits {T = Unit {0}} base s mid m between (Ok tt) = rw (w.self-is, w.disk-is) (w.in_ok-commit.ensures.commits base s holds) in
-        held_behind_commit base now outcome m between after old mid c.put_file.new.self tt c.put_file.result c.self.invariant held commits
-        c.put_file.ensures.sound (c.put_file.ensures.settled (sym c.is_large.ensures ∙ w.if-is_large.true)) c.put_file.ensures.ended
-        (c.put_file.ensures.holds s now (fits_held mid between s (rw w.self-is w.commit.ensures.sound) commits.ended))
+      | then-is_large+in_ok-commit w ↦
+          let commits : Commits {T = Unit {0}} base s mid m between (Ok tt) = rw (w.self-is, w.disk-is) (w.in_ok-commit.ensures.commits base s holds) in
+          held_behind_commit base now outcome m between after old mid c.put_file.new.self tt c.put_file.result c.self.invariant held commits
+          c.put_file.ensures.sound (c.put_file.ensures.settled (sym c.is_large.ensures ∙ w.if-is_large.true)) c.put_file.ensures.ended
+          (c.put_file.ensures.holds s now (fits_held mid between s (rw w.self-is w.commit.ensures.sound) commits.ended))
       | else-is_large w ↦
-        rw (← w.disk-is) (c.put_file.ensures.holds base now (rw (w.self-is, w.disk-is) holds))
+          rw (← w.disk-is) (c.put_file.ensures.holds base now (rw (w.self-is, w.disk-is) holds))
     ])
