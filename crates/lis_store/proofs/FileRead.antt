@@ -1,5 +1,5 @@
 -- Calls that read a file's bytes before they judge.
-use Rattle.std.proofs.Common.{◌≡◌, sym, ap, ap₂, ◌∙◌, subst, ℕ, nat_lt, true, false, List, length, cond, is_some, Some, None, Result, Ok, Err, IsTrue, IsSomeAnd, arith}
+use Rattle.std.proofs.Common.{◌≡◌, sym, ap, ap₂, ◌∙◌, subst, ℕ, nat_lt, true, false, List, length, cond, is_some, Some, None, Result, Ok, Err, IsSomeAnd, arith}
 use Rattle.std.specs.Result.{result_ok}
 use Rattle.std.proofs.lemmas.Bool.{lt-ltb}
 use Rattle.std.proofs.lemmas.Option.{same_Some}

@@ -7,7 +7,6 @@ use Rattle.lis_graph.proofs.Members.{among_from_any}
 use Rattle.lis_ports.specs.Meaning.{Meaning}
 use Rattle.lis_ports.proofs.Moments.{leaves_weaken}
 use Rattle.lis_journal.specs.Journal.{Held}
-use Rattle.lis_journal.specs.Record.{Entry}
 use Rattle.lis_journal.specs.Images.{StandsBut, Fits, KeepsPast}
 use Rattle.lis_journal.specs.Phases.{looked}
 use Rattle.lis_catalog.specs.Catalog.{Filed, slot_of, rec_at}
@@ -15,7 +14,6 @@ use Rattle.lis_content.specs.Large.{is_large}
 use Rattle.lis_dict.specs.Dict.{word_of}
 use Rattle.lis_fields.specs.Records.{FileRecord}
 use Rattle.lis_fields.specs.Layouts.{are_blocks, is_record}
-use Rattle.lis_grammar.specs.Formula.{Formula}
 use Rattle.lis_model.specs.declared.limits.Limits.{Limits}
 use Rattle.lis_model.specs.Image.{bitmap_start, data_start, image_blocks}
 use Rattle.lis_model.specs.State.{State, File, is_assignable, blocks_taken, used_blocks}

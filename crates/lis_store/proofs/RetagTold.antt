@@ -5,7 +5,6 @@ use Rattle.std.specs.List.Sorted.{IsStrictlySortedBy}
 use Rattle.std.proofs.lemmas.Bool.{both_ways, ltb-false, not-false}
 use Rattle.std.proofs.lemmas.List.Kept.{IsStrictlySortedBy-filter}
 use Rattle.std.proofs.lemmas.Option.{same_Some}
-use Rattle.lis_ports.specs.Meaning.{Meaning}
 use Rattle.lis_catalog.specs.Catalog.{slot_of, rec_at}
 use Rattle.lis_dict.specs.Dict.{word_of}
 use Rattle.lis_fields.specs.Records.{FileRecord}

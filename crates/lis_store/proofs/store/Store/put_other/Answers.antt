@@ -1,5 +1,4 @@
-use Rattle.std.proofs.Common.{◌≡◌, ◌∙◌, ◌≤◌, ◌*◌, ℕ, nat_lt, true, length, Err, sym, ap, subst, arith}
-use Rattle.std.specs.List.{list_all}
+use Rattle.std.proofs.Common.{◌≡◌, ◌∙◌, ℕ, true, length, Err, sym, ap, subst, arith}
 use Rattle.std.proofs.lemmas.Result.{err_from_is_err_and}
 use Rattle.arrayvec.specs.ArrayVec.{ArrayVec}
 use Rattle.lis_catalog.specs.Catalog.{slot_of}
@@ -11,7 +10,7 @@ use Rattle.lis_model.specs.Step.{changed}
 use Rattle.lis_eval.specs.Room.{HasRoom}
 use Rattle.lis_kept.specs.Kept.{Kept}
 use Rattle.lis_store.specs.Stored.{Stored, StoreHolds}
-use Rattle.lis_store.proofs.AddFile.{lost_sound, lost_limits, lost_image, lost_edits, lost_holds}
+use Rattle.lis_store.proofs.AddFile.{lost_sound, lost_holds}
 use Rattle.lis_store.proofs.Edits.{edits_saved}
 use Rattle.lis_store.proofs.Large.{none_left}
 use Rattle.lis_store.proofs.ReplaceFile.{mid_form, mid_first, mid_in_form, mid_below, mid_limits, mid_short, mid_image, mid_unplaced, written_sound, written_image, written_unbroken, written_placed, written_room, written_limits, written_edits, written_holds, renewed_lost}
