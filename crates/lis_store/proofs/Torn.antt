@@ -1,5 +1,5 @@
 -- A fault of the disk while a call puts contents or gives them back: the store is broken, and tells what it did.
-use Rattle.std.proofs.Common.{◌≡◌, sym, ap, ◌∙◌, subst, ℕ, true, false, Bool, List, [], length, Result, Err}
+use Rattle.std.proofs.Common.{◌≡◌, sym, ◌∙◌, subst, ℕ, true, false, Bool, List, [], length, Result, Err}
 use Rattle.lis_ports.specs.Meaning.{Meaning}
 use Rattle.lis_journal.specs.Journal.{Held}
 use Rattle.lis_content.specs.Large.{is_large}
@@ -12,7 +12,6 @@ use Rattle.lis_store.specs.declared.change.Change.TheVariants.{Refused, Disk}
 use Rattle.lis_store.specs.Stored.{Stored, IsSound, StoreHolds}
 use Rattle.lis_store.specs.Changes.{Holds}
 use Rattle.lis_store.specs.Contents.{ContentTorn, ContentEnded}
-use Rattle.lis_store.proofs.Edits.{AreEditsFew, edits_same}
 use Rattle.lis_store.proofs.Replaced.{retaken, form_retaken, in_form}
 use Rattle.lis_store.proofs.Steps.{sound_lost, holds_lost, torn_stand, torn_past}
 
@@ -22,12 +21,6 @@ module _ (old : Stored) (bytes : List ℕ) (q : Kept) (j : Held) (sound : IsSoun
       let form = form_retaken old.parts q.taken q.marks (subst (λ (x : Kept). AreSound x) torn.parts sound_q) (in_form old sound) in
       subst (λ (x : Kept). IsSound (record { parts = x; journal = j; is_broken = true })) (sym torn.parts)
       (sound_lost (retaken old.parts q.taken q.marks) j form sound.pairs (torn.image ∙ sound.image))
-
-  pub torn_limits : q.limits ≡ old.parts.limits
-  torn_limits = ap (λ (x : Kept). x.limits) torn.parts
-
-  pub torn_edits : AreEditsFew old.parts.ext q.ext
-  torn_edits = edits_same old.parts.ext q.ext (ap (λ (x : Kept). x.ext) torn.parts)
 
   pub torn_holds : {T : Type 0} (base : State) (now : Situation) (outcome : Outcome) (new : Stored) (result : Result T Change) → StoreHolds old before base now.state
       → (is_large (length bytes) ≡ true → old.journal.staged ≡ []) → new.is_broken ≡ true → result ≡ Err Disk → Holds base now outcome new before after result
