@@ -1,11 +1,10 @@
 -- A commit of what is held back.
-use Rattle.std.proofs.Common.{◌≡◌, ◌⊎◌, refl, sym, ap, ◌∙◌, subst, inl, inr, ℕ, ◌<◌, ◌≤◌, true, false, Bool, List, [], ◌∷◌, length, Result, Ok, Err, arith}
+use Rattle.std.proofs.Common.{◌≡◌, ◌⊎◌, refl, sym, ap, ◌∙◌, subst, inl, inr, ℕ, ◌<◌, true, false, Bool, List, [], ◌∷◌, length, Result, Ok, Err, arith}
 use Rattle.lis_ports.specs.Meaning.{Meaning}
-use Rattle.lis_ports.specs.Runs.{Leaves}
 use Rattle.lis_ports.proofs.Moments.{leaves_weaken}
 use Rattle.lis_journal.specs.Journal.{Held}
 use Rattle.lis_journal.specs.Record.{Entry}
-use Rattle.lis_journal.specs.Images.{StandsFor, StandsForAllOrNone, KeepsPast}
+use Rattle.lis_journal.specs.Images.{StandsForAllOrNone, KeepsPast}
 use Rattle.lis_journal.specs.Phases.{looked}
 use Rattle.lis_journal.specs.Staging.{are_whole}
 use Rattle.lis_model.specs.Image.{image_blocks}

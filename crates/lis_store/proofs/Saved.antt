@@ -198,8 +198,7 @@ module _ (p : Kept) (j mid : Held) (before : Meaning) (stages : Stages p j mid) 
         by : (r : Result T Change) → KeepsStaged mid x before after r → SaveEnded b r → HeldEnded base now outcome (record { parts = clean p; journal = x; is_broken = b }) after r
         by (Ok done) keeps whole =
             let staged : x.staged ≡ [] = ap (λ (h : Held). h.staged) keeps.done in
-            let blocks : x.blocks ≡ mid.blocks = ap (λ (h : Held). h.blocks) keeps.done in
-            (
+            let blocks : x.blocks ≡ mid.blocks = ap (λ (h : Held). h.blocks) keeps.done in (
               ap (λ (o : Outcome). o.reply) is,
               inr (record {
                 kept = there;
