@@ -41,7 +41,7 @@ use Rattle.lis_store.proofs.ReplaceFile.{refiled_holds}
 use Rattle.lis_store.proofs.RetagTold.{mv_may, mv_here_refused, mv_here_done, mv_nowhere}
 use Rattle.lis_store.proofs.Steps.{holds_behind, holds_lost, asks_stand, asks_past}
 use Rattle.lis_store.proofs.ToldBy.{ToldBy, told_held}
-use Rattle.lis_store.proofs.WriteFile.{rest_of_rename, renamed_done}
+use Rattle.lis_store.proofs.WriteFile.{found_there, rest_of_rename, rename_first, renamed_done}
 
 module _ (k : Stored) (base : State) (before mid : Meaning) (now : Situation) (sound : IsSound k) (holds : StoreHolds k before base now.state) (asks : Asks k.journal before mid) where
   -- memory tells as before, by the same blocks
@@ -84,7 +84,7 @@ module _ (old : Stored) (place : List Formula) (name : List ℕ) (slot : ℕ) (r
   same_name = (filed_named p sound.parts name slot rec named there).1
 
   -- that may move
-  pub moved_first : (next : List Formula) (words : List (List ℕ)) (bytes : List ℕ) → length bytes ≡ rec.size → first_refusal (moving_checks p place next words rec) ≡ None
+  moved_first : (next : List Formula) (words : List (List ℕ)) (bytes : List ℕ) → length bytes ≡ rec.size → first_refusal (moving_checks p place next words rec) ≡ None
       → first_refusal (instead_checks p slot (moved_from p rec place next name bytes)) ≡ None → MayReplace p slot rec (moved_from p rec place next name bytes)
   moved_first next words bytes size moving none =
       mv_may old sound slot rec there place next name bytes words same_name
@@ -184,6 +184,47 @@ module _ (old : Stored) (place : List Formula) (name : List ℕ) (slot : ℕ) (r
           ∙ (ap₂ (λ ws bs. changed now (file_replaced s name (new_file name ws bs))) given (sym bytes_are)
           ∙ ap (λ n. changed now (file_replaced s n (new_file name assigned bytes))) (sym same_name)))
           told may.assignable saves)
+
+-- ---- what is asked of memory in which the file is to have another name or another place, and the bytes that were read
+module _ {old now : Stored} (same : old ≡ now) (sound : IsSound old) (place : List Formula) (name : List ℕ) {slot : ℕ} (named_now : slot_of now.parts.catalog name ≡ Some slot)
+    (here_now : true ≡ is_among now.parts place name) {judged read bytes : List ℕ} (is_judged : judged ≡ read) (is_read : bytes ≡ read)
+    (size : (rec : FileRecord) → rec_at old.parts.catalog slot ≡ Some rec → length read ≡ rec.size) where
+  abbrev k : Kept
+  k = old.parts
+
+  named : slot_of k.catalog name ≡ Some slot
+  named = ap (λ (o : Stored). slot_of o.parts.catalog name) same ∙ named_now
+
+  here : is_among k place name ≡ true
+  here = ap (λ (o : Stored). is_among o.parts place name) same ∙ sym here_now
+
+  found : (rec : FileRecord) × (rec_at k.catalog slot ≡ Some rec) × (rec.name ≡ name)
+  found = found_there same sound name named_now
+
+  abbrev May : List ℕ → List (List ℕ) → List ℕ → Type 0
+  May other words bytes = MayReplace k slot found.0 (new_file other words bytes)
+
+  lets_in : (other : List ℕ) (words : List (List ℕ)) → May other words judged → IsSomeAnd (rec_at k.catalog slot) (λ (x : FileRecord). MayReplace k slot x (new_file other words bytes))
+  lets_in other words may =
+      subst (λ o. IsSomeAnd o (λ (x : FileRecord). MayReplace k slot x (new_file other words bytes))) (sym found.1) (subst (λ bs. May other words bs) (is_judged ∙ sym is_read) may)
+
+  pub rename_asks : (other : List ℕ) {given words : List (List ℕ)} → is_file_name other ≡ true → given ≡ words → ((rec : FileRecord) → rec_at k.catalog slot ≡ Some rec → words ≡ words_told k.dict rec.tags)
+      → ((rec : FileRecord) → rec_at k.catalog slot ≡ Some rec → first_refusal (renaming_checks k slot (given_before k rec other judged)) ≡ None)
+      → IsSomeAnd (rec_at k.catalog slot) (λ (x : FileRecord). MayReplace k slot x (new_file other given bytes))
+  rename_asks other {given} form is words_are row =
+      lets_in other given
+      (subst (λ ws. May other ws judged) (sym (is ∙ words_are found.0 found.1))
+      (rename_first old sound place name slot found.0 named found.1 here other judged form (ap length is_judged ∙ size found.0 found.1) (row found.0 found.1)))
+
+  pub retag_asks : (next : List Formula) (texts : List (List ℕ)) {tested given words : List (List ℕ)} → tested ≡ words → given ≡ words
+      → ((rec : FileRecord) → rec_at k.catalog slot ≡ Some rec → words ≡ words_moved k rec place next) → ((rec : FileRecord) → rec_at k.catalog slot ≡ Some rec → first_refusal (moving_checks k place next texts rec) ≡ None)
+      → first_refusal (instead_checks k slot (new_file name tested judged)) ≡ None → IsSomeAnd (rec_at k.catalog slot) (λ (x : FileRecord). MayReplace k slot x (new_file name given bytes))
+  retag_asks next texts {tested} {given} was is words_are row none =
+      let moved = words_are found.0 found.1 in
+      lets_in name given
+      (subst (λ ws. May name ws judged) (sym (is ∙ moved))
+      (moved_first old place name slot found.0 sound named found.1 here next texts judged (ap length is_judged ∙ size found.0 found.1) (row found.0 found.1)
+      (subst (λ ws. first_refusal (instead_checks k slot (new_file name ws judged)) ≡ None) (was ∙ moved) none)))
 
 -- no file of the name is here
 pub moved_nowhere : {T : Type 0} (old : Stored) (m : Meaning) (base s : State) (place next : List Formula) (name text : List ℕ) (result : Result T Change) → IsSound old → StoreHolds old m base s

@@ -1,5 +1,5 @@
 -- Calls in which a file takes the place of another.
-use Rattle.std.proofs.Common.{◌≡◌, refl, sym, ap, ◌∙◌, subst, ℕ, ◌+◌, ◌≤◌, ◌==◌, ◌&&◌, nat_lt, is_some, cond, true, false, Bool, IsSomeAnd, List, [], length, Option, Some, None, Result, Err, arith}
+use Rattle.std.proofs.Common.{◌≡◌, refl, sym, ap, ap₂, ◌∙◌, subst, ℕ, ◌+◌, ◌≤◌, ◌==◌, ◌&&◌, nat_lt, is_some, cond, true, false, Bool, IsSomeAnd, List, [], length, Option, Some, None, Result, Err, arith}
 use Rattle.std.specs.List.{list_all}
 use Rattle.std.proofs.lemmas.Bool.{and_parts, eqb-true}
 use Rattle.std.proofs.lemmas.Option.{same_Some}
@@ -47,7 +47,7 @@ use Rattle.lis_store.proofs.ReplacingIn.{may_there}
 use Rattle.lis_store.proofs.SavedAlone.{alone_placed, unplaced_stands}
 use Rattle.lis_store.proofs.Steps.{small_or_alone, holds_behind, but_stands}
 use Rattle.lis_store.proofs.ToldBy.{told_held}
-use Rattle.lis_store.proofs.WriteFile.{written_enough}
+use Rattle.lis_store.proofs.WriteFile.{found_there, written_enough}
 
 -- ---- memory tells the next state, from wherever the bytes come
 module _ (old : Stored) (taken marks : List Bool) (q : Kept) (j : Held) (slot : ℕ) (name : List ℕ) (assigned : List (List ℕ)) (bytes numbers : List ℕ) (sound : IsSound old) (sound_p : AreSound (retaken old.parts taken marks))
@@ -269,17 +269,59 @@ renewed_lost bytes gone p q old new before after Disk torn = torn
 
 -- ---- another name and other words, and the same bytes
 -- the blocks of a file are those of a record that has its size
-module _ (old : Stored) (slot : ℕ) (bytes : List ℕ) (rec : FileRecord) (sound : IsSound old) (there : rec_at old.parts.catalog slot ≡ Some rec) (size : length bytes ≡ rec.size) where
-  sound_rec : is_sound_record old.parts.limits.version old.parts.dict old.parts.limits.blocks rec ≡ true
-  sound_rec = sound.parts.records slot rec there
+module _ {old now : Stored} (same : old ≡ now) (sound : IsSound old) (name : List ℕ) {slot : ℕ} (named : slot_of now.parts.catalog name ≡ Some slot) {numbers : List ℕ}
+    (numbers_are : (rec : FileRecord) → rec_at old.parts.catalog slot ≡ Some rec → numbers ≡ rec.blocks) where
+  there : (rec : FileRecord) × (rec_at old.parts.catalog slot ≡ Some rec) × (rec.name ≡ name)
+  there = found_there same sound name named
 
-  pub still_in_form : are_blocks old.parts.limits.version (length bytes) rec.blocks ≡ true
-  still_in_form =
-      ap (λ n. are_blocks old.parts.limits.version n rec.blocks) size ∙ (record_in_form old.parts.limits.version old.parts.dict old.parts.limits.blocks rec sound_rec).blocks
+  blocks_are : numbers ≡ there.0.blocks
+  blocks_are = numbers_are there.0 there.1
 
-  pub still_below : list_all (λ n. nat_lt n old.parts.limits.blocks) rec.blocks ≡ true
+  sound_rec : is_sound_record old.parts.limits.version old.parts.dict old.parts.limits.blocks there.0 ≡ true
+  sound_rec = sound.parts.records slot there.0 there.1
+
+  pub still_in_form : {bytes read : List ℕ} → bytes ≡ read → ((rec : FileRecord) → rec_at old.parts.catalog slot ≡ Some rec → length read ≡ rec.size)
+      → are_blocks old.parts.limits.version (length bytes) numbers ≡ true
+  still_in_form is size =
+      ap₂ (are_blocks old.parts.limits.version) (ap length is ∙ size there.0 there.1) blocks_are
+      ∙ (record_in_form old.parts.limits.version old.parts.dict old.parts.limits.blocks there.0 sound_rec).blocks
+
+  pub still_below : list_all (λ n. nat_lt n old.parts.limits.blocks) numbers ≡ true
   still_below =
-      (and_parts (is_record old.parts.limits.version rec && list_all (λ n. is_some (word_of old.parts.dict n)) rec.tags) (list_all (λ n. nat_lt n old.parts.limits.blocks) rec.blocks) sound_rec).1
+      ap (list_all (λ n. nat_lt n old.parts.limits.blocks)) blocks_are
+      ∙ (and_parts (is_record old.parts.limits.version there.0 && list_all (λ n. is_some (word_of old.parts.dict n)) there.0.tags) (list_all (λ n. nat_lt n old.parts.limits.blocks) there.0.blocks) sound_rec).1
+
+module _ {old now : Stored} (same : old ≡ now) {q : Kept} {slot : ℕ} (name : List ℕ) (assigned : List (List ℕ)) (bytes : List ℕ) {numbers : List ℕ} (sound : IsSound old)
+    (first : IsSomeAnd (rec_at old.parts.catalog slot) (λ (x : FileRecord). MayReplace old.parts slot x (new_file name assigned bytes))) (again : RefilesIn slot (new_file name assigned bytes) numbers old.parts q) where
+  abbrev old_parts : Kept
+  old_parts = old.parts
+
+  refiled_same : q.limits ≡ old_parts.limits
+  refiled_same = limits_then old old_parts.taken old_parts.marks q old.journal slot name assigned bytes numbers sound sound.parts first again
+
+  pub refiled_limits : q.limits ≡ now.parts.limits
+  refiled_limits = refiled_same ∙ ap (λ (k : Stored). k.parts.limits) same
+
+  pub refiled_image : old.journal.blocks ≡ image_blocks q.limits
+  refiled_image = sound.image ∙ ap image_blocks (sym refiled_same)
+
+  pub refiled_edits : AreEditsFew old_parts.ext q.ext
+  refiled_edits = replaced_edits old old_parts.taken old_parts.marks q old.journal slot name assigned bytes numbers sound sound.parts first again
+
+  module _ (unbroken_now : now.is_broken ≡ false) where
+    was_unbroken : old.is_broken ≡ false
+    was_unbroken = ap (λ (k : Stored). k.is_broken) same ∙ unbroken_now
+
+    pub refiled_sound : AreSound q → IsSound (settled q old.journal)
+    refiled_sound = replaced_sound old old_parts.taken old_parts.marks q old.journal slot name assigned bytes numbers sound sound.parts first again refl (sound.journal was_unbroken)
+
+    pub refiled_placed : ArePlaced q old.journal
+    refiled_placed = alone_placed old sound was_unbroken q
+
+    pub refiled_room : length old.journal.staged + marked_count q ≤ 575
+    refiled_room =
+        let some = replaced_marks old old_parts.taken old_parts.marks q old.journal slot name assigned bytes numbers sound sound.parts first again in
+        omega (arith, some, none_marked old_parts (sound.clean was_unbroken), sound.few was_unbroken)
 
 module _ (old : Stored) (q : Kept) (slot : ℕ) (name : List ℕ) (assigned : List (List ℕ)) (bytes : List ℕ) (rec : FileRecord) (sound : IsSound old) (unbroken : old.is_broken ≡ false) (there : rec_at old.parts.catalog slot ≡ Some rec)
     (first : IsSomeAnd (rec_at old.parts.catalog slot) (λ (x : FileRecord). MayReplace old.parts slot x (new_file name assigned bytes))) (again : RefilesIn slot (new_file name assigned bytes) rec.blocks old.parts q) where
@@ -288,26 +330,6 @@ module _ (old : Stored) (q : Kept) (slot : ℕ) (name : List ℕ) (assigned : Li
 
   same_again : rec ≡ again.way.rec
   same_again = same_Some rec again.way.rec (sym there ∙ again.way.vacates.drops.there)
-
-  pub refiled_limits : q.limits ≡ parts.limits
-  refiled_limits = limits_then old parts.taken parts.marks q old.journal slot name assigned bytes rec.blocks sound sound.parts first again
-
-  pub refiled_image : old.journal.blocks ≡ image_blocks q.limits
-  refiled_image = sound.image ∙ ap image_blocks (sym refiled_limits)
-
-  pub refiled_sound : AreSound q → IsSound (settled q old.journal)
-  refiled_sound = replaced_sound old parts.taken parts.marks q old.journal slot name assigned bytes rec.blocks sound sound.parts first again refl (sound.journal unbroken)
-
-  pub refiled_placed : ArePlaced q old.journal
-  refiled_placed = alone_placed old sound unbroken q
-
-  pub refiled_room : length old.journal.staged + marked_count q ≤ 575
-  refiled_room =
-      let some = replaced_marks old parts.taken parts.marks q old.journal slot name assigned bytes rec.blocks sound sound.parts first again in
-      omega (arith, some, none_marked parts (sound.clean unbroken), sound.few unbroken)
-
-  pub refiled_edits : AreEditsFew parts.ext q.ext
-  refiled_edits = replaced_edits old parts.taken parts.marks q old.journal slot name assigned bytes rec.blocks sound sound.parts first again
 
   -- where the bytes of the file that was there are these
   pub refiled_holds : {T : Type 0} (base : State) (now : Situation) (new : Stored) (before after : Meaning) (result : Result T Change) (outcome : Outcome) (holds : StoreHolds old before base now.state)

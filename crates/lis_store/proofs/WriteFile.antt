@@ -32,6 +32,11 @@ use Rattle.lis_store.proofs.InsteadTold.{free_told, old_is, old_given, write_ref
 use Rattle.lis_store.proofs.FreeBlocks.{used_told, version_told}
 use Rattle.lis_store.proofs.Judged.{all_pass, change_refused}
 
+-- What a call asks speaks of the store's value `now`, and what is proved of its parts, `old`. The slot that it found has a record.
+pub found_there : {old now : Stored} → old ≡ now → IsSound old → (name : List ℕ) {slot : ℕ} → slot_of now.parts.catalog name ≡ Some slot
+    → (rec : FileRecord) × (rec_at old.parts.catalog slot ≡ Some rec) × (rec.name ≡ name)
+found_there {old} same sound name {slot} named = rec_at-slot_of old.parts.catalog name slot sound.parts.catalog (ap (λ (k : Stored). slot_of k.parts.catalog name) same ∙ named)
+
 -- ---- rows
 pub rest_of_write : (k : Kept) (place : List Formula) (name : List ℕ) (slot : ℕ) (rec : FileRecord) (file : File) (size : ℕ) → size ≤ file_limit k.limits.version → is_among k place name ≡ true
     → first_refusal (write_checks_of k place name slot rec file size) ≡ first_refusal (overwriting_checks k slot rec file size)
@@ -121,7 +126,6 @@ module _ (k : Stored) (s : State) (sound : IsSound k) (fits : ToldBy k s) (name 
         ∙ ap (λ bs. changed at_place (file_replaced s rec.name (new_file other assigned bs))) same)
 
 -- ---- a write that is let in
--- What a call asks speaks of the store's value `now`, and what is proved of its parts, `old`.
 module _ {old now : Stored} (same : old ≡ now) (sound : IsSound old) (place : List Formula) (name : List ℕ) {slot : ℕ} (named_now : slot_of now.parts.catalog name ≡ Some slot)
     (here_now : true ≡ is_among now.parts place name) (bytes : List ℕ) {size : ℕ} (small : size ≤ file_limit old.parts.limits.version) (whole : size ≤ file_limit now.parts.limits.version → length bytes ≡ size)
     (row : (rec : FileRecord) → rec_at old.parts.catalog slot ≡ Some rec → first_refusal (overwriting_checks old.parts slot rec (given_before old.parts rec name bytes) size) ≡ None)
@@ -136,7 +140,7 @@ module _ {old now : Stored} (same : old ≡ now) (sound : IsSound old) (place : 
   here = ap (λ (k : Stored). is_among k.parts place name) same ∙ sym here_now
 
   found : (rec : FileRecord) × (rec_at p.catalog slot ≡ Some rec) × (rec.name ≡ name)
-  found = rec_at-slot_of p.catalog name slot sound.parts.catalog named
+  found = found_there same sound name named_now
 
   long : length bytes ≡ size
   long = whole (subst (λ (k : Stored). size ≤ file_limit k.parts.limits.version) same small)

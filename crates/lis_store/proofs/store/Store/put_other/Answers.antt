@@ -1,8 +1,6 @@
 use Rattle.std.proofs.Common.{◌≡◌, ◌∙◌, ℕ, true, length, Err, sym, ap, subst, arith}
 use Rattle.std.proofs.lemmas.Result.{err_from_is_err_and}
 use Rattle.arrayvec.specs.ArrayVec.{ArrayVec}
-use Rattle.lis_catalog.specs.Catalog.{slot_of}
-use Rattle.lis_catalog.proofs.Laws.{rec_at-slot_of}
 use Rattle.lis_content.specs.Large.{is_large}
 use Rattle.lis_model.specs.declared.limits.Limits.{Limits}
 use Rattle.lis_model.specs.Changes.{new_file, file_replaced}
@@ -14,13 +12,13 @@ use Rattle.lis_store.proofs.AddFile.{lost_sound, lost_holds}
 use Rattle.lis_store.proofs.Edits.{edits_saved}
 use Rattle.lis_store.proofs.Large.{none_left}
 use Rattle.lis_store.proofs.ReplaceFile.{mid_form, mid_first, mid_in_form, mid_below, mid_limits, mid_short, mid_image, mid_unplaced, written_sound, written_image, written_unbroken, written_placed, written_room, written_limits, written_edits, written_holds, renewed_lost}
+use Rattle.lis_store.proofs.WriteFile.{found_there}
 use Rattle.lis_store.proofs.store.Store.put_other.Goals as goal
 
 pub invariant_of-self : goal.invariant_of-self
 invariant_of-self g c =
     let old : Stored = record { parts = c.self.inside.parts; journal = c.self.inside.journal; is_broken = c.self.inside.is_broken } in
-    let named = ap (λ (k : Stored). slot_of k.parts.catalog c.args.name.now) c.self.view_is ∙ c.requires.named in
-    let found = rec_at-slot_of c.self.inside.parts.catalog c.args.name.now c.args.slot c.self.invariant.parts.catalog named in
+    let found = found_there c.self.view_is c.self.invariant c.args.name.now c.requires.named in
     let m = g.D.Disk.meaning c.args.disk.now in
     let after = g.D.Disk.meaning c.put_instead.new.disk in
     let lost = renewed_lost c.args.payload.now found.0 c.self.inside.parts c.put_instead.new.parts c.self.inside.journal c.put_instead.new.journal m after c.in_err-blocks.field-0.0 (c.in_err-blocks.ensures.renewed found.0 found.1) in
@@ -29,8 +27,7 @@ invariant_of-self g c =
 pub returns-in_err-blocks-clause-sound : goal.returns-in_err-blocks-clause-sound
 returns-in_err-blocks-clause-sound g c =
     let old : Stored = record { parts = c.self.inside.parts; journal = c.self.inside.journal; is_broken = c.self.inside.is_broken } in
-    let named = ap (λ (k : Stored). slot_of k.parts.catalog c.args.name.now) c.self.view_is ∙ c.requires.named in
-    let found = rec_at-slot_of c.self.inside.parts.catalog c.args.name.now c.args.slot c.self.invariant.parts.catalog named in
+    let found = found_there c.self.view_is c.self.invariant c.args.name.now c.requires.named in
     let m = g.D.Disk.meaning c.args.disk.now in
     let after = g.D.Disk.meaning c.put_instead.new.disk in
     let lost = renewed_lost c.args.payload.now found.0 c.self.inside.parts c.put_instead.new.parts c.self.inside.journal c.put_instead.new.journal m after c.in_err-blocks.field-0.0 (c.in_err-blocks.ensures.renewed found.0 found.1) in
@@ -39,8 +36,7 @@ returns-in_err-blocks-clause-sound g c =
 pub returns-in_err-blocks-clause-holds : goal.returns-in_err-blocks-clause-holds
 returns-in_err-blocks-clause-holds g c = λ base now holds.
     let old : Stored = record { parts = c.self.inside.parts; journal = c.self.inside.journal; is_broken = c.self.inside.is_broken } in
-    let named = ap (λ (k : Stored). slot_of k.parts.catalog c.args.name.now) c.self.view_is ∙ c.requires.named in
-    let found = rec_at-slot_of c.self.inside.parts.catalog c.args.name.now c.args.slot c.self.invariant.parts.catalog named in
+    let found = found_there c.self.view_is c.self.invariant c.args.name.now c.requires.named in
     let m = g.D.Disk.meaning c.args.disk.now in
     let after = g.D.Disk.meaning c.put_instead.new.disk in
     let lost = renewed_lost c.args.payload.now found.0 c.self.inside.parts c.put_instead.new.parts c.self.inside.journal c.put_instead.new.journal m after c.in_err-blocks.field-0.0 (c.in_err-blocks.ensures.renewed found.0 found.1) in

@@ -1,11 +1,7 @@
-use Rattle.std.proofs.Common.{◌≡◌, ◌∙◌, nat_lt, List, ℕ, length, None, Err, IsSomeAnd, is_some, refl, sym, ap, subst}
+use Rattle.std.proofs.Common.{◌≡◌, ◌∙◌, List, ℕ, None, Err, is_some, refl, sym, ap, subst}
 use Rattle.std.proofs.lemmas.Result.{err_from_is_err_and}
-use Rattle.std.specs.List.{list_all}
 use Rattle.lis_catalog.specs.Catalog.{slot_of}
-use Rattle.lis_catalog.proofs.Laws.{rec_at-slot_of}
 use Rattle.lis_content.specs.Placing.{Asks}
-use Rattle.lis_fields.specs.Records.{FileRecord}
-use Rattle.lis_fields.specs.Layouts.{are_blocks}
 use Rattle.lis_model.specs.Changes.{new_file}
 use Rattle.lis_model.specs.Step.{Situation, rename}
 use Rattle.lis_kept.specs.Kept.{Kept}
@@ -18,13 +14,12 @@ use Rattle.lis_store.specs.Stored.{Stored, IsSound, StoreHolds}
 use Rattle.lis_store.specs.Changes.{Holds, first_refusal}
 use Rattle.lis_store.specs.Contents.{AreContentsWithin}
 use Rattle.lis_store.specs.Judging.{is_among}
-use Rattle.lis_store.specs.Replacing.{MayReplace}
 use Rattle.lis_store.specs.ReplacingIn.{RefilesIn}
 use Rattle.lis_store.specs.Instead.{given_before, renaming_checks}
 use Rattle.lis_store.proofs.Edits.{edits_saved}
-use Rattle.lis_store.proofs.FileRead.{name_taken, lost_read, renaming_refused, renaming_holds}
+use Rattle.lis_store.proofs.FileRead.{name_taken, rename_asks, lost_read, renaming_refused, renaming_holds}
 use Rattle.lis_store.proofs.ReplaceFile.{still_in_form, still_below, refiled_limits, refiled_sound, refiled_image, refiled_placed, refiled_room, refiled_edits}
-use Rattle.lis_store.proofs.WriteFile.{rename_first, renamed_nowhere}
+use Rattle.lis_store.proofs.WriteFile.{found_there, renamed_nowhere}
 use Rattle.lis_store.proofs.store.Store.rename_held.Goals as goal
 
 pub returns-in_default-clause-holds : goal.returns-in_default-clause-holds
@@ -36,7 +31,7 @@ pub returns-then-is_some-clause-holds : goal.returns-then-is_some-clause-holds
 returns-then-is_some-clause-holds g c = λ base s holds.
     let old : Stored = record { parts = c.self.inside.parts; journal = c.self.inside.journal; is_broken = c.self.inside.is_broken } in
     let named = ap (λ (k : Stored). slot_of k.parts.catalog c.args.name.now) c.self.view_is ∙ c.in-Some.ensures.slot in
-    let found = rec_at-slot_of c.self.inside.parts.catalog c.args.name.now c.in-Some.slot c.self.invariant.parts.catalog named in
+    let found = found_there c.self.view_is c.self.invariant c.args.name.now c.in-Some.ensures.slot in
     let here = ap (λ (k : Stored). is_among k.parts c.args.place.now c.args.name.now) c.self.view_is ∙ sym c.in-Some.ensures.here in
     let m = g.D.Disk.meaning c.args.disk.now in
     let now : Situation = record { state = s; place = c.args.place.now } in
@@ -48,15 +43,11 @@ returns-then-is_some-clause-holds g c = λ base s holds.
 
 pub read_file-requires-clause-there : goal.read_file-requires-clause-there
 read_file-requires-clause-there g c =
-    let named = ap (λ (k : Stored). slot_of k.parts.catalog c.args.name.now) c.self.view_is ∙ c.in-Some.ensures.slot in
-    ap is_some (rec_at-slot_of c.self.inside.parts.catalog c.args.name.now c.in-Some.slot c.self.invariant.parts.catalog named).1
+    ap is_some (found_there c.self.view_is c.self.invariant c.args.name.now c.in-Some.ensures.slot).1
 
 pub returns-in-Err-clause-holds : goal.returns-in-Err-clause-holds
 returns-in-Err-clause-holds g c = λ base s holds.
     let old : Stored = record { parts = c.self.inside.parts; journal = c.self.inside.journal; is_broken = c.self.inside.is_broken } in
-    let named = ap (λ (k : Stored). slot_of k.parts.catalog c.args.name.now) c.self.view_is ∙ c.in-Some.ensures.slot in
-    let found = rec_at-slot_of c.self.inside.parts.catalog c.args.name.now c.in-Some.slot c.self.invariant.parts.catalog named in
-    let here = ap (λ (k : Stored). is_among k.parts c.args.place.now c.args.name.now) c.self.view_is ∙ sym c.in-Some.ensures.here in
     let m = g.D.Disk.meaning c.args.disk.now in
     let mid = g.D.Disk.meaning c.read_file.new.disk in
     let now : Situation = record { state = s; place = c.args.place.now } in
@@ -67,15 +58,14 @@ returns-in-Err-clause-holds g c = λ base s holds.
 
 pub may_rename-requires-clause-there : goal.may_rename-requires-clause-there
 may_rename-requires-clause-there g c =
-    let named = ap (λ (k : Stored). slot_of k.parts.catalog c.args.name.now) c.self.view_is ∙ c.in-Some.ensures.slot in
-    ap is_some (rec_at-slot_of c.self.inside.parts.catalog c.args.name.now c.in-Some.slot c.self.invariant.parts.catalog named).1
+    ap is_some (found_there c.self.view_is c.self.invariant c.args.name.now c.in-Some.ensures.slot).1
 
 pub returns-in_err-words-clause-holds : goal.returns-in_err-words-clause-holds
 returns-in_err-words-clause-holds g c = λ base s holds.
     let e = err_from_is_err_and c.from_residual.result c.from_residual.ensures.1 in
     let old : Stored = record { parts = c.self.inside.parts; journal = c.self.inside.journal; is_broken = c.self.inside.is_broken } in
     let named = ap (λ (k : Stored). slot_of k.parts.catalog c.args.name.now) c.self.view_is ∙ c.in-Some.ensures.slot in
-    let found = rec_at-slot_of c.self.inside.parts.catalog c.args.name.now c.in-Some.slot c.self.invariant.parts.catalog named in
+    let found = found_there c.self.view_is c.self.invariant c.args.name.now c.in-Some.ensures.slot in
     let here = ap (λ (k : Stored). is_among k.parts c.args.place.now c.args.name.now) c.self.view_is ∙ sym c.in-Some.ensures.here in
     let m = g.D.Disk.meaning c.args.disk.now in
     let mid = g.D.Disk.meaning c.read_file.new.disk in
@@ -90,145 +80,42 @@ returns-in_err-words-clause-holds g c = λ base s holds.
 
 pub refile-requires-clause-may : goal.refile-requires-clause-may
 refile-requires-clause-may g c =
-    let old : Stored = record { parts = c.self.inside.parts; journal = c.self.inside.journal; is_broken = c.self.inside.is_broken } in
-    let named = ap (λ (k : Stored). slot_of k.parts.catalog c.args.name.now) c.self.view_is ∙ c.in-Some.ensures.slot in
-    let found = rec_at-slot_of c.self.inside.parts.catalog c.args.name.now c.in-Some.slot c.self.invariant.parts.catalog named in
-    let here = ap (λ (k : Stored). is_among k.parts c.args.place.now c.args.name.now) c.self.view_is ∙ sym c.in-Some.ensures.here in
-    let words = c.as_slice.ensures.value ∙ c.in_ok-words.ensures.words found.0 found.1 in
-    let same = c.bytes.ensures.bytes ∙ sym c.bytes-2.ensures.bytes in
-    let F : List (List ℕ) → List ℕ → Type 0 = λ ws bs. MayReplace c.self.inside.parts c.in-Some.slot found.0 (new_file c.args.new.now ws bs) in
-    let W : List (List ℕ) → Type 0 = λ ws. F ws c.bytes.result.now in
-    let V : List ℕ → Type 0 = λ bs. F c.as_slice.result.now bs in
-    let size = ap length c.bytes.ensures.bytes ∙ c.in_default-read_file.ensures.size found.0 found.1 in
-    let may = rename_first old c.self.invariant c.args.place.now c.args.name.now c.in-Some.slot found.0 named found.1 here c.args.new.now c.bytes.result.now c.slot_of.ensures.name size
-    (c.in_ok-words.ensures.row found.0 found.1) in
-    let first = subst (λ o. IsSomeAnd o (λ (x : FileRecord). MayReplace c.self.inside.parts c.in-Some.slot x (new_file c.args.new.now c.as_slice.result.now c.bytes-2.result.now))) (sym found.1)
-    (subst V same (subst W (sym words) may)) in
-    let unbroken = ap (λ (k : Stored). k.is_broken) c.self.view_is ∙ c.requires.unbroken in
-    first
+    rename_asks c.self.view_is c.self.invariant c.args.place.now c.args.name.now c.in-Some.ensures.slot c.in-Some.ensures.here c.bytes.ensures.bytes c.bytes-2.ensures.bytes c.in_default-read_file.ensures.size c.args.new.now c.slot_of.ensures.name c.as_slice.ensures.value c.in_ok-words.ensures.words c.in_ok-words.ensures.row
 
 pub hold-requires-clause-sound : goal.hold-requires-clause-sound
 hold-requires-clause-sound g c =
-    let old : Stored = record { parts = c.self.inside.parts; journal = c.self.inside.journal; is_broken = c.self.inside.is_broken } in
-    let named = ap (λ (k : Stored). slot_of k.parts.catalog c.args.name.now) c.self.view_is ∙ c.in-Some.ensures.slot in
-    let found = rec_at-slot_of c.self.inside.parts.catalog c.args.name.now c.in-Some.slot c.self.invariant.parts.catalog named in
-    let here = ap (λ (k : Stored). is_among k.parts c.args.place.now c.args.name.now) c.self.view_is ∙ sym c.in-Some.ensures.here in
-    let words = c.as_slice.ensures.value ∙ c.in_ok-words.ensures.words found.0 found.1 in
-    let same = c.bytes.ensures.bytes ∙ sym c.bytes-2.ensures.bytes in
-    let F : List (List ℕ) → List ℕ → Type 0 = λ ws bs. MayReplace c.self.inside.parts c.in-Some.slot found.0 (new_file c.args.new.now ws bs) in
-    let W : List (List ℕ) → Type 0 = λ ws. F ws c.bytes.result.now in
-    let V : List ℕ → Type 0 = λ bs. F c.as_slice.result.now bs in
-    let size = ap length c.bytes.ensures.bytes ∙ c.in_default-read_file.ensures.size found.0 found.1 in
-    let may = rename_first old c.self.invariant c.args.place.now c.args.name.now c.in-Some.slot found.0 named found.1 here c.args.new.now c.bytes.result.now c.slot_of.ensures.name size
-    (c.in_ok-words.ensures.row found.0 found.1) in
-    let first = subst (λ o. IsSomeAnd o (λ (x : FileRecord). MayReplace c.self.inside.parts c.in-Some.slot x (new_file c.args.new.now c.as_slice.result.now c.bytes-2.result.now))) (sym found.1)
-    (subst V same (subst W (sym words) may)) in
-    let unbroken = ap (λ (k : Stored). k.is_broken) c.self.view_is ∙ c.requires.unbroken in
-    let Again : List ℕ → Type 0 = λ ns. RefilesIn c.in-Some.slot (new_file c.args.new.now c.as_slice.result.now c.bytes-2.result.now) ns c.self.inside.parts c.refile.new.parts in
-    let again = subst Again (c.blocks_in-blocks.ensures found.0 found.1) c.refile.ensures.refiled in
-    refiled_sound old c.refile.new.parts c.in-Some.slot c.args.new.now c.as_slice.result.now c.bytes-2.result.now found.0 c.self.invariant unbroken found.1 first again
+    let first = rename_asks c.self.view_is c.self.invariant c.args.place.now c.args.name.now c.in-Some.ensures.slot c.in-Some.ensures.here c.bytes.ensures.bytes c.bytes-2.ensures.bytes c.in_default-read_file.ensures.size c.args.new.now c.slot_of.ensures.name c.as_slice.ensures.value c.in_ok-words.ensures.words c.in_ok-words.ensures.row in
+    refiled_sound c.self.view_is c.args.new.now c.as_slice.result.now c.bytes-2.result.now c.self.invariant first c.refile.ensures.refiled c.requires.unbroken
 
 pub hold-requires-clause-image : goal.hold-requires-clause-image
 hold-requires-clause-image g c =
-    let old : Stored = record { parts = c.self.inside.parts; journal = c.self.inside.journal; is_broken = c.self.inside.is_broken } in
-    let named = ap (λ (k : Stored). slot_of k.parts.catalog c.args.name.now) c.self.view_is ∙ c.in-Some.ensures.slot in
-    let found = rec_at-slot_of c.self.inside.parts.catalog c.args.name.now c.in-Some.slot c.self.invariant.parts.catalog named in
-    let here = ap (λ (k : Stored). is_among k.parts c.args.place.now c.args.name.now) c.self.view_is ∙ sym c.in-Some.ensures.here in
-    let words = c.as_slice.ensures.value ∙ c.in_ok-words.ensures.words found.0 found.1 in
-    let same = c.bytes.ensures.bytes ∙ sym c.bytes-2.ensures.bytes in
-    let F : List (List ℕ) → List ℕ → Type 0 = λ ws bs. MayReplace c.self.inside.parts c.in-Some.slot found.0 (new_file c.args.new.now ws bs) in
-    let W : List (List ℕ) → Type 0 = λ ws. F ws c.bytes.result.now in
-    let V : List ℕ → Type 0 = λ bs. F c.as_slice.result.now bs in
-    let size = ap length c.bytes.ensures.bytes ∙ c.in_default-read_file.ensures.size found.0 found.1 in
-    let may = rename_first old c.self.invariant c.args.place.now c.args.name.now c.in-Some.slot found.0 named found.1 here c.args.new.now c.bytes.result.now c.slot_of.ensures.name size
-    (c.in_ok-words.ensures.row found.0 found.1) in
-    let first = subst (λ o. IsSomeAnd o (λ (x : FileRecord). MayReplace c.self.inside.parts c.in-Some.slot x (new_file c.args.new.now c.as_slice.result.now c.bytes-2.result.now))) (sym found.1)
-    (subst V same (subst W (sym words) may)) in
-    let unbroken = ap (λ (k : Stored). k.is_broken) c.self.view_is ∙ c.requires.unbroken in
-    let Again : List ℕ → Type 0 = λ ns. RefilesIn c.in-Some.slot (new_file c.args.new.now c.as_slice.result.now c.bytes-2.result.now) ns c.self.inside.parts c.refile.new.parts in
-    let again = subst Again (c.blocks_in-blocks.ensures found.0 found.1) c.refile.ensures.refiled in
-    refiled_image old c.refile.new.parts c.in-Some.slot c.args.new.now c.as_slice.result.now c.bytes-2.result.now found.0 c.self.invariant unbroken found.1 first again
+    let first = rename_asks c.self.view_is c.self.invariant c.args.place.now c.args.name.now c.in-Some.ensures.slot c.in-Some.ensures.here c.bytes.ensures.bytes c.bytes-2.ensures.bytes c.in_default-read_file.ensures.size c.args.new.now c.slot_of.ensures.name c.as_slice.ensures.value c.in_ok-words.ensures.words c.in_ok-words.ensures.row in
+    refiled_image c.self.view_is c.args.new.now c.as_slice.result.now c.bytes-2.result.now c.self.invariant first c.refile.ensures.refiled
 
 pub hold-requires-clause-placed : goal.hold-requires-clause-placed
 hold-requires-clause-placed g c =
-    let old : Stored = record { parts = c.self.inside.parts; journal = c.self.inside.journal; is_broken = c.self.inside.is_broken } in
-    let named = ap (λ (k : Stored). slot_of k.parts.catalog c.args.name.now) c.self.view_is ∙ c.in-Some.ensures.slot in
-    let found = rec_at-slot_of c.self.inside.parts.catalog c.args.name.now c.in-Some.slot c.self.invariant.parts.catalog named in
-    let here = ap (λ (k : Stored). is_among k.parts c.args.place.now c.args.name.now) c.self.view_is ∙ sym c.in-Some.ensures.here in
-    let words = c.as_slice.ensures.value ∙ c.in_ok-words.ensures.words found.0 found.1 in
-    let same = c.bytes.ensures.bytes ∙ sym c.bytes-2.ensures.bytes in
-    let F : List (List ℕ) → List ℕ → Type 0 = λ ws bs. MayReplace c.self.inside.parts c.in-Some.slot found.0 (new_file c.args.new.now ws bs) in
-    let W : List (List ℕ) → Type 0 = λ ws. F ws c.bytes.result.now in
-    let V : List ℕ → Type 0 = λ bs. F c.as_slice.result.now bs in
-    let size = ap length c.bytes.ensures.bytes ∙ c.in_default-read_file.ensures.size found.0 found.1 in
-    let may = rename_first old c.self.invariant c.args.place.now c.args.name.now c.in-Some.slot found.0 named found.1 here c.args.new.now c.bytes.result.now c.slot_of.ensures.name size
-    (c.in_ok-words.ensures.row found.0 found.1) in
-    let first = subst (λ o. IsSomeAnd o (λ (x : FileRecord). MayReplace c.self.inside.parts c.in-Some.slot x (new_file c.args.new.now c.as_slice.result.now c.bytes-2.result.now))) (sym found.1)
-    (subst V same (subst W (sym words) may)) in
-    let unbroken = ap (λ (k : Stored). k.is_broken) c.self.view_is ∙ c.requires.unbroken in
-    let Again : List ℕ → Type 0 = λ ns. RefilesIn c.in-Some.slot (new_file c.args.new.now c.as_slice.result.now c.bytes-2.result.now) ns c.self.inside.parts c.refile.new.parts in
-    let again = subst Again (c.blocks_in-blocks.ensures found.0 found.1) c.refile.ensures.refiled in
-    refiled_placed old c.refile.new.parts c.in-Some.slot c.args.new.now c.as_slice.result.now c.bytes-2.result.now found.0 c.self.invariant unbroken found.1 first again
+    let first = rename_asks c.self.view_is c.self.invariant c.args.place.now c.args.name.now c.in-Some.ensures.slot c.in-Some.ensures.here c.bytes.ensures.bytes c.bytes-2.ensures.bytes c.in_default-read_file.ensures.size c.args.new.now c.slot_of.ensures.name c.as_slice.ensures.value c.in_ok-words.ensures.words c.in_ok-words.ensures.row in
+    refiled_placed c.self.view_is c.args.new.now c.as_slice.result.now c.bytes-2.result.now c.self.invariant first c.refile.ensures.refiled c.requires.unbroken
 
 pub hold-requires-clause-room : goal.hold-requires-clause-room
 hold-requires-clause-room g c =
-    let old : Stored = record { parts = c.self.inside.parts; journal = c.self.inside.journal; is_broken = c.self.inside.is_broken } in
-    let named = ap (λ (k : Stored). slot_of k.parts.catalog c.args.name.now) c.self.view_is ∙ c.in-Some.ensures.slot in
-    let found = rec_at-slot_of c.self.inside.parts.catalog c.args.name.now c.in-Some.slot c.self.invariant.parts.catalog named in
-    let here = ap (λ (k : Stored). is_among k.parts c.args.place.now c.args.name.now) c.self.view_is ∙ sym c.in-Some.ensures.here in
-    let words = c.as_slice.ensures.value ∙ c.in_ok-words.ensures.words found.0 found.1 in
-    let same = c.bytes.ensures.bytes ∙ sym c.bytes-2.ensures.bytes in
-    let F : List (List ℕ) → List ℕ → Type 0 = λ ws bs. MayReplace c.self.inside.parts c.in-Some.slot found.0 (new_file c.args.new.now ws bs) in
-    let W : List (List ℕ) → Type 0 = λ ws. F ws c.bytes.result.now in
-    let V : List ℕ → Type 0 = λ bs. F c.as_slice.result.now bs in
-    let size = ap length c.bytes.ensures.bytes ∙ c.in_default-read_file.ensures.size found.0 found.1 in
-    let may = rename_first old c.self.invariant c.args.place.now c.args.name.now c.in-Some.slot found.0 named found.1 here c.args.new.now c.bytes.result.now c.slot_of.ensures.name size
-    (c.in_ok-words.ensures.row found.0 found.1) in
-    let first = subst (λ o. IsSomeAnd o (λ (x : FileRecord). MayReplace c.self.inside.parts c.in-Some.slot x (new_file c.args.new.now c.as_slice.result.now c.bytes-2.result.now))) (sym found.1)
-    (subst V same (subst W (sym words) may)) in
-    let unbroken = ap (λ (k : Stored). k.is_broken) c.self.view_is ∙ c.requires.unbroken in
-    let Again : List ℕ → Type 0 = λ ns. RefilesIn c.in-Some.slot (new_file c.args.new.now c.as_slice.result.now c.bytes-2.result.now) ns c.self.inside.parts c.refile.new.parts in
-    let again = subst Again (c.blocks_in-blocks.ensures found.0 found.1) c.refile.ensures.refiled in
-    refiled_room old c.refile.new.parts c.in-Some.slot c.args.new.now c.as_slice.result.now c.bytes-2.result.now found.0 c.self.invariant unbroken found.1 first again
+    let first = rename_asks c.self.view_is c.self.invariant c.args.place.now c.args.name.now c.in-Some.ensures.slot c.in-Some.ensures.here c.bytes.ensures.bytes c.bytes-2.ensures.bytes c.in_default-read_file.ensures.size c.args.new.now c.slot_of.ensures.name c.as_slice.ensures.value c.in_ok-words.ensures.words c.in_ok-words.ensures.row in
+    refiled_room c.self.view_is c.args.new.now c.as_slice.result.now c.bytes-2.result.now c.self.invariant first c.refile.ensures.refiled c.requires.unbroken
 
 pub returns-clause-edits : goal.returns-clause-edits
 returns-clause-edits g c =
-    let old : Stored = record { parts = c.self.inside.parts; journal = c.self.inside.journal; is_broken = c.self.inside.is_broken } in
-    let named = ap (λ (k : Stored). slot_of k.parts.catalog c.args.name.now) c.self.view_is ∙ c.in-Some.ensures.slot in
-    let found = rec_at-slot_of c.self.inside.parts.catalog c.args.name.now c.in-Some.slot c.self.invariant.parts.catalog named in
-    let here = ap (λ (k : Stored). is_among k.parts c.args.place.now c.args.name.now) c.self.view_is ∙ sym c.in-Some.ensures.here in
-    let words = c.as_slice.ensures.value ∙ c.in_ok-words.ensures.words found.0 found.1 in
-    let same = c.bytes.ensures.bytes ∙ sym c.bytes-2.ensures.bytes in
-    let F : List (List ℕ) → List ℕ → Type 0 = λ ws bs. MayReplace c.self.inside.parts c.in-Some.slot found.0 (new_file c.args.new.now ws bs) in
-    let W : List (List ℕ) → Type 0 = λ ws. F ws c.bytes.result.now in
-    let V : List ℕ → Type 0 = λ bs. F c.as_slice.result.now bs in
-    let size = ap length c.bytes.ensures.bytes ∙ c.in_default-read_file.ensures.size found.0 found.1 in
-    let may = rename_first old c.self.invariant c.args.place.now c.args.name.now c.in-Some.slot found.0 named found.1 here c.args.new.now c.bytes.result.now c.slot_of.ensures.name size
-    (c.in_ok-words.ensures.row found.0 found.1) in
-    let first = subst (λ o. IsSomeAnd o (λ (x : FileRecord). MayReplace c.self.inside.parts c.in-Some.slot x (new_file c.args.new.now c.as_slice.result.now c.bytes-2.result.now))) (sym found.1)
-    (subst V same (subst W (sym words) may)) in
-    let unbroken = ap (λ (k : Stored). k.is_broken) c.self.view_is ∙ c.requires.unbroken in
-    let Again : List ℕ → Type 0 = λ ns. RefilesIn c.in-Some.slot (new_file c.args.new.now c.as_slice.result.now c.bytes-2.result.now) ns c.self.inside.parts c.refile.new.parts in
-    let again = subst Again (c.blocks_in-blocks.ensures found.0 found.1) c.refile.ensures.refiled in
-    let few = refiled_edits old c.refile.new.parts c.in-Some.slot c.args.new.now c.as_slice.result.now c.bytes-2.result.now found.0 c.self.invariant unbroken found.1 first again in
-    edits_saved c.refile.new.parts c.self.view_is c.hold.ensures.parts few
+    let first = rename_asks c.self.view_is c.self.invariant c.args.place.now c.args.name.now c.in-Some.ensures.slot c.in-Some.ensures.here c.bytes.ensures.bytes c.bytes-2.ensures.bytes c.in_default-read_file.ensures.size c.args.new.now c.slot_of.ensures.name c.as_slice.ensures.value c.in_ok-words.ensures.words c.in_ok-words.ensures.row in
+    edits_saved c.refile.new.parts c.self.view_is c.hold.ensures.parts (refiled_edits c.self.view_is c.args.new.now c.as_slice.result.now c.bytes-2.result.now c.self.invariant first c.refile.ensures.refiled)
 
 pub returns-clause-holds : goal.returns-clause-holds
 returns-clause-holds g c = λ base s holds.
     let old : Stored = record { parts = c.self.inside.parts; journal = c.self.inside.journal; is_broken = c.self.inside.is_broken } in
     let named = ap (λ (k : Stored). slot_of k.parts.catalog c.args.name.now) c.self.view_is ∙ c.in-Some.ensures.slot in
-    let found = rec_at-slot_of c.self.inside.parts.catalog c.args.name.now c.in-Some.slot c.self.invariant.parts.catalog named in
+    let found = found_there c.self.view_is c.self.invariant c.args.name.now c.in-Some.ensures.slot in
     let here = ap (λ (k : Stored). is_among k.parts c.args.place.now c.args.name.now) c.self.view_is ∙ sym c.in-Some.ensures.here in
     let words = c.as_slice.ensures.value ∙ c.in_ok-words.ensures.words found.0 found.1 in
     let same = c.bytes.ensures.bytes ∙ sym c.bytes-2.ensures.bytes in
-    let F : List (List ℕ) → List ℕ → Type 0 = λ ws bs. MayReplace c.self.inside.parts c.in-Some.slot found.0 (new_file c.args.new.now ws bs) in
-    let W : List (List ℕ) → Type 0 = λ ws. F ws c.bytes.result.now in
-    let V : List ℕ → Type 0 = λ bs. F c.as_slice.result.now bs in
-    let size = ap length c.bytes.ensures.bytes ∙ c.in_default-read_file.ensures.size found.0 found.1 in
-    let may = rename_first old c.self.invariant c.args.place.now c.args.name.now c.in-Some.slot found.0 named found.1 here c.args.new.now c.bytes.result.now c.slot_of.ensures.name size
-    (c.in_ok-words.ensures.row found.0 found.1) in
-    let first = subst (λ o. IsSomeAnd o (λ (x : FileRecord). MayReplace c.self.inside.parts c.in-Some.slot x (new_file c.args.new.now c.as_slice.result.now c.bytes-2.result.now))) (sym found.1)
-    (subst V same (subst W (sym words) may)) in
+    let first = rename_asks c.self.view_is c.self.invariant c.args.place.now c.args.name.now c.in-Some.ensures.slot c.in-Some.ensures.here c.bytes.ensures.bytes c.bytes-2.ensures.bytes c.in_default-read_file.ensures.size c.args.new.now c.slot_of.ensures.name c.as_slice.ensures.value c.in_ok-words.ensures.words c.in_ok-words.ensures.row in
     let unbroken = ap (λ (k : Stored). k.is_broken) c.self.view_is ∙ c.requires.unbroken in
     let m = g.D.Disk.meaning c.args.disk.now in
     let mid = g.D.Disk.meaning c.read_file.new.disk in
@@ -248,44 +135,17 @@ returns-clause-holds g c = λ base s holds.
 
 pub returns-clause-limits : goal.returns-clause-limits
 returns-clause-limits g c =
-    let old : Stored = record { parts = c.self.inside.parts; journal = c.self.inside.journal; is_broken = c.self.inside.is_broken } in
-    let named = ap (λ (k : Stored). slot_of k.parts.catalog c.args.name.now) c.self.view_is ∙ c.in-Some.ensures.slot in
-    let found = rec_at-slot_of c.self.inside.parts.catalog c.args.name.now c.in-Some.slot c.self.invariant.parts.catalog named in
-    let here = ap (λ (k : Stored). is_among k.parts c.args.place.now c.args.name.now) c.self.view_is ∙ sym c.in-Some.ensures.here in
-    let words = c.as_slice.ensures.value ∙ c.in_ok-words.ensures.words found.0 found.1 in
-    let same = c.bytes.ensures.bytes ∙ sym c.bytes-2.ensures.bytes in
-    let F : List (List ℕ) → List ℕ → Type 0 = λ ws bs. MayReplace c.self.inside.parts c.in-Some.slot found.0 (new_file c.args.new.now ws bs) in
-    let W : List (List ℕ) → Type 0 = λ ws. F ws c.bytes.result.now in
-    let V : List ℕ → Type 0 = λ bs. F c.as_slice.result.now bs in
-    let size = ap length c.bytes.ensures.bytes ∙ c.in_default-read_file.ensures.size found.0 found.1 in
-    let may = rename_first old c.self.invariant c.args.place.now c.args.name.now c.in-Some.slot found.0 named found.1 here c.args.new.now c.bytes.result.now c.slot_of.ensures.name size
-    (c.in_ok-words.ensures.row found.0 found.1) in
-    let first = subst (λ o. IsSomeAnd o (λ (x : FileRecord). MayReplace c.self.inside.parts c.in-Some.slot x (new_file c.args.new.now c.as_slice.result.now c.bytes-2.result.now))) (sym found.1)
-    (subst V same (subst W (sym words) may)) in
-    let unbroken = ap (λ (k : Stored). k.is_broken) c.self.view_is ∙ c.requires.unbroken in
-    let Again : List ℕ → Type 0 = λ ns. RefilesIn c.in-Some.slot (new_file c.args.new.now c.as_slice.result.now c.bytes-2.result.now) ns c.self.inside.parts c.refile.new.parts in
-    let again = subst Again (c.blocks_in-blocks.ensures found.0 found.1) c.refile.ensures.refiled in
-    ap (λ (k : Kept). k.limits) c.hold.ensures.parts ∙ (refiled_limits old c.refile.new.parts c.in-Some.slot c.args.new.now c.as_slice.result.now c.bytes-2.result.now found.0 c.self.invariant unbroken found.1 first again ∙ ap (λ (k : Stored). k.parts.limits) c.self.view_is)
+    let first = rename_asks c.self.view_is c.self.invariant c.args.place.now c.args.name.now c.in-Some.ensures.slot c.in-Some.ensures.here c.bytes.ensures.bytes c.bytes-2.ensures.bytes c.in_default-read_file.ensures.size c.args.new.now c.slot_of.ensures.name c.as_slice.ensures.value c.in_ok-words.ensures.words c.in_ok-words.ensures.row in
+    ap (λ (k : Kept). k.limits) c.hold.ensures.parts ∙ refiled_limits c.self.view_is c.args.new.now c.as_slice.result.now c.bytes-2.result.now c.self.invariant first c.refile.ensures.refiled
 
 pub blocks_in-blocks-requires : goal.blocks_in-blocks-requires
 blocks_in-blocks-requires g c =
-    let named = ap (λ (k : Stored). slot_of k.parts.catalog c.args.name.now) c.self.view_is ∙ c.in-Some.ensures.slot in
-    ap is_some (rec_at-slot_of c.self.inside.parts.catalog c.args.name.now c.in-Some.slot c.self.invariant.parts.catalog named).1
+    ap is_some (found_there c.self.view_is c.self.invariant c.args.name.now c.in-Some.ensures.slot).1
 
 pub refile-requires-clause-in_form : goal.refile-requires-clause-in_form
 refile-requires-clause-in_form g c =
-    let old : Stored = record { parts = c.self.inside.parts; journal = c.self.inside.journal; is_broken = c.self.inside.is_broken } in
-    let named = ap (λ (k : Stored). slot_of k.parts.catalog c.args.name.now) c.self.view_is ∙ c.in-Some.ensures.slot in
-    let found = rec_at-slot_of c.self.inside.parts.catalog c.args.name.now c.in-Some.slot c.self.invariant.parts.catalog named in
-    let size = ap length c.bytes-2.ensures.bytes ∙ c.in_default-read_file.ensures.size found.0 found.1 in
-    ap (are_blocks c.self.inside.parts.limits.version (length c.bytes-2.result.now)) (c.blocks_in-blocks.ensures found.0 found.1)
-    ∙ still_in_form old c.in-Some.slot c.bytes-2.result.now found.0 c.self.invariant found.1 size
+    still_in_form c.self.view_is c.self.invariant c.args.name.now c.in-Some.ensures.slot c.blocks_in-blocks.ensures c.bytes-2.ensures.bytes c.in_default-read_file.ensures.size
 
 pub refile-requires-clause-below : goal.refile-requires-clause-below
 refile-requires-clause-below g c =
-    let old : Stored = record { parts = c.self.inside.parts; journal = c.self.inside.journal; is_broken = c.self.inside.is_broken } in
-    let named = ap (λ (k : Stored). slot_of k.parts.catalog c.args.name.now) c.self.view_is ∙ c.in-Some.ensures.slot in
-    let found = rec_at-slot_of c.self.inside.parts.catalog c.args.name.now c.in-Some.slot c.self.invariant.parts.catalog named in
-    let size = ap length c.bytes-2.ensures.bytes ∙ c.in_default-read_file.ensures.size found.0 found.1 in
-    ap (list_all (λ n. nat_lt n c.self.inside.parts.limits.blocks)) (c.blocks_in-blocks.ensures found.0 found.1)
-    ∙ still_below old c.in-Some.slot c.bytes-2.result.now found.0 c.self.invariant found.1 size
+    still_below c.self.view_is c.self.invariant c.args.name.now c.in-Some.ensures.slot c.blocks_in-blocks.ensures

@@ -1,7 +1,6 @@
 use Rattle.std.proofs.Common.{◌≡◌, ◌∙◌, ◌≤◌, Some, Ok, Err, is_some, refl, sym, ap, subst, arith}
 use Rattle.std.proofs.lemmas.Result.{err_from_is_err_and}
 use Rattle.lis_catalog.specs.Catalog.{slot_of, rec_at}
-use Rattle.lis_catalog.proofs.Laws.{rec_at-slot_of}
 use Rattle.lis_fields.specs.Records.{FileRecord}
 use Rattle.lis_model.specs.declared.limits.Limits.{Limits}
 use Rattle.lis_model.specs.Changes.{new_file, file_replaced}
@@ -14,7 +13,7 @@ use Rattle.lis_store.specs.Judging.{is_among}
 use Rattle.lis_store.specs.Instead.{given_before}
 use Rattle.lis_store.proofs.Holding.{fits_held}
 use Rattle.lis_store.proofs.Large.{held_behind_commit, held_lost_commit}
-use Rattle.lis_store.proofs.WriteFile.{rest_of_write, written_refused, written_nowhere, write_asks, write_does}
+use Rattle.lis_store.proofs.WriteFile.{found_there, rest_of_write, written_refused, written_nowhere, write_asks, write_does}
 use Rattle.lis_store.proofs.store.Store.write_held.Goals.{then-is_large+in_ok-commit, else-is_large}
 use Rattle.lis_store.proofs.store.Store.write_held.Goals as goal
 
@@ -27,8 +26,7 @@ returns-in_default-clause-holds g c = λ base s holds.
 
 pub may_write-requires-clause-there : goal.may_write-requires-clause-there
 may_write-requires-clause-there g c =
-    let named = ap (λ (k : Stored). slot_of k.parts.catalog c.args.name.now) c.self.view_is ∙ c.in-Some.ensures.slot in
-    ap is_some (rec_at-slot_of c.self.inside.parts.catalog c.args.name.now c.in-Some.slot c.self.invariant.parts.catalog named).1
+    ap is_some (found_there c.self.view_is c.self.invariant c.args.name.now c.in-Some.ensures.slot).1
 
 pub returns-in_err-words-clause-holds : goal.returns-in_err-words-clause-holds
 returns-in_err-words-clause-holds g c = λ base s holds.
@@ -38,7 +36,7 @@ returns-in_err-words-clause-holds g c = λ base s holds.
     let payload : Payload = record { size = c.args.size; bytes = c.args.payload.now } in
     let old : Stored = record { parts = c.self.inside.parts; journal = c.self.inside.journal; is_broken = c.self.inside.is_broken } in
     let named = ap (λ (k : Stored). slot_of k.parts.catalog c.args.name.now) c.self.view_is ∙ c.in-Some.ensures.slot in
-    let found = rec_at-slot_of c.self.inside.parts.catalog c.args.name.now c.in-Some.slot c.self.invariant.parts.catalog named in
+    let found = found_there c.self.view_is c.self.invariant c.args.name.now c.in-Some.ensures.slot in
     let small : c.args.size ≤ file_limit c.self.inside.parts.limits.version = omega (arith, c.if-size-file_limit.false, c.file_limit.ensures, ap (λ (l : Limits). file_limit l.version) c.limits.ensures.value) in
     let here = ap (λ (k : Stored). is_among k.parts c.args.place.now c.args.name.now) c.self.view_is ∙ sym c.in-Some.ensures.here in
     let P : Stored → Type 0 = λ k. StoreHolds k m base s in
