@@ -5,6 +5,7 @@ pub mod Fitting
 pub mod Saying
 pub mod Answering
 pub mod Blocks
+pub mod Holding
 pub mod Tallying
 pub mod Going
 pub mod Served
