@@ -17,4 +17,4 @@ pub mod Shown
 mod TextWords
 mod Examples
 pub mod Ending
-mod Staying
+pub mod Staying
