@@ -2,3 +2,4 @@ pub mod Moments
 mod Held
 pub mod Settling
 pub mod Holding
+pub mod Stepping

@@ -1,13 +1,17 @@
 -- Moments of a load.
-use Rattle.std.proofs.Common.{◌≡◌, ℕ, ◌+◌, ◌-◌, ◌≤◌, List, [], ◌++◌, length, refl, sym, subst, ◌∙◌, ap, arith, length-append}
+use Rattle.std.proofs.Common.{◌≡◌, ℕ, ◌+◌, ◌-◌, ◌≤◌, List, [], ◌++◌, length, Option, refl, sym, subst, ◌∙◌, ap, arith, length-append}
 use Rattle.std.proofs.lemmas.List.{take-append-le}
+use Rattle.lis_ports.specs.Meaning.{Meaning}
 use Rattle.lis_ports.specs.Since.{Begins}
+use Rattle.lis_ports.proofs.Always.{always_weaken}
 use Rattle.lis_reply.proofs.Showing.{begins_behind}
 use Rattle.lis_model.specs.Step.{Situation, Item, step, replies_by, after_by}
 use Rattle.lis_store.specs.Stands.{Stands}
+use Rattle.lis_session.specs.declared.end.End.{End}
+use Rattle.lis_session.specs.declared.end.End.TheVariants.{DiskFault, OutputFault}
 use Rattle.lis_session.specs.Session.{out, state_after, SessionMoment}
 use Rattle.lis_session.proofs.Moments.{begins_trans, out_begins, out_none, state_front, state_whole, take_none, take_whole}
-use Rattle.lis_load.specs.Load.{lag, LoadMoment}
+use Rattle.lis_load.specs.Load.{lag, LoadMoment, LoadStopped}
 
 module _ (start : Situation) where
   pub out_whole : (items : List Item) → out step start items (length items) ≡ replies_by step start items
@@ -63,4 +67,13 @@ module _ (start : Situation) where
     stands = m.stands;
     no_more = m.no_more;
     no_less = begins_trans _ _ shown (out_begins step start items (m.count - lag) (m.count - 1) (omega arith)) m.no_less;
+  }
+
+  -- a fault in the first items is one in all items
+  pub load_stopped_more : (first others : List Item) (before : Option (List ℕ)) (m : Meaning) (fault : End) → LoadStopped start first before m fault → LoadStopped start (first ++ others) before m fault
+  load_stopped_more first others before m DiskFault stop = tt
+  load_stopped_more first others before m OutputFault stop = record {
+    bytes = stop.bytes;
+    shown = stop.shown;
+    moment = always_weaken _ stop.moment (λ image moment. load_more first others image stop.bytes moment);
   }

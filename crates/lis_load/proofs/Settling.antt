@@ -1,7 +1,8 @@
 -- What a loader does next, told since a start: a commit, and showing what waited for it.
-use Rattle.std.proofs.Common.{◌≡◌, ◌⊎◌, ℕ, ◌+◌, ◌≤◌, List, [], ◌∷◌, ◌++◌, length, take, Option, Result, Ok, Err, IfOk, is_err, true, false, refl, ap, sym, subst, ◌∙◌, inl, inr, arith, append-nil}
+use Rattle.std.proofs.Common.{◌≡◌, ◌⊎◌, ℕ, ◌+◌, ◌≤◌, List, [], ◌∷◌, ◌++◌, length, take, Option, Some, None, Result, Ok, Err, IfOk, MatchResult, is_err, true, false, refl, ap, sym, subst, ◌∙◌, inl, inr, arith, append-nil}
 use Rattle.std.specs.Io.KnownBytes.{append_known}
 use Rattle.std.specs.List.{flat_map}
+use Rattle.std.specs.Option.{IfSome}
 use Rattle.lis_ports.specs.Meaning.{Meaning}
 use Rattle.lis_ports.specs.Runs.{Adds, Leaves}
 use Rattle.lis_ports.specs.Since.{Since}
@@ -34,7 +35,7 @@ use Rattle.lis_load.specs.declared.loader.Loader.{Loader}
 use Rattle.lis_load.specs.Load.{lag, LoadMoment, LoadStopped}
 use Rattle.lis_load.specs.Loading.{answer, Waits, LoadEnded, HasLoaded}
 use Rattle.lis_load.proofs.Held.{held_of_fits}
-use Rattle.lis_load.proofs.Moments.{out_whole, load_at, load_between}
+use Rattle.lis_load.proofs.Moments.{out_whole, load_at, load_between, load_more, load_stopped_more}
 
 -- What is done next: its moments, told since the start, that the blocks past the image stay, and how it ended.
 pub record Next (start : Situation) (items : List Item) (before : Option (List ℕ)) (old new : Meaning) (end : Type 0) : Type 0 where
@@ -64,6 +65,33 @@ loaded_then {start} {entry = entry} more done keeps one = record {
       };
 }
 
+-- the same by whether there was a fault
+pub matched : {start now : Loader} {entry m : Meaning} {items : List Item} (result : Result (Unit {0}) End)
+    → MatchResult result (λ _. HasLoaded start entry items now m (Ok tt)) (λ fault. HasLoaded start entry items now m (Err fault)) → HasLoaded start entry items now m result
+matched (Ok u) loaded = loaded
+matched (Err fault) loaded = loaded
+
+pub matches : {start now : Loader} {entry m : Meaning} {items : List Item} (result : Result (Unit {0}) End) → HasLoaded start entry items now m result
+    → MatchResult result (λ _. HasLoaded start entry items now m (Ok tt)) (λ fault. HasLoaded start entry items now m (Err fault))
+matches (Ok u) loaded = loaded
+matches (Err fault) loaded = loaded
+
+-- a fault before an item that was asked for
+pub stopped_before : {start now : Loader} {entry m : Meaning} {first : List Item} {fault : End} (asked : Option Item) → HasLoaded start entry first now m (Err fault)
+    → IfSome asked (λ item. HasLoaded start entry (first ++ item ∷ []) now m (Err fault))
+stopped_before None stopped = tt
+stopped_before {start} {entry = entry} {m} {first} {fault} (Some item) stopped = record {
+  keeps = stopped.keeps;
+  serves = λ state fitting.
+      let so_far = stopped.serves state fitting in
+      let from = situation_at start.session state in
+      record {
+        moments = adds_since entry.shown (load_more from first (item ∷ [])) so_far.moments;
+        past = so_far.past;
+        ended = load_stopped_more from first (item ∷ []) entry.shown m fault so_far.ended;
+      };
+}
+
 -- Nothing is shown: moments of the disk alone.
 pub quiet_next : (start : Situation) (items : List Item) (before : Option (List ℕ)) (whole : ℕ) {old new : Meaning} {Q : List ℕ → Type 0} → old.shown ≡ append_known before (out step start items whole)
     → ((image : List ℕ) → Q image → LoadMoment start items image (out step start items whole)) → Leaves old new Q → Adds old new (Since before (LoadMoment start items))
@@ -73,6 +101,25 @@ quiet_next start items before whole shown moment leaves =
 -- the limits are those of the start
 pub past_start : (start : Situation) (items : List Item) (count : ℕ) (old new : Meaning) → KeepsPast (image_blocks (state_after step start items count).limits) old new → KeepsPast (image_blocks start.state.limits) old new
 past_start start items count old new past = subst (λ (limits : Limits). KeepsPast (image_blocks limits) old new) (limits_after step step_regular start (take count items)) past
+
+-- All replies were shown, and the store fits.
+pub all_shown : (start : Situation) (items : List Item) (before : Option (List ℕ)) (now : Loader) (m : Meaning) → now.held.items ≡ [] → m.shown ≡ append_known before (replies_by step start items) → IsSound now.session.store
+    → StoreFits now.session.store m (after_by step start items).state → now.session.place ≡ (after_by step start items).place → Waits start items before now m
+all_shown start items before now m none shown sound fits at =
+    let all = sym (out_whole start items) in
+    let last = (after_by step start items).state in
+    record {
+      whole = length items;
+      base = length items;
+      counted = omega (arith, ap length none);
+      few = omega (arith, ap length none);
+      behind = omega arith;
+      within = omega arith;
+      shown = shown ∙ ap (append_known before) all;
+      answers = all ∙ sym (append-nil (out step start items (length items))) ∙ ap (λ held. out step start items (length items) ++ flat_map answer held) (sym none);
+      holds = subst (λ s. StoreHolds now.session.store m s last) (sym (state_whole step start items)) (held_of_fits now.session.store m last sound fits);
+      at = at;
+    }
 
 module _ {start : Situation} {items : List Item} {before : Option (List ℕ)} {now : Loader} {mid : Meaning} (waits : Waits start items before now mid) where
   abbrev said : List ℕ
@@ -106,18 +153,8 @@ module _ {start : Situation} {items : List Item} {before : Option (List ℕ)} {n
     then_shown known front is = is ∙ ap (λ known. append_known known front) shown ∙ append_known-append before said front
 
     answers_ended : (result : Result (Unit {0}) End) → Answers old new (flat_map answer now.held.items) result → IfOk result (λ _. next.held.items ≡ []) → LoadEnded start items before next new result
-    answers_ended (Ok u) answers none = record {
-      whole = length items;
-      base = length items;
-      counted = omega (arith, ap length none);
-      few = omega (arith, ap length none);
-      behind = omega arith;
-      within = omega arith;
-      shown = then_shown new.shown (flat_map answer now.held.items) answers.run.shown ∙ ap (append_known before) (sym waits.answers ∙ sym (out_whole start items));
-      answers = sym (out_whole start items) ∙ sym (append-nil (out step start items (length items))) ∙ ap (λ held. out step start items (length items) ++ flat_map answer held) (sym none);
-      holds = subst (λ s. StoreHolds next.session.store new s last) (sym (state_whole step start items)) (held_of_fits next.session.store new last sound (store_shown fitting answers.run.call).own);
-      at = at;
-    }
+    answers_ended (Ok u) answers none =
+        all_shown start items before next new none (then_shown new.shown (flat_map answer now.held.items) answers.run.shown ∙ ap (append_known before) (sym waits.answers)) sound (store_shown fitting answers.run.call).own at
     answers_ended (Err DiskFault) answers none = tt
     answers_ended (Err OutputFault) answers none =
         let front = front_begins old.shown new.shown (flat_map answer now.held.items) answers.run.shown in

@@ -11,8 +11,8 @@ pub returns-clause-held : goal.returns-clause-held
 returns-clause-held g c = λ start entry first loaded.
     elim c.match-hold.branch [
       | in-Ok w ↦
-        held_made _ _ loaded c.requires.room c.args.command.now c.args.payload.now c.requires.change c.hold.ensures.place (rw w.refused-is at c.push.ensures.items) w.in-Ok.ensures.keeps w.in-Ok.ensures.holds
+          held_made _ _ loaded c.requires.room c.args.command.now c.args.payload.now c.requires.change c.hold.ensures.place (rw w.refused-is at c.push.ensures.items) w.in-Ok.ensures.keeps w.in-Ok.ensures.holds
       | in-Err-Refused w ↦
-        held_refused _ _ loaded c.requires.room c.args.command.now c.args.payload.now c.requires.change c.hold.ensures.place (rw w.refused-is at c.push.ensures.items)
-        (rw w.in-Err-Refused.field-0-is at w.in-Err-Refused.ensures.keeps) (rw w.in-Err-Refused.field-0-is at w.in-Err-Refused.ensures.holds)
+          held_refused _ _ loaded c.requires.room c.args.command.now c.args.payload.now c.requires.change c.hold.ensures.place (rw w.refused-is at c.push.ensures.items)
+          (rw w.in-Err-Refused.field-0-is at w.in-Err-Refused.ensures.keeps) (rw w.in-Err-Refused.field-0-is at w.in-Err-Refused.ensures.holds)
     ]
