@@ -3,3 +3,4 @@ mod Held
 pub mod Settling
 pub mod Holding
 pub mod Stepping
+pub mod Served

@@ -121,6 +121,11 @@ all_shown start items before now m none shown sound fits at =
       at = at;
     }
 
+pub shown_all : {start : Situation} {items : List Item} {before : Option (List ℕ)} {now : Loader} {m : Meaning} → Waits start items before now m → now.held.items ≡ [] → m.shown ≡ append_known before (replies_by step start items)
+shown_all {start} {items} {before} waits none =
+    let front = out step start items waits.whole in
+    waits.shown ∙ ap (append_known before) (sym (waits.answers ∙ ap (λ held. front ++ flat_map answer held) none ∙ append-nil front))
+
 module _ {start : Situation} {items : List Item} {before : Option (List ℕ)} {now : Loader} {mid : Meaning} (waits : Waits start items before now mid) where
   abbrev said : List ℕ
   said = out step start items waits.whole

@@ -23,7 +23,7 @@ use Rattle.lis_load.specs.declared.loader.Loader.{Loader}
 use Rattle.lis_load.specs.Loading.{answer, Waits, LoadEnded, HasLoaded, IsIdle}
 use Rattle.lis_load.proofs.Held.{fits_of_held}
 use Rattle.lis_load.proofs.Moments.{load_more, load_session}
-use Rattle.lis_load.proofs.Settling.{Next, loaded_then, all_shown}
+use Rattle.lis_load.proofs.Settling.{Next, loaded_then, all_shown, shown_all}
 
 module _ (start : Situation) (first : List Item) (item : Item) {before : Option (List ℕ)} {now : Loader} (next : Loader) {mid : Meaning} (m : Meaning) (waits : Waits start first before now mid) (none : now.held.items ≡ [])
     (same : next.held.items ≡ now.held.items) where
@@ -37,9 +37,7 @@ module _ (start : Situation) (first : List Item) (item : Item) {before : Option 
   said = replies_by step start first
 
   said_all : mid.shown ≡ append_known before said
-  said_all =
-      let front = out step start first waits.whole in
-      waits.shown ∙ ap (append_known before) (sym (waits.answers ∙ ap (λ held. front ++ flat_map answer held) none ∙ append-nil front))
+  said_all = shown_all waits none
 
   then_said : (known : Option (List ℕ)) (more : List ℕ) → known ≡ append_known mid.shown more → known ≡ append_known before (said ++ more)
   then_said known more is = is ∙ ap (λ known. append_known known more) said_all ∙ append_known-append before said more
