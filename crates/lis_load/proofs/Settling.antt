@@ -25,14 +25,14 @@ use Rattle.lis_session.specs.declared.end.End.TheVariants.{DiskFault, OutputFaul
 use Rattle.lis_session.specs.Item.{FitsAt}
 use Rattle.lis_session.specs.Parts.{Answers, kept_up}
 use Rattle.lis_session.specs.Served.{SessionKeeps, situation_at}
-use Rattle.lis_session.specs.Session.{Situated, out, state_after}
+use Rattle.lis_session.specs.Session.{out, state_after}
 use Rattle.lis_session.proofs.Fitting.{store_shown, store_fits_at}
 use Rattle.lis_session.proofs.Going.{keeps_then}
 use Rattle.lis_session.proofs.Moments.{adds_since, adds_later, front_begins, state_whole}
 use Rattle.lis_session.proofs.Shown.{answers_end}
 use Rattle.lis_session.proofs.Saying.{unchanged_past}
 use Rattle.lis_load.specs.declared.loader.Loader.{Loader}
-use Rattle.lis_load.specs.Load.{lag, LoadMoment, LoadStopped}
+use Rattle.lis_load.specs.Load.{lag, LoadMoment}
 use Rattle.lis_load.specs.Loading.{answer, Waits, LoadEnded, HasLoaded}
 use Rattle.lis_load.proofs.Held.{held_of_fits}
 use Rattle.lis_load.proofs.Moments.{out_whole, load_at, load_between, load_more, load_stopped_more}

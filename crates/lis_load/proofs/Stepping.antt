@@ -1,7 +1,6 @@
 -- An item that is carried out where nothing is held back, told since a start.
-use Rattle.std.proofs.Common.{◌≡◌, ℕ, List, [], ◌∷◌, ◌++◌, Option, Some, None, Result, Ok, Err, MatchResult, ap, sym, subst, ◌∙◌, inr, append-nil}
+use Rattle.std.proofs.Common.{◌≡◌, ℕ, List, [], ◌∷◌, ◌++◌, Option, Some, None, Result, Ok, Err, MatchResult, ap, sym, subst, ◌∙◌, inr}
 use Rattle.std.specs.Io.KnownBytes.{append_known}
-use Rattle.std.specs.List.{flat_map}
 use Rattle.std.specs.Option.{IfSome}
 use Rattle.lis_ports.specs.Meaning.{Meaning}
 use Rattle.lis_ports.proofs.Always.{always_weaken}
@@ -16,11 +15,10 @@ use Rattle.lis_session.specs.declared.end.End.{End}
 use Rattle.lis_session.specs.declared.end.End.TheVariants.{DiskFault, OutputFault}
 use Rattle.lis_session.specs.Item.{OneItem, CarriesOut}
 use Rattle.lis_session.specs.Served.{SessionKeeps}
-use Rattle.lis_session.specs.Session.{out}
 use Rattle.lis_session.proofs.Fitting.{store_fits_at}
 use Rattle.lis_session.proofs.Moments.{adds_later, moment_in}
 use Rattle.lis_load.specs.declared.loader.Loader.{Loader}
-use Rattle.lis_load.specs.Loading.{answer, Waits, LoadEnded, HasLoaded, IsIdle}
+use Rattle.lis_load.specs.Loading.{Waits, LoadEnded, HasLoaded, IsIdle}
 use Rattle.lis_load.proofs.Held.{fits_of_held}
 use Rattle.lis_load.proofs.Moments.{load_more, load_session}
 use Rattle.lis_load.proofs.Settling.{Next, loaded_then, all_shown, shown_all}
