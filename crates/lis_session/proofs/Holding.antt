@@ -6,10 +6,9 @@ use Rattle.lis_ports.specs.Calls.{DiskFaultEnds}
 use Rattle.lis_store.specs.declared.change.Change.{Change}
 use Rattle.lis_store.specs.declared.change.Change.TheVariants.{Refused, Disk}
 use Rattle.lis_store.specs.Changes.{ChangeLeft, CommitLeft, HasChangeCause}
-use Rattle.lis_store.specs.Stored.{Stored, IsSound}
-use Rattle.lis_session.specs.declared.end.End.{End}
+use Rattle.lis_store.specs.Stored.{Stored}
 use Rattle.lis_session.specs.declared.end.End.TheVariants.{DiskFault}
-use Rattle.lis_session.specs.Item.{HasEndCause, StoreLeft}
+use Rattle.lis_session.specs.Item.{HasEndCause}
 use Rattle.lis_session.specs.Parts.{Ends, kept_up}
 
 module _ {old new : Meaning} where
