@@ -66,6 +66,8 @@ WORDS = (
     Word("make", MADE, LIMITS, looks=b"s files 0\ns known 0\ns axioms 0\ns free 8\nok\n", wrong=NO_LIMITS),
     Word("run", CHANGED, (), SESSION, (b"mkdir jazz\n", b"axiom jazz music\n", b"add tune 5 jazz\nhello\n", b"rm song\n", b"ls\n"),
          b"ok\nok\nok\nok\nd ext:\nd music\nok\n", look=b"ls\ncat tune\n", looks=b"d ext:\nd music\nok\nb 5\nhello\nok\n"),
+    Word("load", CHANGED, (), SESSION, (b"mkdir jazz\n", b"axiom jazz music\n", b"add tune 5 jazz\nhello\n", b"rm song\n", b"ls\n"),
+         b"ok\nok\nok\nok\nd ext:\nd music\nok\n", ahead=256, look=b"ls\ncat tune\n", looks=b"d ext:\nd music\nok\nb 5\nhello\nok\n"),
     Word("upgrade", UPGRADED),
     Word("grow", CHANGED, ("7",), shows=b"replies 1241\nrefused 1127\nfiles 52\naxioms 16\nfree 0\nlisted 49\n",
          looks=b"s files 52\ns known 52\ns axioms 16\ns free 0\nok\n", wrong=(("2147483648",), ("x",), ("-1",), ("",))),

@@ -19,6 +19,10 @@ with_entry (e ∷ es) home bytes =
 abbrev pub has_entry : List Entry → ℕ → Bool
 has_entry es n = list_any (λ e. e.home == n) es
 
+-- each entry has the bytes of a block
+abbrev pub are_whole : List Entry → Bool
+are_whole es = list_all (λ e. length e.bytes == 4096) es
+
 -- none of so many blocks from this one on is staged
 abbrev pub HasNone : List Entry → ℕ → ℕ → Type 0
 HasNone es first count = (n : ℕ) → first ≤ n → n < first + count → has_entry es n ≡ false
@@ -26,5 +30,5 @@ HasNone es first count = (n : ℕ) → first ≤ n → n < first + count → has
 -- The homes rise, are home blocks inside the image, and each content is a block.
 pub record IsStaging (s : Staging) : Type 0 where
   pub rise : IsTrue (rises s.blocks 577 (homes s.entries))
-  pub whole : IsTrue (list_all (λ e. length e.bytes == 4096) s.entries)
+  pub whole : IsTrue (are_whole s.entries)
   pub few : length s.entries ≤ 575

@@ -6,7 +6,7 @@ ghost use Rattle.lis_ports.specs.Runs.{IsDiskRun, Leaves, IsSettled};
 ghost use Rattle.lis_ports.specs.Calls.{HasCause, IsUnchanged, DiskFaultEnds};
 ghost use Rattle.lis_journal.specs.Record.{recovered};
 ghost use Rattle.lis_journal.specs.Images.{StandsBut, StandsForAllOrNone, Fits, KeepsPast, look, held_in, is_among, with_placed, with_kept, with_run};
-ghost use Rattle.lis_journal.specs.Staging.{with_entry, has_entry, HasNone};
+ghost use Rattle.lis_journal.specs.Staging.{with_entry, has_entry, are_whole, HasNone};
 
 use crate::header::write_header;
 use crate::mount::recover;
@@ -155,9 +155,10 @@ impl Journal {
         self.stage.blocks()
     }
 
-    /// How many blocks are staged.
+    /// How many blocks are staged, each of them whole.
     pub fn staged(&self) -> u32
-        ensures { result ≡ length self.now.staged }
+        ensures count { result ≡ length self.now.staged }
+        ensures whole { IsTrue (are_whole self.now.staged) }
     {
         self.stage.len() as u32
     }

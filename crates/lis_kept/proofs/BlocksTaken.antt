@@ -1,7 +1,7 @@
 -- Blocks that are taken for a content, or given back.
-use Rattle.std.proofs.Common.{◌≡◌, refl, sym, ap, ◌∙◌, subst, ℕ, zero, suc, ◌+◌, ◌^◌, ◌<◌, ◌≤◌, ◌==◌, ◌&&◌, if◌then◌else◌, cond, nat_lt, not, Bool, true, false, List, [], ◌∷◌, length, drop, set, Result, Ok, Err, OnErr, MatchResult, is_some, arith, length-set}
+use Rattle.std.proofs.Common.{◌≡◌, refl, sym, ap, ◌∙◌, subst, ℕ, zero, suc, ◌+◌, ◌^◌, ◌<◌, ◌≤◌, ◌==◌, ◌&&◌, if◌then◌else◌, nat_lt, not, Bool, true, false, List, [], ◌∷◌, length, drop, set, Result, Ok, Err, MatchResult, is_some, arith, length-set}
 use Rattle.std.specs.List.{list_all}
-use Rattle.std.proofs.lemmas.Bool.{and_parts, and_from, cond-false, eq-eqb, ne_eqb, ltb-true, lt-ltb}
+use Rattle.std.proofs.lemmas.Bool.{and_parts, and_from, cond-true, cond-false, eq-eqb, ltb-true, ltb-false, lt-ltb}
 use Rattle.lis_ports.specs.Meaning.{Meaning}
 use Rattle.lis_ports.specs.Runs.{Leaves}
 use Rattle.lis_ports.proofs.Moments.{leaves_none}
@@ -119,18 +119,14 @@ placed_fills p taken old before after blocks places = record {
 }
 
 module _ (p : Kept) (t : Taxonomy) (held : AreHeld p t) (bytes numbers : List ℕ) (taken : List Bool) (old new : Held) (before after : Meaning) (few : length bytes ≤ file_limit p.limits.version)
-    (unstaged : old.staged ≡ []) (two : p.limits.version ≡ 2) (placed : IsPlaced (data_start p.limits) bytes p.taken taken old new before after numbers) where
+    (unstaged : old.staged ≡ []) (large : is_large (length bytes) ≡ true) (placed : IsPlaced (data_start p.limits) bytes p.taken taken old new before after numbers) where
   slot_apart : are_distinct numbers ≡ true
   slot_apart =
-      subst (λ ns. are_distinct ns ≡ true) (sym placed.slot_is)
-      (by (is_large (length bytes)) (drop (blocks_needed (length bytes)) placed.blocks) placed.blocks (distinct_behind placed.blocks (blocks_needed (length bytes)) placed.lays.places.distinct) placed.lays.places.distinct)
-    where
-      by : (b : Bool) (ns ms : List ℕ) → are_distinct ns ≡ true → are_distinct ms ≡ true → are_distinct (cond b ns ms) ≡ true
-      by true ns ms one two = one
-      by false ns ms one two = two
+      subst (λ ns. are_distinct ns ≡ true) (sym (placed.slot_is ∙ cond-true (is_large (length bytes)) _ placed.blocks large))
+      (distinct_behind placed.blocks (blocks_needed (length bytes)) placed.lays.places.distinct)
 
-  staged_then : new.staged ≡ []
-  staged_then = ap (λ (h : Held). h.staged) placed.lays.journal ∙ unstaged
+  staged_same : new.staged ≡ old.staged
+  staged_same = ap (λ (h : Held). h.staged) placed.lays.journal
 
   abbrev placed_lands : (kept : ℕ → List ℕ) → Fits old before kept → Lands p.limits bytes numbers placed.blocks (looked old.staged kept) new after
   placed_lands kept fits =
@@ -139,8 +135,8 @@ module _ (p : Kept) (t : Taxonomy) (held : AreHeld p t) (bytes numbers : List �
       record {
         kept = end.0;
         fits = end.1;
-        same = λ n none. ap (λ (es : List Entry). look es n (end.0 n)) staged_then ∙ (end.2 n none ∙ ap (λ (es : List Entry). look es n (kept n)) (sym unstaged));
-        holds = subst H (sym staged_then) end.3;
+        same = λ n none. ap (λ (es : List Entry). look es n (end.0 n)) staged_same ∙ ap (look old.staged n) (end.2 n none);
+        holds = subst H (sym (staged_same ∙ unstaged)) end.3;
       }
 
   placed_puts : (q : Kept) → Takes taken p q → Puts bytes numbers p q old new before after
@@ -153,14 +149,14 @@ module _ (p : Kept) (t : Taxonomy) (held : AreHeld p t) (bytes numbers : List �
     image = ap (λ (h : Held). h.blocks) placed.lays.journal;
     broken = ap (λ (h : Held). h.is_broken) placed.lays.journal;
     placed = λ n among. sym (among_homes (data_start p.limits) placed.blocks n) ∙ (ap (λ (h : Held). is_among h.placed n) (sym placed.lays.journal) ∙ among);
-    few_staged = omega (arith, ap length staged_then);
-    others = λ n was out. ap (λ (es : List Entry). look es n was) (staged_then ∙ sym unstaged);
+    few_staged = omega (arith, ap length staged_same);
+    others = λ n was out. ap (λ (es : List Entry). look es n was) staged_same;
     lands = placed_lands;
     stays = λ kept fits n none. (placed.lays.fits kept fits).2 n (sym (among_homes (data_start p.limits) placed.blocks n) ∙ (ap (λ (h : Held). is_among h.placed n) (sym placed.lays.journal) ∙ none));
     moments = λ kept fits.
         subst (λ ns. Leaves before after (StandsBut old.blocks ns kept)) (sym (ap (λ (h : Held). h.placed) placed.lays.journal)) (placed.lays.places.moments kept fits);
-    unplaced = λ one. absurd (omega (arith, one, two));
-    unstaged = λ _. staged_then ∙ sym unstaged;
+    unplaced = λ small. absurd (let e : true ≡ false = sym large ∙ small in cc);
+    unstaged = λ _. staged_same;
   }
     where
       free : are_free p.taken numbers ≡ true
@@ -168,9 +164,9 @@ module _ (p : Kept) (t : Taxonomy) (held : AreHeld p t) (bytes numbers : List �
 
 -- ---- a content that is staged
 module _ (p : Kept) (t : Taxonomy) (held : AreHeld p t) (bytes numbers : List ℕ) (taken : List Bool) (old new : Held) (m : Meaning) (few : length bytes ≤ file_limit p.limits.version)
-    (not_two : p.limits.version ≡ 2 → ⊥) (short : length bytes ≤ 65536) (unstaged : old.staged ≡ []) (unplaced : old.placed ≡ []) (put : IsPut (data_start p.limits) [] bytes p.taken taken old new numbers) where
-  small : is_large (length bytes) ≡ false
-  small = small_size (length bytes) short
+    (small : is_large (length bytes) ≡ false) (unplaced : old.placed ≡ []) (put : IsPut (data_start p.limits) [] bytes p.taken taken old new numbers) where
+  not_large : is_large (length bytes) ≡ true → ⊥
+  not_large large = let e : true ≡ false = sym large ∙ small in cc
 
   counted : length numbers ≡ slot_count (length bytes)
   counted = put.count ∙ sym (cond-false (is_large (length bytes)) 1 (blocks_needed (length bytes)) small)
@@ -189,7 +185,7 @@ module _ (p : Kept) (t : Taxonomy) (held : AreHeld p t) (bytes numbers : List �
     same = λ n none. put.others n (kept n) none;
     holds = record {
       reads = small_content (data_start p.limits) numbers (length bytes) (looked new.staged kept) small ∙ put.holds kept;
-      index = λ large. absurd (let e : true ≡ false = sym large ∙ small in cc);
+      index = λ large. absurd (not_large large);
       all = small_blocks (data_start p.limits) numbers (length bytes) (looked new.staged kept) small;
     };
   }
@@ -209,13 +205,13 @@ module _ (p : Kept) (t : Taxonomy) (held : AreHeld p t) (bytes numbers : List �
     image = put.image;
     broken = put.broken;
     placed = λ n among. absurd (let none : is_among new.placed n ≡ false = ap (λ ns. is_among ns n) (put.placed ∙ unplaced) in let e : true ≡ false = sym among ∙ none in cc);
-    few_staged = omega (arith, put.few, put.count, short, ap length unstaged);
+    few_staged = omega (arith, put.few, put.count, ltb-false 16 (blocks_needed (length bytes)) small);
     others = put.others;
     lands = staged_lands;
     stays = λ kept fits n none. refl;
     moments = λ kept fits. leaves_none m _;
-    unplaced = λ one. put.placed ∙ unplaced;
-    unstaged = λ two. absurd (not_two two);
+    unplaced = λ _. put.placed ∙ unplaced;
+    unstaged = λ large. absurd (not_large large);
   }
 
 -- ---- how a put ends
@@ -223,14 +219,21 @@ module _ (p : Kept) (t : Taxonomy) (held : AreHeld p t) (bytes numbers : List �
 pub record PutEnds {T : Type 0} (items : T → List ℕ) (bytes : List ℕ) (k q : Kept) (t : Taxonomy) (old new : Held) (before after : Meaning) (put : Result T PutFault) : Type 0 where
   pub held : AreHeld q t
   pub ended : MatchResult put (λ numbers. Puts bytes (items numbers) k q old new before after) (λ fault. PutTorn k q old new before after)
-  pub torn : OnErr put (k.limits.version ≡ 2)
+
+-- as many blocks are taken in each version as in version 2, since what is large is of that version
+taken_counted : (version size : ℕ) → size ≤ file_limit version → blocks_taken version size ≡ blocks_taken 2 size
+taken_counted version size few = by (version == 2) few
+  where
+    by : (two : Bool) → size ≤ (if two then 1048576 else 65536) → (if two && nat_lt 16 (blocks_needed size) then blocks_needed size + 1 else blocks_needed size) ≡ blocks_taken 2 size
+    by true le = refl
+    by false le = sym (cond-false (is_large size) _ (blocks_needed size) (small_size size le))
 
 -- what is asked of a put
 pub record MayPut (k : Kept) (bytes : List ℕ) (old : Held) : Type 0 where
   pub short : length bytes ≤ file_limit k.limits.version
   pub enough : blocks_taken k.limits.version (length bytes) ≤ free_count k.taken
   pub unplaced : old.placed ≡ []
-  pub unstaged : old.staged ≡ []
+  pub unstaged : is_large (length bytes) ≡ true → old.staged ≡ []
 
 module _ {T : Type 0} (items : T → List ℕ) (k p : Kept) (t : Taxonomy) (is : p ≡ k) (held : AreHeld p t) (bytes : List ℕ) (old new : Held) (asked : MayPut k bytes old) (taken marks : List Bool)
     (are_marks : marks ≡ set p.marks (bitmap_start p.limits) true) (base : ℕ) (from : base ≡ data_start p.limits) where
@@ -246,10 +249,10 @@ module _ {T : Type 0} (items : T → List ℕ) (k p : Kept) (t : Taxonomy) (is :
   takes_put : length taken ≡ length p.taken → Takes taken p after_put
   takes_put len = (takes p p t taken marks refl held len are_marks).1
 
-  module _ (before after : Meaning) (two : p.limits.version ≡ 2) where
-    needed_enough : blocks_taken 2 (length bytes) ≤ free_count p.taken
-    needed_enough = subst (λ v. blocks_taken v (length bytes) ≤ free_count p.taken) two may.enough
+  needed_enough : blocks_taken 2 (length bytes) ≤ free_count p.taken
+  needed_enough = subst (λ n. n ≤ free_count p.taken) (taken_counted p.limits.version (length bytes) may.short) may.enough
 
+  module _ (before after : Meaning) (large : is_large (length bytes) ≡ true) where
     torn_off : IsTornOff (data_start p.limits) p.taken taken old new before after → PutTorn k after_put old new before after
     torn_off torn =
         let P : Kept → Type 0 = λ q. PutTorn q after_put old new before after in
@@ -267,28 +270,19 @@ module _ {T : Type 0} (items : T → List ℕ) (k p : Kept) (t : Taxonomy) (is :
         let P : Kept → Type 0 = λ q. Puts bytes (items s) q after_put old new before after in
         record {
           held = held_put placed.lays.places.len;
-          ended = subst P is (placed_puts p t held bytes (items s) taken old new before after may.short may.unstaged two placed after_put (takes_put placed.lays.places.len));
-          torn = tt;
+          ended = subst P is (placed_puts p t held bytes (items s) taken old new before after may.short (may.unstaged large) large placed after_put (takes_put placed.lays.places.len));
         }
     ends_placed (Err NoSpace) refused = absurd (omega (arith, refused.2, needed_enough))
-    ends_placed (Err Disk) torn = record { held = held_put torn.1.places.len; ended = torn_off torn.1; torn = ap (λ (q : Kept). q.limits.version) (sym is) ∙ two }
+    ends_placed (Err Disk) torn = record { held = held_put torn.1.places.len; ended = torn_off torn.1 }
 
     pub placed_ends : (put : Result T PutFault) → MatchResult put (λ s. IsPlaced base bytes p.taken taken old new before after (items s)) (λ fault. IsUnplaced base bytes p.taken taken old new before after fault)
         → PutEnds items bytes k after_put t old new before after put
     placed_ends put ended =
         ends_placed put (subst (λ b. MatchResult put (λ s. IsPlaced b bytes p.taken taken old new before after (items s)) (λ fault. IsUnplaced b bytes p.taken taken old new before after fault)) from ended)
 
-  module _ (m : Meaning) (not_two : p.limits.version ≡ 2 → ⊥) where
-    one : (p.limits.version == 2) ≡ false
-    one = ne_eqb p.limits.version 2 not_two
-
-    few_bytes : length bytes ≤ 65536
-    few_bytes = subst (λ n. length bytes ≤ n) (cond-false (p.limits.version == 2) 1048576 65536 one) may.short
-
+  module _ (m : Meaning) (small : is_large (length bytes) ≡ false) where
     content_enough : blocks_needed (length bytes) ≤ free_count p.taken
-    content_enough =
-        subst (λ n. n ≤ free_count p.taken)
-        (ap (λ b. if b && is_large (length bytes) then blocks_needed (length bytes) + 1 else blocks_needed (length bytes)) one) may.enough
+    content_enough = subst (λ n. n ≤ free_count p.taken) (cond-false (is_large (length bytes)) _ (blocks_needed (length bytes)) small) needed_enough
 
     ends_staged : (put : Result T PutFault)
         → MatchResult put (λ s. IsPut (data_start p.limits) [] bytes p.taken taken old new (items s)) (λ fault. IsRefused [] bytes p.taken taken old new fault)
@@ -297,8 +291,7 @@ module _ {T : Type 0} (items : T → List ℕ) (k p : Kept) (t : Taxonomy) (is :
         let P : Kept → Type 0 = λ q. Puts bytes (items s) q after_put old new m m in
         record {
           held = held_put is_put.len;
-          ended = subst P is (staged_puts p t held bytes (items s) taken old new m may.short not_two few_bytes may.unstaged may.unplaced is_put after_put (takes_put is_put.len));
-          torn = tt;
+          ended = subst P is (staged_puts p t held bytes (items s) taken old new m may.short small may.unplaced is_put after_put (takes_put is_put.len));
         }
     ends_staged (Err NoSpace) refused = absurd (omega (arith, refused.2, content_enough))
     ends_staged (Err Disk) never = absurd never
@@ -313,9 +306,6 @@ ended_ok P Q put x is ended = subst (λ r. MatchResult r P Q) is ended
 
 pub ended_err : {T : Type 0} (P : T → Type 0) (Q : PutFault → Type 0) (put : Result T PutFault) (fault : PutFault) → put ≡ Err fault → MatchResult put P Q → Q fault
 ended_err P Q put fault is ended = subst (λ r. MatchResult r P Q) is ended
-
-pub torn_err : {T : Type 0} (P : Type 0) (put : Result T PutFault) (fault : PutFault) → put ≡ Err fault → OnErr put P → P
-torn_err P put fault is torn = subst (λ r. OnErr r P) is torn
 
 -- ---- blocks that are given back
 -- the homes of the blocks that a slot numbers are blocks of the image

@@ -129,8 +129,8 @@ pub record Fills (blocks : List ℕ) (p : Kept) (old : Held) (before after : Mea
   pub moments : (kept : ℕ → List ℕ) → Fits old before kept → Leaves before after (StandsBut old.blocks (homes_of (data_start p.limits) blocks) kept)
   pub past : (kept : ℕ → List ℕ) → Fits old before kept → KeepsPast old.blocks before after
 
--- A content is put into free blocks, which are taken: staged in version 1, and placed in version 2, with an index block where they are
--- many. `old` and `new` are the journal before and after. Nothing else is staged or placed.
+-- A content is put into free blocks, which are taken: staged, or placed with an index block where it is large. `old` and `new` are the
+-- journal before and after. Nothing else is staged or placed.
 pub record Puts (bytes numbers : List ℕ) (p q : Kept) (old new : Held) (before after : Meaning) : Type 0 where
   pub blocks : List ℕ
   pub fills : Fills blocks p old before after
@@ -140,13 +140,13 @@ pub record Puts (bytes numbers : List ℕ) (p q : Kept) (old new : Held) (before
   pub image : new.blocks ≡ old.blocks
   pub broken : new.is_broken ≡ old.is_broken
   pub placed : (n : ℕ) → is_among new.placed n ≡ true → has_home (data_start p.limits) blocks n ≡ true
-  pub few_staged : length new.staged ≤ 16
+  pub few_staged : length new.staged ≤ length old.staged + 16
   pub others : (n : ℕ) (was : List ℕ) → has_home (data_start p.limits) blocks n ≡ false → look new.staged n was ≡ look old.staged n was
   pub lands : (kept : ℕ → List ℕ) → Fits old before kept → Lands p.limits bytes numbers blocks (looked old.staged kept) new after
   pub stays : (kept : ℕ → List ℕ) (fits : Fits old before kept) (n : ℕ) → is_among new.placed n ≡ false → (lands kept fits).kept n ≡ kept n
   pub moments : (kept : ℕ → List ℕ) → Fits old before kept → Leaves before after (StandsBut old.blocks new.placed kept)
-  pub unplaced : p.limits.version ≡ 1 → new.placed ≡ []
-  pub unstaged : p.limits.version ≡ 2 → new.staged ≡ old.staged
+  pub unplaced : is_large (length bytes) ≡ false → new.placed ≡ []
+  pub unstaged : is_large (length bytes) ≡ true → new.staged ≡ old.staged
 
 -- The disk failed: some blocks are taken, and only what is on the disk counts.
 pub record PutTorn (p q : Kept) (old new : Held) (before after : Meaning) : Type 0 where

@@ -34,26 +34,31 @@ module _ {I : Type 0} {cut : Cut I} {first : List ℕ → FirstOf I} (cuts : Cut
   last_items (b ∷ bytes) item is =
       cuts.all (b ∷ bytes) _ (omega arith) is ∙ ap (λ items. option_to_list item ++ items) cuts.all_none ∙ append-nil (option_to_list item)
 
-  not_whole_items : (bytes : List ℕ) → (first bytes).is_whole ≡ false → cut.whole bytes ≡ []
+  pub not_whole_items : (bytes : List ℕ) → (first bytes).is_whole ≡ false → cut.whole bytes ≡ []
   not_whole_items [] none = cuts.whole_none
   not_whole_items (b ∷ bytes) none =
       cuts.whole (b ∷ bytes) (first (b ∷ bytes)) (omega arith) refl
       ∙ ap (λ whole. cond whole (option_to_list (first (b ∷ bytes)).item ++ cut.whole (first (b ∷ bytes)).rest) []) none
 
+  -- a part that is whole, whatever follows
+  pub whole_is : (bytes : List ℕ) (item : Option I) → ((more : List ℕ) → first (bytes ++ more) ≡ record { item = item; rest = more; is_whole = true })
+      → IsWhole cut bytes (option_to_list item)
+  whole_is bytes item is =
+      let some = whole_some bytes item is in
+      record {
+        all = λ more. cuts.all (bytes ++ more) _ (omega (arith, some, length-append bytes more)) (is more);
+        whole = λ more. cuts.whole (bytes ++ more) _ (omega (arith, some, length-append bytes more)) (is more);
+      }
+
   pub part_given : {R E : Type 0} (asks : R → I) (old new : Stocked) (left_before left : Option (List ℕ)) (result : Result (Part R) E)
       → TakesPart first asks old new left_before left result → GivesPart cut asks old new left_before left result
-  part_given asks old new left_before left (Ok (Whole asked)) part =
-      let some = whole_some part.bytes (option_map asks asked) part.is in
-      record {
-        bytes = part.bytes;
-        gave = part.gave;
-        some = some;
-        within = part.within;
-        is = record {
-          all = λ more. cuts.all (part.bytes ++ more) _ (omega (arith, some, length-append part.bytes more)) (part.is more);
-          whole = λ more. cuts.whole (part.bytes ++ more) _ (omega (arith, some, length-append part.bytes more)) (part.is more);
-        };
-      }
+  part_given asks old new left_before left (Ok (Whole asked)) part = record {
+    bytes = part.bytes;
+    gave = part.gave;
+    some = whole_some part.bytes (option_map asks asked) part.is;
+    within = part.within;
+    is = whole_is part.bytes (option_map asks asked) part.is;
+  }
   part_given asks old new left_before left (Ok (Last (Some asked))) part = record {
     bytes = part.bytes;
     gave = part.gave;

@@ -1,5 +1,6 @@
 -- The loop over an input: what it keeps, and how it ends.
 use Rattle.std.proofs.Common.{◌≡◌, ℕ, ◌+◌, ◌-◌, List, [], ◌∷◌, ◌++◌, length, Option, Some, Ok, Err, subst, arith, length-append}
+use Rattle.std.specs.Bool.{⊤}
 use Rattle.std.specs.Option.{IfSome}
 use Rattle.lis_model.specs.Script.{Cut, script_by}
 use Rattle.lis_line.specs.declared.reader.Next.TheVariants.{End, Limit}
@@ -18,6 +19,11 @@ pub record SoFar {I : Type 0} (cut : Cut I) (limit : ℕ) (left_before left : Op
 pub so_far_none : {I : Type 0} (cut : Cut I) {limit : ℕ} {left : Option (List ℕ)} {reading : Reading} (carried : List I → Type 0) (can : ℕ → Type 0)
     → reading ≡ fresh limit → carried [] → can limit → SoFar cut limit left left reading carried can
 so_far_none cut {limit} {left} {reading} carried can is none able = record { first = []; read = read_none cut limit left reading is; done = none; ready = subst can (omega arith) able }
+
+-- these items were carried out, whatever more can be
+pub so_far_done : {I : Type 0} {cut : Cut I} {limit : ℕ} {left_before left : Option (List ℕ)} {reading : Reading} {before : List I → Type 0} {can : ℕ → Type 0}
+    (so_far : SoFar cut limit left_before left reading before can) (carried : List I → Type 0) → carried so_far.first → SoFar cut limit left_before left reading carried (λ _. ⊤)
+so_far_done so_far carried done = record { first = so_far.first; read = so_far.read; done = done; ready = tt }
 
 -- what is said of the asked item holds of the item that was taken
 pub of_item : {I : Type 0} {asked : Option I} {item : I} (P : I → Type 0) → asked ≡ Some item → IfSome asked P → P item
@@ -53,6 +59,15 @@ module _ {I : Type 0} {cut : Cut I} {limit : ℕ} {left_before left : Option (Li
       read = λ input known. script_front (subst (λ l. ReadSoFar cut limit l left reading (first ++ item ∷ [])) known taken);
     },
   )
+
+-- or behind some of the items
+pub went_front : {I : Type 0} {cut : Cut I} {limit : ℕ} {left_before left : Option (List ℕ)} {reading : Reading} {first : List I} → ReadSoFar cut limit left_before left reading first
+    → (stopped : List I → Type 0) → stopped first → Went left_before stopped (λ input first. IsFront (script_by cut input limit) first)
+went_front {cut = cut} {limit} {left = left} {reading} {first} taken stopped fault = record {
+  first = first;
+  done = fault;
+  read = λ input known. script_front (subst (λ l. ReadSoFar cut limit l left reading first) known taken);
+}
 
 module _ {I : Type 0} {cut : Cut I} {limit : ℕ} {left_before left : Option (List ℕ)} {old : Reading} {carried : List I → Type 0} {can : ℕ → Type 0}
     (so_far : SoFar cut limit left_before left old carried can) where

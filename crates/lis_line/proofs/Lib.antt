@@ -9,6 +9,8 @@ mod Sized
 pub mod Kept
 mod Parts
 mod Asking
+mod Whole
+mod Held
 pub mod Given
 pub mod Answered
 pub mod Carrying

@@ -43,6 +43,16 @@ HasEnded cut limit before left done stopped InputFault =
 HasEnded {I} cut limit before left done stopped (Stopped fault) =
     (item : I) × Went before (λ first. stopped first item fault) (λ input first. IsFront (script_by cut input limit) (first ++ item ∷ []))
 
+-- The same where a carrier may hold things back: at each other end than a fault of its own it is settled. It may fail in an item, or in
+-- settling behind one.
+abbrev pub HoldEnded : {I F : Type 0} → Cut I → ℕ → Option (List ℕ) → Option (List ℕ) → Type 0 → (List I → Type 0) → (List I → F → Type 0) → Halt F → Type 0
+HoldEnded cut limit before left settled done stopped End = settled × Went before done (λ input first. AllTaken cut limit input left first)
+HoldEnded cut limit before left settled done stopped Limit = settled × Went before done (λ input first. LimitTaken cut limit input first)
+HoldEnded cut limit before left settled done stopped InputFault =
+    settled × Went before done (λ input first. WholeTaken cut limit input left first × IsFront (script_by cut input limit) first)
+HoldEnded cut limit before left settled done stopped (Stopped fault) =
+    Went before (λ first. stopped first fault) (λ input first. IsFront (script_by cut input limit) first)
+
 -- it ends at a fault of the source only where its count rose, and else the count stays
 abbrev pub HasHaltCause : {F : Type 0} → ℕ → ℕ → Halt F → Type 0
 HasHaltCause before now End = now ≡ before

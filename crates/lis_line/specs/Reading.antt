@@ -1,5 +1,5 @@
 -- What a reader says of its input, by how the input is cut into items.
-use Rattle.std.specs.Prelude.{◌≡◌, ◌⊎◌, ℕ, ◌+◌, ◌<◌, Bool, true, false, List, [], ◌∷◌, ◌++◌, length, Option, Some, None, Result, Ok, Err}
+use Rattle.std.specs.Prelude.{◌≡◌, ◌⊎◌, ℕ, ◌+◌, ◌<◌, Bool, true, false, List, [], ◌∷◌, ◌++◌, length, Option, Some, None, Result, Ok, Err, ⊤}
 use Rattle.std.specs.Option.{option_map, option_to_list}
 use Rattle.std.specs.Io.KnownBytes.{Consumes, IsAtEnd}
 use Rattle.lis_model.specs.Step.{Item, Payload}
@@ -134,6 +134,21 @@ abbrev pub next_map : {R I : Type 0} → (R → I) → Next R → Next I
 next_map asks (NextItem asked) = NextItem (asks asked)
 next_map asks End = End
 next_map asks Limit = Limit
+
+-- an item was given, or the limit told: neither the end nor a fault
+abbrev pub GoesOn : {I E : Type 0} → Result (Next I) E → Type 0
+GoesOn (Ok (NextItem item)) = ⊤
+GoesOn (Ok End) = ⊥
+GoesOn (Ok Limit) = ⊤
+GoesOn (Err failed) = ⊥
+
+-- some item lies whole in these bytes, whatever follows
+pub record LiesWhole {I : Type 0} (cut : Cut I) (bytes : List ℕ) : Type 0 where
+  pub front : List ℕ
+  pub rest : List ℕ
+  pub is : bytes ≡ front ++ rest
+  pub item : I
+  pub whole : IsWhole cut front (item ∷ [])
 
 -- ---- the items of a session
 

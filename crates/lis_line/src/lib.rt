@@ -1,9 +1,11 @@
 //! Items out of an input, whatever pieces it comes in.
 #![tactic(auto)]
 
+mod ahead;
 mod asked;
 pub mod carrier;
 mod forms;
+pub mod holder;
 pub mod input;
 mod line;
 pub mod part;

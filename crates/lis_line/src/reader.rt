@@ -1,9 +1,11 @@
 //! The reader of items.
 
-ghost use Rattle.std.specs.Prelude.{◌≡◌, ℕ, ◌^◌, ◌≤◌, false, length, IfOk};
+ghost use Rattle.std.specs.Prelude.{◌≡◌, ℕ, ◌^◌, ◌≤◌, false, [], length, IfOk, IsTrue};
 ghost use Rattle.lis_ports.specs.Calls.{HasCause, FaultEnds};
 ghost use Rattle.lis_model.specs.Script.{session_cut};
 
+use crate::ahead::{Nothing, lies_whole};
+use crate::asked::Request;
 use crate::input::InputItem;
 pub use crate::payload::Payload;
 use crate::stock::Stock;
@@ -70,7 +72,7 @@ impl Model for LineReader {
 }
 
 impl LineReader {
-    ghost use Rattle.lis_line.specs.Reading.{fresh, Says, told, next_map, says_by};
+    ghost use Rattle.lis_line.specs.Reading.{fresh, LiesWhole, Says, GoesOn, told, next_map, item_with, says_by};
     ghost use Rattle.lis_line.specs.Tagged.{tagged_cut};
     ghost use Rattle.lis_line.specs.Spoken.{says_tagged, IsTagged};
 
@@ -91,6 +93,14 @@ impl LineReader {
         ensures { result ≡ self.now.is_ended }
     {
         self.is_ended
+    }
+
+    /// Whether an item of a session lies whole in what was taken: then `read_held` gives the next one with no call of the source.
+    pub fn lies_whole(&self) -> bool
+        ensures whole { IsTrue result → (self.now.is_closed ≡ false) × LiesWhole session_cut self.now.stock.ahead }
+        ensures none { result ≡ false → self.now.is_closed ≡ false → session_cut.whole self.now.stock.ahead ≡ [] }
+    {
+        !self.is_closed && lies_whole(self.stock.ahead())
     }
 
     /// What the next item asks for, of an input of any kind, with its payload. Parts that ask for nothing are skipped.
@@ -128,6 +138,29 @@ impl LineReader {
                 Err(failed)
             }
         }
+    }
+
+    /// What the next item of a session asks for, as `read` gives it. Where one lies whole in what was taken, the source is not called, and the
+    /// answer is neither the end nor a fault.
+    pub fn read_held<S: Source>(
+        &mut self,
+        lies_whole: bool,
+        source: &mut S,
+        payload: &mut Payload,
+    ) -> Result<Next<Request>, Failed>
+        requires going { self.old.is_ended ≡ false }
+        requires whole { IsTrue lies_whole → (self.old.is_closed ≡ false) × LiesWhole session_cut self.old.stock.ahead }
+        ensures says { Says session_cut self.old self.new (S.left source.old) (S.left source.new) (told (next_map (item_with payload.new)) result) }
+        ensures few { length self.new.stock.ahead ≤ self.new.stock.rest }
+        ensures cause { HasCause (S.faults source.old) (S.faults source.new) result }
+        ensures first_fault { FaultEnds (S.faults source.old) (S.behind source.old) (S.behind source.new) }
+        ensures still { IsTrue lies_whole → source.new ≡ source.old }
+        ensures goes_on { IsTrue lies_whole → GoesOn result }
+    {
+        if lies_whole {
+            return self.read::<Item, Nothing>(&mut Nothing, payload);
+        }
+        self.read::<Item, S>(source, payload)
     }
 
     /// The next item of a session, with its payload. Lines without words are skipped.

@@ -1,9 +1,13 @@
 //! Inputs and their items, worked out by hand. In rows `;` stands for a line feed and `^` for a carriage return.
 
-use crate::reader::{Item, LineReader, Payload};
+ghost use Rattle.std.specs.Prelude.{◌≡◌, false};
+
+use crate::ahead::lies_whole;
+use crate::input::InputItem;
+use crate::reader::{Item, LineReader, Next, Payload};
 use lis_model::command::Command;
 use lis_model::refusal::number;
-use lis_ports::{MemSource, Source};
+use lis_ports::{Failed, MemSource, Source};
 use std::alloc::{AllocError, Global};
 use std::test::Fail;
 
@@ -85,9 +89,47 @@ static ROOMS: [(&str, u64, &str); 8] = [
     ("@1 ls;@2 add f 1;x;", 19, "1other,2add 1 x,-end,"),
 ];
 
+/// Bytes, and whether an item lies whole in them. Here `*` stands for 1,024 blanks, as many bytes as a line may have.
+static FRONTS: [(&str, bool); 28] = [
+    ("", false),
+    (";", false),
+    (" ;;^;", false),
+    (" ;;^;l", false),
+    (" ;;^;ls;", true),
+    ("ls", false),
+    ("ls;", true),
+    ("ls;add a 3;", true),
+    ("no;", true),
+    ("add a 3", false),
+    ("add a 3;", false),
+    ("add a 3;a;", false),
+    ("add a 3;abc", false),
+    ("add a 3;abc;", true),
+    ("add a 3;;;;", false),
+    ("add a 3;;;;;ls", true),
+    ("add a 3;abcd", false),
+    ("add a 3;abc^;", true),
+    ("add a 3;abcd ls;ls", true),
+    (";write a 0;", false),
+    (";write a 0;;", true),
+    ("add . 1;a", false),
+    ("add . 1;a;", true),
+    ("add a x;", true),
+    ("*;", false),
+    ("* ", false),
+    ("* ;", true),
+    ("add a 3*;", true),
+];
+
 fn bytes_of(alloc: Global, row: &str) -> Result<Vec<u8>, AllocError> {
     let mut bytes = Vec::new(alloc);
     for byte in row.bytes() {
+        if byte == b'*' {
+            for _ in 0..1_024 {
+                bytes.push(b' ')?;
+            }
+            continue;
+        }
         bytes.push(match byte {
             b';' => b'\n',
             b'^' => b'\r',
@@ -129,6 +171,39 @@ fn input_of(alloc: Global, row: &str, step: usize) -> Result<MemSource, AllocErr
         faults: 0,
         behind: 0,
     })
+}
+
+// The next item, in the way of a loop whose carrier may hold things back.
+fn next_held(
+    reader: &mut LineReader,
+    input: &mut MemSource,
+    payload: &mut Payload,
+) -> Result<Item, Failed>
+    requires { reader.old.is_ended ≡ false }
+{
+    let lies_whole = reader.lies_whole();
+    match reader.read_held(lies_whole, input, payload)? {
+        Next::Item(request) => Ok(Item::of(request)),
+        Next::End => Ok(Item::End),
+        Next::Limit => Ok(Item::Limit),
+    }
+}
+
+fn held_items(alloc: Global, row: &str, limit: u64, step: usize) -> Result<String, AllocError> {
+    let mut input = input_of(alloc, row, step)?;
+    let mut payload = Payload::new(alloc)?;
+    let mut reader = LineReader::new(limit.min(99));
+    let mut seen = String::new(alloc);
+    for _ in 0..99 {
+        if reader.is_ended() {
+            break;
+        }
+        match next_held(&mut reader, &mut input, &mut payload) {
+            Ok(item) => note(&mut seen, &item, &payload)?,
+            Err(_) => seen.push_str("fault,")?,
+        }
+    }
+    Ok(seen)
 }
 
 fn items(alloc: Global, row: &str, limit: u64, step: usize) -> Result<String, AllocError> {
@@ -177,6 +252,8 @@ fn items_are_the_same_in_any_pieces(rt: HostRuntime) -> Result<(), Fail> {
         for step in [1, 2, 4_096] {
             let seen = items(rt.alloc(), row, *limit, step)?;
             assert_eq!(rt; seen.as_str(), *wanted, "{row}");
+            let seen = held_items(rt.alloc(), row, *limit, step)?;
+            assert_eq!(rt; seen.as_str(), *wanted, "{row}");
         }
     }
     Ok(())
@@ -189,6 +266,15 @@ fn items_of_rooms_are_the_same_in_any_pieces(rt: HostRuntime) -> Result<(), Fail
             let seen = tagged_items(rt.alloc(), row, *limit, step)?;
             assert_eq!(rt; seen.as_str(), *wanted, "{row}");
         }
+    }
+    Ok(())
+}
+
+#[test]
+fn an_item_lies_whole_where_nothing_behind_it_can_change_it(rt: HostRuntime) -> Result<(), Fail> {
+    for (row, wanted) in &FRONTS {
+        let bytes = bytes_of(rt.alloc(), row)?;
+        assert_eq!(rt; lies_whole(&bytes), *wanted, "{row}");
     }
     Ok(())
 }

@@ -1,5 +1,5 @@
 -- What was read and checked is what a store may keep.
-use Rattle.std.proofs.Common.{◌≡◌, ◌⊎◌, ◌∙◌, refl, sym, ap, ap₂, subst, inl, inr, ℕ, zero, suc, ◌<◌, ◌≤◌, ◌==◌, ◌||◌, not, Bool, true, false, List, [], Option, Some, None, is_some, IsSome, slice_get, IsTrue, arith}
+use Rattle.std.proofs.Common.{◌≡◌, ◌⊎◌, ◌∙◌, refl, sym, ap, ap₂, subst, inl, inr, ℕ, zero, suc, ◌<◌, ◌≤◌, ◌==◌, ◌||◌, not, Bool, true, false, List, [], length, Option, Some, None, is_some, IsSome, slice_get, IsTrue, arith}
 use Rattle.std.specs.FinSet as set
 use Rattle.std.specs.List.{list_any}
 use Rattle.std.proofs.lemmas.Bool.{and_parts, or_cases, both_ways, eqb-true, false_from_ne_true}
@@ -7,6 +7,7 @@ use Rattle.std.proofs.lemmas.Option.{same_Some}
 use Rattle.lis_graph.specs.Graph.{Chain}
 use Rattle.lis_graph.proofs.Members.{Among, among_from_any, any_from_among}
 use Rattle.lis_journal.specs.Journal.{Held}
+use Rattle.lis_journal.specs.Staging.{are_whole}
 use Rattle.lis_bits.proofs.Subset.{implied}
 use Rattle.lis_blockmap.specs.Bitmap.{is_taken}
 use Rattle.lis_content.specs.Content.{has_number}
@@ -321,7 +322,8 @@ module _ (limits : Limits) (words : Words) (axioms : Axioms) (files : Files) (ma
       tests = tests;
       image = image;
       journal = λ whole. unbroken;
-      staged = λ whole. staged;
+      few = λ whole. omega (arith, ap length staged);
+      whole = λ whole. ap are_whole staged;
       placed = λ whole. placed;
       clean = λ whole. clean.none;
     }

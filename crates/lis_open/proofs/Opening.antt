@@ -1,5 +1,5 @@
 -- How opening an image ends: the super block, the journal, and the parts behind it.
-use Rattle.std.proofs.Common.{◌≡◌, ◌⊎◌, ◌∙◌, refl, sym, ap, subst, inl, inr, ℕ, ◌*◌, ◌<◌, ◌≤◌, false, List, length, Option, Some, None, Result, Ok, Err, IsTrue, IsSomeAnd, arith, Bool, true, cond}
+use Rattle.std.proofs.Common.{◌≡◌, ◌⊎◌, ◌∙◌, refl, sym, ap, subst, inl, inr, ℕ, ◌*◌, ◌<◌, ◌≤◌, false, List, [], length, Option, Some, None, Result, Ok, Err, IsTrue, IsSomeAnd, arith, Bool, true, cond}
 use Rattle.std.proofs.lemmas.Option.{same_Some}
 use Rattle.lis_ports.specs.Meaning.{Meaning}
 use Rattle.lis_ports.specs.Bytes.{part}
@@ -183,6 +183,7 @@ pub record IsOpened (journal : Held) (store : Stored) : Type 0 where
   pub sound : IsSound store
   pub over : store.journal ≡ journal
   pub unbroken : store.is_broken ≡ false
+  pub settled : store.journal.staged ≡ []
 
 module _ (old : Meaning) (limits : Limits) (super : HasSuper limits old.bytes) (long : 4096 * image_blocks limits ≤ old.len) where
   pub long_enough : IsLongEnough old
@@ -348,6 +349,7 @@ module _ (old : Meaning) (limits : Limits) (super : HasSuper limits old.bytes) (
                   kept = kept;
                   journal = subst (λ (j : Held). Fits j new kept) (sym is.over) fits;
                   unbroken = is.unbroken;
+                  settled = is.settled;
                   tells = ended.tells;
                   written = ended.written;
                 },

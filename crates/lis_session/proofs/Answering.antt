@@ -13,7 +13,7 @@ use Rattle.lis_store.proofs.Facts.{known_told}
 use Rattle.lis_session.specs.declared.end.End.{End}
 use Rattle.lis_session.specs.declared.end.End.TheVariants.{DiskFault}
 use Rattle.lis_session.specs.Item.{OneItem}
-use Rattle.lis_session.specs.Parts.{Concludes}
+use Rattle.lis_session.specs.Parts.{Concludes, kept_up}
 use Rattle.lis_session.specs.Tally.{quiet}
 use Rattle.lis_session.proofs.Fitting.{store_fits_at}
 use Rattle.lis_session.proofs.Saying.{quiet_broke, quiet_done, item_shows}
@@ -23,12 +23,6 @@ pub words_known : {k : Stored} {m : Meaning} (state : State) → IsSound k → S
 words_known {k} state sound fits = sym (known_told k.parts fits.kept state sound.parts sound.free fits.tells)
 
 -- ---- changes
--- whether the store did its part
-abbrev pub kept_up : Result (Unit {0}) Change → Result (Unit {0}) End
-kept_up (Ok done) = Ok tt
-kept_up (Err (Refused refusal)) = Ok tt
-kept_up (Err Disk) = Err DiskFault
-
 module _ {k : Stored} {old : Meaning} {now : Situation} {outcome : Outcome} (stays : outcome.next.place ≡ now.place) (sound : IsSound k) where
   -- what a change of the store comes to, before its answer is shown
   pub changed_item : {mid : Meaning} (changed : Result (Unit {0}) Change) → Changes now outcome k old mid changed → OneItem now (quiet outcome) old mid (kept_up changed) (StoreFits k mid) now.place

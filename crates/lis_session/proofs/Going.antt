@@ -37,7 +37,7 @@ ends_then {a} {b} {c} {result} first second = record {
   same = same_then first.same second.same;
 }
 
-keeps_then : {P : Type 0} {start now next : SituatedOf P} {entry mid m : Meaning} {result : Result (Unit {0}) End} → SessionKeeps start entry now mid (Ok tt) → SessionKeeps now mid next m result → SessionKeeps start entry next m result
+pub keeps_then : {P : Type 0} {start now next : SituatedOf P} {entry mid m : Meaning} {result : Result (Unit {0}) End} → SessionKeeps start entry now mid (Ok tt) → SessionKeeps now mid next m result → SessionKeeps start entry next m result
 keeps_then first second = record {
   left = record { limits = second.left.limits ∙ first.left.limits; image = second.left.image ∙ first.left.image; unbroken = second.left.unbroken };
   sound = second.sound;

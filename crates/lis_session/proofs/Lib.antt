@@ -5,6 +5,7 @@ pub mod Fitting
 pub mod Saying
 pub mod Answering
 pub mod Blocks
+pub mod Holding
 pub mod Tallying
 pub mod Going
 pub mod Served
@@ -16,4 +17,4 @@ pub mod Shown
 mod TextWords
 mod Examples
 pub mod Ending
-mod Staying
+pub mod Staying

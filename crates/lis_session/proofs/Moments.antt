@@ -52,7 +52,7 @@ pub take_none : {I : Type 0} (items : List I) → take 0 items ≡ []
 take_none [] = refl
 take_none (item ∷ items) = refl
 
-take_whole : {I : Type 0} (items : List I) → take (length items) items ≡ items
+pub take_whole : {I : Type 0} (items : List I) → take (length items) items ≡ items
 take_whole items = ap (take (length items)) (sym (append-nil items)) ∙ take-append_seam items []
 
 module _ {P I : Type 0} (by : SituationOf P → I → OutcomeOf P) where

@@ -20,7 +20,7 @@ use Rattle.lis_session.specs.Showing.{Shows}
 ends_none : (m : Meaning) → Ends m m (Ok tt)
 ends_none m = record { cause = (refl, refl); first_fault = omega arith; same = record { honest = refl; len = refl; recorded = refl } }
 
-answers_end : {old new : Meaning} {bytes : List ℕ} (result : Result (Unit {0}) End) → Answers old new bytes result → Ends old new result
+pub answers_end : {old new : Meaning} {bytes : List ℕ} (result : Result (Unit {0}) End) → Answers old new bytes result → Ends old new result
 answers_end {old} {new} {bytes} result answers = record { cause = by result answers; first_fault = answers.run.ends; same = let call = answers.run.call in record { honest = call.honest; len = call.len; recorded = call.recorded } }
   where
     by : (result : Result (Unit {0}) End) → Answers old new bytes result → HasEndCause old new result

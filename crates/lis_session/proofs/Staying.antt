@@ -10,6 +10,7 @@ use Rattle.lis_model.specs.Route.{route}
 use Rattle.lis_model.specs.Replies.{body_line, content_lines}
 use Rattle.lis_model.specs.Changes.{new_file, file_added, file_of}
 use Rattle.lis_model.specs.Step.{Situation, Outcome, Payload, refused, changed, shown, judged, assigned_at, create_checks, here_checks, shown_here, entry_at, done}
+use Rattle.lis_session.specs.Parts.{is_change}
 use Rattle.lis_laws.proofs.Regular.{mkdir_stays, rmdir_stays, axiom_stays, unaxiom_stays, add_stays, write_stays, rename_stays, mv_stays, rm_stays}
 
 abbrev pub moves : Command → Bool
@@ -47,3 +48,11 @@ done_stays now Ls payload is = refl
 done_stays now (Props name) payload is = here_stays now name (flat_map (body_line 112) (description now.state (file_of now.state.files name)))
 done_stays now (Way name) payload is = here_stays now name (flat_map (body_line 100) (route (table now.state) now.place (entry_at now.state name)))
 done_stays now Stat payload is = refl
+
+-- A change keeps the place.
+still : (command : Command) → is_change command ≡ true → moves command ≡ false
+still (Cd text) is = absurd (cc is)
+still command is = refl
+
+pub change_stays : (now : Situation) (command : Command) (payload : Payload) → is_change command ≡ true → (done now command payload).next.place ≡ now.place
+change_stays now command payload is = done_stays now command payload (still command is)

@@ -42,14 +42,17 @@ headline {old} P only_now adds = λ image bytes had.
       | inr moment ↦ moment
     ]
 
--- where each image at the start stands for the state there is no exception
+-- where each image at the start is a moment with nothing shown there is no exception
+pub no_exception : {old new : Meaning} (P : List ℕ → List ℕ → Type 0) → ((image : List ℕ) → old.images image → P image []) → OnlyNow old → Adds old new (OpenedMoment old P) → EachMoment old new (Since old.shown P)
+no_exception {old} P quiet only_now adds = λ image bytes had. at image bytes (headline P only_now adds image bytes had)
+  where
+    at : (image bytes : List ℕ) → OpenedMoment old P image bytes → Since old.shown P image bytes
+    at image bytes (inl now) = ([], append_known-nil old.shown ∙ now.1, quiet image now.0)
+    at image bytes (inr since) = since
+
 module _ {P I : Type 0} (by : SituationOf P → I → OutcomeOf P) {old new : Meaning} (start : SituationOf P) (items : List I) where
   stands_at_start : ((image : List ℕ) → old.images image → Stands image start.state) → OnlyNow old → Adds old new (OpenedMoment old (SessionMoment by start items)) → FullHeadline by start items old new
-  stands_at_start stands only_now adds = λ image bytes had. at image bytes (headline (SessionMoment by start items) only_now adds image bytes had)
-    where
-      at : (image bytes : List ℕ) → OpenedMoment old (SessionMoment by start items) image bytes → Since old.shown (SessionMoment by start items) image bytes
-      at image bytes (inl now) = ([], append_known-nil old.shown ∙ now.1, moment_none by start items image (stands image now.0))
-      at image bytes (inr since) = since
+  stands_at_start stands = no_exception (SessionMoment by start items) (λ image is. moment_none by start items image (stands image is))
 
   -- a store that fits there
   pub full_headline : Always old (λ image. Stands image start.state) → OnlyNow old → Adds old new (Since old.shown (SessionMoment by start items)) → FullHeadline by start items old new

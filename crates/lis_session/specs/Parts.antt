@@ -17,8 +17,8 @@ use Rattle.lis_model.specs.State.{State}
 use Rattle.lis_model.specs.Step.{SituationOf, OutcomeOf, Situation, Outcome}
 use Rattle.lis_incr.specs.declared.listing.Line.{Line}
 use Rattle.lis_incr.specs.declared.listing.Line.TheVariants.{Prop, File}
-use Rattle.lis_store.specs.Changes.{Changes}
-use Rattle.lis_store.specs.Stored.{Stored, StoreFits}
+use Rattle.lis_store.specs.Changes.{Changes, Holds}
+use Rattle.lis_store.specs.Stored.{Stored, StoreFits, StoreHolds}
 use Rattle.lis_store.specs.declared.change.Change.{Change}
 use Rattle.lis_store.specs.declared.change.Change.TheVariants.{Refused, Disk as DiskChange}
 use Rattle.lis_session.specs.declared.end.End.{End}
@@ -67,6 +67,18 @@ abbrev pub Makes : (Situation → Outcome) → List Formula → Stored → Store
 Makes outcome place old new before after changed =
     (state : State) → StoreFits old before state
     → Changes (record { state = state; place = place }) (outcome (record { state = state; place = place })) new before after changed
+
+-- The same where the change is held back, whichever states are the base and the present one.
+abbrev pub MakesHeld : (Situation → Outcome) → List Formula → Stored → Stored → Meaning → Meaning → Result (Unit {0}) Change → Type 0
+MakesHeld outcome place old new before after changed =
+    (base state : State) → StoreHolds old before base state
+    → Holds base (record { state = state; place = place }) (outcome (record { state = state; place = place })) new before after changed
+
+-- Whether the store did its part: a refusal is an answer.
+abbrev pub kept_up : Result (Unit {0}) Change → Result (Unit {0}) End
+kept_up (Ok done) = Ok tt
+kept_up (Err (Refused refusal)) = Ok tt
+kept_up (Err DiskChange) = Err DiskFault
 
 -- whether a command asks for a change of the store
 abbrev pub is_change : Command → Bool

@@ -7,7 +7,7 @@ ghost use Rattle.lis_eval.specs.Room.{HasRoom};
 ghost use Rattle.lis_model.specs.Step.{done};
 ghost use Rattle.lis_store.specs.Changes.{ChangeLeft, HasChangeCause};
 ghost use Rattle.lis_store.specs.Stored.{IsSound};
-ghost use Rattle.lis_session.specs.Parts.{Makes, is_change};
+ghost use Rattle.lis_session.specs.Parts.{Makes, MakesHeld, is_change};
 
 use lis_eval::Scratch;
 use lis_line::reader::Payload;
@@ -16,6 +16,19 @@ use lis_place::Place;
 use lis_ports::Disk;
 use lis_store::laws::create_is_add;
 use lis_store::{Change, Store};
+
+/// Whether a command asks for a change of the store.
+pub fn is_change(command: &Command) -> bool
+    ensures { result ≡ is_change command.now }
+{
+    match command {
+        Command::Mkdir(_) | Command::Rmdir(_) | Command::Axiom(..) | Command::Unaxiom(..) => true,
+        Command::Create(..) | Command::Add(..) | Command::Write(_) => true,
+        Command::Mv(..) | Command::Rename(..) | Command::Rm(_) => true,
+        Command::Cat(_) | Command::Props(_) | Command::Way(_) => false,
+        Command::Cd(_) | Command::Pwd | Command::Ls | Command::Stat => false,
+    }
+}
 
 /// Makes the change for which a command asks.
 pub(crate) fn change<D: Disk>(
@@ -57,6 +70,53 @@ pub(crate) fn change<D: Disk>(
         Command::Mv(name, text) => store.retag(disk, scratch, place, name, text),
         Command::Rename(name, other) => store.rename(disk, scratch, place, name, other),
         Command::Rm(name) => store.remove(disk, scratch, place, name),
+        Command::Cat(_) | Command::Props(_) | Command::Way(_) => unreachable!(),
+        Command::Cd(_) | Command::Pwd | Command::Ls | Command::Stat => unreachable!(),
+    }
+}
+
+/// Makes the change for which a command asks, and holds it back: it is in memory, and is committed with later ones.
+pub(crate) fn hold<D: Disk>(
+    store: &mut Store,
+    scratch: &mut Scratch,
+    place: &Place,
+    command: &Command,
+    payload: &Payload,
+    disk: &mut D,
+) -> Result<(), Change>
+    requires change { is_change command.now ≡ true }
+    requires scratch { HasRoom scratch.old store.old.parts.limits }
+    requires unbroken { store.old.is_broken ≡ false }
+    requires long { 4096 * store.old.journal.blocks ≤ (D.meaning disk.old).len }
+    ensures scratch { HasRoom scratch.new store.old.parts.limits }
+    ensures holds { MakesHeld (λ now. done now command.now payload.now) place.now store.old store.new (D.meaning disk.old) (D.meaning disk.new) result }
+    ensures limits { store.new.parts.limits ≡ store.old.parts.limits }
+    ensures image { store.new.journal.blocks ≡ store.old.journal.blocks }
+    ensures left { ChangeLeft store.old store.new result }
+    ensures sound { IsSound store.new }
+    ensures run { IsDiskRun (D.meaning disk.old) (D.meaning disk.new) }
+    ensures cause { HasChangeCause (D.meaning disk.old).disk_faults (D.meaning disk.new).disk_faults result }
+    ensures first_fault { DiskFaultEnds (D.meaning disk.old) (D.meaning disk.new) }
+{
+    let bytes = payload.bytes();
+    let size = payload.size();
+    match command {
+        Command::Mkdir(word) => store.declare_held(disk, place, word),
+        Command::Rmdir(word) => store.undeclare_held(disk, word),
+        Command::Axiom(left, right) => store.axiom_held(disk, scratch, left, right),
+        Command::Unaxiom(left, right) => store.unaxiom_held(disk, scratch, left, right),
+        Command::Create(name, tags) => {
+            // To create a file is to add one without bytes.
+            create_is_add();
+            store.add_file_held(disk, scratch, place, name, tags, &[], 0)
+        }
+        Command::Add(name, tags) => store.add_file_held(
+            disk, scratch, place, name, tags, bytes, size,
+        ),
+        Command::Write(name) => store.write_held(disk, scratch, place, name, bytes, size),
+        Command::Mv(name, text) => store.retag_held(disk, scratch, place, name, text),
+        Command::Rename(name, other) => store.rename_held(disk, scratch, place, name, other),
+        Command::Rm(name) => store.remove_held(disk, scratch, place, name),
         Command::Cat(_) | Command::Props(_) | Command::Way(_) => unreachable!(),
         Command::Cd(_) | Command::Pwd | Command::Ls | Command::Stat => unreachable!(),
     }

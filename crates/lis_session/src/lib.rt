@@ -4,7 +4,7 @@
 ghost use Rattle.lis_session.specs.Session.{OneForm};
 
 mod carrying;
-mod changes;
+pub mod changes;
 pub mod content;
 mod counting;
 mod description;

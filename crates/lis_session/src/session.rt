@@ -1,18 +1,20 @@
 //! A session over an image: its store, a place, and one item after another.
 
-ghost use Rattle.std.specs.Prelude.{◌≡◌, ◌+◌, ◌*◌, ◌≤◌, [], false, IfOk, IfSome, IsSome};
+ghost use Rattle.std.specs.Prelude.{◌≡◌, ◌+◌, ◌*◌, ◌≤◌, [], false, true, IfOk, IfSome, IsSome};
 ghost use Rattle.lis_ports.specs.Runs.{IsDiskRun};
 ghost use Rattle.lis_ports.specs.Calls.{HasCause, DiskFaultEnds};
 ghost use Rattle.lis_eval.specs.Room.{HasRoom};
 ghost use Rattle.lis_line.specs.Reading.{asked_by};
 ghost use Rattle.lis_model.specs.Step.{done, step};
-ghost use Rattle.lis_store.specs.Stored.{IsSound, StoreFits};
+ghost use Rattle.lis_model.specs.State.{State};
+ghost use Rattle.lis_store.specs.Changes.{Commits, CommitLeft};
+ghost use Rattle.lis_store.specs.Stored.{IsSound, StoreFits, StoreHolds};
 ghost use Rattle.lis_session.specs.Item.{CarriesOut, Does, StoreLeft};
-ghost use Rattle.lis_session.specs.Parts.{Ends};
+ghost use Rattle.lis_session.specs.Parts.{Ends, MakesHeld, is_change, kept_up};
 ghost use Rattle.lis_session.specs.Served.{SessionKeeps};
 ghost use Rattle.lis_session.specs.Tally.{TalliesItem};
 
-use crate::changes::change;
+use crate::changes::{change, hold};
 use crate::content::cat;
 use crate::counting::stat;
 use crate::description::props;
@@ -27,7 +29,7 @@ use lis_line::reader::{Item, Payload};
 use lis_model::command::Command;
 use lis_place::Place;
 use lis_ports::{Disk, Failed, Station};
-use lis_store::Store;
+use lis_store::{Change, Store};
 use std::alloc::{AllocError, Global};
 use std::marker::Model;
 
@@ -226,5 +228,44 @@ impl Session {
             Item::Bad(_) => Ok(no_listing(true)),
             Item::End | Item::Limit => unreachable!(),
         }
+    }
+}
+
+impl Session {
+    /// Makes the change for which a command asks, and holds it back: it is in memory, and is committed with later ones. Nothing is shown.
+    pub fn hold<D: Disk>(
+        &mut self,
+        command: &Command,
+        payload: &Payload,
+        disk: &mut D,
+    ) -> Result<(), Change>
+        requires change { is_change command.now ≡ true }
+        requires unbroken { self.old.store.is_broken ≡ false }
+        requires long { 4096 * self.old.store.journal.blocks ≤ (D.meaning disk.old).len }
+        ensures holds { MakesHeld (λ now. done now command.now payload.now) self.old.place self.old.store self.new.store (D.meaning disk.old) (D.meaning disk.new) result }
+        ensures place { self.new.place ≡ self.old.place }
+        ensures keeps { SessionKeeps self.old (D.meaning disk.old) self.new (D.meaning disk.new) (kept_up result) }
+    {
+        hold(
+            &mut self.store,
+            &mut self.scratch,
+            &self.place,
+            command,
+            payload,
+            disk,
+        )
+    }
+
+    /// Commits all changes that are held back.
+    pub fn commit<D: Disk>(&mut self, disk: &mut D) -> Result<(), Change>
+        requires unbroken { self.old.store.is_broken ≡ false }
+        requires long { 4096 * self.old.store.journal.blocks ≤ (D.meaning disk.old).len }
+        ensures commits { (base state : State) → StoreHolds self.old.store (D.meaning disk.old) base state
+            → Commits base state self.new.store (D.meaning disk.old) (D.meaning disk.new) result }
+        ensures left { CommitLeft self.new.store result }
+        ensures place { self.new.place ≡ self.old.place }
+        ensures keeps { SessionKeeps self.old (D.meaning disk.old) self.new (D.meaning disk.new) (kept_up result) }
+    {
+        self.store.commit(disk)
     }
 }

@@ -9,7 +9,7 @@ use Rattle.lis_model.specs.Ranges.{is_files_limit, is_props_limit, is_blocks_lim
 use Rattle.lis_shell.specs.declared.words.Task.{Task}
 use Rattle.lis_shell.specs.declared.words.Task.TheVariants.{Try, Make, Upgrade, OnImage}
 use Rattle.lis_shell.specs.declared.words.ImageTask.{ImageTask}
-use Rattle.lis_shell.specs.declared.words.ImageTask.TheVariants.{Run, Rooms, Dump, Grow, View, Put}
+use Rattle.lis_shell.specs.declared.words.ImageTask.TheVariants.{Run, Load, Rooms, Dump, Grow, View, Put}
 use Rattle.lis_shell.specs.Words.{limits_of, grow_number_of, limits_in, part_named, work_named, upgrade_alone, task_of, name_in}
 
 -- ---- limits are in range
@@ -90,7 +90,8 @@ work_is : (word second : List ℕ) (words : List (List ℕ)) → IsAskedOf (word
 work_is word second [] =
     let all : List (List ℕ) = word ∷ second ∷ [] in
     either (IsAskedOf all) (same_word word (codes "run")) (Some Run) _ tt
-    (either (IsAskedOf all) (same_word word (codes "rooms")) (Some Rooms) _ tt (either (IsAskedOf all) (same_word word (codes "dump")) (Some Dump) None tt tt))
+    (either (IsAskedOf all) (same_word word (codes "load")) (Some Load) _ tt
+    (either (IsAskedOf all) (same_word word (codes "rooms")) (Some Rooms) _ tt (either (IsAskedOf all) (same_word word (codes "dump")) (Some Dump) None tt tt)))
 work_is word second (number ∷ []) =
     let all : List (List ℕ) = word ∷ second ∷ number ∷ [] in
     either (IsAskedOf all) (same_word word (codes "grow")) _ None (mapped (IsAskedOf all) Grow (λ n. tt) tt (grow_number_of number)) tt

@@ -20,12 +20,12 @@ use Rattle.lis_shell.specs.declared.status.Status.TheVariants.{Usage, Opening}
 use Rattle.lis_shell.specs.declared.words.Task.{Task}
 use Rattle.lis_shell.specs.declared.words.Task.TheVariants.{Try, Make, Upgrade, OnImage}
 use Rattle.lis_shell.specs.declared.words.ImageTask.{ImageTask}
-use Rattle.lis_shell.specs.declared.words.ImageTask.TheVariants.{Run, Rooms, Dump, Grow, View, Put}
+use Rattle.lis_shell.specs.declared.words.ImageTask.TheVariants.{Run, Load, Rooms, Dump, Grow, View, Put}
 use Rattle.lis_shell.specs.Causes.{ByOpening, IsDiskFault, IsTryStatus}
 use Rattle.lis_shell.specs.Image.{Work, ImageKeeps}
 use Rattle.lis_shell.specs.Tries.{Tries}
 use Rattle.lis_shell.specs.MakesImage.{MadeImage}
-use Rattle.lis_shell.specs.Runs.{running, rooming}
+use Rattle.lis_shell.specs.Runs.{running, loading, rooming}
 use Rattle.lis_shell.specs.Grows.{growing, GrowEntry}
 use Rattle.lis_shell.specs.Steps.{dumping, viewing, putting}
 use Rattle.lis_shell.specs.Words.{name_in, text_in}
@@ -55,6 +55,7 @@ RunKeeps untouched unmoved left left_after old new status = ImageKeeps running u
 -- the work that each task on an image is, where these are the words; what it keeps is `ImageKeeps` of it
 abbrev pub work_of : List (List ℕ) → ImageTask → Work
 work_of words Run = running
+work_of words Load = loading
 work_of words Rooms = rooming
 work_of words Dump = dumping
 work_of words (Grow n) = growing n

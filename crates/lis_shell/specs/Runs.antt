@@ -1,14 +1,15 @@
--- What `run` and `rooms` keep.
+-- What `run`, `load` and `rooms` keep.
 use Rattle.std.specs.Prelude.{◌≡◌, ℕ, ◌^◌, List, true, Option, Some}
 use Rattle.std.specs.Io.KnownBytes.{IsAtEnd}
 use Rattle.lis_ports.specs.Meaning.{Meaning}
 use Rattle.lis_model.specs.State.{State}
 use Rattle.lis_model.specs.Step.{SituationOf, OutcomeOf, step}
 use Rattle.lis_line.specs.Tagged.{tagged_cut}
-use Rattle.lis_model.specs.Script.{Cut, script_by, all_items, session_cut}
+use Rattle.lis_model.specs.Script.{Cut, script_by, script, all_items, session_cut}
 use Rattle.lis_session.specs.Session.{root_of, SessionMoment}
 use Rattle.lis_session.specs.Runs.{Carried}
 use Rattle.lis_session.specs.Ending.{Served, InputRead}
+use Rattle.lis_load.specs.Load.{LoadMoment, LoadServed}
 use Rattle.lis_rooms.specs.Rooms.{room_step, rooms_of}
 use Rattle.lis_shell.specs.declared.status.Status.{Status}
 use Rattle.lis_shell.specs.Image.{Work, EntryWith, Completes}
@@ -26,6 +27,16 @@ serving by cut start = record {
 -- `run`: one session, from the root
 abbrev pub running : Work
 running = serving step session_cut root_of
+
+-- `load`: the same, with many changes to a commit, and replies behind it
+abbrev pub loading : Work
+loading = record {
+  takes_input = true;
+  may_end = λ halt. Unit {0};
+  input = InputRead (2 ^ 40);
+  moment = λ state bytes. LoadMoment (root_of state) (script bytes (2 ^ 40));
+  ended = λ state. LoadServed (root_of state) (2 ^ 40);
+}
 
 -- `rooms`: eight in one stream, each from the root
 abbrev pub rooming : Work

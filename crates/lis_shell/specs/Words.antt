@@ -7,7 +7,7 @@ use Rattle.lis_model.specs.Image.{image_blocks}
 use Rattle.lis_shell.specs.declared.words.Task.{Task}
 use Rattle.lis_shell.specs.declared.words.Task.TheVariants.{Try, Make, Upgrade, OnImage}
 use Rattle.lis_shell.specs.declared.words.ImageTask.{ImageTask}
-use Rattle.lis_shell.specs.declared.words.ImageTask.TheVariants.{Run, Rooms, Dump, Grow, View, Put}
+use Rattle.lis_shell.specs.declared.words.ImageTask.TheVariants.{Run, Load, Rooms, Dump, Grow, View, Put}
 use Rattle.std.specs.Option.{option_map}
 
 -- three counts that are limits in range, of the version
@@ -34,6 +34,7 @@ limits_in (files ∷ props ∷ blocks ∷ last ∷ more ∷ words) = None
 abbrev pub work_alone : List ℕ → Option ImageTask
 work_alone word =
     if same_word word (codes "run") then Some Run
+    else if same_word word (codes "load") then Some Load
     else if same_word word (codes "rooms") then Some Rooms
     else if same_word word (codes "dump") then Some Dump
     else None

@@ -4,6 +4,7 @@
 pub mod dumping;
 mod growing;
 pub mod image;
+pub mod loading;
 pub mod laws;
 mod parting;
 pub mod rooming;

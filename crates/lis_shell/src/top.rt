@@ -25,6 +25,7 @@ ghost use Rattle.lis_shell.specs.Keeps.{TryKeeps, MakeKeeps, UpgradeKeeps, work_
 use crate::dumping::Dumping;
 use crate::growing::Growing;
 use crate::image::work_on_image;
+use crate::loading::Loading;
 use crate::parting::{Putting, Viewing, part_in};
 use crate::rooming::Rooming;
 use crate::serving::{INPUT_LIMIT, Running};
@@ -106,6 +107,7 @@ fn carry_task<S: Source, T: Station>(
         Some(Task::Make(limits)) => make_image(&limits, station),
         Some(Task::Upgrade) => upgrade_image(alloc, station),
         Some(Task::OnImage(ImageTask::Run)) => work_on_image(alloc, &Running, input, station),
+        Some(Task::OnImage(ImageTask::Load)) => work_on_image(alloc, &Loading, input, station),
         Some(Task::OnImage(ImageTask::Rooms)) => work_on_image(alloc, &Rooming, input, station),
         Some(Task::OnImage(ImageTask::Dump)) => work_on_image(alloc, &Dumping, input, station),
         Some(Task::OnImage(ImageTask::Grow(n))) => {
@@ -125,8 +127,8 @@ fn carry_task<S: Source, T: Station>(
 /// `try FILES PROPS BLOCKS` carries out the commands of the input on a state that begins empty, and shows the replies; what the disk
 /// reads as, and what a crash leaves of it, stays. `make IMAGE FILES PROPS BLOCKS` makes an image of the empty state; it reads no input
 /// and shows nothing. With `v2` behind the words of these two the state is of version 2, and else of version 1. `run IMAGE` opens the
-/// image, carries out the commands of the input on it and shows the replies. `rooms IMAGE` does so for up to eight sessions in one
-/// stream, each at a place of its own: the tag of a line, `@0` to `@7`, says whose it is, and stands behind the reply. `upgrade IMAGE`
+/// image, carries out the commands of the input on it and shows the replies. `load IMAGE` does the same with many changes to a commit: a
+/// reply comes behind the commit, and at most 256 wait for it. `rooms IMAGE` does what `run` does for up to eight sessions in one stream, each at a place of its own: the tag of a line, `@0` to `@7`, says whose it is, and stands behind the reply. `upgrade IMAGE`
 /// makes the image one of version 2; it reads no input and shows nothing. `dump IMAGE` opens the image and shows the session that makes
 /// its state again; it reads no input and changes nothing. `grow IMAGE N` opens the image and carries out the large session that is made
 /// of the number, below 2^31; it reads no input, and shows a summary in place of the replies. `view IMAGE NAME F` opens the image and

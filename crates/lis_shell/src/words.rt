@@ -18,6 +18,7 @@ const GROW_END: u64 = 1 << 31;
 pub const FORMS: &[u8] = b"lisfs try FILES PROPS BLOCKS [v2]
 lisfs make IMAGE FILES PROPS BLOCKS [v2]
 lisfs run IMAGE
+lisfs load IMAGE
 lisfs rooms IMAGE
 lisfs dump IMAGE
 lisfs view IMAGE NAME F
@@ -44,6 +45,8 @@ pub enum Task {
 pub enum ImageTask {
     /// `run IMAGE`: a session.
     Run,
+    /// `load IMAGE`: a session with many changes to a commit.
+    Load,
     /// `rooms IMAGE`: up to eight sessions in one stream.
     Rooms,
     /// `dump IMAGE`: the session that makes the state again, as text.
@@ -117,6 +120,9 @@ fn work_alone(word: &String) -> Option<ImageTask>
 {
     if is_word(word, b"run") {
         return Some(ImageTask::Run);
+    }
+    if is_word(word, b"load") {
+        return Some(ImageTask::Load);
     }
     if is_word(word, b"rooms") {
         return Some(ImageTask::Rooms);

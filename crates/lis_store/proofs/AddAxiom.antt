@@ -1,7 +1,7 @@
 -- A call that adds an axiom.
 use Rattle.std.proofs.Common.{◌≡◌, ap, ◌+◌, ◌≤◌, ℕ, false, List, length, Result, arith}
 use Rattle.lis_ports.specs.Meaning.{Meaning}
-use Rattle.lis_journal.specs.Record.{Entry}
+use Rattle.lis_journal.specs.Phases.{looked}
 use Rattle.lis_model.specs.State.{State}
 use Rattle.lis_model.specs.Changes.{axiom_added}
 use Rattle.lis_model.specs.Step.{Situation, Outcome, changed}
@@ -9,8 +9,8 @@ use Rattle.lis_kept.specs.Kept.{Kept}
 use Rattle.lis_kept.specs.Areas.{marked_count}
 use Rattle.lis_kept.specs.Sound.{AreSound}
 use Rattle.lis_store.specs.declared.change.Change.{Change}
-use Rattle.lis_store.specs.Stored.{Stored, IsSound, StoreFits}
-use Rattle.lis_store.specs.Changes.{Changes}
+use Rattle.lis_store.specs.Stored.{Stored, IsSound, StoreHolds}
+use Rattle.lis_store.specs.Changes.{Holds}
 use Rattle.lis_store.specs.Saving.{settled, Saves}
 use Rattle.lis_store.specs.Relating.{MayRelate}
 use Rattle.lis_store.specs.RelatingIn.{RelatesIn}
@@ -23,16 +23,16 @@ module _ (old : Stored) (q : Kept) (left right : List ℕ) (sound : IsSound old)
   pub axiom_sound : AreSound q → IsSound (settled q old.journal)
   axiom_sound after = sound_related old.parts q left right relates sound.parts may after old.journal old.is_broken unbroken sound
 
-  pub axiom_marks : length old.journal.staged + marked_count q ≤ 531
+  pub axiom_marks : length old.journal.staged + marked_count q ≤ 575
   axiom_marks =
       let few = few_marked old.parts q left right relates sound.parts may sound.free (none_marked old.parts (sound.clean unbroken)) in
-      omega (arith, few, ap (λ (es : List Entry). length es) (sound.staged unbroken))
+      omega (arith, few, sound.few unbroken)
 
-  pub axiom_changes : {T : Type 0} (new : Stored) (before after : Meaning) (result : Result T Change) → Saves q old.journal new before after result
-      → (now : Situation) (outcome : Outcome) → StoreFits old before now.state → outcome ≡ changed now (axiom_added now.state (left, right)) → Changes now outcome new before after result
-  axiom_changes new before after result saves now outcome fits done =
+  pub axiom_holds : {T : Type 0} (new : Stored) (before after : Meaning) (result : Result T Change) → Saves q old.journal new before after result
+      → (base : State) (now : Situation) (outcome : Outcome) → StoreHolds old before base now.state → outcome ≡ changed now (axiom_added now.state (left, right)) → Holds base now outcome new before after result
+  axiom_holds new before after result saves base now outcome fits done =
       let made : State = axiom_added now.state (left, right) in
       let limits = ap (λ (k : Kept). k.limits) (end_is old.parts q left right relates sound.parts may) in
-      saves_alone old sound unbroken q new before after result saves now outcome made fits limits
-      (λ after_then. ready_related old.parts q left right relates sound.parts may after_then fits.kept now.state sound.free sound.pairs sound.short fits.tells (λ area n lt unmarked. fits.written area n lt))
+      saves_alone old sound unbroken q new before after result saves base now outcome made fits limits
+      (λ after_then. ready_related old.parts q left right relates sound.parts may after_then (looked old.journal.staged fits.kept) now.state sound.free sound.pairs sound.short fits.tells (λ area n lt unmarked. fits.written area n lt))
       done

@@ -1,15 +1,13 @@
 -- A call that adds a file.
-use Rattle.std.proofs.Common.{◌≡◌, ◌⊎◌, refl, sym, ap, ◌∙◌, subst, inl, inr, ℕ, ◌+◌, ◌<◌, ◌≤◌, true, false, Bool, List, length, set, Result, Err, arith, get_or-set_same}
+use Rattle.std.proofs.Common.{◌≡◌, ◌⊎◌, refl, sym, ap, ◌∙◌, subst, inl, inr, ℕ, ◌+◌, ◌<◌, ◌≤◌, true, false, Bool, List, length, set, [], Result, Err, arith, get_or-set_same}
 use Rattle.std.proofs.lemmas.Bool.{both_ways, cases_lt}
 use Rattle.lis_ports.specs.Meaning.{Meaning}
 use Rattle.lis_journal.specs.Journal.{Held}
-use Rattle.lis_journal.specs.Record.{Entry}
-use Rattle.lis_journal.specs.Images.{look}
 use Rattle.lis_journal.specs.Phases.{looked}
 use Rattle.lis_blockmap.specs.Bitmap.{free_count}
 use Rattle.lis_content.specs.Content.{has_home, marked}
+use Rattle.lis_content.specs.Large.{is_large}
 use Rattle.lis_ext.specs.Ext.{Ext}
-use Rattle.lis_grammar.specs.Formula.{Formula}
 use Rattle.lis_model.specs.declared.limits.Limits.{Limits}
 use Rattle.lis_model.specs.Image.{bitmap_start, data_start, image_blocks}
 use Rattle.lis_model.specs.State.{State, blocks_taken, used_blocks}
@@ -18,12 +16,12 @@ use Rattle.lis_model.specs.Step.{Situation, Outcome, changed}
 use Rattle.lis_kept.specs.Kept.{Kept}
 use Rattle.lis_kept.specs.Areas.{IsSaved, is_marked, marked_count}
 use Rattle.lis_kept.specs.Sound.{AreSound}
-use Rattle.lis_kept.specs.Changes.{Puts, PutTorn}
+use Rattle.lis_kept.specs.Changes.{Puts, Lands}
 use Rattle.lis_store.specs.declared.change.Change.{Change}
 use Rattle.lis_store.specs.declared.change.Change.TheVariants.{Refused, Disk}
-use Rattle.lis_store.specs.Stored.{Stored, IsSound, StoreFits}
-use Rattle.lis_store.specs.Contents.{ContentPut, ContentEnded}
-use Rattle.lis_store.specs.Changes.{Changes}
+use Rattle.lis_store.specs.Stored.{Stored, IsSound, StoreHolds}
+use Rattle.lis_store.specs.Contents.{ContentTorn, ContentPut, ContentEnded}
+use Rattle.lis_store.specs.Changes.{Holds}
 use Rattle.lis_store.specs.Saving.{settled, ArePlaced, IsReady, Saves}
 use Rattle.lis_store.specs.Admitting.{IsAdmitted}
 use Rattle.lis_store.specs.Adding.{PutsIn}
@@ -37,8 +35,9 @@ use Rattle.lis_store.proofs.Elsewhere.{saved_elsewhere, no_home_before}
 use Rattle.lis_store.proofs.Facts.{limits_told}
 use Rattle.lis_store.proofs.FreeBlocks.{used_told}
 use Rattle.lis_store.proofs.Replaced.{in_form, settled_sound}
-use Rattle.lis_store.proofs.Steps.{form_taken, pairs_same, changes_behind, fills_stand, fills_past, put_stands}
-use Rattle.lis_store.proofs.Torn.{torn_sound, torn_limits, torn_ext, torn_changes, ended_broken}
+use Rattle.lis_store.proofs.Steps.{form_taken, pairs_same, holds_behind, puts_stand, puts_past, put_stands}
+use Rattle.lis_store.proofs.Torn.{torn_sound, torn_holds, ended_broken}
+use Rattle.lis_store.proofs.ToldBy.{told_held}
 
 -- a file that is admitted is so where other blocks are taken
 admitted_retaken : (o : Kept) (taken marks : List Bool) (name : List ℕ) (assigned : List (List ℕ)) (bytes : List ℕ) → IsAdmitted o (new_file name assigned bytes)
@@ -65,7 +64,7 @@ home_behind base n blocks has = by (cases_lt n base)
 
 -- ---- its bytes are put into blocks
 module _ (old : Stored) (mid : Kept) (j : Held) (bytes numbers : List ℕ) (before placed : Meaning) (put : Puts bytes numbers old.parts mid old.journal j before placed) (sound : IsSound old) where
-  pub form_put : AreInForm mid
+  form_put : AreInForm mid
   form_put = form_taken old.parts mid (marked old.parts.taken put.blocks) put.takes (in_form old sound)
 
   pub limits_put : mid.limits ≡ old.parts.limits
@@ -85,7 +84,7 @@ module _ (old : Stored) (mid : Kept) (j : Held) (bytes numbers : List ℕ) (befo
     abbrev admitted_mid : IsAdmitted mid (new_file name assigned bytes)
     admitted_mid = admitted_put name assigned admitted
 
-    pub limits_then : q.limits ≡ old.parts.limits
+    limits_then : q.limits ≡ old.parts.limits
     limits_then = same_limits mid q name assigned bytes numbers form_put admitted_mid puts ∙ limits_put
 
     pub added_sound : AreSound q → IsSound (settled q j)
@@ -94,9 +93,6 @@ module _ (old : Stored) (mid : Kept) (j : Held) (bytes numbers : List ℕ) (befo
         (pairs_same old.parts q (same_axioms mid q name assigned bytes numbers form_put admitted_mid puts ∙ ap (λ (k : Kept). k.axioms) put.takes.parts) sound.pairs)
         (put.image ∙ (sound.image ∙ ap image_blocks (sym limits_then))) (put.broken ∙ sound.journal unbroken)
 
-    pub added_image : j.blocks ≡ image_blocks q.limits
-    added_image = put.image ∙ (sound.image ∙ ap image_blocks (sym limits_then))
-
     pub added_placed : ArePlaced q j
     added_placed n among = (
       subst (λ (l : Limits). data_start l ≤ n) (sym limits_then) (home_behind (data_start old.parts.limits) n put.blocks (put.placed n among)),
@@ -104,71 +100,66 @@ module _ (old : Stored) (mid : Kept) (j : Held) (bytes numbers : List ℕ) (befo
           ∙ stay_marked mid q name assigned bytes numbers form_put.sound admitted_mid puts form_put.free (bitmap_start old.parts.limits) bitmap_marked,
     )
 
-    pub added_marks : length j.staged + marked_count q ≤ 531
+    pub added_marks : length j.staged + marked_count q ≤ 575
     added_marks =
         let few = few_marked mid q name assigned bytes numbers form_put.sound admitted_mid puts form_put.free in
-        omega (arith, few, put.takes.marks.few, none_marked old.parts (sound.clean unbroken), put.few_staged)
+        omega (arith, few, put.takes.marks.few, none_marked old.parts (sound.clean unbroken), put.few_staged, sound.few unbroken)
 
     pub added_edits : AreEditsFew old.parts.ext q.ext
     added_edits =
         subst (λ (e : Ext). AreEditsFew e q.ext) (ap (λ (k : Kept). k.ext) put.takes.parts) (few_edits mid q name assigned bytes numbers form_put.sound admitted_mid puts form_put.free)
 
-    module _ (s : State) (fits : StoreFits old before s) (enough : blocks_taken old.parts.limits.version (length bytes) ≤ free_count old.parts.taken) where
-      abbrev kept : ℕ → List ℕ
-      kept = (put.lands fits.kept fits.journal).kept
+    module _ (base : State) (now : Situation) (holds : StoreHolds old before base now.state) (enough : blocks_taken old.parts.limits.version (length bytes) ≤ free_count old.parts.taken) where
+      abbrev made : State
+      made = file_added now.state (new_file name assigned bytes)
+
+      abbrev at : ℕ → List ℕ
+      at = looked old.journal.staged holds.kept
+
+      abbrev lands : Lands old.parts.limits bytes numbers put.blocks at j placed
+      lands = put.lands holds.kept holds.journal
 
       abbrev there : ℕ → List ℕ
-      there = looked j.staged kept
+      there = looked j.staged lands.kept
 
-      same : (n : ℕ) → has_home (data_start old.parts.limits) put.blocks n ≡ false → there n ≡ fits.kept n
-      same n none = (put.lands fits.kept fits.journal).same n none ∙ ap (λ (es : List Entry). look es n (fits.kept n)) (sound.staged unbroken)
+      are_put : ArePut old.parts (marked old.parts.taken put.blocks) bytes numbers put.blocks at there
+      are_put = record { were_free = put.fills.were_free; distinct = put.fills.distinct; marks = refl; same = lands.same; holds = lands.holds }
 
-      are_put : ArePut old.parts (marked old.parts.taken put.blocks) bytes numbers put.blocks fits.kept there
-      are_put = record {
-        were_free = put.fills.were_free;
-        distinct = put.fills.distinct;
-        marks = refl;
-        same = same;
-        holds = (put.lands fits.kept fits.journal).holds;
-      }
-
-      limits_are : old.parts.limits ≡ s.limits
-      limits_are = limits_told old.parts fits.kept s sound.parts sound.free fits.tells
-
-      room : used_blocks s + blocks_taken s.limits.version (length bytes) ≤ s.limits.blocks
-      room = omega (arith, used_told old before s sound fits, enough, ap (λ (l : Limits). blocks_taken l.version (length bytes)) limits_are)
+      room : used_blocks now.state + blocks_taken now.state.limits.version (length bytes) ≤ now.state.limits.blocks
+      room =
+          let told = told_held old before base now.state sound holds in
+          let limits = limits_told old.parts at now.state sound.parts sound.free holds.tells in
+          omega (arith, used_told old now.state sound told, enough, ap (λ (l : Limits). blocks_taken l.version (length bytes)) limits)
 
       saved : IsSaved mid there
       saved =
           put.takes.marks.saved there
-          (saved_elsewhere old.parts put.blocks fits.kept there sound.parts put.fills.were_free (λ n out none. same n none) (λ area n lt unmarked. fits.written area n lt))
+          (saved_elsewhere old.parts put.blocks at there sound.parts put.fills.were_free (λ n out none. lands.same n none) (λ area n lt unmarked. holds.written area n lt))
 
-      ready : AreSound q → IsReady q there (file_added s (new_file name assigned bytes))
+      ready : AreSound q → IsReady q there made
       ready after =
           let R : Kept → Type 0 = λ k.
-          AreSound k → IsAdmitted k (new_file name assigned bytes) → PutsIn (new_file name assigned bytes) numbers k q → IsSaved k there → IsReady q there (file_added s (new_file name assigned bytes)) in
+          AreSound k → IsAdmitted k (new_file name assigned bytes) → PutsIn (new_file name assigned bytes) numbers k q → IsSaved k there → IsReady q there made in
           subst R (sym put.takes.parts)
           (λ sound_then admitted_then puts_then saved_then.
-          ready_added old.parts (marked old.parts.taken put.blocks) (set old.parts.marks (bitmap_start old.parts.limits) true) q name assigned bytes numbers sound.parts sound_then admitted_then puts_then after fits.kept there s sound.free fits.tells put.blocks are_put room saved_then)
+          ready_added old.parts (marked old.parts.taken put.blocks) (set old.parts.marks (bitmap_start old.parts.limits) true) q name assigned bytes numbers sound.parts sound_then admitted_then puts_then after at there now.state sound.free holds.tells put.blocks are_put room saved_then)
           form_put.sound admitted_mid puts saved
 
-      pub added_changes : {T : Type 0} (place : List Formula) (new : Stored) (after : Meaning) (result : Result T Change) (outcome : Outcome)
-          → outcome ≡ changed (record { state = s; place = place }) (file_added s (new_file name assigned bytes)) → Saves q j new placed after result
-          → Changes (record { state = s; place = place }) outcome new before after result
-      added_changes place new after result outcome is saves =
-          let now : Situation = record { state = s; place = place } in
-          changes_behind now outcome new before placed after result (fills_stand old s before sound fits put.blocks placed put.fills) (fills_past old s before sound fits put.blocks placed put.fills)
-          (saves now outcome (file_added s (new_file name assigned bytes)) kept (put.lands fits.kept fits.journal).fits (limits_then ∙ limits_are)
-          (put_stands old s before sound fits bytes numbers mid j placed put) ready is)
+      pub added_holds : {T : Type 0} (new : Stored) (after : Meaning) (result : Result T Change) → (is_large (length bytes) ≡ true → old.journal.staged ≡ []) → Saves q j new placed after result
+          → Holds base now (changed now made) new before after result
+      added_holds new after result alone saves =
+          holds_behind base now (changed now made) new before placed after result (puts_stand old base now.state before sound holds bytes numbers mid j placed put alone)
+          (puts_past old base now.state before sound holds put.blocks placed put.fills)
+          (saves base now (changed now made) made lands.kept lands.fits (limits_then ∙ holds.limits) (put_stands old base now.state before sound holds bytes numbers mid j placed put alone) ready refl)
 
 -- ---- the disk fails while they are put
-put_err : (bytes : List ℕ) (p q : Kept) (old new : Held) (before after : Meaning) (change : Change) → ContentPut bytes p q old new before after (Err change) → (change ≡ Disk) × PutTorn p q old new before after
+put_err : (bytes : List ℕ) (p q : Kept) (old new : Held) (before after : Meaning) (change : Change) → ContentPut bytes p q old new before after (Err change) → (change ≡ Disk) × ContentTorn bytes p q old new before after
 put_err bytes p q old new before after (Refused refusal) never = absurd (let e : false ≡ true = never in cc)
 put_err bytes p q old new before after Disk torn = (refl, torn)
 
 module _ (T : Type 0) (old : Stored) (sound : IsSound old) (bytes : List ℕ) (q : Kept) (j : Held) (b : Bool) (change : Change) (before after : Meaning)
     (put : ContentPut bytes old.parts q old.journal j before after (Err change)) (ended : ContentEnded {T = T} b (Err change)) where
-  lost : (change ≡ Disk) × PutTorn old.parts q old.journal j before after
+  lost : (change ≡ Disk) × ContentTorn bytes old.parts q old.journal j before after
   lost = put_err bytes old.parts q old.journal j before after change put
 
   broken : b ≡ true
@@ -176,18 +167,9 @@ module _ (T : Type 0) (old : Stored) (sound : IsSound old) (bytes : List ℕ) (q
 
   pub lost_sound : AreSound q → IsSound (record { parts = q; journal = j; is_broken = b })
   lost_sound after_sound =
-      subst (λ c. IsSound (record { parts = q; journal = j; is_broken = c })) (sym broken) (torn_sound old q j sound before after lost.1 after_sound)
+      subst (λ c. IsSound (record { parts = q; journal = j; is_broken = c })) (sym broken) (torn_sound old bytes q j sound before after lost.1 after_sound)
 
-  pub lost_limits : q.limits ≡ old.parts.limits
-  lost_limits = torn_limits old q j sound before after lost.1
-
-  pub lost_ext : q.ext ≡ old.parts.ext
-  lost_ext = torn_ext old q j sound before after lost.1
-
-  pub lost_image : j.blocks ≡ old.journal.blocks
-  lost_image = lost.1.image
-
-  pub lost_changes : {U : Type 0} (now : Situation) (outcome : Outcome) (result : Result U Change) → result ≡ Err change → StoreFits old before now.state
-      → Changes now outcome (record { parts = q; journal = j; is_broken = b }) before after result
-  lost_changes now outcome result ends fits =
-      torn_changes old q j sound before after lost.1 now outcome (record { parts = q; journal = j; is_broken = b }) result fits broken (ends ∙ ap Err lost.0)
+  pub lost_holds : {U : Type 0} (base : State) (now : Situation) (outcome : Outcome) (result : Result U Change) → result ≡ Err change → (is_large (length bytes) ≡ true → old.journal.staged ≡ [])
+      → StoreHolds old before base now.state → Holds base now outcome (record { parts = q; journal = j; is_broken = b }) before after result
+  lost_holds base now outcome result ends alone holds =
+      torn_holds old bytes q j sound before after lost.1 base now outcome (record { parts = q; journal = j; is_broken = b }) result holds alone broken (ends ∙ ap Err lost.0)

@@ -22,11 +22,12 @@ use Rattle.lis_laws.proofs.Named.{file_there}
 use Rattle.lis_laws.proofs.Locals.{same_tests}
 use Rattle.lis_kept.specs.Kept.{Kept}
 use Rattle.lis_kept.specs.Telling.{declared_of, axioms_of}
-use Rattle.lis_store.specs.Stored.{Stored, IsSound, StoreFits}
+use Rattle.lis_store.specs.Stored.{Stored, IsSound, StoreHolds}
+use Rattle.lis_store.proofs.ToldBy.{ToldBy, told_held}
 use Rattle.lis_store.specs.Admitting.{described_by, known_with, named_checks, room_checks, file_checks, add_checks_of, IsAdmitted}
 use Rattle.lis_store.specs.declared.change.Change.{Change}
 use Rattle.lis_store.specs.declared.change.Change.TheVariants.{Refused}
-use Rattle.lis_store.specs.Changes.{Changes, first_refusal}
+use Rattle.lis_store.specs.Changes.{Holds, first_refusal}
 use Rattle.lis_store.proofs.Assigned.{sorted_assigned}
 use Rattle.lis_store.proofs.Facts.{limits_told, known_told, name_filed, files_counted}
 use Rattle.lis_store.proofs.FreeBlocks.{used_told}
@@ -123,7 +124,7 @@ module _ (k : Kept) (place : List Formula) (name : List ℕ) (words : List (List
   enough_free = omega (arith, row.blocks, ap (blocks_taken k.limits.version) long)
 
 -- ---- the row of the state
-module _ (k : Stored) (m : Meaning) (s : State) (sound : IsSound k) (fits : StoreFits k m s) (place : List Formula) (words : List (List ℕ)) where
+module _ (k : Stored) (s : State) (sound : IsSound k) (fits : ToldBy k s) (place : List Formula) (words : List (List ℕ)) where
   abbrev p : Kept
   p = k.parts
 
@@ -146,7 +147,7 @@ module _ (k : Stored) (m : Meaning) (s : State) (sound : IsSound k) (fits : Stor
   described_are file = ap₂ (λ declared axioms. file_words declared axioms file) declared_are axioms_are
 
   free_are : free_count p.taken ≡ free_blocks s
-  free_are = omega (arith, used_told k m s sound fits)
+  free_are = omega (arith, used_told k s sound fits)
 
   -- other files have few words, so the new one alone may have too many
   words_told : (file : File) → has_name s.files file.name ≡ false → nat_lt 128 (length (described_by p file)) ≡ exceeds_words (file_added s file)
@@ -245,7 +246,7 @@ module _ (k : Stored) (m : Meaning) (s : State) (sound : IsSound k) (fits : Stor
 -- a call that is refused changes nothing
 pub added_refused : {T : Type 0} (old : Stored) (m : Meaning) (place : List Formula) (name : List ℕ) (words : List (List ℕ)) (payload : Payload) (refusal : Refusal) (result : Result T Change)
     → IsSound old → first_refusal (add_checks_of old.parts place name words payload.bytes payload.size) ≡ Some refusal → result ≡ Err (Refused refusal)
-    → (s : State) → StoreFits old m s → Changes (record { state = s; place = place }) (add (record { state = s; place = place }) name words payload) old m m result
-added_refused old m place name words payload refusal result sound first ends s fits =
+    → (base s : State) → StoreHolds old m base s → Holds base (record { state = s; place = place }) (add (record { state = s; place = place }) name words payload) old m m result
+added_refused old m place name words payload refusal result sound first ends base s holds =
     let now : Situation = record { state = s; place = place } in
-    change_refused old m now (add now name words payload) refusal result fits (add_refused old m s sound fits place words name payload refusal first) ends
+    change_refused old m base now (add now name words payload) refusal result holds (add_refused old s sound (told_held old m base s sound holds) place words name payload refusal first) ends

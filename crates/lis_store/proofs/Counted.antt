@@ -2,7 +2,6 @@
 use Rattle.std.proofs.Common.{◌≡◌, ℕ, true, false, Option, Some, None, List, length, sym, ap, ◌∙◌, arith}
 use Rattle.std.proofs.lemmas.Bool.{false_from_ne_true, and_parts}
 use Rattle.lis_graph.proofs.Members.{among_from_any}
-use Rattle.lis_ports.specs.Meaning.{Meaning}
 use Rattle.lis_blockmap.specs.Bitmap.{free_count}
 use Rattle.lis_dict.specs.Dict.{number_of, word_of}
 use Rattle.lis_dict.proofs.Laws.{number_from_word, word_from_number}
@@ -17,17 +16,18 @@ use Rattle.lis_kept.specs.Links.{has_pair}
 use Rattle.lis_kept.specs.Telling.{axioms_of}
 use Rattle.lis_kept.proofs.Known.{among_axiom}
 use Rattle.lis_kept.proofs.AxiomsTold.{axiom_told, axioms_counted}
-use Rattle.lis_store.specs.Stored.{Stored, IsSound, StoreFits}
+use Rattle.lis_store.specs.Stored.{Stored, IsSound}
+use Rattle.lis_store.proofs.ToldBy.{ToldBy}
 use Rattle.lis_store.specs.Counting.{CountsState}
 use Rattle.lis_store.proofs.Facts.{files_counted, known_counted}
 use Rattle.lis_store.proofs.FreeBlocks.{used_told}
 
-module _ (m : Meaning) (k : Stored) (s : State) (sound : IsSound k) (fits : StoreFits k m s) where
+module _ (k : Stored) (s : State) (sound : IsSound k) (fits : ToldBy k s) where
   pub axioms_are : axioms_of k.parts ≡ s.axioms
   axioms_are = ap (λ (t : State). t.axioms) fits.tells.state
 
   free_are : free_count k.parts.taken ≡ free_blocks s
-  free_are = omega (arith, used_told k m s sound fits)
+  free_are = omega (arith, used_told k s sound fits)
 
   pub counts_state : CountsState k.parts s
   counts_state = record {

@@ -2,7 +2,6 @@
 use Rattle.std.proofs.Common.{◌≡◌, ℕ, Option, Some, IsSomeAnd, List, sym, ap, ◌∙◌, subst}
 use Rattle.std.specs.List.{find}
 use Rattle.lis_graph.proofs.Members.{Among, contains_from_among, among_filter, among_map}
-use Rattle.lis_ports.specs.Meaning.{Meaning}
 use Rattle.lis_catalog.specs.Catalog.{Filed, slot_of, rec_at}
 use Rattle.lis_catalog.proofs.Laws.{rec_at-slot_of}
 use Rattle.lis_ext.specs.Ext.{set_of as numbers_at}
@@ -17,10 +16,11 @@ use Rattle.lis_model.specs.Step.{entry_at}
 use Rattle.lis_laws.proofs.Members.{same_word_decides}
 use Rattle.lis_kept.specs.Telling.{words_told}
 use Rattle.lis_kept.proofs.Filing.{find_among}
-use Rattle.lis_store.specs.Stored.{Stored, IsSound, StoreFits}
+use Rattle.lis_store.specs.Stored.{Stored, IsSound}
+use Rattle.lis_store.proofs.ToldBy.{ToldBy}
 use Rattle.lis_store.proofs.Facts.{filed_named, slot_of_file, file_in_slot}
 
-module _ (m : Meaning) (k : Stored) (s : State) (sound : IsSound k) (fits : StoreFits k m s) where
+module _ (k : Stored) (s : State) (sound : IsSound k) (fits : ToldBy k s) where
   -- the numbers in the slot of a name are those of the file's description
   pub description_told : (name : List ℕ) (slot : ℕ) → slot_of k.parts.catalog name ≡ Some slot
       → words_told k.parts.dict (numbers_at k.parts.ext slot) ≡ description s (file_of s.files name)

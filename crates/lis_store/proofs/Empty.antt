@@ -96,7 +96,8 @@ module _ (limits : Limits) (blocks : ℕ) where
     tests = record { given = λ at rec is n _. absurd cc; met = λ at rec is n _. absurd cc };
     image = refl;
     journal = λ unbroken. refl;
-    staged = λ unbroken. refl;
+    few = λ _. omega arith;
+    whole = λ _. refl;
     placed = λ unbroken. refl;
     clean = λ unbroken. ap (λ n. replicate n false) (sym (length-replicate blocks false));
   }

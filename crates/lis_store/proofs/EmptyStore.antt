@@ -22,6 +22,7 @@ empty_fits m limits blocks image range room honest settled super blank =
       kept = λ n. block n image;
       journal = settled_fits (empty_stored limits blocks).journal image refl honest settled (omega arith) blank.long (ap (list_any (λ gate. gate == 1)) blank.gates);
       unbroken = refl;
+      settled = refl;
       tells = tells_empty limits blocks image range blank super;
       written = written_empty limits blocks image range blank;
     }

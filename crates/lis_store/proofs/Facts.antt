@@ -4,8 +4,6 @@ use Rattle.std.specs.List.{find, flat_map, list_any, Contains}
 use Rattle.std.proofs.lemmas.Bool.{ltb-true}
 use Rattle.std.proofs.lemmas.List.{length-map, length-take-le}
 use Rattle.std.proofs.lemmas.Option.{same_Some}
-use Rattle.lis_ports.specs.Meaning.{Meaning}
-use Rattle.lis_journal.proofs.Fitting.{kept_whole}
 use Rattle.lis_graph.proofs.Members.{Among, contains_from_among, among_map, map_among}
 use Rattle.lis_words.specs.Words.{same_word, has_word}
 use Rattle.lis_grammar.specs.Formula.{Formula}
@@ -29,10 +27,11 @@ use Rattle.lis_kept.specs.Sound.{AreSound, FreeSlotsAreEmpty}
 use Rattle.lis_kept.specs.Telling.{words_told, declared_of, axioms_of, bytes_told, blocks_told, file_told, state_of, Tells}
 use Rattle.lis_kept.proofs.Filing.{number_from_among, find_among, found_has, filed_rec, filed_slot, filed_at_slot, map_all}
 use Rattle.lis_kept.proofs.Known.{known_word, words_known}
-use Rattle.lis_store.specs.Stored.{Stored, IsSound, StoreFits}
+use Rattle.lis_store.specs.Stored.{Stored, IsSound}
 use Rattle.lis_store.specs.Seen.{placed, table_of}
 use Rattle.lis_store.specs.Judging.{is_among}
 use Rattle.lis_store.proofs.Spelled.{sound_parts}
+use Rattle.lis_store.proofs.ToldBy.{ToldBy}
 use Rattle.lis_store.proofs.FileBlocks.{content_told, content_among, content_counted}
 
 map_map : {X Y Z : Type 0} (f : Y → Z) (g : X → Y) (xs : List X) → map f (map g xs) ≡ map (λ x. f (g x)) xs
@@ -153,11 +152,8 @@ module _ (k : Kept) (at : ℕ → List ℕ) (s : State) (sound : AreSound k) (fr
       ∙ (file_found (file_told k.limits k.dict at) (λ f. refl) name k.catalog.entries found.0 found.1
       ∙ ap (λ (r : FileRecord). file_told k.limits k.dict at (record { slot = slot; rec = r })) same)
 
--- ---- what a store says that fits a disk
-module _ (k : Stored) (m : Meaning) (s : State) (sound : IsSound k) (fits : StoreFits k m s) where
-  pub block_is_whole : (b : ℕ) → b < k.parts.limits.blocks → length (fits.kept (data_start k.parts.limits + b)) ≡ 4096
-  block_is_whole b lt = kept_whole k.journal fits.journal (data_start k.parts.limits + b) (inr (omega arith)) (omega (arith, lt, sound.image))
-
+-- ---- what a store says by what a disk keeps
+module _ (k : Stored) (s : State) (sound : IsSound k) (fits : ToldBy k s) where
   -- the blocks of a file are blocks of the image
   pub told_below : (f : Filed) → Among k.parts.catalog.entries f → (b : ℕ) → Among (blocks_told k.parts.limits fits.kept f.rec) b → b < k.parts.limits.blocks
   told_below f there b among =
@@ -168,7 +164,7 @@ module _ (k : Stored) (m : Meaning) (s : State) (sound : IsSound k) (fits : Stor
   size_of_filed f there =
       let numbers = content_told k.parts.limits fits.kept f.rec in
       let counted = content_counted k.parts sound.parts f there fits.kept in
-      let whole = length-whole (λ b. fits.kept (data_start k.parts.limits + b)) numbers (λ b among. block_is_whole b (told_below f there b (content_among k.parts.limits fits.kept f.rec b among))) in
+      let whole = length-whole (λ b. fits.kept (data_start k.parts.limits + b)) numbers (λ b among. fits.whole b (told_below f there b (content_among k.parts.limits fits.kept f.rec b among))) in
       length-take-le f.rec.size (flat_map (λ b. fits.kept (data_start k.parts.limits + b)) numbers) (omega (arith, whole, counted))
 
   size_told : (name : List ℕ) (slot : ℕ) (rec : FileRecord) → slot_of k.parts.catalog name ≡ Some slot → rec_at k.parts.catalog slot ≡ Some rec → length (file_of s.files name).bytes ≡ rec.size

@@ -5,7 +5,6 @@ use Rattle.std.proofs.lemmas.Bool.{and_parts, and_from, both_ways, lt-ltb, ltb-t
 use Rattle.std.proofs.lemmas.List.{length-replicate, get_or-replicate}
 use Rattle.std.proofs.lemmas.List.Sums.{sum_by-cons, sum_by-set}
 use Rattle.lis_graph.proofs.Members.{Among, among_from_contains, contains_from_among, among_flat_map, flat_map_among}
-use Rattle.lis_ports.specs.Meaning.{Meaning}
 use Rattle.lis_blockmap.specs.Bitmap.{is_taken, free_count}
 use Rattle.lis_blockmap.proofs.Taken.{all_free}
 use Rattle.lis_content.specs.Content.{marked, has_number, are_distinct, are_free}
@@ -16,7 +15,8 @@ use Rattle.lis_laws.proofs.Counts.{all_among, all_from}
 use Rattle.lis_laws.proofs.Locals.{same_tests}
 use Rattle.lis_kept.specs.Telling.{blocks_told, file_told, state_of, Tells}
 use Rattle.lis_kept.proofs.Filing.{among_from_number, number_from_among}
-use Rattle.lis_store.specs.Stored.{Stored, IsSound, StoreFits}
+use Rattle.lis_store.specs.Stored.{Stored, IsSound}
+use Rattle.lis_store.proofs.ToldBy.{ToldBy}
 use Rattle.lis_store.proofs.Facts.{limits_told, files_told, size_of_filed}
 use Rattle.lis_store.proofs.FileBlocks.{told_counted}
 use Rattle.lis_store.proofs.Marks.{marks_are}
@@ -43,7 +43,7 @@ free_after_marks taken (b ∷ ns) apart free =
     (ap not (get_or-set_other taken b n true false differ) ∙ was.1)) in
     omega (arith, one, free_after_marks (set taken b true) ns once.1 still)
 
-module _ (k : Stored) (m : Meaning) (s : State) (sound : IsSound k) (fits : StoreFits k m s) where
+module _ (k : Stored) (s : State) (sound : IsSound k) (fits : ToldBy k s) where
   abbrev told : Filed → File
   told = file_told k.parts.limits k.parts.dict fits.kept
 
@@ -69,7 +69,7 @@ module _ (k : Stored) (m : Meaning) (s : State) (sound : IsSound k) (fits : Stor
   one_takes : (f : Filed) → Among k.parts.catalog.entries f → blocks_taken s.limits.version (length (told f).bytes) ≡ length (blocks_of f)
   one_takes f there =
       ap (λ v. blocks_taken v (length (told f).bytes)) version_told
-      ∙ (ap (blocks_taken k.parts.limits.version) (size_of_filed k m s sound fits f there) ∙ sym (told_counted k.parts sound.parts f there fits.kept))
+      ∙ (ap (blocks_taken k.parts.limits.version) (size_of_filed k s sound fits f there) ∙ sym (told_counted k.parts sound.parts f there fits.kept))
 
   all_take : (fs : List Filed) → ((f : Filed) → Among fs f → Among k.parts.catalog.entries f)
       → sum (map (λ (file : File). blocks_taken s.limits.version (length file.bytes)) (map told fs)) ≡ length (flat_map blocks_of fs)

@@ -16,7 +16,7 @@ use Rattle.lis_kept.specs.Sound.{AreSound}
 use Rattle.lis_kept.specs.Links.{has_pair, is_own_link}
 use Rattle.lis_kept.specs.Telling.{declared_of, is_left_of, is_head_by, is_left_head_of, is_had, is_named_left, is_used}
 use Rattle.lis_kept.proofs.OwnLinks.{own_head}
-use Rattle.lis_kept.proofs.Used.{had_at, used_flagged, used_had, used_left}
+use Rattle.lis_kept.proofs.Used.{had_at, used_had, used_left}
 use Rattle.lis_kept.proofs.Emptied.{flagged_not_valued}
 use Rattle.lis_store.specs.Stored.{AreClosed}
 

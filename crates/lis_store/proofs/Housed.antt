@@ -1,7 +1,7 @@
 -- The blocks of a file that comes into the place of another.
-use Rattle.std.proofs.Common.{◌≡◌, refl, sym, ap, ◌∙◌, subst, ℕ, ◌+◌, ◌<◌, ◌==◌, nat_lt, not, ◌&&◌, ◌||◌, Bool, true, false, List, length, IsTrue, arith}
-use Rattle.std.proofs.lemmas.Bool.{and_parts, both_ways, eqb-true, false_from_ne_true, ltb-true, not-true}
-use Rattle.lis_graph.proofs.Members.{Among, among_from_any, contains_from_among}
+use Rattle.std.proofs.Common.{◌≡◌, refl, sym, ap, ◌∙◌, subst, ℕ, ◌+◌, ◌<◌, nat_lt, not, ◌&&◌, ◌||◌, Bool, true, false, List, length, IsTrue, arith}
+use Rattle.std.proofs.lemmas.Bool.{and_parts, both_ways, false_from_ne_true, ltb-true, not-true}
+use Rattle.lis_graph.proofs.Members.{Among, contains_from_among}
 use Rattle.lis_blockmap.specs.Bitmap.{is_taken}
 use Rattle.lis_content.specs.Content.{given, marked, are_free, are_distinct, has_number, has_home}
 use Rattle.lis_content.specs.Large.{file_content, file_blocks, IsIndexed}

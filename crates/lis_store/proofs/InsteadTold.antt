@@ -2,7 +2,6 @@
 use Rattle.std.proofs.Common.{◌≡◌, ◌⊎◌, refl, sym, ap, ap₂, ◌∙◌, inl, inr, ℕ, ◌+◌, ◌==◌, nat_lt, nat_le, Bool, true, false, not, cond, Some, None, List, [], ◌∷◌, ◌++◌, length, filter, arith}
 use Rattle.std.specs.List.{list_any}
 use Rattle.std.proofs.lemmas.Bool.{cond-false, leb-true, ltb-true, not-false}
-use Rattle.lis_ports.specs.Meaning.{Meaning}
 use Rattle.lis_blockmap.specs.Bitmap.{free_count, is_taken}
 use Rattle.lis_content.proofs.Indexes.{small_blocks, small_size}
 use Rattle.lis_catalog.specs.Catalog.{Filed, slot_of, rec_at}
@@ -25,7 +24,8 @@ use Rattle.lis_kept.specs.Telling.{words_told, bytes_told, blocks_told}
 use Rattle.lis_kept.proofs.Contents.{slot_blocks_told}
 use Rattle.lis_kept.proofs.Dropped.{record_in_form}
 use Rattle.lis_kept.proofs.Filing.{filed_at_slot, number_from_among}
-use Rattle.lis_store.specs.Stored.{Stored, IsSound, StoreFits}
+use Rattle.lis_store.specs.Stored.{Stored, IsSound}
+use Rattle.lis_store.proofs.ToldBy.{ToldBy}
 use Rattle.lis_store.specs.Admitting.{described_by}
 use Rattle.lis_store.specs.Changes.{first_refusal}
 use Rattle.lis_store.specs.Judging.{is_among}
@@ -40,7 +40,7 @@ use Rattle.lis_store.proofs.InsteadKnown.{described_are, known_replaced}
 use Rattle.lis_store.proofs.Judged.{same_first, judged_refused, judged_done}
 
 -- ---- a file in the place of another
-module _ (k : Stored) (m : Meaning) (s : State) (sound : IsSound k) (fits : StoreFits k m s) (name : List ℕ) (slot : ℕ) (rec : FileRecord)
+module _ (k : Stored) (s : State) (sound : IsSound k) (fits : ToldBy k s) (name : List ℕ) (slot : ℕ) (rec : FileRecord)
     (is_slot : slot_of k.parts.catalog name ≡ Some slot) (is_rec : rec_at k.parts.catalog slot ≡ Some rec) where
   abbrev p : Kept
   p = k.parts
@@ -99,13 +99,13 @@ module _ (k : Stored) (m : Meaning) (s : State) (sound : IsSound k) (fits : Stor
       old = file_of s.files name
 
       version : s.limits.version ≡ p.limits.version
-      version = version_told k m s sound fits
+      version = version_told k s sound fits
 
       free : free_count p.taken ≡ free_blocks s
-      free = omega (arith, used_told k m s sound fits)
+      free = omega (arith, used_told k s sound fits)
 
       size : length old.bytes ≡ rec.size
-      size = ap (λ (x : File). length x.bytes) old_is ∙ size_of_filed k m s sound fits f there
+      size = ap (λ (x : File). length x.bytes) old_is ∙ size_of_filed k s sound fits f there
 
       -- in version 1 the slot numbers all blocks of the file, and they are taken
       taken : (p.limits.version == 2) ≡ false → length (filter (is_taken p.taken) rec.blocks) ≡ blocks_taken p.limits.version (length old.bytes)
@@ -124,7 +124,7 @@ module _ (k : Stored) (m : Meaning) (s : State) (sound : IsSound k) (fits : Stor
       by false is = omega (arith, free, taken is)
 
 -- ---- the rows
-module _ (k : Stored) (m : Meaning) (s : State) (sound : IsSound k) (fits : StoreFits k m s) (place : List Formula) (name : List ℕ) (slot : ℕ) (rec : FileRecord)
+module _ (k : Stored) (s : State) (sound : IsSound k) (fits : ToldBy k s) (place : List Formula) (name : List ℕ) (slot : ℕ) (rec : FileRecord)
     (there : is_among k.parts place name ≡ true → (slot_of k.parts.catalog name ≡ Some slot) × (rec_at k.parts.catalog slot ≡ Some rec)) where
   abbrev now : Situation
   now = record { state = s; place = place }
@@ -157,19 +157,19 @@ module _ (k : Stored) (m : Meaning) (s : State) (sound : IsSound k) (fits : Stor
         ap (λ v. nat_lt (file_limit v) size) version_is,
         λ small. (
           refl,
-          ap not (among_told k m s sound fits place name),
+          ap not (among_told k s sound fits place name),
           λ here. let at = there (not-false (is_among kept place name) here) in (
             refl,
             ap not (given_assignable k sound slot rec at.1 fits.kept s fits.tells),
             λ words. (
               refl,
-              large_told k m s sound fits name slot rec at.0 at.1 (given_before kept rec name bytes) (gone_free s name) ∙ ap exceeds_words (made at),
+              large_told k s sound fits name slot rec at.0 at.1 (given_before kept rec name bytes) (gone_free s name) ∙ ap exceeds_words (made at),
               λ short. (
                 refl,
-                room_told k m s sound fits name slot rec at.0 at.1 (given_before kept rec name bytes) (gone_free s name) ∙ ap exceeds_known (made at),
+                room_told k s sound fits name slot rec at.0 at.1 (given_before kept rec name bytes) (gone_free s name) ∙ ap exceeds_known (made at),
                 λ room. (
                   refl,
-                  ap₂ nat_lt (free_told k m s sound fits name slot rec at.0 at.1) (ap (λ v. blocks_taken v size) version_is),
+                  ap₂ nat_lt (free_told k s sound fits name slot rec at.0 at.1) (ap (λ v. blocks_taken v size) version_is),
                   λ blocks. tt,
                 ),
               ),
@@ -181,7 +181,7 @@ module _ (k : Stored) (m : Meaning) (s : State) (sound : IsSound k) (fits : Stor
       made : (slot_of kept.catalog name ≡ Some slot) × (rec_at kept.catalog slot ≡ Some rec)
           → file_replaced s name (given_before kept rec name bytes) ≡ file_replaced s old.name (new_file old.name old.assigned bytes)
       made at =
-          made_is name bytes (old_given k m s sound fits name slot rec at.0 at.1)
+          made_is name bytes (old_given k s sound fits name slot rec at.0 at.1)
           ∙ ap (λ n. file_replaced s old.name (new_file n old.assigned bytes)) (sym (file_of_name s.files name))
 
   rename_row : (other : List ℕ)
@@ -196,9 +196,9 @@ module _ (k : Stored) (m : Meaning) (s : State) (sound : IsSound k) (fits : Stor
       ∷ room_checks (file_replaced s old.name (new_file other old.assigned old.bytes))
       ) (
         refl,
-        ap not (among_told k m s sound fits place name),
+        ap not (among_told k s sound fits place name),
         λ here. let at = there (not-false (is_among kept place name) here) in
-            let made = made_is other old.bytes (old_given k m s sound fits name slot rec at.0 at.1) in (
+            let made = made_is other old.bytes (old_given k s sound fits name slot rec at.0 at.1) in (
               refl,
               sym named,
               λ new. let free = still_free s name other (named ∙ new) in (
@@ -206,10 +206,10 @@ module _ (k : Stored) (m : Meaning) (s : State) (sound : IsSound k) (fits : Stor
                 ap not (given_assignable k sound slot rec at.1 fits.kept s fits.tells),
                 λ words. (
                   refl,
-                  large_told k m s sound fits name slot rec at.0 at.1 (given_before kept rec other old.bytes) free ∙ ap exceeds_words made,
+                  large_told k s sound fits name slot rec at.0 at.1 (given_before kept rec other old.bytes) free ∙ ap exceeds_words made,
                   λ short. (
                     refl,
-                    room_told k m s sound fits name slot rec at.0 at.1 (given_before kept rec other old.bytes) free ∙ ap exceeds_known made,
+                    room_told k s sound fits name slot rec at.0 at.1 (given_before kept rec other old.bytes) free ∙ ap exceeds_known made,
                     λ room. tt,
                   ),
                 ),

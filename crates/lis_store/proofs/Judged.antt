@@ -1,5 +1,5 @@
 -- Rows of refusals that are judged, and commands that are refused.
-use Rattle.std.proofs.Common.{◌≡◌, ◌⊎◌, refl, sym, ap, ap₂, ◌∙◌, subst, Bool, true, false, cond, List, [], ◌∷◌, ◌++◌, Option, Some, None, Result, Ok, Err}
+use Rattle.std.proofs.Common.{◌≡◌, refl, sym, ap, ap₂, ◌∙◌, subst, Bool, true, false, cond, List, [], ◌∷◌, ◌++◌, Option, Some, None, Result, Ok, Err}
 use Rattle.std.proofs.lemmas.Option.{same_Some}
 use Rattle.lis_ports.specs.Meaning.{Meaning}
 use Rattle.lis_ports.proofs.Moments.{leaves_none}
@@ -7,9 +7,9 @@ use Rattle.lis_model.specs.declared.refusal.Refusal.{Refusal}
 use Rattle.lis_model.specs.Step.{Situation, Outcome, refused, judged}
 use Rattle.lis_store.specs.declared.change.Change.{Change}
 use Rattle.lis_store.specs.declared.change.Change.TheVariants.{Refused}
-use Rattle.lis_store.specs.Stands.{Stands}
-use Rattle.lis_store.specs.Stored.{Stored, StoreFits}
-use Rattle.lis_store.specs.Changes.{Changes, first_refusal, Judges}
+use Rattle.lis_model.specs.State.{State}
+use Rattle.lis_store.specs.Stored.{Stored, StoreHolds}
+use Rattle.lis_store.specs.Changes.{Holds, first_refusal, Judges}
 
 pub judged_refused : (now : Situation) (checks : List (Bool × Refusal)) (done : Outcome) (refusal : Refusal) → first_refusal checks ≡ Some refusal → judged now checks done ≡ refused now refusal
 judged_refused now [] done refusal first = absurd cc
@@ -90,11 +90,7 @@ same_first (check ∷ checks) (other ∷ others) alike =
     by false e more = more e
 
 -- nothing was changed
-pub change_refused : {T : Type 0} (k : Stored) (m : Meaning) (now : Situation) (outcome : Outcome) (refusal : Refusal) (result : Result T Change) → StoreFits k m now.state
-    → outcome ≡ refused now refusal → result ≡ Err (Refused refusal) → Changes now outcome k m m result
-change_refused k m now outcome refusal result fits is ends =
-    subst (λ r. Changes now outcome k m m r) (sym ends) (record {
-      moments = leaves_none m (λ image. Stands image now.state ⊎ Stands image outcome.next.state);
-      past = λ n le. refl;
-      ended = (is, fits);
-    })
+pub change_refused : {T : Type 0} (k : Stored) (m : Meaning) (base : State) (now : Situation) (outcome : Outcome) (refusal : Refusal) (result : Result T Change) → StoreHolds k m base now.state
+    → outcome ≡ refused now refusal → result ≡ Err (Refused refusal) → Holds base now outcome k m m result
+change_refused k m base now outcome refusal result holds is ends =
+    subst (λ r. Holds base now outcome k m m r) (sym ends) (record { moments = leaves_none m _; past = λ n le. refl; ended = (is, holds) })

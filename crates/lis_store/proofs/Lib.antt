@@ -9,12 +9,16 @@ pub mod OneState
 pub mod Standing
 pub mod Empty
 pub mod EmptyStore
+pub mod ToldBy
 pub mod Facts
 pub mod Entailment
 pub mod FileTests
 pub mod Viewing
 pub mod Saved
 pub mod SavedAlone
+pub mod Holding
+pub mod Committed
+pub mod Large
 pub mod Judged
 pub mod Cleaned
 pub mod Told

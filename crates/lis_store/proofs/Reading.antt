@@ -25,7 +25,8 @@ use Rattle.lis_store.specs.Stored.{Stored, IsSound, StoreFits, IsIndex}
 use Rattle.lis_dict.proofs.Places.{among_at}
 use Rattle.lis_store.proofs.Elsewhere.{numbers_counted}
 use Rattle.lis_store.proofs.FileBlocks.{content_told, content_among, content_counted}
-use Rattle.lis_store.proofs.Facts.{file_in_slot, block_is_whole, told_below}
+use Rattle.lis_store.proofs.Facts.{file_in_slot, told_below}
+use Rattle.lis_store.proofs.ToldBy.{told_fits}
 use Rattle.lis_store.proofs.Spelled.{sound_parts}
 
 -- ---- pieces of one length
@@ -128,7 +129,7 @@ module _ (k : Stored) (slot n : ℕ) (rec : FileRecord) (ns : List ℕ) (size : 
     in_content = let within = has.within in omega (arith, within, content_counted k.parts has.sound.parts filed there fits.kept)
 
     below : (b : ℕ) → Among numbers b → b < k.parts.limits.blocks
-    below b among = told_below k m s has.sound fits filed there b (content_among k.parts.limits fits.kept rec b among)
+    below b among = told_below k s has.sound (told_fits k m s has.sound fits) filed there b (content_among k.parts.limits fits.kept rec b among)
 
     block_told : (name : List ℕ) → slot_of k.parts.catalog name ≡ Some slot
         → take (length (part (4096 * n) 4096 (file_of s.files name).bytes)) (fits.kept (data_start k.parts.limits + get_or numbers n 0)) ≡ part (4096 * n) 4096 (file_of s.files name).bytes
@@ -138,7 +139,7 @@ module _ (k : Stored) (slot n : ℕ) (rec : FileRecord) (ns : List ℕ) (size : 
         let bytes_are : (file_of s.files name).bytes ≡ bytes_told k.parts.limits fits.kept rec =
         ap (λ (file : File). file.bytes) (file_in_slot k.parts fits.kept s has.sound.parts has.sound.free fits.tells name slot rec is_slot has.is_rec) in
         subst (λ bytes. take (length (part (4096 * n) 4096 bytes)) (at (get_or numbers n 0)) ≡ part (4096 * n) 4096 bytes) (sym bytes_are)
-        (part_of_pieces 4096 at numbers n rec.size 0 (λ b among. block_is_whole k m s has.sound fits b (below b among)) in_content (omega arith))
+        (part_of_pieces 4096 at numbers n rec.size 0 (λ b among. (told_fits k m s has.sound fits).whole b (below b among)) in_content (omega arith))
 
     number_within : data_start k.parts.limits + get_or numbers n 0 < k.journal.blocks
     number_within = omega (arith, below (get_or numbers n 0) (among_at numbers n 0 in_content), has.sound.image)
@@ -155,7 +156,7 @@ module _ (k : Stored) (slot n : ℕ) (rec : FileRecord) (ns : List ℕ) (size : 
       let number = get_or (numbers m s fits) n 0 in
       let is_read : buf ≡ held ds rec.blocks rec.size [] =
       read fits.kept fits.journal
-      ∙ (ap (held base ns size) (has.sound.staged fits.unbroken)
+      ∙ (ap (held base ns size) fits.settled
       ∙ (ap (λ b. held b ns size []) is_base
       ∙ (ap (λ slots. held ds slots size []) has.numbers
       ∙ ap (λ bytes. held ds rec.blocks bytes []) has.sized))) in

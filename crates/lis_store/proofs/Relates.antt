@@ -297,7 +297,8 @@ module _ (p q : Kept) (left right : List ℕ) (relates : RelatesIn left right p 
       tests = tests_clean end (tests_then sound_end was.tests);
       image = was.image;
       journal = λ _. was.journal whole;
-      staged = λ _. refl;
+      few = λ _. omega arith;
+      whole = λ _. refl;
       placed = λ _. refl;
       clean = λ _. clean_is end;
     })

@@ -3,7 +3,6 @@ use Rattle.std.proofs.Common.{◌≡◌, refl, sym, ap, ◌∙◌, subst, ℕ, �
 use Rattle.std.proofs.lemmas.Option.{same_Some}
 use Rattle.lis_ports.specs.Meaning.{Meaning}
 use Rattle.lis_journal.specs.Journal.{Held}
-use Rattle.lis_journal.specs.Record.{Entry as Staged}
 use Rattle.lis_journal.specs.Phases.{looked}
 use Rattle.lis_content.specs.Content.{given}
 use Rattle.lis_content.specs.Placing.{Asks}
@@ -15,7 +14,7 @@ use Rattle.lis_fields.specs.Records.{FileRecord}
 use Rattle.lis_model.specs.declared.refusal.Refusal.TheVariants.{NoFileHere}
 use Rattle.lis_model.specs.Image.{bitmap_start, image_blocks}
 use Rattle.lis_model.specs.State.{State}
-use Rattle.lis_model.specs.Step.{Situation, refused, changed, rm}
+use Rattle.lis_model.specs.Step.{Situation, Outcome, refused, changed, rm}
 use Rattle.lis_model.specs.Changes.{file_removed}
 use Rattle.lis_kept.specs.Kept.{Kept}
 use Rattle.lis_kept.specs.Areas.{IsSaved, marked_count}
@@ -24,30 +23,31 @@ use Rattle.lis_kept.specs.Changes.{Gives}
 use Rattle.lis_kept.specs.Telling.{blocks_told}
 use Rattle.lis_store.specs.declared.change.Change.{Change}
 use Rattle.lis_store.specs.declared.change.Change.TheVariants.{Refused, Disk}
-use Rattle.lis_store.specs.Stored.{Stored, IsSound, StoreFits}
+use Rattle.lis_store.specs.Stored.{Stored, IsSound, StoreHolds}
 use Rattle.lis_store.specs.Contents.{ContentGiven, ContentEnded}
-use Rattle.lis_store.specs.Changes.{Changes}
+use Rattle.lis_store.specs.Changes.{Holds}
 use Rattle.lis_store.specs.Judging.{is_among}
-use Rattle.lis_store.specs.Saving.{settled, ArePlaced, IsReady, Saves}
+use Rattle.lis_store.specs.Saving.{settled, IsReady, Saves}
 use Rattle.lis_store.specs.Removing.{TakesOut}
 use Rattle.lis_store.specs.ReplacingIn.{AreInForm}
-use Rattle.lis_store.proofs.Facts.{limits_told, here_told}
+use Rattle.lis_store.proofs.Facts.{here_told}
 use Rattle.lis_store.proofs.Judged.{change_refused}
 use Rattle.lis_store.proofs.Cleaned.{none_marked}
 use Rattle.lis_store.proofs.Edits.{AreEditsFew}
 use Rattle.lis_store.proofs.Removed.{end_is, form_removed, few_marked, few_edits, ready_removed}
 use Rattle.lis_store.proofs.Replaced.{in_form, settled_sound}
-use Rattle.lis_store.proofs.SavedAlone.{alone_placed, unplaced_stands}
-use Rattle.lis_store.proofs.Steps.{form_taken, pairs_same, sound_lost, changes_behind, changes_lost, asks_stand, asks_past}
+use Rattle.lis_store.proofs.SavedAlone.{unplaced_stands}
+use Rattle.lis_store.proofs.Steps.{form_taken, pairs_same, sound_lost, holds_behind, holds_lost, asks_stand, asks_past}
+use Rattle.lis_store.proofs.ToldBy.{told_held}
 use Rattle.lis_store.proofs.Torn.{ended_broken}
 
 -- one that is refused
 pub removed_refused : {T : Type 0} (old : Stored) (m : Meaning) (place : List Formula) (name : List ℕ) (result : Result T Change) → IsSound old → is_among old.parts place name ≡ false
-    → result ≡ Err (Refused NoFileHere) → (s : State) → StoreFits old m s → Changes (record { state = s; place = place }) (rm (record { state = s; place = place }) name) old m m result
-removed_refused old m place name result sound none ends s fits =
+    → result ≡ Err (Refused NoFileHere) → (base s : State) → StoreHolds old m base s → Holds base (record { state = s; place = place }) (rm (record { state = s; place = place }) name) old m m result
+removed_refused old m place name result sound none ends base s holds =
     let now : Situation = record { state = s; place = place } in
-    change_refused old m now (rm now name) NoFileHere result fits
-    (ap (λ b. cond (not b) (refused now NoFileHere) (changed now (file_removed s name))) (sym (here_told old m s sound fits place name) ∙ none)) ends
+    change_refused old m base now (rm now name) NoFileHere result holds
+    (ap (λ b. cond (not b) (refused now NoFileHere) (changed now (file_removed s name))) (sym (here_told old s sound (told_held old m base s sound holds) place name) ∙ none)) ends
 
 -- what is known where the disk fails while its blocks are asked for
 given_err : (T : Type 0) (rec : FileRecord) (p q : Kept) (journal : Held) (before after : Meaning) (change : Change) → ContentGiven {T = T} rec p q journal before after (Err change)
@@ -73,12 +73,11 @@ module _ (T : Type 0) (old : Stored) (slot : ℕ) (name : List ℕ) (sound : IsS
       subst (λ (k : Kept). IsSound (record { parts = k; journal = old.journal; is_broken = b })) (sym lost_parts)
       (subst (λ c. IsSound (record { parts = old.parts; journal = old.journal; is_broken = c })) (sym broken) (sound_lost old.parts old.journal (in_form old sound) sound.pairs sound.image))
 
-  pub lost_changes : {U : Type 0} (place : List Formula) (result : Result U Change) → result ≡ Err change → (s : State) → StoreFits old before s
-      → Changes (record { state = s; place = place }) (rm (record { state = s; place = place }) name) (record { parts = q; journal = old.journal; is_broken = b }) before after result
-  lost_changes place result ends s fits =
-      let now : Situation = record { state = s; place = place } in
-      changes_lost now (rm now name) (record { parts = q; journal = old.journal; is_broken = b }) before after result (asks_stand old s before sound fits after lost.2) (asks_past old s before sound fits after lost.2)
-      broken (ends ∙ ap Err lost.0)
+  pub lost_holds : {U : Type 0} (base : State) (now : Situation) (outcome : Outcome) (result : Result U Change) → result ≡ Err change → StoreHolds old before base now.state
+      → Holds base now outcome (record { parts = q; journal = old.journal; is_broken = b }) before after result
+  lost_holds base now outcome result ends holds =
+      holds_lost base now outcome (record { parts = q; journal = old.journal; is_broken = b }) before after result (asks_stand old base now.state before sound holds after lost.2)
+      (asks_past old base now.state before sound holds after lost.2) broken (ends ∙ ap Err lost.0)
 
 -- ---- its blocks are given back, and then it is taken out
 module _ (old : Stored) (mid : Kept) (slot : ℕ) (rec : FileRecord) (before : Meaning) (gives : Gives rec old.parts mid old.journal before) (sound : IsSound old) (filed : rec_at old.parts.catalog slot ≡ Some rec) where
@@ -106,14 +105,11 @@ module _ (old : Stored) (mid q : Kept) (slot : ℕ) (place : List Formula) (name
   removed_sound after =
       settled_sound q old.journal (form_removed slot mid q out form_mid.sound form_mid after) (pairs_same old.parts q same_axioms sound.pairs) (sound.image ∙ ap image_blocks (sym same_limits)) (sound.journal unbroken)
 
-  pub removed_marks : length old.journal.staged + marked_count q ≤ 531
+  pub removed_marks : length old.journal.staged + marked_count q ≤ 575
   removed_marks =
       let few = few_marked slot mid q out form_mid.sound (form_mid.short slot) in
       let none = none_marked old.parts (sound.clean unbroken) in
-      omega (arith, few, gives.takes.marks.few, none, ap length (sound.staged unbroken))
-
-  pub removed_placed : ArePlaced q old.journal
-  removed_placed = alone_placed old sound unbroken q
+      omega (arith, few, gives.takes.marks.few, none, sound.few unbroken)
 
   pub removed_edits : AreEditsFew old.parts.ext q.ext
   removed_edits =
@@ -122,29 +118,27 @@ module _ (old : Stored) (mid q : Kept) (slot : ℕ) (place : List Formula) (name
   rec_is : out.rec ≡ rec
   rec_is = same_Some out.rec rec (sym out.drops.there ∙ (ap (λ (k : Kept). rec_at k.catalog slot) gives.takes.parts ∙ filed))
 
-  module _ (s : State) (fits : StoreFits old before s) where
-    gave : mid.taken ≡ given old.parts.taken (blocks_told old.parts.limits fits.kept out.rec)
-    gave =
-        gives.given fits.kept fits.journal
-        ∙ (ap (λ (es : List Staged). given old.parts.taken (blocks_told old.parts.limits (looked es fits.kept) rec)) (sound.staged unbroken)
-        ∙ ap (λ (r : FileRecord). given old.parts.taken (blocks_told old.parts.limits fits.kept r)) (sym rec_is))
+  module _ (base : State) (s : State) (holds : StoreHolds old before base s) where
+    abbrev at : ℕ → List ℕ
+    at = looked old.journal.staged holds.kept
 
-    ready : IsReady q fits.kept (file_removed s name)
+    gave : mid.taken ≡ given old.parts.taken (blocks_told old.parts.limits at out.rec)
+    gave = gives.given holds.kept holds.journal ∙ ap (λ (r : FileRecord). given old.parts.taken (blocks_told old.parts.limits at r)) (sym rec_is)
+
+    ready : IsReady q at (file_removed s name)
     ready =
         let ts = mid.taken in
         let R : Kept → Type 0 = λ k.
-        (out : TakesOut slot k q) → AreSound k → ts ≡ given old.parts.taken (blocks_told old.parts.limits fits.kept out.rec) → IsSaved k fits.kept → IsReady q fits.kept (file_removed s name) in
+        (out : TakesOut slot k q) → AreSound k → ts ≡ given old.parts.taken (blocks_told old.parts.limits at out.rec) → IsSaved k at → IsReady q at (file_removed s name) in
         subst R (sym gives.takes.parts)
-        (λ out sound_then gave_then saved. ready_removed slot old.parts ts after_marks q out sound_then fits.kept s fits.tells gave_then name named saved)
-        out form_mid.sound gave (gives.takes.marks.saved fits.kept (λ area n lt unmarked. fits.written area n lt))
+        (λ out sound_then gave_then saved. ready_removed slot old.parts ts after_marks q out sound_then at s holds.tells gave_then name named saved)
+        out form_mid.sound gave (gives.takes.marks.saved at (λ area n lt unmarked. holds.written area n lt))
 
-    pub removed_changes : {T : Type 0} (new : Stored) (asked after : Meaning) (result : Result T Change) → Asks old.journal before asked → Saves q old.journal new asked after result
-        → Changes (record { state = s; place = place }) (rm (record { state = s; place = place }) name) new before after result
-    removed_changes new asked after result asks saves =
+    pub removed_holds : {T : Type 0} (new : Stored) (asked after : Meaning) (result : Result T Change) → Asks old.journal before asked → Saves q old.journal new asked after result
+        → Holds base (record { state = s; place = place }) (rm (record { state = s; place = place }) name) new before after result
+    removed_holds new asked after result asks saves =
         let now : Situation = record { state = s; place = place } in
         let made : State = file_removed s name in
-        let limits = same_limits ∙ limits_told old.parts fits.kept s sound.parts sound.free fits.tells in
-        changes_behind now (rm now name) new before asked after result (asks_stand old s before sound fits asked asks) (asks_past old s before sound fits asked asks)
-        (saves now (rm now name) made fits.kept (asks.fits fits.kept fits.journal) limits (unplaced_stands old sound unbroken s before fits)
-        (λ _. subst (λ (es : List Staged). IsReady q (looked es fits.kept) made) (sym (sound.staged unbroken)) ready)
-        (ap (λ b. cond (not b) (refused now NoFileHere) (changed now made)) (sym (here_told old before s sound fits place name) ∙ here)))
+        holds_behind base now (rm now name) new before asked after result (asks_stand old base s before sound holds asked asks) (asks_past old base s before sound holds asked asks)
+        (saves base now (rm now name) made holds.kept (asks.fits holds.kept holds.journal) (same_limits ∙ holds.limits) (unplaced_stands old sound unbroken base s before holds) (λ _. ready)
+        (ap (λ b. cond (not b) (refused now NoFileHere) (changed now made)) (sym (here_told old s sound (told_held old before base s sound holds) place name) ∙ here)))

@@ -1,5 +1,5 @@
 -- Bytes that come into blocks in the place of others, and what the disk keeps meanwhile.
-use Rattle.std.proofs.Common.{◌≡◌, refl, sym, ap, ap₂, ◌∙◌, subst, ℕ, true, false, Bool, List, [], ◌∷◌, Option, Some, None, Result, Ok, Err, OnErr, IsSomeAnd, IsTrue, set, get_or-set_same, arith}
+use Rattle.std.proofs.Common.{◌≡◌, refl, sym, ap, ap₂, ◌∙◌, subst, ℕ, true, false, Bool, List, [], ◌∷◌, length, Option, Some, None, Result, Ok, Err, OnErr, IsSomeAnd, IsTrue, set, get_or-set_same, arith}
 use Rattle.std.proofs.lemmas.Bool.{both_ways, false_from_ne_true}
 use Rattle.arrayvec.specs.ArrayVec.{ArrayVec}
 use Rattle.lis_ports.specs.Meaning.{Meaning}
@@ -12,6 +12,7 @@ use Rattle.lis_journal.specs.Images.{KeepsBut, StandsBut, Fits, KeepsPast, is_am
 use Rattle.lis_journal.proofs.Fitting.{fits_but}
 use Rattle.lis_journal.proofs.Phases.{stands_less}
 use Rattle.lis_content.specs.Content.{given, marked, are_free, has_home}
+use Rattle.lis_content.specs.Large.{is_large}
 use Rattle.lis_content.specs.Placing.{Asks, homes_of}
 use Rattle.lis_content.proofs.Numbers.{stays_marked}
 use Rattle.lis_content.proofs.Laying.{among_homes}
@@ -21,10 +22,10 @@ use Rattle.lis_kept.specs.Kept.{Kept}
 use Rattle.lis_kept.specs.Areas.{is_marked}
 use Rattle.lis_kept.specs.Sound.{AreSound}
 use Rattle.lis_kept.specs.Telling.{blocks_told}
-use Rattle.lis_kept.specs.Changes.{Marks, Takes, Gives, Puts, PutTorn}
+use Rattle.lis_kept.specs.Changes.{Marks, Takes, Gives, Puts}
 use Rattle.lis_store.specs.declared.change.Change.{Change}
 use Rattle.lis_store.specs.declared.change.Change.TheVariants.{Refused, Disk}
-use Rattle.lis_store.specs.Contents.{IsRenewed, Renews, ContentPut, ContentGiven, ContentRenewed}
+use Rattle.lis_store.specs.Contents.{ContentTorn, IsRenewed, Renews, ContentPut, ContentGiven, ContentRenewed}
 use Rattle.lis_store.specs.Contents.Trades.{First, Last}
 
 -- ---- images
@@ -71,13 +72,13 @@ module _ (p mid q : Kept) (sound : AreSound p) (ts us : List Bool) (one : Takes 
       ∙ stays_marked mid.marks (bitmap_start mid.limits ∷ []) (bitmap_start p.limits) marked_mid
 
 -- ---- the blocks of the other file are given back first
-module _ (p q : Kept) (ts ms : List Bool) (rec : FileRecord) (bytes numbers : List ℕ) (old new : Held) (before asked after : Meaning) (sound : AreSound p) (unplaced : old.placed ≡ []) (one : p.limits.version ≡ 1)
+module _ (p q : Kept) (ts ms : List Bool) (rec : FileRecord) (bytes numbers : List ℕ) (old new : Held) (before asked after : Meaning) (sound : AreSound p) (unplaced : old.placed ≡ []) (small : is_large (length bytes) ≡ false)
     (gives : Gives rec p (record p { taken = ts; marks = ms }) old before) (asks : Asks old before asked) (puts : Puts bytes numbers (record p { taken = ts; marks = ms }) q old new asked after) where
   abbrev freed : Kept
   freed = record p { taken = ts; marks = ms }
 
   none_placed : new.placed ≡ []
-  none_placed = puts.unplaced one
+  none_placed = puts.unplaced small
 
   pub first_moments : (kept : ℕ → List ℕ) → Fits old before kept → Leaves before after (StandsBut old.blocks new.placed kept)
   first_moments kept fits =
@@ -107,7 +108,7 @@ module _ (p q : Kept) (ts ms : List Bool) (rec : FileRecord) (bytes numbers : Li
     image = puts.image;
     broken = puts.broken;
     few_staged = puts.few_staged;
-    unstaged = puts.unstaged;
+    unplaced = puts.unplaced;
     spare = [];
     were_free = refl;
     placed = λ n among. absurd (both_ways (is_among new.placed n) (ap (λ ns. is_among ns n) none_placed) among);
@@ -139,20 +140,26 @@ module _ (p : Kept) (ts ms : List Bool) (bytes numbers : List ℕ) (old new : He
   last_past kept fits n le = ap (block n) (asks.same (puts.lands kept fits).fits.honest).bytes ∙ puts.fills.past kept fits n le
 
   -- blocks that are not given back then
-  pub torn_last : PutTorn p put old new before after
-  torn_last = record {
-    blocks = puts.blocks;
-    fills = record {
-      distinct = puts.fills.distinct;
-      were_free = puts.fills.were_free;
-      moments = λ kept fits.
-          leaves_weaken (StandsBut old.blocks (homes_of (data_start p.limits) puts.blocks) kept) (last_moments kept fits) (λ image but.
-          stands_homes old.blocks (data_start p.limits) new.placed puts.blocks kept image puts.placed but);
-      past = last_past;
-    };
-    parts = refl;
-    image = puts.image;
-  }
+  pub torn_last : ContentTorn bytes p put old new before after
+  torn_last = by (is_large (length bytes)) refl
+    where
+      torn : (spare : List ℕ) → are_free p.taken spare ≡ true → (is_large (length bytes) ≡ false → spare ≡ []) → ((n : ℕ) → is_among new.placed n ≡ true → has_home (data_start p.limits) spare n ≡ true)
+          → ContentTorn bytes p put old new before after
+      torn spare free small homes = record {
+        parts = refl;
+        image = puts.image;
+        spare = spare;
+        were_free = free;
+        small = small;
+        moments = λ kept fits.
+            leaves_weaken (StandsBut old.blocks (homes_of (data_start p.limits) spare) kept) (last_moments kept fits) (λ image but.
+            stands_homes old.blocks (data_start p.limits) new.placed spare kept image homes but);
+        past = last_past;
+      }
+
+      by : (b : Bool) → is_large (length bytes) ≡ b → ContentTorn bytes p put old new before after
+      by true large = torn puts.blocks puts.fills.were_free (λ small. absurd (both_ways (is_large (length bytes)) small large)) puts.placed
+      by false small = torn [] refl (λ _. refl) (λ n among. absurd (both_ways (is_among new.placed n) (ap (λ ns. is_among ns n) (puts.unplaced small)) among))
 
   module _ (q : Kept) (rec : FileRecord) (gives : Gives rec put q new placed) where
     last_renewed : (kept : ℕ → List ℕ) → Fits old before kept → IsRenewed bytes numbers puts.blocks rec p q kept old new after
@@ -176,7 +183,7 @@ module _ (p : Kept) (ts ms : List Bool) (bytes numbers : List ℕ) (old new : He
       image = puts.image;
       broken = puts.broken;
       few_staged = puts.few_staged;
-      unstaged = puts.unstaged;
+      unplaced = puts.unplaced;
       spare = puts.blocks;
       were_free = puts.fills.were_free;
       placed = puts.placed;
@@ -188,26 +195,24 @@ module _ (p : Kept) (ts ms : List Bool) (bytes numbers : List ℕ) (old new : He
     }
 
 -- ---- blocks that are not given back at all
-pub torn_first : (p : Kept) (old : Held) (before after : Meaning) → old.placed ≡ [] → Asks old before after → PutTorn p p old old before after
-torn_first p old before after unplaced asks = record {
-  blocks = [];
-  fills = record {
-    distinct = refl;
-    were_free = refl;
-    moments = λ kept fits. leaves_weaken (StandsBut old.blocks [] kept) (asks.moments fits.honest) (unplaced_stands old [] unplaced fits);
-    past = λ kept fits n le. ap (block n) (asks.same fits.honest).bytes;
-  };
+pub torn_first : (bytes : List ℕ) (p : Kept) (old : Held) (before after : Meaning) → old.placed ≡ [] → Asks old before after → ContentTorn bytes p p old old before after
+torn_first bytes p old before after unplaced asks = record {
   parts = refl;
   image = refl;
+  spare = [];
+  were_free = refl;
+  small = λ _. refl;
+  moments = λ kept fits. leaves_weaken (StandsBut old.blocks [] kept) (asks.moments fits.honest) (unplaced_stands old [] unplaced fits);
+  past = λ kept fits n le. ap (block n) (asks.same fits.honest).bytes;
 }
 
 -- ---- the same, over what memory keeps in between
-pub renews_given : (p mid q : Kept) (rec : FileRecord) (bytes numbers : List ℕ) (old new : Held) (before asked after : Meaning) → AreSound p → old.placed ≡ [] → p.limits.version ≡ 1
+pub renews_given : (p mid q : Kept) (rec : FileRecord) (bytes numbers : List ℕ) (old new : Held) (before asked after : Meaning) → AreSound p → old.placed ≡ [] → is_large (length bytes) ≡ false
     → Gives rec p mid old before → Asks old before asked → Puts bytes numbers mid q old new asked after → Renews bytes numbers rec p q old new before after
-renews_given p mid q rec bytes numbers old new before asked after sound unplaced one gives asks puts =
+renews_given p mid q rec bytes numbers old new before asked after sound unplaced small gives asks puts =
     let P : Kept → Type 0 = λ x. Gives rec p x old before → Puts bytes numbers x q old new asked after → Renews bytes numbers rec p q old new before after in
     subst P (sym gives.takes.parts)
-    (λ gave put. renews_first p q mid.taken (set p.marks (bitmap_start p.limits) true) rec bytes numbers old new before asked after sound unplaced one gave asks put) gives puts
+    (λ gave put. renews_first p q mid.taken (set p.marks (bitmap_start p.limits) true) rec bytes numbers old new before asked after sound unplaced small gave asks put) gives puts
 
 pub renews_placed : (p mid q : Kept) (rec : FileRecord) (bytes numbers : List ℕ) (old new : Held) (before placed after : Meaning) → AreSound p
     → Puts bytes numbers p mid old new before placed → Gives rec mid q new placed → Asks new placed after → Renews bytes numbers rec p q old new before after
@@ -217,10 +222,10 @@ renews_placed p mid q rec bytes numbers old new before placed after sound puts g
     (λ put gave. renews_last p (marked p.taken puts.blocks) (set p.marks (bitmap_start p.limits) true) bytes numbers old new before placed after sound put asks q rec gave) puts gives
 
 pub torn_placed : (p mid q : Kept) (bytes numbers : List ℕ) (old new : Held) (before placed after : Meaning) → AreSound p
-    → Puts bytes numbers p mid old new before placed → q ≡ mid → Asks new placed after → PutTorn p q old new before after
+    → Puts bytes numbers p mid old new before placed → q ≡ mid → Asks new placed after → ContentTorn bytes p q old new before after
 torn_placed p mid q bytes numbers old new before placed after sound puts same asks =
-    let P : Kept → Type 0 = λ x. Puts bytes numbers p x old new before placed → PutTorn p x old new before after in
-    let T : Kept → Type 0 = λ x. PutTorn p x old new before after in
+    let P : Kept → Type 0 = λ x. Puts bytes numbers p x old new before placed → ContentTorn bytes p x old new before after in
+    let T : Kept → Type 0 = λ x. ContentTorn bytes p x old new before after in
     subst T (sym same) (subst P (sym puts.takes.parts) (λ put. torn_last p (marked p.taken puts.blocks) (set p.marks (bitmap_start p.limits) true) bytes numbers old new before placed after sound put asks) puts)
 
 -- ---- how it ends
@@ -240,17 +245,14 @@ lost_first T p q rec bytes old before after change result unplaced gave ends =
   where
     by : (x : Change) → ContentGiven {T = T} rec p q old before after (Err x) → ContentRenewed bytes rec p q old old before after (Err x)
     by (Refused refusal) never = never
-    by Disk lost = let P : Kept → Type 0 = λ x. PutTorn p x old old before after in subst P (sym lost.0) (torn_first p old before after unplaced lost.1)
+    by Disk lost = let P : Kept → Type 0 = λ x. ContentTorn bytes p x old old before after in subst P (sym lost.0) (torn_first bytes p old before after unplaced lost.1)
 
--- in version 1 no put fails
-pub put_last : (p mid q : Kept) (rec : FileRecord) (bytes : List ℕ) (old new : Held) (before asked after : Meaning) (result : Result (ArrayVec ℕ) Change) → AreSound p → old.placed ≡ [] → p.limits.version ≡ 1
-    → Gives rec p mid old before → Asks old before asked → ContentPut bytes mid q old new asked after result → OnErr result (mid.limits.version ≡ 2) → ContentRenewed bytes rec p q old new before after result
-put_last p mid q rec bytes old new before asked after result sound unplaced one gives asks put torn = by result put torn
+-- a put of a content that is not large fails never
+pub put_last : (p mid q : Kept) (rec : FileRecord) (bytes : List ℕ) (old new : Held) (before asked after : Meaning) (result : Result (ArrayVec ℕ) Change) → AreSound p → old.placed ≡ [] → is_large (length bytes) ≡ false
+    → Gives rec p mid old before → Asks old before asked → ContentPut bytes mid q old new asked after result → OnErr result (is_large (length bytes) ≡ true) → ContentRenewed bytes rec p q old new before after result
+put_last p mid q rec bytes old new before asked after result sound unplaced small gives asks put torn = by result put torn
   where
-    version : mid.limits.version ≡ 1
-    version = ap (λ (x : Kept). x.limits.version) gives.takes.parts ∙ one
-
-    by : (r : Result (ArrayVec ℕ) Change) → ContentPut bytes mid q old new asked after r → OnErr r (mid.limits.version ≡ 2) → ContentRenewed bytes rec p q old new before after r
-    by (Ok numbers) puts none = renews_given p mid q rec bytes numbers.items old new before asked after sound unplaced one gives asks puts
+    by : (r : Result (ArrayVec ℕ) Change) → ContentPut bytes mid q old new asked after r → OnErr r (is_large (length bytes) ≡ true) → ContentRenewed bytes rec p q old new before after r
+    by (Ok numbers) puts none = renews_given p mid q rec bytes numbers.items old new before asked after sound unplaced small gives asks puts
     by (Err (Refused refusal)) never none = never
-    by (Err Disk) lost two = absurd (omega (arith, two, version))
+    by (Err Disk) lost large = absurd (both_ways (is_large (length bytes)) small large)

@@ -1,5 +1,5 @@
 -- Calls in which a file takes the place of another.
-use Rattle.std.proofs.Common.{◌≡◌, refl, sym, ap, ◌∙◌, subst, ℕ, ◌+◌, ◌≤◌, ◌==◌, ◌&&◌, nat_lt, is_some, true, false, Bool, IsSomeAnd, List, [], length, Result, Err, arith, Some}
+use Rattle.std.proofs.Common.{◌≡◌, refl, sym, ap, ap₂, ◌∙◌, subst, ℕ, ◌+◌, ◌≤◌, ◌==◌, ◌&&◌, nat_lt, is_some, cond, true, false, Bool, IsSomeAnd, List, [], length, Option, Some, None, Result, Err, arith}
 use Rattle.std.specs.List.{list_all}
 use Rattle.std.proofs.lemmas.Bool.{and_parts, eqb-true}
 use Rattle.std.proofs.lemmas.Option.{same_Some}
@@ -7,47 +7,47 @@ use Rattle.lis_graph.proofs.Members.{among_from_any}
 use Rattle.lis_ports.specs.Meaning.{Meaning}
 use Rattle.lis_ports.proofs.Moments.{leaves_weaken}
 use Rattle.lis_journal.specs.Journal.{Held}
-use Rattle.lis_journal.specs.Record.{Entry}
 use Rattle.lis_journal.specs.Images.{StandsBut, Fits, KeepsPast}
 use Rattle.lis_journal.specs.Phases.{looked}
-use Rattle.lis_catalog.specs.Catalog.{Filed, rec_at}
+use Rattle.lis_catalog.specs.Catalog.{Filed, slot_of, rec_at}
+use Rattle.lis_content.specs.Large.{is_large}
 use Rattle.lis_dict.specs.Dict.{word_of}
 use Rattle.lis_fields.specs.Records.{FileRecord}
 use Rattle.lis_fields.specs.Layouts.{are_blocks, is_record}
-use Rattle.lis_grammar.specs.Formula.{Formula}
 use Rattle.lis_model.specs.declared.limits.Limits.{Limits}
 use Rattle.lis_model.specs.Image.{bitmap_start, data_start, image_blocks}
-use Rattle.lis_model.specs.State.{State, is_assignable, blocks_taken, used_blocks}
+use Rattle.lis_model.specs.State.{State, File, is_assignable, blocks_taken, used_blocks}
 use Rattle.lis_model.specs.Changes.{new_file, file_replaced}
 use Rattle.lis_model.specs.Step.{Situation, Outcome, changed}
 use Rattle.lis_kept.specs.Kept.{Kept}
 use Rattle.lis_kept.specs.Areas.{IsSaved, is_marked, marked_count}
 use Rattle.lis_kept.specs.Sound.{is_sound_record, AreSound}
-use Rattle.lis_kept.specs.Changes.{PutTorn}
 use Rattle.lis_kept.specs.Telling.{declared_of, bytes_told, blocks_told, Tells}
 use Rattle.lis_kept.proofs.Dropped.{record_in_form}
 use Rattle.lis_kept.proofs.Filing.{filed_at_slot}
 use Rattle.lis_store.specs.declared.change.Change.{Change}
 use Rattle.lis_store.specs.declared.change.Change.TheVariants.{Refused, Disk}
 use Rattle.lis_store.specs.Stands.{Stands}
-use Rattle.lis_store.specs.Stored.{Stored, IsSound, StoreFits}
-use Rattle.lis_store.specs.Changes.{Changes}
-use Rattle.lis_store.specs.Contents.{ContentRenewed, IsRenewed, Renews}
+use Rattle.lis_store.specs.Stored.{Stored, IsSound, StoreHolds}
+use Rattle.lis_store.specs.Changes.{Holds}
+use Rattle.lis_store.specs.Contents.{ContentPut, ContentRenewed, IsRenewed, Renews}
 use Rattle.lis_store.specs.Saving.{settled, ArePlaced, Saves}
+use Rattle.lis_store.specs.Instead.{free_instead}
 use Rattle.lis_store.specs.Replacing.{MayReplace}
 use Rattle.lis_store.specs.ReplacingIn.{AreInForm, RefilesIn}
 use Rattle.lis_store.proofs.Cleaned.{none_marked}
-use Rattle.lis_store.proofs.Facts.{limits_told, size_of_filed}
+use Rattle.lis_store.proofs.Facts.{filed_named, size_of_filed}
 use Rattle.lis_store.proofs.Housed.{IsHoused, stay_housed, trades_housed}
-use Rattle.lis_store.proofs.Renewed.{stands_same, stands_homes}
+use Rattle.lis_store.proofs.Renewed.{stands_same}
 use Rattle.lis_store.proofs.Replaced.{in_form, retaken, form_retaken, may_retaken, last_is, sound_replaced}
 use Rattle.lis_store.proofs.Edits.{AreEditsFew}
 use Rattle.lis_store.proofs.ReplacedMarks.{few_marked, marked_last, few_edits}
 use Rattle.lis_store.proofs.ReplacedTells.{ready_replaced}
 use Rattle.lis_store.proofs.ReplacingIn.{may_there}
 use Rattle.lis_store.proofs.SavedAlone.{alone_placed, unplaced_stands}
-use Rattle.lis_store.proofs.Standing.{placed_stand}
-use Rattle.lis_store.proofs.Steps.{changes_behind}
+use Rattle.lis_store.proofs.Steps.{small_or_alone, holds_behind, but_stands}
+use Rattle.lis_store.proofs.ToldBy.{told_held}
+use Rattle.lis_store.proofs.WriteFile.{found_there, written_enough}
 
 -- ---- memory tells the next state, from wherever the bytes come
 module _ (old : Stored) (taken marks : List Bool) (q : Kept) (j : Held) (slot : ℕ) (name : List ℕ) (assigned : List (List ℕ)) (bytes numbers : List ℕ) (sound : IsSound old) (sound_p : AreSound (retaken old.parts taken marks))
@@ -79,23 +79,44 @@ module _ (old : Stored) (taken marks : List Bool) (q : Kept) (j : Held) (slot : 
   pub replaced_edits : AreEditsFew o.ext q.ext
   replaced_edits = few_edits p q slot name assigned bytes numbers form again may
 
-  pub replaced_changes : {T : Type 0} (place : List Formula) (new : Stored) (before after : Meaning) (result : Result T Change) (outcome : Outcome) (s : State) (at kept : ℕ → List ℕ) (held : List ℕ)
-      → Tells o at s → IsSaved p at → IsHoused o.limits o.taken taken (blocks_told o.limits at again.way.rec) held bytes numbers at (looked j.staged kept)
-      → Fits j before kept → ((image : List ℕ) → StandsBut j.blocks j.placed kept image → Stands image s)
-      → used_blocks s + blocks_taken s.limits.version (length bytes) ≤ s.limits.blocks + blocks_taken s.limits.version (length (bytes_told o.limits at again.way.rec))
-      → outcome ≡ changed (record { state = s; place = place }) (file_replaced s again.way.rec.name (new_file name assigned bytes))
-      → list_all (is_assignable (declared_of o)) assigned ≡ true → Saves q j new before after result → Changes (record { state = s; place = place }) outcome new before after result
-  replaced_changes place new before after result outcome s at kept held tells saved housed fits stands room done assignable saves =
-      saves (record { state = s; place = place }) outcome (file_replaced s again.way.rec.name (new_file name assigned bytes)) kept fits (limits_then ∙ limits_told o at s sound.parts sound.free tells) stands
+  pub replaced_holds : {T : Type 0} (base : State) (now : Situation) (new : Stored) (before after : Meaning) (result : Result T Change) (outcome : Outcome) (at kept : ℕ → List ℕ) (held : List ℕ)
+      → o.limits ≡ base.limits → Tells o at now.state → IsSaved p at → IsHoused o.limits o.taken taken (blocks_told o.limits at again.way.rec) held bytes numbers at (looked j.staged kept)
+      → Fits j before kept → ((image : List ℕ) → StandsBut j.blocks j.placed kept image → Stands image base)
+      → used_blocks now.state + blocks_taken now.state.limits.version (length bytes) ≤ now.state.limits.blocks + blocks_taken now.state.limits.version (length (bytes_told o.limits at again.way.rec))
+      → outcome ≡ changed now (file_replaced now.state again.way.rec.name (new_file name assigned bytes))
+      → list_all (is_assignable (declared_of o)) assigned ≡ true → Saves q j new before after result → Holds base now outcome new before after result
+  replaced_holds base now new before after result outcome at kept held limits tells saved housed fits stands room done assignable saves =
+      saves base now outcome (file_replaced now.state again.way.rec.name (new_file name assigned bytes)) kept fits (limits_then ∙ limits) stands
       (λ sound_then.
-      ready_replaced o taken marks q slot name assigned bytes numbers form again may sound_then sound.parts assignable at (looked j.staged kept) s tells held housed room saved)
+      ready_replaced o taken marks q slot name assigned bytes numbers form again may sound_then sound.parts assignable at (looked j.staged kept) now.state tells held housed room saved)
       done
 
 -- ---- other bytes
-module _ (old : Stored) (mid : Kept) (j : Held) (slot : ℕ) (bytes numbers : List ℕ) (rec : FileRecord) (sound : IsSound old) (sound_mid : AreSound mid) (there : rec_at old.parts.catalog slot ≡ Some rec)
-    (before placed : Meaning) (renews : Renews bytes numbers rec old.parts mid old.journal j before placed) where
+some_of : {X : Type 0} {P : X → Type 0} (o : Option X) → IsSomeAnd o P → (x : X) × (o ≡ Some x) × P x
+some_of None none = absurd none
+some_of (Some x) is = (x, refl, is)
+
+-- What a call asks speaks of the store's value `now`, and what is proved of its parts, `old`.
+module _ {old now : Stored} (same : old ≡ now) {mid : Kept} {j : Held} (slot : ℕ) (name : List ℕ) (assigned : List (List ℕ)) (bytes numbers : List ℕ) (sound : IsSound old) (sound_mid : AreSound mid)
+    (asked : IsSomeAnd (rec_at now.parts.catalog slot) (λ (x : FileRecord). MayReplace now.parts slot x (new_file name assigned bytes))) {before placed : Meaning}
+    (all : (rec : FileRecord) → rec_at old.parts.catalog slot ≡ Some rec → Renews bytes numbers rec old.parts mid old.journal j before placed) where
   abbrev k : Kept
   k = old.parts
+
+  abbrev file : File
+  file = new_file name assigned bytes
+
+  first : IsSomeAnd (rec_at k.catalog slot) (λ (x : FileRecord). MayReplace k slot x file)
+  first = subst (λ (o : Stored). IsSomeAnd (rec_at o.parts.catalog slot) (λ (x : FileRecord). MayReplace o.parts slot x file)) (sym same) asked
+
+  found : (rec : FileRecord) × (rec_at k.catalog slot ≡ Some rec) × MayReplace k slot rec file
+  found = some_of (rec_at k.catalog slot) first
+
+  abbrev rec : FileRecord
+  rec = found.0
+
+  renews : Renews bytes numbers rec k mid old.journal j before placed
+  renews = all rec found.1
 
   abbrev renewed : Kept
   renewed = retaken k mid.taken mid.marks
@@ -107,137 +128,200 @@ module _ (old : Stored) (mid : Kept) (j : Held) (slot : ℕ) (bytes numbers : Li
   pub mid_form : AreInForm mid
   mid_form = subst (λ (x : Kept). AreInForm x) (sym renews.parts) (form_retaken k mid.taken mid.marks sound_renewed (in_form old sound))
 
-  pub mid_limits : mid.limits ≡ k.limits
-  mid_limits = ap (λ (x : Kept). x.limits) renews.parts
+  mid_same : mid.limits ≡ k.limits
+  mid_same = ap (λ (x : Kept). x.limits) renews.parts
+
+  pub mid_limits : mid.limits ≡ now.parts.limits
+  mid_limits = mid_same ∙ ap (λ (o : Stored). o.parts.limits) same
 
   pub mid_in_form : are_blocks mid.limits.version (length bytes) numbers ≡ true
-  mid_in_form = ap (λ (x : Limits). are_blocks x.version (length bytes) numbers) mid_limits ∙ renews.in_form
+  mid_in_form = ap (λ (x : Limits). are_blocks x.version (length bytes) numbers) mid_same ∙ renews.in_form
 
   pub mid_below : list_all (λ n. nat_lt n mid.limits.blocks) numbers ≡ true
-  mid_below = ap (λ (x : Limits). list_all (λ n. nat_lt n x.blocks) numbers) mid_limits ∙ renews.below
+  mid_below = ap (λ (x : Limits). list_all (λ n. nat_lt n x.blocks) numbers) mid_same ∙ renews.below
 
-  module _ (name : List ℕ) (assigned : List (List ℕ)) (first : IsSomeAnd (rec_at k.catalog slot) (λ (x : FileRecord). MayReplace k slot x (new_file name assigned bytes))) where
-    pub mid_first : IsSomeAnd (rec_at mid.catalog slot) (λ (x : FileRecord). MayReplace mid slot x (new_file name assigned bytes))
-    mid_first =
-        let file = new_file name assigned bytes in
-        let P : Kept → Type 0 = λ k. IsSomeAnd (rec_at k.catalog slot) (λ (x : FileRecord). MayReplace k slot x file) in
-        subst P (sym renews.parts)
-        (subst (λ o. IsSomeAnd o (λ (x : FileRecord). MayReplace renewed slot x file)) (sym there) (may_retaken k mid.taken mid.marks slot rec file (may_there k slot file rec there first)))
+  pub mid_first : IsSomeAnd (rec_at mid.catalog slot) (λ (x : FileRecord). MayReplace mid slot x file)
+  mid_first =
+      let P : Kept → Type 0 = λ k. IsSomeAnd (rec_at k.catalog slot) (λ (x : FileRecord). MayReplace k slot x file) in
+      subst P (sym renews.parts) (subst (λ o. IsSomeAnd o (λ (x : FileRecord). MayReplace renewed slot x file)) (sym found.1) (may_retaken k mid.taken mid.marks slot rec file found.2))
 
-    module _ (q : Kept) (again_mid : RefilesIn slot (new_file name assigned bytes) numbers mid q) where
-      abbrev again : RefilesIn slot (new_file name assigned bytes) numbers renewed q
-      again = subst (λ (x : Kept). RefilesIn slot (new_file name assigned bytes) numbers x q) renews.parts again_mid
+  pub mid_short : length bytes ≤ 1048576
+  mid_short = by (k.limits.version == 2) found.2.small
+    where
+      by : (two : Bool) → length bytes ≤ cond two 1048576 65536 → length bytes ≤ 1048576
+      by true le = le
+      by false le = omega (arith, le)
 
-      same_rec : rec ≡ again.way.rec
-      same_rec = same_Some rec again.way.rec (sym there ∙ again.way.vacates.drops.there)
+  pub mid_image : j.blocks ≡ now.journal.blocks
+  mid_image = renews.image ∙ ap (λ (o : Stored). o.journal.blocks) same
 
-      pub written_limits : q.limits ≡ k.limits
-      written_limits = limits_then old mid.taken mid.marks q j slot name assigned bytes numbers sound sound_renewed first again
+  pub mid_unplaced : is_large (length bytes) ≡ false → j.placed ≡ []
+  mid_unplaced = renews.unplaced
 
-      pub written_image : j.blocks ≡ image_blocks q.limits
-      written_image = renews.image ∙ (sound.image ∙ ap image_blocks (sym written_limits))
+  module _ {q : Kept} (again_mid : RefilesIn slot file numbers mid q) where
+    abbrev again : RefilesIn slot file numbers renewed q
+    again = subst (λ (x : Kept). RefilesIn slot file numbers x q) renews.parts again_mid
 
-      module _ (unbroken : old.is_broken ≡ false) where
-        pub written_unbroken : j.is_broken ≡ false
-        written_unbroken = renews.broken ∙ sound.journal unbroken
+    same_rec : rec ≡ again.way.rec
+    same_rec = same_Some rec again.way.rec (sym found.1 ∙ again.way.vacates.drops.there)
 
-        pub written_sound : AreSound q → IsSound (settled q j)
-        written_sound = replaced_sound old mid.taken mid.marks q j slot name assigned bytes numbers sound sound_renewed first again (sym renews.image) written_unbroken
+    written_same : q.limits ≡ k.limits
+    written_same = limits_then old mid.taken mid.marks q j slot name assigned bytes numbers sound sound_renewed first again
 
-        pub written_placed : ArePlaced q j
-        written_placed n among =
-            let found = among_from_any (λ b. data_start k.limits + b == n) renews.spare (renews.placed n among) in
-            let bitmap = subst (λ (x : Kept). is_marked x (bitmap_start k.limits) ≡ true) renews.parts renews.bitmap in (
-              omega (arith, eqb-true (data_start k.limits + found.0) n found.2, ap data_start written_limits),
-              replaced_bitmap old mid.taken mid.marks q j slot name assigned bytes numbers sound sound_renewed first again bitmap,
-            )
+    pub written_limits : q.limits ≡ now.parts.limits
+    written_limits = written_same ∙ ap (λ (o : Stored). o.parts.limits) same
 
-        pub written_room : length j.staged + marked_count q ≤ 531
-        written_room =
-            let some = replaced_marks old mid.taken mid.marks q j slot name assigned bytes numbers sound sound_renewed first again in
-            omega (arith, some, renews.few_staged, renews.marks.few, none_marked k (sound.clean unbroken), ap (λ (x : Kept). marked_count x) renews.parts)
+    pub written_image : j.blocks ≡ image_blocks q.limits
+    written_image = renews.image ∙ (sound.image ∙ ap image_blocks (sym written_same))
 
-        pub written_edits : AreEditsFew k.ext q.ext
-        written_edits = replaced_edits old mid.taken mid.marks q j slot name assigned bytes numbers sound sound_renewed first again
+    pub written_edits : AreEditsFew k.ext q.ext
+    written_edits = replaced_edits old mid.taken mid.marks q j slot name assigned bytes numbers sound sound_renewed first again
 
-        -- from a state that the store told, where its words may be given and its blocks are enough
-        module _ (s : State) (fits : StoreFits old before s) (assignable : list_all (is_assignable (declared_of k)) assigned ≡ true)
-            (enough : used_blocks s + blocks_taken s.limits.version (length bytes) ≤ s.limits.blocks + blocks_taken s.limits.version (length (bytes_told k.limits fits.kept rec))) where
-          abbrev filed : Filed
-          filed = record { slot = slot; rec = rec }
+    module _ (unbroken_now : now.is_broken ≡ false) where
+      unbroken : old.is_broken ≡ false
+      unbroken = ap (λ (o : Stored). o.is_broken) same ∙ unbroken_now
 
-          abbrev at : ℕ → List ℕ
-          at = looked old.journal.staged fits.kept
+      pub written_unbroken : j.is_broken ≡ false
+      written_unbroken = renews.broken ∙ sound.journal unbroken
 
-          comes : IsRenewed bytes numbers renews.blocks rec k mid fits.kept old.journal j placed
-          comes = renews.renewed fits.kept fits.journal
+      pub written_sound : AreSound q → IsSound (settled q j)
+      written_sound = replaced_sound old mid.taken mid.marks q j slot name assigned bytes numbers sound sound_renewed first again (sym renews.image) written_unbroken
 
-          tells_at : Tells k at s
-          tells_at = let T : List Entry → Type 0 = λ es. Tells k (looked es fits.kept) s in subst T (sym (sound.staged unbroken)) fits.tells
+      pub written_placed : ArePlaced q j
+      written_placed n among =
+          let at = among_from_any (λ b. data_start k.limits + b == n) renews.spare (renews.placed n among) in
+          let bitmap = subst (λ (x : Kept). is_marked x (bitmap_start k.limits) ≡ true) renews.parts renews.bitmap in (
+            omega (arith, eqb-true (data_start k.limits + at.0) n at.2, ap data_start written_same),
+            replaced_bitmap old mid.taken mid.marks q j slot name assigned bytes numbers sound sound_renewed first again bitmap,
+          )
 
-          saved_at : IsSaved renewed at
-          saved_at =
-              let W : List Entry → Type 0 = λ es. IsSaved k (looked es fits.kept) in
-              let saved = subst W (sym (sound.staged unbroken)) (λ area n lt unmarked. fits.written area n lt) in
-              subst (λ (x : Kept). IsSaved x at) renews.parts (renews.marks.saved at saved)
+      pub written_room : length j.staged + marked_count q ≤ 575
+      written_room =
+          let some = replaced_marks old mid.taken mid.marks q j slot name assigned bytes numbers sound sound_renewed first again in
+          omega (arith, some, sound.few unbroken, renews.few_staged, renews.marks.few, none_marked k (sound.clean unbroken), ap (λ (x : Kept). marked_count x) renews.parts)
 
-          housed : IsHoused k.limits k.taken mid.taken (blocks_told k.limits at again.way.rec) renews.blocks bytes numbers at (looked j.staged comes.lands.kept)
-          housed =
-              let H : FileRecord → Type 0 = λ r. IsHoused k.limits k.taken mid.taken (blocks_told k.limits at r) renews.blocks bytes numbers at (looked j.staged comes.lands.kept) in
-              subst H same_rec
-              (trades_housed k sound.parts at (looked j.staged comes.lands.kept) s tells_at filed (filed_at_slot k.catalog sound.parts.catalog slot rec there) mid.taken renews.blocks bytes numbers renews.distinct
-              comes.lands.holds comes.lands.same comes.trades)
+    -- from a state that memory told
+    module _ (base : State) (was : Situation) (holds : StoreHolds old before base was.state) where
+      abbrev s : State
+      s = was.state
 
-          enough_at : used_blocks s + blocks_taken s.limits.version (length bytes) ≤ s.limits.blocks + blocks_taken s.limits.version (length (bytes_told k.limits at again.way.rec))
-          enough_at =
-              let E : FileRecord → List Entry → Type 0 = λ r es.
-              used_blocks s + blocks_taken s.limits.version (length bytes) ≤ s.limits.blocks + blocks_taken s.limits.version (length (bytes_told k.limits (looked es fits.kept) r)) in
-              let F : FileRecord → Type 0 = λ r. E r [] in
-              let G : List Entry → Type 0 = λ es. E again.way.rec es in
-              subst G (sym (sound.staged unbroken)) (subst F same_rec enough)
+      abbrev filed : Filed
+      filed = record { slot = slot; rec = rec }
 
-          -- what is kept but for placed blocks stands for the state
-          stands_old : (image : List ℕ) → StandsBut old.journal.blocks j.placed fits.kept image → Stands image s
-          stands_old image but =
-              placed_stand old fits.kept renews.spare s sound fits.tells fits.written renews.were_free image
-              (stands_homes old.journal.blocks (data_start k.limits) j.placed renews.spare fits.kept image renews.placed but)
+      abbrev at : ℕ → List ℕ
+      at = looked old.journal.staged holds.kept
 
-          stands_then : (image : List ℕ) → StandsBut j.blocks j.placed comes.lands.kept image → Stands image s
-          stands_then image but =
-              stands_old image
-              (stands_same old.journal.blocks j.placed comes.lands.kept fits.kept image comes.stays (subst (λ n. StandsBut n j.placed comes.lands.kept image) renews.image but))
+      comes : IsRenewed bytes numbers renews.blocks rec k mid holds.kept old.journal j placed
+      comes = renews.renewed holds.kept holds.journal
 
-          pub written_changes : {T : Type 0} (place : List Formula) (new : Stored) (after : Meaning) (result : Result T Change) (outcome : Outcome)
-              → outcome ≡ changed (record { state = s; place = place }) (file_replaced s rec.name (new_file name assigned bytes)) → Saves q j new placed after result
-              → Changes (record { state = s; place = place }) outcome new before after result
-          written_changes place new after result outcome done saves =
-              let now : Situation = record { state = s; place = place } in
-              let image_is = sound.image ∙ ap image_blocks (limits_told k fits.kept s sound.parts sound.free fits.tells) in
-              changes_behind now outcome new before placed after result (leaves_weaken (λ image. Stands image s) (renews.moments fits.kept fits.journal) stands_old)
-              (subst (λ n. KeepsPast n before placed) image_is (renews.past fits.kept fits.journal))
-              (replaced_changes old mid.taken mid.marks q j slot name assigned bytes numbers sound sound_renewed first again place new placed after result outcome s at comes.lands.kept renews.blocks
-              tells_at saved_at housed comes.lands.fits stands_then enough_at
-              (done ∙ ap (λ (r : FileRecord). changed now (file_replaced s r.name (new_file name assigned bytes))) same_rec) assignable saves)
+      saved_at : IsSaved renewed at
+      saved_at = subst (λ (x : Kept). IsSaved x at) renews.parts (renews.marks.saved at (λ area n lt unmarked. holds.written area n lt))
 
--- ---- a fault of the disk while they are put
-module _ (old : Stored) (q : Kept) (j : Held) (rec : FileRecord) (bytes : List ℕ) (sound : IsSound old) (before after : Meaning) where
-  pub renewed_torn : (change : Change) → ContentRenewed bytes rec old.parts q old.journal j before after (Err change) → (change ≡ Disk) × PutTorn old.parts q old.journal j before after
-  renewed_torn (Refused refusal) never = absurd (let e : false ≡ true = never in cc)
-  renewed_torn Disk torn = (refl, torn)
+      housed : IsHoused k.limits k.taken mid.taken (blocks_told k.limits at again.way.rec) renews.blocks bytes numbers at (looked j.staged comes.lands.kept)
+      housed =
+          let H : FileRecord → Type 0 = λ r. IsHoused k.limits k.taken mid.taken (blocks_told k.limits at r) renews.blocks bytes numbers at (looked j.staged comes.lands.kept) in
+          subst H same_rec
+          (trades_housed k sound.parts at (looked j.staged comes.lands.kept) s holds.tells filed (filed_at_slot k.catalog sound.parts.catalog slot rec found.1) mid.taken renews.blocks bytes numbers renews.distinct
+          comes.lands.holds comes.lands.same comes.trades)
+
+      -- what is kept but for placed blocks stands for the base
+      module _ (alone : is_large (length bytes) ≡ true → old.journal.staged ≡ []) where
+        stands_old : (image : List ℕ) → StandsBut old.journal.blocks j.placed holds.kept image → Stands image base
+        stands_old =
+            but_stands old base s before sound holds j.placed renews.spare renews.were_free renews.placed (small_or_alone (length bytes) j.placed old.journal.staged renews.unplaced alone)
+
+        stands_then : (image : List ℕ) → StandsBut j.blocks j.placed comes.lands.kept image → Stands image base
+        stands_then image but =
+            stands_old image
+            (stands_same old.journal.blocks j.placed comes.lands.kept holds.kept image comes.stays (subst (λ n. StandsBut n j.placed comes.lands.kept image) renews.image but))
+
+        -- where its blocks are enough
+        replaces : {T : Type 0} (new : Stored) (after : Meaning) (result : Result T Change) → rec.name ≡ name
+            → used_blocks s + blocks_taken s.limits.version (length bytes) ≤ s.limits.blocks + blocks_taken s.limits.version (length (bytes_told k.limits at rec)) → Saves q j new placed after result
+            → Holds base was (changed was (file_replaced s name file)) new before after result
+        replaces new after result named enough saves =
+            let outcome = changed was (file_replaced s name file) in
+            let E : FileRecord → Type 0 = λ r. used_blocks s + blocks_taken s.limits.version (length bytes) ≤ s.limits.blocks + blocks_taken s.limits.version (length (bytes_told k.limits at r)) in
+            holds_behind base was outcome new before placed after result (leaves_weaken (λ image. Stands image base) (renews.moments holds.kept holds.journal) stands_old)
+            (subst (λ n. KeepsPast n before placed) (sound.image ∙ ap image_blocks holds.limits) (renews.past holds.kept holds.journal))
+            (replaced_holds old mid.taken mid.marks q j slot name assigned bytes numbers sound sound_renewed first again base was new placed after result outcome at comes.lands.kept renews.blocks
+            holds.limits holds.tells saved_at housed comes.lands.fits stands_then (subst E same_rec enough)
+            (ap (λ n. changed was (file_replaced s n file)) (sym named ∙ ap (λ (r : FileRecord). r.name) same_rec)) found.2.assignable saves)
+
+    pub written_holds : {T : Type 0} (base : State) (was : Situation) → StoreHolds now before base was.state → slot_of now.parts.catalog name ≡ Some slot
+        → ((r : FileRecord) → rec_at now.parts.catalog slot ≡ Some r → blocks_taken now.parts.limits.version (length bytes) ≤ free_instead now.parts r)
+        → (is_large (length bytes) ≡ true → now.journal.staged ≡ []) → (new : Stored) (after : Meaning) (result : Result T Change) → Saves q j new placed after result
+        → Holds base was (changed was (file_replaced was.state name file)) new before after result
+    written_holds base was holds_now named_now enough_now alone_now new after result saves =
+        let A : Stored → Type 0 = λ o. is_large (length bytes) ≡ true → o.journal.staged ≡ [] in
+        let N : Stored → Type 0 = λ o. slot_of o.parts.catalog name ≡ Some slot in
+        let E : Stored → Type 0 = λ o. (r : FileRecord) → rec_at o.parts.catalog slot ≡ Some r → blocks_taken o.parts.limits.version (length bytes) ≤ free_instead o.parts r in
+        let holds : StoreHolds old before base was.state = subst (λ (o : Stored). StoreHolds o before base was.state) (sym same) holds_now in
+        let named : N old = subst N (sym same) named_now in
+        replaces base was holds (subst A (sym same) alone_now) new after result (filed_named k sound.parts name slot rec named found.1).1
+        (written_enough old was.state sound (told_held old before base was.state sound holds) name slot rec named found.1 (length bytes) (subst E (sym same) enough_now rec found.1)) saves
+
+-- where the disk fails while they are put
+pub renewed_lost : (bytes : List ℕ) (gone : FileRecord) (p q : Kept) (old new : Held) (before after : Meaning) (change : Change) → ContentRenewed bytes gone p q old new before after (Err change)
+    → ContentPut bytes p q old new before after (Err change)
+renewed_lost bytes gone p q old new before after (Refused refusal) never = never
+renewed_lost bytes gone p q old new before after Disk torn = torn
 
 -- ---- another name and other words, and the same bytes
 -- the blocks of a file are those of a record that has its size
-module _ (old : Stored) (slot : ℕ) (bytes : List ℕ) (rec : FileRecord) (sound : IsSound old) (there : rec_at old.parts.catalog slot ≡ Some rec) (size : length bytes ≡ rec.size) where
-  sound_rec : is_sound_record old.parts.limits.version old.parts.dict old.parts.limits.blocks rec ≡ true
-  sound_rec = sound.parts.records slot rec there
+module _ {old now : Stored} (same : old ≡ now) (sound : IsSound old) (name : List ℕ) {slot : ℕ} (named : slot_of now.parts.catalog name ≡ Some slot) {numbers : List ℕ}
+    (numbers_are : (rec : FileRecord) → rec_at old.parts.catalog slot ≡ Some rec → numbers ≡ rec.blocks) where
+  there : (rec : FileRecord) × (rec_at old.parts.catalog slot ≡ Some rec) × (rec.name ≡ name)
+  there = found_there same sound name named
 
-  pub still_in_form : are_blocks old.parts.limits.version (length bytes) rec.blocks ≡ true
-  still_in_form =
-      ap (λ n. are_blocks old.parts.limits.version n rec.blocks) size ∙ (record_in_form old.parts.limits.version old.parts.dict old.parts.limits.blocks rec sound_rec).blocks
+  blocks_are : numbers ≡ there.0.blocks
+  blocks_are = numbers_are there.0 there.1
 
-  pub still_below : list_all (λ n. nat_lt n old.parts.limits.blocks) rec.blocks ≡ true
+  sound_rec : is_sound_record old.parts.limits.version old.parts.dict old.parts.limits.blocks there.0 ≡ true
+  sound_rec = sound.parts.records slot there.0 there.1
+
+  pub still_in_form : {bytes read : List ℕ} → bytes ≡ read → ((rec : FileRecord) → rec_at old.parts.catalog slot ≡ Some rec → length read ≡ rec.size)
+      → are_blocks old.parts.limits.version (length bytes) numbers ≡ true
+  still_in_form is size =
+      ap₂ (are_blocks old.parts.limits.version) (ap length is ∙ size there.0 there.1) blocks_are
+      ∙ (record_in_form old.parts.limits.version old.parts.dict old.parts.limits.blocks there.0 sound_rec).blocks
+
+  pub still_below : list_all (λ n. nat_lt n old.parts.limits.blocks) numbers ≡ true
   still_below =
-      (and_parts (is_record old.parts.limits.version rec && list_all (λ n. is_some (word_of old.parts.dict n)) rec.tags) (list_all (λ n. nat_lt n old.parts.limits.blocks) rec.blocks) sound_rec).1
+      ap (list_all (λ n. nat_lt n old.parts.limits.blocks)) blocks_are
+      ∙ (and_parts (is_record old.parts.limits.version there.0 && list_all (λ n. is_some (word_of old.parts.dict n)) there.0.tags) (list_all (λ n. nat_lt n old.parts.limits.blocks) there.0.blocks) sound_rec).1
+
+module _ {old now : Stored} (same : old ≡ now) {q : Kept} {slot : ℕ} (name : List ℕ) (assigned : List (List ℕ)) (bytes : List ℕ) {numbers : List ℕ} (sound : IsSound old)
+    (first : IsSomeAnd (rec_at old.parts.catalog slot) (λ (x : FileRecord). MayReplace old.parts slot x (new_file name assigned bytes))) (again : RefilesIn slot (new_file name assigned bytes) numbers old.parts q) where
+  abbrev old_parts : Kept
+  old_parts = old.parts
+
+  refiled_same : q.limits ≡ old_parts.limits
+  refiled_same = limits_then old old_parts.taken old_parts.marks q old.journal slot name assigned bytes numbers sound sound.parts first again
+
+  pub refiled_limits : q.limits ≡ now.parts.limits
+  refiled_limits = refiled_same ∙ ap (λ (k : Stored). k.parts.limits) same
+
+  pub refiled_image : old.journal.blocks ≡ image_blocks q.limits
+  refiled_image = sound.image ∙ ap image_blocks (sym refiled_same)
+
+  pub refiled_edits : AreEditsFew old_parts.ext q.ext
+  refiled_edits = replaced_edits old old_parts.taken old_parts.marks q old.journal slot name assigned bytes numbers sound sound.parts first again
+
+  module _ (unbroken_now : now.is_broken ≡ false) where
+    was_unbroken : old.is_broken ≡ false
+    was_unbroken = ap (λ (k : Stored). k.is_broken) same ∙ unbroken_now
+
+    pub refiled_sound : AreSound q → IsSound (settled q old.journal)
+    refiled_sound = replaced_sound old old_parts.taken old_parts.marks q old.journal slot name assigned bytes numbers sound sound.parts first again refl (sound.journal was_unbroken)
+
+    pub refiled_placed : ArePlaced q old.journal
+    refiled_placed = alone_placed old sound was_unbroken q
+
+    pub refiled_room : length old.journal.staged + marked_count q ≤ 575
+    refiled_room =
+        let some = replaced_marks old old_parts.taken old_parts.marks q old.journal slot name assigned bytes numbers sound sound.parts first again in
+        omega (arith, some, none_marked old_parts (sound.clean was_unbroken), sound.few was_unbroken)
 
 module _ (old : Stored) (q : Kept) (slot : ℕ) (name : List ℕ) (assigned : List (List ℕ)) (bytes : List ℕ) (rec : FileRecord) (sound : IsSound old) (unbroken : old.is_broken ≡ false) (there : rec_at old.parts.catalog slot ≡ Some rec)
     (first : IsSomeAnd (rec_at old.parts.catalog slot) (λ (x : FileRecord). MayReplace old.parts slot x (new_file name assigned bytes))) (again : RefilesIn slot (new_file name assigned bytes) rec.blocks old.parts q) where
@@ -247,47 +331,21 @@ module _ (old : Stored) (q : Kept) (slot : ℕ) (name : List ℕ) (assigned : Li
   same_again : rec ≡ again.way.rec
   same_again = same_Some rec again.way.rec (sym there ∙ again.way.vacates.drops.there)
 
-  pub refiled_limits : q.limits ≡ parts.limits
-  refiled_limits = limits_then old parts.taken parts.marks q old.journal slot name assigned bytes rec.blocks sound sound.parts first again
-
-  pub refiled_image : old.journal.blocks ≡ image_blocks q.limits
-  refiled_image = sound.image ∙ ap image_blocks (sym refiled_limits)
-
-  pub refiled_sound : AreSound q → IsSound (settled q old.journal)
-  refiled_sound = replaced_sound old parts.taken parts.marks q old.journal slot name assigned bytes rec.blocks sound sound.parts first again refl (sound.journal unbroken)
-
-  pub refiled_placed : ArePlaced q old.journal
-  refiled_placed = alone_placed old sound unbroken q
-
-  pub refiled_room : length old.journal.staged + marked_count q ≤ 531
-  refiled_room =
-      let some = replaced_marks old parts.taken parts.marks q old.journal slot name assigned bytes rec.blocks sound sound.parts first again in
-      omega (arith, some, none_marked parts (sound.clean unbroken), ap (λ (es : List Entry). length es) (sound.staged unbroken))
-
-  pub refiled_edits : AreEditsFew parts.ext q.ext
-  refiled_edits = replaced_edits old parts.taken parts.marks q old.journal slot name assigned bytes rec.blocks sound sound.parts first again
-
   -- where the bytes of the file that was there are these
-  pub refiled_changes : {T : Type 0} (place : List Formula) (new : Stored) (before after : Meaning) (result : Result T Change) (outcome : Outcome) (s : State) (fits : StoreFits old before s)
-      → outcome ≡ changed (record { state = s; place = place }) (file_replaced s rec.name (new_file name assigned bytes)) → bytes_told parts.limits fits.kept rec ≡ bytes
-      → list_all (is_assignable (declared_of parts)) assigned ≡ true → Saves q old.journal new before after result → Changes (record { state = s; place = place }) outcome new before after result
-  refiled_changes place new before after result outcome s fits done told assignable saves =
-      let now : Situation = record { state = s; place = place } in
+  pub refiled_holds : {T : Type 0} (base : State) (now : Situation) (new : Stored) (before after : Meaning) (result : Result T Change) (outcome : Outcome) (holds : StoreHolds old before base now.state)
+      → outcome ≡ changed now (file_replaced now.state rec.name (new_file name assigned bytes)) → bytes_told parts.limits (looked old.journal.staged holds.kept) rec ≡ bytes
+      → list_all (is_assignable (declared_of parts)) assigned ≡ true → Saves q old.journal new before after result → Holds base now outcome new before after result
+  refiled_holds base now new before after result outcome holds done told assignable saves =
+      let s = now.state in
       let filed : Filed = record { slot = slot; rec = rec } in
       let of = filed_at_slot parts.catalog sound.parts.catalog slot rec there in
-      let at : ℕ → List ℕ = looked old.journal.staged fits.kept in
-      let none = sound.staged unbroken in
-      let T : List Entry → Type 0 = λ es. Tells parts (looked es fits.kept) s in
-      let W : List Entry → Type 0 = λ es. IsSaved parts (looked es fits.kept) in
-      let B : List Entry → Type 0 = λ es. bytes_told parts.limits (looked es fits.kept) rec ≡ bytes in
-      let tells_at = subst T (sym none) fits.tells in
-      let saved_at = subst W (sym none) (λ area n lt unmarked. fits.written area n lt) in
-      let told_at = subst B (sym none) told in
-      let size : rec.size ≡ length bytes = sym (size_of_filed old before s sound fits filed of) ∙ ap length told in
+      let at : ℕ → List ℕ = looked old.journal.staged holds.kept in
+      let size : rec.size ≡ length bytes = sym (size_of_filed old s sound (told_held old before base s sound holds) filed of) ∙ ap length told in
       let H : FileRecord → Type 0 = λ r. IsHoused parts.limits parts.taken parts.taken (blocks_told parts.limits at r) (blocks_told parts.limits at rec) bytes rec.blocks at at in
       let E : FileRecord → Type 0 = λ r.
       used_blocks s + blocks_taken s.limits.version (length bytes) ≤ s.limits.blocks + blocks_taken s.limits.version (length (bytes_told parts.limits at r)) in
-      let room : E rec = omega (arith, fits.tells.formed.few_blocks, ap (λ bs. blocks_taken s.limits.version (length bs)) told_at) in
-      replaced_changes old parts.taken parts.marks q old.journal slot name assigned bytes rec.blocks sound sound.parts first again place new before after result outcome s at fits.kept (blocks_told parts.limits at rec)
-      tells_at saved_at (subst H same_again (stay_housed parts at s tells_at filed of bytes size told_at)) fits.journal (unplaced_stands old sound unbroken s before fits) (subst E same_again room)
+      let room : E rec = omega (arith, holds.tells.formed.few_blocks, ap (λ bs. blocks_taken s.limits.version (length bs)) told) in
+      replaced_holds old parts.taken parts.marks q old.journal slot name assigned bytes rec.blocks sound sound.parts first again base now new before after result outcome at holds.kept (blocks_told parts.limits at rec)
+      holds.limits holds.tells (λ area n lt unmarked. holds.written area n lt) (subst H same_again (stay_housed parts at s holds.tells filed of bytes size told)) holds.journal
+      (unplaced_stands old sound unbroken base s before holds) (subst E same_again room)
       (done ∙ ap (λ (r : FileRecord). changed now (file_replaced s r.name (new_file name assigned bytes))) same_again) assignable saves

@@ -1,5 +1,5 @@
 -- What memory comes to when another file takes the place of one.
-use Rattle.std.proofs.Common.{◌≡◌, ◌⊎◌, refl, sym, ap, ◌∙◌, subst, inl, inr, ℕ, true, false, Bool, List, Some, is_some, length}
+use Rattle.std.proofs.Common.{◌≡◌, ◌⊎◌, refl, sym, ap, ◌∙◌, subst, inl, inr, ℕ, true, false, Bool, List, Some, is_some, length, arith}
 use Rattle.std.proofs.lemmas.Bool.{both_ways, cases_eq}
 use Rattle.lis_graph.proofs.Members.{Among}
 use Rattle.lis_journal.specs.Journal.{Held}
@@ -53,7 +53,8 @@ settled_sound q j form pairs image unbroken = record {
   tests = tests_clean q form.tests;
   image = image;
   journal = λ _. unbroken;
-  staged = λ _. refl;
+  few = λ _. omega arith;
+  whole = λ _. refl;
   placed = λ _. refl;
   clean = λ _. clean_is q;
 }

@@ -5,7 +5,6 @@ use Rattle.std.specs.List.Sorted.{IsStrictlySortedBy}
 use Rattle.std.proofs.lemmas.Bool.{both_ways, ltb-false, not-false}
 use Rattle.std.proofs.lemmas.List.Kept.{IsStrictlySortedBy-filter}
 use Rattle.std.proofs.lemmas.Option.{same_Some}
-use Rattle.lis_ports.specs.Meaning.{Meaning}
 use Rattle.lis_catalog.specs.Catalog.{slot_of, rec_at}
 use Rattle.lis_dict.specs.Dict.{word_of}
 use Rattle.lis_fields.specs.Records.{FileRecord}
@@ -26,7 +25,8 @@ use Rattle.lis_laws.proofs.Named.{file_of_name, gone_free}
 use Rattle.lis_kept.specs.Kept.{Kept}
 use Rattle.lis_kept.specs.Telling.{words_told, declared_of}
 use Rattle.lis_kept.proofs.Dropped.{record_in_form}
-use Rattle.lis_store.specs.Stored.{Stored, IsSound, StoreFits}
+use Rattle.lis_store.specs.Stored.{Stored, IsSound}
+use Rattle.lis_store.proofs.ToldBy.{ToldBy}
 use Rattle.lis_store.specs.Admitting.{described_by}
 use Rattle.lis_store.specs.Changes.{first_refusal}
 use Rattle.lis_store.specs.Judging.{is_among}
@@ -53,7 +53,7 @@ module _ (test : List ℕ → Bool) (given here next : List (List ℕ)) where
       by w (inr m) = all_among test next w new m
 
 -- ---- the row of the state
-module _ (k : Stored) (m : Meaning) (s : State) (sound : IsSound k) (fits : StoreFits k m s) (place : List Formula) (name : List ℕ) (slot : ℕ) (rec : FileRecord)
+module _ (k : Stored) (s : State) (sound : IsSound k) (fits : ToldBy k s) (place : List Formula) (name : List ℕ) (slot : ℕ) (rec : FileRecord)
     (there : is_among k.parts place name ≡ true → (slot_of k.parts.catalog name ≡ Some slot) × (rec_at k.parts.catalog slot ≡ Some rec)) where
   abbrev now : Situation
   now = record { state = s; place = place }
@@ -94,8 +94,8 @@ module _ (k : Stored) (m : Meaning) (s : State) (sound : IsSound k) (fits : Stor
   mv_row next words =
       same_first (checks next words) (wanted next words) (
         refl,
-        ap not (among_told k m s sound fits place name),
-        λ here. let at = there (not-false (is_among kept place name) here) in let given = old_given k m s sound fits name slot rec at.0 at.1 in (
+        ap not (among_told k s sound fits place name),
+        λ here. let at = there (not-false (is_among kept place name) here) in let given = old_given k s sound fits name slot rec at.0 at.1 in (
           refl,
           refl,
           λ placed. (
@@ -117,10 +117,10 @@ module _ (k : Stored) (m : Meaning) (s : State) (sound : IsSound k) (fits : Stor
                         (given_assignable k sound slot rec at.1 fits.kept s fits.tells) (not-false (list_all (is_assignable (declared_of kept)) (tags_at next)) known)),
                     λ pass. (
                       refl,
-                      large_told k m s sound fits name slot rec at.0 at.1 (moved next) (gone_free s name) ∙ ap exceeds_words (made given),
+                      large_told k s sound fits name slot rec at.0 at.1 (moved next) (gone_free s name) ∙ ap exceeds_words (made given),
                       λ short. (
                         refl,
-                        room_told k m s sound fits name slot rec at.0 at.1 (moved next) (gone_free s name) ∙ ap exceeds_known (made given),
+                        room_told k s sound fits name slot rec at.0 at.1 (moved next) (gone_free s name) ∙ ap exceeds_known (made given),
                         λ room. tt,
                       ),
                     ),
@@ -175,14 +175,14 @@ module _ (k : Stored) (m : Meaning) (s : State) (sound : IsSound k) (fits : Stor
   mv_here_done text next leads here none = mv_done text next leads (led_row text next leads ∙ (row_here next (text_words text) here ∙ none))
 
 -- ---- refusals before the slot is known
-pub mv_nowhere : (k : Stored) (m : Meaning) (s : State) → IsSound k → StoreFits k m s → (place next : List Formula) (name text : List ℕ)
+pub mv_nowhere : (k : Stored) (s : State) → IsSound k → ToldBy k s → (place next : List Formula) (name text : List ℕ)
     → resolved place text ≡ NewPlace next → is_among k.parts place name ≡ false
     → mv (record { state = s; place = place }) name text ≡ refused (record { state = s; place = place }) NoFileHere
-mv_nowhere k m s sound fits place next name text leads none =
+mv_nowhere k s sound fits place next name text leads none =
     let rec : FileRecord = record { name = []; size = 0; tags = []; blocks = [] } in
     let bytes = (file_of s.files name).bytes in
     let rest = retag_checks k.parts place next (text_words text) 0 rec (moved_from k.parts rec place next name bytes) in
-    mv_refused k m s sound fits place name 0 rec (λ here. absurd (both_ways (is_among k.parts place name) none here)) text NoFileHere
+    mv_refused k s sound fits place name 0 rec (λ here. absurd (both_ways (is_among k.parts place name) none here)) text NoFileHere
     (ap (λ r. first_refusal (mv_checks_by k.parts place name text 0 rec bytes r)) leads
     ∙ ap (λ b. cond (not b) (Some NoFileHere) (first_refusal rest)) none)
 

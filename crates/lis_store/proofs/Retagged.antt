@@ -17,7 +17,6 @@ use Rattle.lis_model.specs.Places.{place_words}
 use Rattle.lis_model.specs.Step.{tags_at, retagged}
 use Rattle.lis_laws.proofs.Members.{among_from_has_word, has_word_from_among, among_with_words, with_words_old, with_words_new, among_set_of, set_of_among, sorted_with_words, same_words}
 use Rattle.lis_laws.proofs.Locals.{same_tests, filter_same}
-use Rattle.lis_kept.specs.Kept.{Kept}
 use Rattle.lis_store.specs.Assigning.{node_tags, Takes}
 use Rattle.lis_store.proofs.Assigned.{tags_of_nodes}
 

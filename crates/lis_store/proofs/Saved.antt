@@ -1,11 +1,13 @@
 -- How parts are saved.
-use Rattle.std.proofs.Common.{◌≡◌, ◌⊎◌, ℕ, ◌+◌, ◌<◌, ◌≤◌, ◌||◌, Bool, true, false, List, [], ◌∷◌, length, Result, Ok, Err, refl, sym, ap, ◌∙◌, subst, inl, inr, arith}
+use Rattle.std.proofs.Common.{◌≡◌, ◌⊎◌, ℕ, zero, suc, ◌+◌, ◌<◌, ◌≤◌, ◌||◌, Bool, true, false, List, [], ◌∷◌, length, Result, Ok, Err, refl, sym, ap, ◌∙◌, subst, inl, inr, IsTrue, arith}
 use Rattle.std.proofs.lemmas.Bool.{eq-eqb, false_from_ne_true}
 use Rattle.lis_ports.specs.Meaning.{Meaning}
 use Rattle.lis_ports.specs.Runs.{Leaves}
-use Rattle.lis_ports.proofs.Moments.{leaves_weaken}
+use Rattle.lis_ports.proofs.Moments.{leaves_none, leaves_weaken}
 use Rattle.lis_journal.specs.Journal.{Held, OpenRecords}
-use Rattle.lis_journal.specs.Images.{StandsBut, StandsForAllOrNone, Fits, FitsAt, KeepsPast, look, is_among}
+use Rattle.lis_journal.specs.Record.{Entry}
+use Rattle.lis_journal.specs.Staging.{are_whole}
+use Rattle.lis_journal.specs.Images.{StandsFor, StandsBut, StandsForAllOrNone, Fits, FitsAt, KeepsPast, is_among}
 use Rattle.lis_journal.specs.Phases.{looked}
 use Rattle.lis_model.specs.Image.{bitmap_start, data_start, image_blocks, properties_start}
 use Rattle.lis_model.specs.State.{State}
@@ -17,48 +19,61 @@ use Rattle.lis_kept.specs.Sound.{AreSound}
 use Rattle.lis_kept.specs.Staging.{Stages}
 use Rattle.lis_kept.specs.Telling.{Tells}
 use Rattle.lis_store.specs.declared.change.Change.{Change}
-use Rattle.lis_store.specs.declared.change.Change.TheVariants.{Disk}
+use Rattle.lis_store.specs.declared.change.Change.TheVariants.{Refused, Disk}
 use Rattle.lis_store.specs.Stands.{Stands}
-use Rattle.lis_store.specs.Stored.{Stored, IsSound, StoreFits}
-use Rattle.lis_store.specs.Changes.{Changes}
-use Rattle.lis_store.specs.Laws.{ChangesStand}
-use Rattle.lis_store.specs.Saving.{clean, settled, ArePlaced, IsReady}
+use Rattle.lis_store.specs.Stored.{IsSound, StoreHolds}
+use Rattle.lis_store.specs.Changes.{Holds, HeldEnded}
+use Rattle.lis_store.specs.Saving.{clean, settled, ArePlaced, IsReady, KeepsStaged, SaveEnded}
 use Rattle.lis_store.proofs.Elsewhere.{tells_there}
+use Rattle.lis_store.proofs.Standing.{stands_all_but, change_stands}
 
 -- ---- what holds of the store afterwards
-module _ (p : Kept) (j x : Held) (whole : IsSound (settled p j)) (image : x.blocks ≡ j.blocks) where
-  pub sound_saved : (q : Kept) (b : Bool) → q ≡ clean p → x.is_broken ≡ false → x.staged ≡ [] → x.placed ≡ [] → IsSound (record { parts = q; journal = x; is_broken = b })
-  sound_saved q b is unbroken staged placed =
+module _ (p : Kept) (j x : Held) (settles : IsSound (settled p j)) (image : x.blocks ≡ j.blocks) where
+  pub sound_held : (q : Kept) (b : Bool) → q ≡ clean p → x.is_broken ≡ false → length x.staged ≤ 44 → IsTrue (are_whole x.staged) → x.placed ≡ [] → IsSound (record { parts = q; journal = x; is_broken = b })
+  sound_held q b is unbroken few whole placed =
       subst (λ (k : Kept). IsSound (record { parts = k; journal = x; is_broken = b })) (sym is) (record {
-        parts = whole.parts;
-        free = whole.free;
-        pairs = whole.pairs;
-        closed = whole.closed;
-        short = whole.short;
-        tests = whole.tests;
-        in_use = whole.in_use;
-        image = image ∙ whole.image;
+        parts = settles.parts;
+        free = settles.free;
+        pairs = settles.pairs;
+        closed = settles.closed;
+        short = settles.short;
+        tests = settles.tests;
+        in_use = settles.in_use;
+        image = image ∙ settles.image;
         journal = λ _. unbroken;
-        staged = λ _. staged;
+        few = λ _. few;
+        whole = λ _. whole;
         placed = λ _. placed;
-        clean = λ _. whole.clean refl;
+        clean = λ _. settles.clean refl;
       })
 
-  pub sound_broken : AreSound p → IsSound (record { parts = p; journal = x; is_broken = true })
-  sound_broken sound = record {
-    parts = sound;
-    free = whole.free;
-    pairs = whole.pairs;
-    closed = whole.closed;
-    short = whole.short;
-    tests = record { given = whole.tests.given; met = whole.tests.met };
-    in_use = record { used = whole.in_use.used; tags = whole.in_use.tags; rights = whole.in_use.rights };
-    image = image ∙ whole.image;
-    journal = λ e. absurd cc;
-    staged = λ e. absurd cc;
-    placed = λ e. absurd cc;
-    clean = λ e. absurd cc;
-  }
+  pub sound_broken : (q : Kept) (b : Bool) → q ≡ clean p → b ≡ true → IsSound (record { parts = q; journal = x; is_broken = b })
+  sound_broken q b is broken =
+      subst (λ (k : Kept). IsSound (record { parts = k; journal = x; is_broken = b })) (sym is)
+      (subst (λ c. IsSound (record { parts = clean p; journal = x; is_broken = c })) (sym broken) (record {
+        parts = settles.parts;
+        free = settles.free;
+        pairs = settles.pairs;
+        closed = settles.closed;
+        short = settles.short;
+        tests = settles.tests;
+        in_use = settles.in_use;
+        image = image ∙ settles.image;
+        journal = λ e. absurd cc;
+        few = λ e. absurd cc;
+        whole = λ e. absurd cc;
+        placed = λ e. absurd cc;
+        clean = λ e. absurd cc;
+      }))
+
+  -- behind a commit of more than nothing
+  pub sound_committed : {T : Type 0} (mid : Held) (before after : Meaning) (q : Kept) (b : Bool) (result : Result T Change) → q ≡ clean p → mid.is_broken ≡ false → 0 < length mid.staged
+      → KeepsStaged mid x before after result → SaveEnded b result → IsSound (record { parts = q; journal = x; is_broken = b })
+  sound_committed mid before after q b (Ok done) is unbroken some keeps whole =
+      let none : x.staged ≡ [] = ap (λ (h : Held). h.staged) keeps.done in
+      sound_held q b is (ap (λ (h : Held). h.is_broken) keeps.done ∙ unbroken) (omega (arith, ap (λ (es : List Entry). length es) none)) (ap are_whole none) (keeps.none_placed some)
+  sound_committed mid before after q b (Err (Refused refusal)) is unbroken some keeps never = absurd (let e : false ≡ true = never in cc)
+  sound_committed mid before after q b (Err Disk) is unbroken some keeps broken = sound_broken q b is broken
 
 -- ---- placed blocks
 -- where none is, none is in the wrong place
@@ -69,19 +84,17 @@ none_are_placed p j none n among = absurd (let e : true ≡ false = sym among �
 pub not_placed : (p : Kept) (j : Held) → ArePlaced p j → (n : ℕ) → n < data_start p.limits → is_among j.placed n ≡ false
 not_placed p j are n lt = false_from_ne_true (is_among j.placed n) (λ among. omega (arith, lt, (are n among).0))
 
--- No block is placed behind a commit: where one was, the block of the bitmap was staged.
-pub none_placed : (p : Kept) (j mid : Held) → ArePlaced p j → Stages p j mid → (placed : List ℕ) → (mid.staged ≡ [] → placed ≡ mid.placed) → (0 < length mid.staged → placed ≡ []) → placed ≡ []
-none_placed p j mid are stages placed idle busy = by j.placed refl
+-- Where so few blocks are staged that none of them needs a commit, none is placed: where one is, the block of the bitmap is staged.
+pub none_placed : (p : Kept) (j mid : Held) (most : ℕ) → ArePlaced p j → Stages p j mid → (0 < most → j.placed ≡ []) → length mid.staged ≤ most → mid.placed ≡ []
+none_placed p j mid zero are stages some few = by j.placed refl
   where
-    without : {X : Type 0} (staged : List X) → (staged ≡ [] → placed ≡ []) → (0 < length staged → placed ≡ []) → placed ≡ []
-    without [] some more = some refl
-    without (e ∷ es) some more = more (omega arith)
-
-    by : (ns : List ℕ) → j.placed ≡ ns → placed ≡ []
-    by [] none = without mid.staged (λ e. idle e ∙ (stages.placed ∙ none)) busy
+    by : (ns : List ℕ) → j.placed ≡ ns → mid.placed ≡ []
+    by [] none = stages.placed ∙ none
     by (n ∷ ns) is =
         let there : is_among j.placed n ≡ true = ap (λ ms. is_among ms n) is ∙ ap (λ b. b || is_among ns n) (eq-eqb n n refl) in
-        busy (stages.some (bitmap_start p.limits) (omega arith) (omega arith) (are n there).1)
+        let any : 0 < length mid.staged = stages.some (bitmap_start p.limits) (omega arith) (omega arith) (are n there).1 in
+        absurd (omega (arith, any, few))
+none_placed p j mid (suc most) are stages some few = stages.placed ∙ some (omega arith)
 
 -- ---- what the parts tell and spell without their marks
 written_clean : (p : Kept) (at : ℕ → List ℕ) → IsWritten p at → IsWritten (clean p) at
@@ -108,23 +121,28 @@ tells_clean p at s tells = record {
   one_use = tells.one_use;
 }
 
--- ---- what a commit of the staged blocks comes to
-module _ (stand : ChangesStand) (p : Kept) (j mid : Held) (before after : Meaning) (stages : Stages p j mid) (sound : AreSound p) (whole : IsSound (settled p j)) (image_is : j.blocks ≡ image_blocks p.limits)
-    (any_moment : (kept : ℕ → List ℕ) → Fits mid before kept → Leaves before after (StandsForAllOrNone mid.blocks mid.placed kept mid.staged))
-    (past : (kept : ℕ → List ℕ) → Fits mid before kept → KeepsPast mid.blocks before after)
-    (now : Situation) (outcome : Outcome) (t : State) (kept : ℕ → List ℕ) (fits : Fits j before kept) (limits : p.limits ≡ now.state.limits)
-    (stood : (image : List ℕ) → StandsBut j.blocks j.placed kept image → Stands image now.state)
+-- ---- what becomes of a change whose blocks are staged
+module _ (p : Kept) (j mid : Held) (before : Meaning) (stages : Stages p j mid) (sound : AreSound p) (settles : IsSound (settled p j)) (image_is : j.blocks ≡ image_blocks p.limits)
+    (base : State) (now : Situation) (outcome : Outcome) (t : State) (kept : ℕ → List ℕ) (fits : Fits j before kept) (limits : p.limits ≡ base.limits)
+    (stood : (image : List ℕ) → StandsBut j.blocks j.placed kept image → Stands image base)
     (ready : IsReady p (looked j.staged kept) t) (is : outcome ≡ changed now t) where
   abbrev there : ℕ → List ℕ
   there = looked mid.staged kept
 
+  abbrev next : State
+  next = outcome.next.state
+
+  next_is : t ≡ next
+  next_is = sym (ap (λ (o : Outcome). o.next.state) is)
+
   same : (n : ℕ) → (n < properties_start) ⊎ (data_start p.limits ≤ n) → there n ≡ looked j.staged kept n
   same n out = stages.others n (kept n) out
 
-  tells : Tells (clean p) there t
+  tells : Tells (clean p) there next
   tells =
-      tells_clean p there t
-      (tells_there p (looked j.staged kept) there sound (λ f m b of. same (data_start p.limits + b) (inr (omega arith))) t (same 0 (inl (omega arith))) ready.tells)
+      subst (λ (s : State). Tells (clean p) there s) next_is
+      (tells_clean p there t
+      (tells_there p (looked j.staged kept) there sound (λ f m b of. same (data_start p.limits + b) (inr (omega arith))) t (same 0 (inl (omega arith))) ready.tells))
 
   written : IsWritten (clean p) there
   written = written_clean p there (stages.written kept ready.saved)
@@ -135,35 +153,62 @@ module _ (stand : ChangesStand) (p : Kept) (j mid : Held) (before after : Meanin
       (subst (λ (r : OpenRecords). FitsAt j.blocks r mid.placed before kept) (sym stages.records)
       (subst (λ (ns : List ℕ). FitsAt j.blocks j.records ns before kept) (sym stages.placed) fits))
 
-  stands_then : (image : List ℕ) → StandsForAllOrNone mid.blocks mid.placed kept mid.staged image → Stands image now.state ⊎ Stands image outcome.next.state
-  stands_then image (inl old) =
-      inl (stood image (subst (λ (n : ℕ). StandsBut n j.placed kept image) stages.image (subst (λ (ns : List ℕ). StandsBut mid.blocks ns kept image) stages.placed old)))
-  stands_then image (inr new) =
-      inr (subst (λ (o : Outcome). Stands image o.next.state) (sym is)
-      (stand (settled p j) mid.blocks there t whole.parts whole.free whole.pairs tells written (stages.image ∙ image_is) image new))
+  base_stands : (image : List ℕ) → StandsBut mid.blocks mid.placed kept image → Stands image base
+  base_stands image but =
+      stood image (subst (λ (n : ℕ). StandsBut n j.placed kept image) stages.image (subst (λ (ns : List ℕ). StandsBut mid.blocks ns kept image) stages.placed but))
 
-  moments : Leaves before after (λ image. Stands image now.state ⊎ Stands image outcome.next.state)
-  moments = leaves_weaken (λ image. Stands image now.state ⊎ Stands image outcome.next.state) (any_moment kept journal_fits) stands_then
+  next_stands : (image : List ℕ) → StandsFor mid.blocks there image → Stands image next
+  next_stands image stands =
+      change_stands (settled p j) mid.blocks there next settles.parts settles.free settles.pairs tells written (stages.image ∙ image_is) image stands
 
-  past_image : KeepsPast (image_blocks now.state.limits) before after
-  past_image = subst (λ (n : ℕ). KeepsPast n before after) (stages.image ∙ (image_is ∙ ap image_blocks limits)) (past kept journal_fits)
-
-  pub saved_kept : {T : Type 0} (q : Kept) (x : Held) (b : Bool) (done : T) → q ≡ clean p → b ≡ false → ((at : ℕ → List ℕ) → Fits mid before at → Fits x after (λ n. look mid.staged n (at n)))
-      → Changes now outcome (record { parts = q; journal = x; is_broken = b }) before after (Ok done)
-  saved_kept {T = T} q x b done same_parts whole_then keeps =
-      let fits_then : StoreFits (record { parts = clean p; journal = x; is_broken = b }) after t = record {
-        kept = there;
-        journal = keeps kept journal_fits;
-        unbroken = whole_then;
+  -- held back: the disk stays
+  pub change_held : {T : Type 0} (q : Kept) (b : Bool) (done : T) → q ≡ clean p → b ≡ false → Holds base now outcome (record { parts = q; journal = mid; is_broken = b }) before before (Ok done)
+  change_held {T = T} q b done parts whole =
+      let holds : StoreHolds (record { parts = clean p; journal = mid; is_broken = b }) before base next = record {
+        kept = kept;
+        journal = journal_fits;
+        unbroken = whole;
+        limits = limits;
+        stands = λ image stands. base_stands image (stands_all_but mid.blocks mid.placed kept image stands);
         tells = tells;
         written = written;
       } in
-      subst (λ (k : Kept). Changes {T = T} now outcome (record { parts = k; journal = x; is_broken = b }) before after (Ok done)) (sym same_parts) (record {
-        moments = moments;
-        past = past_image;
-        ended = (ap (λ (o : Outcome). o.reply) is, subst (λ (o : Outcome). StoreFits (record { parts = clean p; journal = x; is_broken = b }) after o.next.state) (sym is) fits_then);
+      subst (λ (k : Kept). Holds {T = T} base now outcome (record { parts = k; journal = mid; is_broken = b }) before before (Ok done)) (sym parts) (record {
+        moments = leaves_none before _;
+        past = λ n le. refl;
+        ended = (ap (λ (o : Outcome). o.reply) is, inl holds);
       })
 
-  pub saved_lost : {T : Type 0} (new : Stored) (result : Result T Change) → new.is_broken ≡ true → result ≡ Err Disk → Changes now outcome new before after result
-  saved_lost new result broken ends =
-      subst (λ r. Changes now outcome new before after r) (sym ends) (record { moments = moments; past = past_image; ended = broken })
+  -- or committed
+  module _ {T : Type 0} (x : Held) (after : Meaning) (result : Result T Change) (keeps : KeepsStaged mid x before after result) where
+    moments : Leaves before after (λ image. (Stands image base ⊎ Stands image now.state) ⊎ Stands image next)
+    moments = leaves_weaken (λ image. (Stands image base ⊎ Stands image now.state) ⊎ Stands image next) (keeps.moments kept journal_fits) by
+      where
+        by : (image : List ℕ) → StandsForAllOrNone mid.blocks mid.placed kept mid.staged image → (Stands image base ⊎ Stands image now.state) ⊎ Stands image next
+        by image (inl old) = inl (inl (base_stands image old))
+        by image (inr new) = inr (next_stands image new)
+
+    past_image : KeepsPast (image_blocks base.limits) before after
+    past_image = subst (λ (n : ℕ). KeepsPast n before after) (stages.image ∙ (image_is ∙ ap image_blocks limits)) (keeps.past kept journal_fits)
+
+    pub change_committed : (q : Kept) (b : Bool) → q ≡ clean p → SaveEnded b result → Holds base now outcome (record { parts = q; journal = x; is_broken = b }) before after result
+    change_committed q b parts ends =
+        subst (λ (k : Kept). Holds base now outcome (record { parts = k; journal = x; is_broken = b }) before after result) (sym parts) (record { moments = moments; past = past_image; ended = by result keeps ends })
+      where
+        by : (r : Result T Change) → KeepsStaged mid x before after r → SaveEnded b r → HeldEnded base now outcome (record { parts = clean p; journal = x; is_broken = b }) after r
+        by (Ok done) keeps whole =
+            let staged : x.staged ≡ [] = ap (λ (h : Held). h.staged) keeps.done in
+            let blocks : x.blocks ≡ mid.blocks = ap (λ (h : Held). h.blocks) keeps.done in (
+              ap (λ (o : Outcome). o.reply) is,
+              inr (record {
+                kept = there;
+                journal = keeps.kept kept journal_fits;
+                unbroken = whole;
+                limits = ap (λ (s : State). s.limits) tells.state;
+                stands = λ image stands. next_stands image (subst (λ n. StandsFor n there image) blocks stands);
+                tells = subst (λ (es : List Entry). Tells (clean p) (looked es there) next) (sym staged) tells;
+                written = subst (λ (es : List Entry). IsWritten (clean p) (looked es there)) (sym staged) written;
+              }),
+            )
+        by (Err (Refused refusal)) keeps never = absurd (let e : false ≡ true = never in cc)
+        by (Err Disk) keeps broken = broken

@@ -56,14 +56,23 @@ module _ (k : Kept) (at : ℕ → List ℕ) (s : State) (sound : AreSound k) (em
   pub stands_but : (count : ℕ) → count ≡ image_blocks k.limits → (image : List ℕ) → StandsBut count placed at image → Stands image s
   stands_but count is image but = told_stands image (subst (λ n. StandsBut n placed at image) (is ∙ ap image_blocks limits_are) but)
 
--- with no placed blocks
-none_placed : (count : ℕ) (at : ℕ → List ℕ) (image : List ℕ) → KeptBy count at image → StandsBut count [] at image
+-- what keeps all blocks keeps all but some
+pub stands_all_but : (count : ℕ) (ns : List ℕ) (at : ℕ → List ℕ) (image : List ℕ) → KeptBy count at image → StandsBut count ns at image
 unfolding StandsBut KeptBy
-none_placed count at image kept = (kept.0, by (replayed count image) kept.1)
+stands_all_but count ns at image kept = (kept.0, by (replayed count image) kept.1)
   where
-    by : (o : Option (List ℕ)) → IsSomeAnd o (Keeps count at) → IsSomeAnd o (KeepsBut count [] at)
+    by : (o : Option (List ℕ)) → IsSomeAnd o (Keeps count at) → IsSomeAnd o (KeepsBut count ns at)
     by None h = h
     by (Some r) h = record { long = h.long; same = λ n out none. h.same n out }
+
+-- and back, where there are none
+pub stands_none_but : (count : ℕ) (ns : List ℕ) (at : ℕ → List ℕ) (image : List ℕ) → ns ≡ [] → StandsBut count ns at image → KeptBy count at image
+unfolding StandsBut KeptBy
+stands_none_but count ns at image none but = (but.0, by (replayed count image) (subst (λ ms. IsSomeAnd (replayed count image) (KeepsBut count ms at)) none but.1))
+  where
+    by : (o : Option (List ℕ)) → IsSomeAnd o (KeepsBut count [] at) → IsSomeAnd o (Keeps count at)
+    by None h = h
+    by (Some r) h = record { long = h.long; same = λ n out. h.same n out refl }
 
 -- ---- the laws
 pub placed_stand : (k : Stored) (kept : ℕ → List ℕ) (blocks : List ℕ) (s : State) → IsSound k → Tells k.parts kept s → IsWritten k.parts kept → IsTrue (are_free k.parts.taken blocks)
@@ -75,7 +84,7 @@ pub change_stands : (new : Stored) (blocks : ℕ) (kept : ℕ → List ℕ) (t :
     → Tells new.parts kept t → IsWritten new.parts kept → blocks ≡ image_blocks new.parts.limits
     → (image : List ℕ) → KeptBy blocks kept image → Stands image t
 change_stands new blocks kept t sound empty pairs tells written is image stands =
-    stands_but new.parts kept t sound empty pairs tells written [] refl blocks is image (none_placed blocks kept image stands)
+    stands_but new.parts kept t sound empty pairs tells written [] refl blocks is image (stands_all_but blocks [] kept image stands)
 
 pub fitting_stands : (m : Meaning) (k : Stored) (s : State) → IsSound k → StoreFits k m s → Always m (λ image. Stands image s)
 fitting_stands m k s sound fits =

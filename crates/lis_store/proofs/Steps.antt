@@ -1,12 +1,16 @@
 -- Contents that are put or given back before a change is saved: what is kept then, and what images stand for meanwhile.
-use Rattle.std.proofs.Common.{◌≡◌, ◌⊎◌, sym, ap, ◌∙◌, subst, inl, ℕ, true, Bool, List, length, set, slice_get, Result, Err, arith, length-set}
+use Rattle.std.proofs.Common.{◌≡◌, ◌⊎◌, refl, sym, ap, ◌∙◌, subst, inl, inr, ℕ, true, false, Bool, List, [], length, set, slice_get, Result, Err, arith, length-set}
 use Rattle.lis_ports.specs.Meaning.{Meaning}
 use Rattle.lis_ports.specs.Runs.{Leaves}
 use Rattle.lis_ports.proofs.Moments.{leaves_weaken, leaves_then}
 use Rattle.lis_journal.specs.Journal.{Held}
-use Rattle.lis_journal.specs.Images.{StandsBut, KeepsPast}
+use Rattle.lis_journal.specs.Images.{StandsBut, KeepsPast, is_among}
+use Rattle.lis_journal.proofs.Fitting.{fits_stand}
 use Rattle.lis_journal.specs.Record.{block}
-use Rattle.lis_content.specs.Placing.{Asks}
+use Rattle.lis_content.specs.Content.{are_free, has_home}
+use Rattle.lis_content.specs.Large.{is_large}
+use Rattle.lis_content.specs.Placing.{Asks, homes_of}
+use Rattle.lis_content.proofs.Laying.{among_homes}
 use Rattle.lis_fields.specs.declared.slots.AxiomSlot.{AxiomSlot}
 use Rattle.lis_model.specs.Image.{bitmap_start, data_start, image_blocks}
 use Rattle.lis_model.specs.State.{State}
@@ -17,13 +21,15 @@ use Rattle.lis_kept.specs.Changes.{Takes, Fills, Puts}
 use Rattle.lis_store.specs.declared.change.Change.{Change}
 use Rattle.lis_store.specs.declared.change.Change.TheVariants.{Disk}
 use Rattle.lis_store.specs.Stands.{Stands}
-use Rattle.lis_store.specs.Stored.{Stored, PairsAreApart, IsSound, StoreFits}
-use Rattle.lis_store.specs.Changes.{Changes}
+use Rattle.lis_store.specs.Stored.{Stored, PairsAreApart, IsSound, StoreHolds}
+use Rattle.lis_store.specs.Changes.{Holds}
+use Rattle.lis_store.specs.Contents.{ContentTorn}
 use Rattle.lis_store.specs.ReplacingIn.{AreInForm}
-use Rattle.lis_store.proofs.Facts.{limits_told}
+use Rattle.lis_store.proofs.Holding.{held_fits}
+use Rattle.lis_store.proofs.OneState.{one_state}
 use Rattle.lis_store.proofs.Renewed.{stands_same, stands_homes}
 use Rattle.lis_store.proofs.Replaced.{retaken, form_retaken}
-use Rattle.lis_store.proofs.Standing.{placed_stand, fitting_stands}
+use Rattle.lis_store.proofs.Standing.{stands_none_but, placed_stand, fitting_stands}
 
 -- ---- memory
 sound_retaken : (o : Kept) (taken marks : List Bool) → AreSound o → length taken ≡ length o.taken → length marks ≡ length o.marks → AreSound (retaken o taken marks)
@@ -72,59 +78,95 @@ sound_lost q j form pairs image = record {
   in_use = form.in_use;
   image = image;
   journal = λ e. absurd cc;
-  staged = λ e. absurd cc;
+  few = λ e. absurd cc;
+  whole = λ e. absurd cc;
   placed = λ e. absurd cc;
   clean = λ e. absurd cc;
 }
 
+-- a content is not large, or it is alone
+pub small_or_alone : {X Y : Type 0} (size : ℕ) (placed : List X) (staged : List Y) → (is_large size ≡ false → placed ≡ []) → (is_large size ≡ true → staged ≡ []) → (placed ≡ []) ⊎ (staged ≡ [])
+small_or_alone size placed staged small large = by (is_large size) small large
+  where
+    by : (b : Bool) → (b ≡ false → placed ≡ []) → (b ≡ true → staged ≡ []) → (placed ≡ []) ⊎ (staged ≡ [])
+    by true small large = inr (large refl)
+    by false small large = inl (small refl)
+
 -- ---- images
--- While the image stands for the old state, a change is yet to begin.
-pub changes_behind : {T : Type 0} (now : Situation) (outcome : Outcome) (new : Stored) (before mid after : Meaning) (result : Result T Change)
-    → Leaves before mid (λ image. Stands image now.state) → KeepsPast (image_blocks now.state.limits) before mid → Changes now outcome new mid after result → Changes now outcome new before after result
-changes_behind now outcome new before mid after result first past changes = record {
-  moments = leaves_then (leaves_weaken (λ image. Stands image now.state ⊎ Stands image outcome.next.state) first (λ image stands. inl stands)) changes.moments;
-  past = λ n le. changes.past n le ∙ past n le;
-  ended = changes.ended;
+-- While the image stands for the base, a change is yet to begin.
+pub holds_behind : {T : Type 0} (base : State) (now : Situation) (outcome : Outcome) (new : Stored) (before mid after : Meaning) (result : Result T Change)
+    → Leaves before mid (λ image. Stands image base) → KeepsPast (image_blocks base.limits) before mid → Holds base now outcome new mid after result → Holds base now outcome new before after result
+holds_behind base now outcome new before mid after result first past holds = record {
+  moments = leaves_then (leaves_weaken (λ image. (Stands image base ⊎ Stands image now.state) ⊎ Stands image outcome.next.state) first (λ image stands. inl (inl stands))) holds.moments;
+  past = λ n le. holds.past n le ∙ past n le;
+  ended = holds.ended;
 }
 
 -- A change that the disk fails before it begins.
-pub changes_lost : {T : Type 0} (now : Situation) (outcome : Outcome) (new : Stored) (before after : Meaning) (result : Result T Change)
-    → Leaves before after (λ image. Stands image now.state) → KeepsPast (image_blocks now.state.limits) before after → new.is_broken ≡ true → result ≡ Err Disk → Changes now outcome new before after result
-changes_lost now outcome new before after result first past broken ends =
-    subst (λ r. Changes now outcome new before after r) (sym ends) (record {
-      moments = leaves_weaken (λ image. Stands image now.state ⊎ Stands image outcome.next.state) first (λ image stands. inl stands);
+pub holds_lost : {T : Type 0} (base : State) (now : Situation) (outcome : Outcome) (new : Stored) (before after : Meaning) (result : Result T Change)
+    → Leaves before after (λ image. Stands image base) → KeepsPast (image_blocks base.limits) before after → new.is_broken ≡ true → result ≡ Err Disk → Holds base now outcome new before after result
+holds_lost base now outcome new before after result first past broken ends =
+    subst (λ r. Holds base now outcome new before after r) (sym ends) (record {
+      moments = leaves_weaken (λ image. (Stands image base ⊎ Stands image now.state) ⊎ Stands image outcome.next.state) first (λ image stands. inl (inl stands));
       past = past;
       ended = broken;
     })
 
-module _ (old : Stored) (s : State) (before : Meaning) (sound : IsSound old) (fits : StoreFits old before s) where
-  image_is : old.journal.blocks ≡ image_blocks s.limits
-  image_is = sound.image ∙ ap image_blocks (limits_told old.parts fits.kept s sound.parts sound.free fits.tells)
-
-  -- while a content is put into free blocks
-  module _ (blocks : List ℕ) (after : Meaning) (fills : Fills blocks old.parts old.journal before after) where
-    pub fills_stand : Leaves before after (λ image. Stands image s)
-    fills_stand =
-        leaves_weaken (λ image. Stands image s) (fills.moments fits.kept fits.journal)
-        (λ image but. placed_stand old fits.kept blocks s sound fits.tells fits.written fills.were_free image but)
-
-    pub fills_past : KeepsPast (image_blocks s.limits) before after
-    fills_past = subst (λ n. KeepsPast n before after) image_is (fills.past fits.kept fits.journal)
-
-  -- once it is put
-  pub put_stands : (bytes numbers : List ℕ) (mid : Kept) (new : Held) (after : Meaning) (puts : Puts bytes numbers old.parts mid old.journal new before after)
-      → (image : List ℕ) → StandsBut new.blocks new.placed (puts.lands fits.kept fits.journal).kept image → Stands image s
-  put_stands bytes numbers mid new after puts image but =
-      let lands = puts.lands fits.kept fits.journal in
-      placed_stand old fits.kept puts.blocks s sound fits.tells fits.written puts.fills.were_free image
-      (stands_homes old.journal.blocks (data_start old.parts.limits) new.placed puts.blocks fits.kept image puts.placed
-      (stands_same old.journal.blocks new.placed lands.kept fits.kept image (puts.stays fits.kept fits.journal)
-      (subst (λ n. StandsBut n new.placed lands.kept image) puts.image but)))
+module _ (old : Stored) (base s : State) (before : Meaning) (sound : IsSound old) (holds : StoreHolds old before base s) where
+  image_is : old.journal.blocks ≡ image_blocks base.limits
+  image_is = sound.image ∙ ap image_blocks holds.limits
 
   -- while the disk is asked alone
   module _ (after : Meaning) (asks : Asks old.journal before after) where
-    pub asks_stand : Leaves before after (λ image. Stands image s)
-    asks_stand = leaves_weaken (λ image. Stands image s) (asks.moments fits.journal.honest) (λ image is. (fitting_stands before old s sound fits).leaves image is)
+    pub asks_stand : Leaves before after (λ image. Stands image base)
+    asks_stand =
+        leaves_weaken (λ image. Stands image base) (asks.moments holds.journal.honest)
+        (λ image is. holds.stands image ((fits_stand old.journal (sound.placed holds.unbroken) holds.journal).leaves image is))
 
-    pub asks_past : KeepsPast (image_blocks s.limits) before after
-    asks_past n le = ap (block n) (asks.same fits.journal.honest).bytes
+    pub asks_past : KeepsPast (image_blocks base.limits) before after
+    asks_past n le = ap (block n) (asks.same holds.journal.honest).bytes
+
+  -- What an image keeps but for spare blocks stands for the base, where none is placed or nothing is held back.
+  module _ (blocks spare : List ℕ) (free : are_free old.parts.taken spare ≡ true) (among : (n : ℕ) → is_among blocks n ≡ true → has_home (data_start old.parts.limits) spare n ≡ true)
+      (none : (blocks ≡ []) ⊎ (old.journal.staged ≡ [])) where
+    pub but_stands : (image : List ℕ) → StandsBut old.journal.blocks blocks holds.kept image → Stands image base
+    but_stands image but = by none
+      where
+        by : (blocks ≡ []) ⊎ (old.journal.staged ≡ []) → Stands image base
+        by (inl none) = holds.stands image (stands_none_but old.journal.blocks blocks holds.kept image none but)
+        by (inr settled) =
+            let fits = held_fits old before base s settled holds in
+            let reads = (fits_stand old.journal (sound.placed holds.unbroken) holds.journal).reads in
+            let same : s ≡ base = one_state before.bytes s base ((fitting_stands before old s sound fits).reads) (holds.stands before.bytes reads) in
+            subst (λ (t : State). Stands image t) same
+            (placed_stand old holds.kept spare s sound fits.tells fits.written free image (stands_homes old.journal.blocks (data_start old.parts.limits) blocks spare holds.kept image among but))
+
+  -- once a content is put
+  pub put_stands : (bytes numbers : List ℕ) (mid : Kept) (new : Held) (after : Meaning) (puts : Puts bytes numbers old.parts mid old.journal new before after)
+      → (is_large (length bytes) ≡ true → old.journal.staged ≡ []) → (image : List ℕ) → StandsBut new.blocks new.placed (puts.lands holds.kept holds.journal).kept image → Stands image base
+  put_stands bytes numbers mid new after puts alone image but =
+      let lands = puts.lands holds.kept holds.journal in
+      but_stands new.placed puts.blocks puts.fills.were_free puts.placed (small_or_alone (length bytes) new.placed old.journal.staged puts.unplaced alone) image
+      (stands_same old.journal.blocks new.placed lands.kept holds.kept image (puts.stays holds.kept holds.journal)
+      (subst (λ n. StandsBut n new.placed lands.kept image) puts.image but))
+
+  -- while it is put
+  pub puts_stand : (bytes numbers : List ℕ) (mid : Kept) (new : Held) (after : Meaning) (puts : Puts bytes numbers old.parts mid old.journal new before after)
+      → (is_large (length bytes) ≡ true → old.journal.staged ≡ []) → Leaves before after (λ image. Stands image base)
+  puts_stand bytes numbers mid new after puts alone =
+      leaves_weaken (λ image. Stands image base) (puts.moments holds.kept holds.journal)
+      (but_stands new.placed puts.blocks puts.fills.were_free puts.placed (small_or_alone (length bytes) new.placed old.journal.staged puts.unplaced alone))
+
+  pub puts_past : (blocks : List ℕ) (after : Meaning) → Fills blocks old.parts old.journal before after → KeepsPast (image_blocks base.limits) before after
+  puts_past blocks after fills = subst (λ n. KeepsPast n before after) image_is (fills.past holds.kept holds.journal)
+
+  -- where the disk fails while a content is put
+  module _ (bytes : List ℕ) (mid : Kept) (new : Held) (after : Meaning) (torn : ContentTorn bytes old.parts mid old.journal new before after) (alone : is_large (length bytes) ≡ true → old.journal.staged ≡ []) where
+    pub torn_stand : Leaves before after (λ image. Stands image base)
+    torn_stand =
+        leaves_weaken (λ image. Stands image base) (torn.moments holds.kept holds.journal)
+        (but_stands (homes_of (data_start old.parts.limits) torn.spare) torn.spare torn.were_free (λ n among. sym (among_homes (data_start old.parts.limits) torn.spare n) ∙ among)
+        (small_or_alone (length bytes) (homes_of (data_start old.parts.limits) torn.spare) old.journal.staged (λ small. ap (homes_of (data_start old.parts.limits)) (torn.small small)) alone))
+
+    pub torn_past : KeepsPast (image_blocks base.limits) before after
+    torn_past = subst (λ n. KeepsPast n before after) image_is (torn.past holds.kept holds.journal)

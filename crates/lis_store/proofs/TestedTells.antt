@@ -6,6 +6,7 @@ use Rattle.std.proofs.lemmas.Option.{same_Some}
 use Rattle.lis_graph.proofs.Members.{Among, among_from_contains, contains_from_among, among_insert_key, insert_key_old, insert_key_new}
 use Rattle.lis_graph.proofs.Sets.{sorted_insert_key}
 use Rattle.lis_ports.specs.Meaning.{Meaning}
+use Rattle.lis_journal.specs.Phases.{looked}
 use Rattle.lis_journal.specs.Journal.{Held}
 use Rattle.lis_blockmap.specs.Bitmap.{is_taken}
 use Rattle.lis_content.specs.Content.{has_number, are_distinct}
@@ -34,13 +35,13 @@ use Rattle.lis_kept.proofs.Filing.{among_from_number, number_from_among}
 use Rattle.lis_kept.proofs.Formed.{named_all, named_below}
 use Rattle.lis_kept.proofs.Known.{among_word, word_among}
 use Rattle.lis_kept.proofs.Numbered.{Numbers, numbers_are}
-use Rattle.lis_store.specs.Stored.{Stored, PairsAreApart, IsSound, StoreFits}
+use Rattle.lis_store.specs.Stored.{Stored, PairsAreApart, IsSound, StoreHolds}
 use Rattle.lis_store.specs.Saving.{settled, IsReady, Saves}
 use Rattle.lis_store.specs.Judging.{word_checks}
 use Rattle.lis_store.specs.Placing.{AreNumbersOf}
 use Rattle.lis_store.specs.Redescribing.{Redescribes}
 use Rattle.lis_store.specs.Testing.{is_met_at, is_gained, is_gained_by, wider, has_crowded, tested, DeclaresTested}
-use Rattle.lis_store.specs.Changes.{Changes, first_refusal}
+use Rattle.lis_store.specs.Changes.{Holds, first_refusal}
 use Rattle.lis_store.specs.declared.change.Change.{Change}
 use Rattle.lis_store.specs.declared.change.Change.TheVariants.{Refused}
 use Rattle.lis_store.proofs.Edits.{AreEditsFew}
@@ -48,6 +49,7 @@ use Rattle.lis_store.proofs.Cleaned.{clean_is, sound_clean, in_use_clean, tests_
 use Rattle.lis_store.proofs.Crowded.{gained_told, gains_same, wide_told, met_described, unmet_described}
 use Rattle.lis_store.proofs.SavedAlone.{saves_alone}
 use Rattle.lis_store.proofs.Declared.{IsPlaceable, is_placeable, new_word, plain_at, apart_at, parts_are, file_then, in_use_then, apart_then, few_marked, saved_then, told_then, may_stand, described_alike, unlisted, unsided, not_wide, large_told, formed_then, outcome_is}
+use Rattle.lis_store.proofs.ToldBy.{told_held}
 use Rattle.lis_store.proofs.Facts.{file_of_filed, size_of_filed}
 use Rattle.lis_store.proofs.Judged.{judged_refused, judged_done, change_refused}
 use Rattle.lis_store.proofs.Tested.{other, named_other, is_word, ext_same, met_same, test_there, gained_back, gained_then, gained_source, few_tested, set_then, tested_edits, had_then, old_had, new_had, free_then, closed_then, tests_then, used_then, few_more}
@@ -81,7 +83,8 @@ module _ (p made q : Kept) (word : List ℕ) (rights : List ℕ) (words : List (
     in_use = in_use_clean end (used_then p made word rights words sound new numbers stands sound_made plain q gives was.free (in_use_then p made word rights words sound new numbers stands was.in_use));
     image = subst (λ (k : Kept). j.blocks ≡ image_blocks k.limits) (sym made_is) was.image;
     journal = λ _. was.journal whole;
-    staged = λ _. refl;
+    few = λ _. omega arith;
+    whole = λ _. refl;
     placed = λ _. refl;
     clean = λ _. clean_is end;
   })
@@ -273,34 +276,34 @@ module _ (old : Stored) (place : List Formula) (word : List ℕ) (rights : List 
     pub declared_edits : AreEditsFew old.parts.ext q.ext
     declared_edits = tested_edits old.parts declares.made word rights (words_at place) sound.parts declared_new numbers declares.stands declares.sound (plain_at place passes.plain) q declares.gives
 
-    pub declared_marks : length rights ≤ 64 → length old.journal.staged + marked_count q ≤ 531
+    pub declared_marks : length rights ≤ 64 → length old.journal.staged + marked_count q ≤ 575
     declared_marks few =
         let first = few_marked old.parts declares.made word rights (words_at place) sound.parts declared_new numbers declares.stands few (none_marked old.parts (sound.clean unbroken)) in
         let short = few_tested old.parts declares.made word rights (words_at place) sound.parts declared_new numbers declares.stands declares.sound (plain_at place passes.plain) sound.short declared_few in
         let more = few_more old.parts declares.made word rights (words_at place) sound.parts declared_new numbers declares.stands declares.sound (plain_at place passes.plain) q declares.gives short sound.free in
-        omega (arith, first, more, ap length (sound.staged unbroken))
+        omega (arith, first, more, sound.few unbroken)
 
-    pub declared_changes : {T : Type 0} (new : Stored) (before after : Meaning) (result : Result T Change) → Saves q old.journal new before after result
-        → (s : State) → StoreFits old before s → Changes (record { state = s; place = place }) (mkdir (record { state = s; place = place }) word) new before after result
-    declared_changes new before after result saves s fits =
+    pub declared_holds : {T : Type 0} (new : Stored) (before after : Meaning) (result : Result T Change) → Saves q old.journal new before after result
+        → (base s : State) → StoreHolds old before base s → Holds base (record { state = s; place = place }) (mkdir (record { state = s; place = place }) word) new before after result
+    declared_holds new before after result saves base s fits =
         let now : Situation = record { state = s; place = place } in
         let made : State = declared_under s word (words_at place) in
-        let sizes : (f : Filed) → Among old.parts.catalog.entries f → length (bytes_told old.parts.limits fits.kept f.rec) ≡ f.rec.size = λ f m. size_of_filed old before s sound fits f m in
-        let short = large_told old.parts sound.parts sound.pairs fits.kept s sound.free fits.tells word kept declared_new (words_at place) numbers.declared sizes ∙ passes.few in
-        let formed = formed_then old.parts sound.parts sound.pairs fits.kept s sound.free fits.tells word kept declared_new (words_at place) form (plain_at place passes.plain) passes.declared
+        let sizes : (f : Filed) → Among old.parts.catalog.entries f → length (bytes_told old.parts.limits (looked old.journal.staged fits.kept) f.rec) ≡ f.rec.size = λ f m. size_of_filed old s sound (told_held old before base s sound fits) f m in
+        let short = large_told old.parts sound.parts sound.pairs (looked old.journal.staged fits.kept) s sound.free fits.tells word kept declared_new (words_at place) numbers.declared sizes ∙ passes.few in
+        let formed = formed_then old.parts sound.parts sound.pairs (looked old.journal.staged fits.kept) s sound.free fits.tells word kept declared_new (words_at place) form (plain_at place passes.plain) passes.declared
         short passes.new (apart_at place) passes.axioms passes.room in
-        let ready : IsReady q fits.kept made =
-        ready_tested old.parts declares.made q word rights (words_at place) sound.parts declared_new numbers declares.stands declares.sound (plain_at place passes.plain) declares.gives fits.kept s sound.free fits.tells kept
+        let ready : IsReady q (looked old.journal.staged fits.kept) made =
+        ready_tested old.parts declares.made q word rights (words_at place) sound.parts declared_new numbers declares.stands declares.sound (plain_at place passes.plain) declares.gives (looked old.journal.staged fits.kept) s sound.free fits.tells kept
         sound.pairs sizes sound.in_use formed (λ area n lt unmarked. fits.written area n lt) in
-        saves_alone old sound unbroken q new before after result saves now (mkdir now word) made fits declared_limits (λ _. ready)
-        (outcome_is old.parts sound.parts sound.pairs fits.kept s sound.free fits.tells place word kept sizes ∙ judged_done now (word_checks old.parts place word) (changed now made) none)
+        saves_alone old sound unbroken q new before after result saves base now (mkdir now word) made fits declared_limits (λ _. ready)
+        (outcome_is old.parts sound.parts sound.pairs (looked old.journal.staged fits.kept) s sound.free fits.tells place word kept sizes ∙ judged_done now (word_checks old.parts place word) (changed now made) none)
 
 -- one that is refused
 pub declared_refused : {T : Type 0} (old : Stored) (m : Meaning) (place : List Formula) (word : List ℕ) (refusal : Refusal) (result : Result T Change) → IsSound old → is_property word ≡ true
     → first_refusal (word_checks old.parts place word) ≡ Some refusal → result ≡ Err (Refused refusal)
-    → (s : State) → StoreFits old m s → Changes (record { state = s; place = place }) (mkdir (record { state = s; place = place }) word) old m m result
-declared_refused old m place word refusal result sound kept first ends s fits =
+    → (base s : State) → StoreHolds old m base s → Holds base (record { state = s; place = place }) (mkdir (record { state = s; place = place }) word) old m m result
+declared_refused old m place word refusal result sound kept first ends base s fits =
     let now : Situation = record { state = s; place = place } in
-    change_refused old m now (mkdir now word) refusal result fits
-    (outcome_is old.parts sound.parts sound.pairs fits.kept s sound.free fits.tells place word kept (λ f n. size_of_filed old m s sound fits f n)
+    change_refused old m base now (mkdir now word) refusal result fits
+    (outcome_is old.parts sound.parts sound.pairs (looked old.journal.staged fits.kept) s sound.free fits.tells place word kept (λ f n. size_of_filed old s sound (told_held old m base s sound fits) f n)
     ∙ judged_refused now (word_checks old.parts place word) (changed now (declared_under s word (words_at place))) refusal first) ends

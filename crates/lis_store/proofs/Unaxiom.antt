@@ -4,6 +4,7 @@ use Rattle.std.proofs.lemmas.Bool.{and_parts}
 use Rattle.std.proofs.lemmas.Option.{same_Some}
 use Rattle.lis_graph.proofs.Members.{among_from_any}
 use Rattle.lis_ports.specs.Meaning.{Meaning}
+use Rattle.lis_journal.specs.Phases.{looked}
 use Rattle.lis_words.specs.Words.{same_word, is_plain_word}
 use Rattle.lis_model.specs.declared.refusal.Refusal.TheVariants.{NoAxiom}
 use Rattle.lis_model.specs.State.{State}
@@ -17,8 +18,8 @@ use Rattle.lis_kept.specs.Linking.{MayUnlink}
 use Rattle.lis_kept.specs.Sound.{AreSound}
 use Rattle.lis_store.specs.declared.change.Change.{Change}
 use Rattle.lis_store.specs.declared.change.Change.TheVariants.{Refused}
-use Rattle.lis_store.specs.Stored.{Stored, PairsAreApart, IsSound, StoreFits}
-use Rattle.lis_store.specs.Changes.{Changes}
+use Rattle.lis_store.specs.Stored.{Stored, PairsAreApart, IsSound, StoreHolds}
+use Rattle.lis_store.specs.Changes.{Holds}
 use Rattle.lis_store.specs.Saving.{settled, IsReady, Saves}
 use Rattle.lis_store.specs.Unlinking.{is_axiom, IsAxiomAt, TakesAxiom}
 use Rattle.lis_store.proofs.Judged.{change_refused}
@@ -26,8 +27,8 @@ use Rattle.lis_store.proofs.SavedAlone.{saves_alone}
 use Rattle.lis_store.proofs.Unaxiomed.{limits_stay, sound_gone, ready_gone, few_marked}
 
 -- only plain words are right sides
-axiom_here : (k : Stored) (m : Meaning) (s : State) → StoreFits k m s → (l r : List ℕ) → is_axiom k.parts l r ≡ has_axiom s.axioms (l, r)
-axiom_here k m s fits l r =
+axiom_here : (k : Stored) (m : Meaning) (base s : State) → StoreHolds k m base s → (l r : List ℕ) → is_axiom k.parts l r ≡ has_axiom s.axioms (l, r)
+axiom_here k m base s fits l r =
     ap (λ (t : State). is_plain_word r && has_axiom t.axioms (l, r)) fits.tells.state ∙ by (has_axiom s.axioms (l, r)) refl
   where
     either : (b : Bool) → (b && false) ≡ false
@@ -52,26 +53,26 @@ may_go k apart l r left right found = record {
 
 -- one that is not there
 pub unaxiom_refused : {T : Type 0} (old : Stored) (m : Meaning) (l r : List ℕ) (result : Result T Change) → is_axiom old.parts l r ≡ false → result ≡ Err (Refused NoAxiom)
-    → (now : Situation) → StoreFits old m now.state → Changes now (unaxiom now (l, r)) old m m result
-unaxiom_refused old m l r result none ends now fits =
-    change_refused old m now (unaxiom now (l, r)) NoAxiom result fits
-    (ap (λ b. cond (not b) (refused now NoAxiom) (changed now (axiom_removed now.state (l, r)))) (sym (axiom_here old m now.state fits l r) ∙ none)) ends
+    → (base : State) (now : Situation) → StoreHolds old m base now.state → Holds base now (unaxiom now (l, r)) old m m result
+unaxiom_refused old m l r result none ends base now fits =
+    change_refused old m base now (unaxiom now (l, r)) NoAxiom result fits
+    (ap (λ b. cond (not b) (refused now NoAxiom) (changed now (axiom_removed now.state (l, r)))) (sym (axiom_here old m base now.state fits l r) ∙ none)) ends
 
 module _ (old : Stored) (q : Kept) (l r : List ℕ) (left right : ℕ) (found : IsAxiomAt old.parts l r left right) (takes : TakesAxiom left right old.parts q) (sound : IsSound old) (unbroken : old.is_broken ≡ false)
     (there : is_axiom old.parts l r ≡ true) where
   pub unaxiom_sound : AreSound q → IsSound (settled q old.journal)
   unaxiom_sound = sound_gone left right old.parts q takes old.journal old.is_broken sound unbroken
 
-  pub unaxiom_marks : length old.journal.staged + marked_count q ≤ 531
+  pub unaxiom_marks : length old.journal.staged + marked_count q ≤ 575
   unaxiom_marks =
       let few = few_marked left right old.parts q takes old.journal old.is_broken sound (sound.clean unbroken) in
-      omega (arith, few, ap length (sound.staged unbroken))
+      omega (arith, few, sound.few unbroken)
 
-  pub unaxiom_changes : {T : Type 0} (new : Stored) (before after : Meaning) (result : Result T Change) → Saves q old.journal new before after result
-      → (now : Situation) → StoreFits old before now.state → Changes now (unaxiom now (l, r)) new before after result
-  unaxiom_changes new before after result saves now fits =
+  pub unaxiom_holds : {T : Type 0} (new : Stored) (before after : Meaning) (result : Result T Change) → Saves q old.journal new before after result
+      → (base : State) (now : Situation) → StoreHolds old before base now.state → Holds base now (unaxiom now (l, r)) new before after result
+  unaxiom_holds new before after result saves base now fits =
       let s = now.state in
       let made : State = axiom_removed s (l, r) in
-      let ready : IsReady q fits.kept made = ready_gone left right old.parts q takes old.journal old.is_broken sound fits.kept s fits.tells l r found.is_left found.is_right (λ area n lt unmarked. fits.written area n lt) in
-      saves_alone old sound unbroken q new before after result saves now (unaxiom now (l, r)) made fits (limits_stay left right old.parts q takes old.journal old.is_broken sound) (λ _. ready)
-      (ap (λ b. cond (not b) (refused now NoAxiom) (changed now made)) (sym (axiom_here old before s fits l r) ∙ there))
+      let ready : IsReady q (looked old.journal.staged fits.kept) made = ready_gone left right old.parts q takes old.journal old.is_broken sound (looked old.journal.staged fits.kept) s fits.tells l r found.is_left found.is_right (λ area n lt unmarked. fits.written area n lt) in
+      saves_alone old sound unbroken q new before after result saves base now (unaxiom now (l, r)) made fits (limits_stay left right old.parts q takes old.journal old.is_broken sound) (λ _. ready)
+      (ap (λ b. cond (not b) (refused now NoAxiom) (changed now made)) (sym (axiom_here old before base s fits l r) ∙ there))

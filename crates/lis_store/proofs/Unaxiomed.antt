@@ -204,7 +204,8 @@ module _ (left right : ℕ) (p q : Kept) (takes : TakesAxiom left right p q) (j 
     });
     image = was.image ∙ ap (λ (u : Kept). image_blocks u.limits) (sym takes.unlinks.parts);
     journal = λ _. was.journal whole;
-    staged = λ _. refl;
+    few = λ _. omega arith;
+    whole = λ _. refl;
     placed = λ _. refl;
     clean = λ _. clean_is end;
   })

@@ -6,6 +6,7 @@ use Rattle.std.proofs.lemmas.Option.{same_Some}
 use Rattle.lis_graph.proofs.Members.{Among, among_from_contains, contains_from_among, any_from_among, among_filter, filter_among, among_insert_key, insert_key_old, insert_key_new, among_left, among_right, map_among, flat_map_among}
 use Rattle.lis_graph.proofs.Sets.{sorted_from_rising, sorted_insert_key}
 use Rattle.lis_ports.specs.Meaning.{Meaning}
+use Rattle.lis_journal.specs.Phases.{looked}
 use Rattle.lis_journal.specs.Journal.{Held}
 use Rattle.lis_blockmap.specs.Bitmap.{is_taken}
 use Rattle.lis_content.specs.Content.{has_number, are_distinct}
@@ -51,12 +52,12 @@ use Rattle.lis_kept.proofs.OwnLinks.{own_head, among_slot, unnamed_to}
 use Rattle.lis_kept.proofs.Used.{any_or, used_flagged, used_had, used_left}
 use Rattle.lis_kept.proofs.Needed.{may_undeclare}
 use Rattle.lis_kept.proofs.NeededTold.{needed_told}
-use Rattle.lis_store.specs.Stored.{Stored, PairsAreApart, AreClosed, TestsAreMet, IsSound, StoreFits}
+use Rattle.lis_store.specs.Stored.{Stored, PairsAreApart, AreClosed, TestsAreMet, IsSound, StoreHolds}
 use Rattle.lis_store.specs.Saving.{settled, IsReady, Saves}
 use Rattle.lis_store.specs.Judging.{is_needed_by, undeclare_checks}
 use Rattle.lis_store.specs.Redescribing.{IsTurnedRow}
 use Rattle.lis_store.specs.Testing.{without_number, undescribed, UndeclaresUnmet}
-use Rattle.lis_store.specs.Changes.{Changes, first_refusal}
+use Rattle.lis_store.specs.Changes.{Holds, first_refusal}
 use Rattle.lis_store.specs.declared.change.Change.{Change}
 use Rattle.lis_store.specs.declared.change.Change.TheVariants.{Refused}
 use Rattle.lis_store.proofs.SavedAlone.{saves_alone}
@@ -347,7 +348,8 @@ module _ (p q : Kept) (number : ℕ) (sound : AreSound p) (may : MayUndeclare nu
         in_use = in_use_clean q (in_use_then was.in_use);
         image = subst (λ (k : Kept). j.blocks ≡ image_blocks k.limits) (sym q_is) was.image;
         journal = λ _. was.journal whole;
-        staged = λ _. refl;
+        few = λ _. omega arith;
+        whole = λ _. refl;
         placed = λ _. refl;
         clean = λ _. clean_is q;
       }
@@ -497,28 +499,28 @@ module _ (old : Stored) (word : List ℕ) (number : ℕ) (sound : IsSound old) (
     pub undeclared_edits : AreEditsFew old.parts.ext q.ext
     undeclared_edits = few_edits old.parts q number sound.parts undeclared_may gone
 
-    pub undeclared_marks : length old.journal.staged + marked_count q ≤ 531
+    pub undeclared_marks : length old.journal.staged + marked_count q ≤ 575
     undeclared_marks =
         let few = few_marked old.parts q number sound.parts undeclared_may gone (none_marked old.parts (sound.clean unbroken)) in
-        omega (arith, few, ap length (sound.staged unbroken))
+        omega (arith, few, sound.few unbroken)
 
-    pub undeclared_changes : {T : Type 0} (new : Stored) (before after : Meaning) (result : Result T Change) → Saves q old.journal new before after result
-        → (now : Situation) → StoreFits old before now.state → Changes now (rmdir now word) new before after result
-    undeclared_changes new before after result saves now fits =
+    pub undeclared_holds : {T : Type 0} (new : Stored) (before after : Meaning) (result : Result T Change) → Saves q old.journal new before after result
+        → (base : State) (now : Situation) → StoreHolds old before base now.state → Holds base now (rmdir now word) new before after result
+    undeclared_holds new before after result saves base now fits =
         let s : State = now.state in
-        let unused : is_in_use s word ≡ false = in_use_told old.parts sound.parts word number numbered passes.0 fits.kept s sound.free fits.tells ∙ passes.1 in
-        let listed : Among s.declared word = among_from_has_word s.declared word (declared_told old.parts fits.kept s fits.tells word ∙ passes.0) in
-        let ready : IsReady q fits.kept (undeclared s gone.undeclares.word) =
-        ready_undeclared old.parts q number sound.parts undeclared_may gone fits.kept s sound.free fits.tells sound.in_use (subst (λ w. is_in_use s w ≡ false) (sym same) unused)
+        let unused : is_in_use s word ≡ false = in_use_told old.parts sound.parts word number numbered passes.0 (looked old.journal.staged fits.kept) s sound.free fits.tells ∙ passes.1 in
+        let listed : Among s.declared word = among_from_has_word s.declared word (declared_told old.parts (looked old.journal.staged fits.kept) s fits.tells word ∙ passes.0) in
+        let ready : IsReady q (looked old.journal.staged fits.kept) (undeclared s gone.undeclares.word) =
+        ready_undeclared old.parts q number sound.parts undeclared_may gone (looked old.journal.staged fits.kept) s sound.free fits.tells sound.in_use (subst (λ w. is_in_use s w ≡ false) (sym same) unused)
         (subst (λ w. Among s.declared w) (sym same) listed) (λ area n lt unmarked. fits.written area n lt) in
-        saves_alone old sound unbroken q new before after result saves now (rmdir now word) (undeclared s word) fits undeclared_limits (λ _. subst (λ w. IsReady q fits.kept (undeclared s w)) same ready)
-        (rmdir_is old.parts sound.parts fits.kept now sound.free fits.tells word ∙ judged_done now (undeclare_checks old.parts word) (changed now (undeclared s word)) none)
+        saves_alone old sound unbroken q new before after result saves base now (rmdir now word) (undeclared s word) fits undeclared_limits (λ _. subst (λ w. IsReady q (looked old.journal.staged fits.kept) (undeclared s w)) same ready)
+        (rmdir_is old.parts sound.parts (looked old.journal.staged fits.kept) now sound.free fits.tells word ∙ judged_done now (undeclare_checks old.parts word) (changed now (undeclared s word)) none)
 
 -- one that is refused
 pub undeclared_refused : {T : Type 0} (old : Stored) (m : Meaning) (word : List ℕ) (refusal : Refusal) (result : Result T Change) → IsSound old
     → first_refusal (undeclare_checks old.parts word) ≡ Some refusal → result ≡ Err (Refused refusal)
-    → (now : Situation) → StoreFits old m now.state → Changes now (rmdir now word) old m m result
-undeclared_refused old m word refusal result sound first ends now fits =
-    change_refused old m now (rmdir now word) refusal result fits
-    (rmdir_is old.parts sound.parts fits.kept now sound.free fits.tells word
+    → (base : State) (now : Situation) → StoreHolds old m base now.state → Holds base now (rmdir now word) old m m result
+undeclared_refused old m word refusal result sound first ends base now fits =
+    change_refused old m base now (rmdir now word) refusal result fits
+    (rmdir_is old.parts sound.parts (looked old.journal.staged fits.kept) now sound.free fits.tells word
     ∙ judged_refused now (undeclare_checks old.parts word) (changed now (undeclared now.state word)) refusal first) ends

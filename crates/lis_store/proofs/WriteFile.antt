@@ -1,5 +1,6 @@
 -- The calls that write and rename a file.
-use Rattle.std.proofs.Common.{◌≡◌, refl, sym, ap, ap₂, ◌∙◌, subst, ℕ, ◌+◌, ◌≤◌, ◌==◌, not, cond, Bool, true, false, List, [], length, Option, Some, None, Result, Err, arith}
+use Rattle.std.proofs.Common.{◌≡◌, refl, sym, ap, ap₂, ◌∙◌, subst, ℕ, ◌+◌, ◌≤◌, ◌==◌, not, cond, Bool, true, false, List, [], length, Option, Some, None, Result, Err, IsSomeAnd, arith}
+use Rattle.std.specs.List.{list_all}
 use Rattle.std.proofs.lemmas.Bool.{both_ways, le-ltb, ltb-false}
 use Rattle.lis_ports.specs.Meaning.{Meaning}
 use Rattle.lis_catalog.specs.Catalog.{slot_of, rec_at}
@@ -9,17 +10,18 @@ use Rattle.lis_words.specs.Words.{is_file_name}
 use Rattle.lis_grammar.specs.Formula.{Formula}
 use Rattle.lis_model.specs.declared.refusal.Refusal.{Refusal}
 use Rattle.lis_model.specs.declared.refusal.Refusal.TheVariants.{NoFileHere, LargeFile}
-use Rattle.lis_model.specs.State.{State, File, file_limit, blocks_taken, used_blocks}
+use Rattle.lis_model.specs.State.{State, File, file_limit, is_assignable, blocks_taken, used_blocks}
 use Rattle.lis_model.specs.Changes.{new_file, file_of, file_replaced}
 use Rattle.lis_model.specs.Step.{Situation, Payload, free_blocks, changed, write, rename}
 use Rattle.lis_kept.specs.Kept.{Kept}
 use Rattle.lis_kept.specs.Sound.{AreSound}
-use Rattle.lis_kept.specs.Telling.{words_told, bytes_told}
+use Rattle.lis_kept.specs.Telling.{declared_of, words_told, bytes_told}
 use Rattle.lis_kept.proofs.Filed.{record_named}
 use Rattle.lis_store.specs.declared.change.Change.{Change}
 use Rattle.lis_store.specs.declared.change.Change.TheVariants.{Refused}
-use Rattle.lis_store.specs.Stored.{Stored, IsSound, StoreFits}
-use Rattle.lis_store.specs.Changes.{Changes, first_refusal}
+use Rattle.lis_store.specs.Stored.{Stored, IsSound, StoreHolds}
+use Rattle.lis_store.proofs.ToldBy.{ToldBy, told_held}
+use Rattle.lis_store.specs.Changes.{Holds, first_refusal}
 use Rattle.lis_store.specs.Judging.{is_among}
 use Rattle.lis_store.specs.Instead.{given_before, free_instead, overwriting_checks, renaming_checks, write_checks_of, rename_checks_of}
 use Rattle.lis_store.specs.Replacing.{MayReplace}
@@ -29,6 +31,11 @@ use Rattle.lis_store.proofs.InsteadMay.{write_may, rename_may}
 use Rattle.lis_store.proofs.InsteadTold.{free_told, old_is, old_given, write_refused, write_done, rename_refused, rename_done}
 use Rattle.lis_store.proofs.FreeBlocks.{used_told, version_told}
 use Rattle.lis_store.proofs.Judged.{all_pass, change_refused}
+
+-- What a call asks speaks of the store's value `now`, and what is proved of its parts, `old`. The slot that it found has a record.
+pub found_there : {old now : Stored} → old ≡ now → IsSound old → (name : List ℕ) {slot : ℕ} → slot_of now.parts.catalog name ≡ Some slot
+    → (rec : FileRecord) × (rec_at old.parts.catalog slot ≡ Some rec) × (rec.name ≡ name)
+found_there {old} same sound name {slot} named = rec_at-slot_of old.parts.catalog name slot sound.parts.catalog (ap (λ (k : Stored). slot_of k.parts.catalog name) same ∙ named)
 
 -- ---- rows
 pub rest_of_write : (k : Kept) (place : List Formula) (name : List ℕ) (slot : ℕ) (rec : FileRecord) (file : File) (size : ℕ) → size ≤ file_limit k.limits.version → is_among k place name ≡ true
@@ -48,7 +55,7 @@ module _ (k : Stored) (sound : IsSound k) (place : List Formula) (name : List �
   same_name : rec.name ≡ name
   same_name = (filed_named k.parts sound.parts name slot rec named there).1
 
-  pub write_first : (bytes : List ℕ) (size : ℕ) → size ≤ file_limit k.parts.limits.version → length bytes ≡ size
+  write_first : (bytes : List ℕ) (size : ℕ) → size ≤ file_limit k.parts.limits.version → length bytes ≡ size
       → first_refusal (overwriting_checks k.parts slot rec (given_before k.parts rec name bytes) size) ≡ None → MayReplace k.parts slot rec (given_before k.parts rec name bytes)
   write_first bytes size most long none =
       write_may k sound slot rec there place name bytes size same_name
@@ -56,7 +63,7 @@ module _ (k : Stored) (sound : IsSound k) (place : List Formula) (name : List �
       (rest_of_write k.parts place name slot rec (given_before k.parts rec name bytes) size most here ∙ none)
 
   -- blocks that are enough for other bytes
-  pub write_enough : (bytes : List ℕ) (size : ℕ) → length bytes ≡ size
+  write_enough : (bytes : List ℕ) (size : ℕ) → length bytes ≡ size
       → first_refusal (overwriting_checks k.parts slot rec (given_before k.parts rec name bytes) size) ≡ None → blocks_taken k.parts.limits.version (length bytes) ≤ free_instead k.parts rec
   write_enough bytes size long none =
       let row = all_pass (overwriting_checks k.parts slot rec (given_before k.parts rec name bytes) size) none in
@@ -69,25 +76,10 @@ module _ (k : Stored) (sound : IsSound k) (place : List Formula) (name : List �
       rename_may k sound slot rec there place name other bytes form (omega (arith, size)) (rest_of_rename k.parts place name slot (given_before k.parts rec other bytes) here ∙ none)
 
 -- ---- calls that are done
-module _ (k : Stored) (m : Meaning) (s : State) (sound : IsSound k) (fits : StoreFits k m s) (place : List Formula) (name : List ℕ) (slot : ℕ) (rec : FileRecord)
-    (named : slot_of k.parts.catalog name ≡ Some slot) (there : rec_at k.parts.catalog slot ≡ Some rec) (here : is_among k.parts place name ≡ true)
-    (assigned : List (List ℕ)) (words_are : assigned ≡ words_told k.parts.dict rec.tags) where
-  taken_named : rec.name ≡ name
-  taken_named = (filed_named k.parts sound.parts name slot rec named there).1
-
-  old_words : (file_of s.files name).assigned ≡ assigned
-  old_words = old_given k m s sound fits name slot rec named there ∙ sym words_are
-
-  pub written_done : (payload : Payload) → payload.size ≤ file_limit k.parts.limits.version
-      → first_refusal (overwriting_checks k.parts slot rec (given_before k.parts rec name payload.bytes) payload.size) ≡ None
-      → write (record { state = s; place = place }) name payload ≡ changed (record { state = s; place = place }) (file_replaced s rec.name (new_file name assigned payload.bytes))
-  written_done payload small none =
-      let now : Situation = record { state = s; place = place } in
-      write_done k m s sound fits place name slot rec (λ _. (named, there)) payload (rest_of_write k.parts place name slot rec (given_before k.parts rec name payload.bytes) payload.size small here ∙ none)
-      ∙ ap₂ (λ n ws. changed now (file_replaced s n (new_file name ws payload.bytes))) (sym taken_named) old_words
-
+module _ (k : Stored) (s : State) (sound : IsSound k) (fits : ToldBy k s) (name : List ℕ) (slot : ℕ) (rec : FileRecord)
+    (named : slot_of k.parts.catalog name ≡ Some slot) (there : rec_at k.parts.catalog slot ≡ Some rec) where
   bytes_are : (file_of s.files name).bytes ≡ bytes_told k.parts.limits fits.kept rec
-  bytes_are = ap (λ (f : File). f.bytes) (old_is k m s sound fits name slot rec named there)
+  bytes_are = ap (λ (f : File). f.bytes) (old_is k s sound fits name slot rec named there)
 
   -- the blocks of the new bytes are enough
   pub written_enough : (size : ℕ) → blocks_taken k.parts.limits.version size ≤ free_instead k.parts rec
@@ -98,10 +90,10 @@ module _ (k : Stored) (m : Meaning) (s : State) (sound : IsSound k) (fits : Stor
       omega (
         arith,
         enough,
-        free_told k m s sound fits name slot rec named there,
+        free_told k s sound fits name slot rec named there,
         most,
-        used_told k m s sound fits,
-        ap (λ v. blocks_taken v size) (version_told k m s sound fits),
+        used_told k s sound fits,
+        ap (λ v. blocks_taken v size) (version_told k s sound fits),
         ap (λ bs. blocks_taken s.limits.version (length bs)) bytes_are,
       )
     where
@@ -110,15 +102,78 @@ module _ (k : Stored) (m : Meaning) (s : State) (sound : IsSound k) (fits : Stor
       by true = omega arith
       by false = omega arith
 
-  pub renamed_done : (other bytes : List ℕ) → bytes_told k.parts.limits fits.kept rec ≡ bytes → first_refusal (renaming_checks k.parts slot (given_before k.parts rec other bytes)) ≡ None
-      → rename (record { state = s; place = place }) name other ≡ changed (record { state = s; place = place }) (file_replaced s rec.name (new_file other assigned bytes))
-  renamed_done other bytes told none =
-      let now : Situation = record { state = s; place = place } in
-      let same : (file_of s.files name).bytes ≡ bytes = bytes_are ∙ told in
-      let row = subst (λ bs. first_refusal (renaming_checks k.parts slot (given_before k.parts rec other bs)) ≡ None) (sym same) none in
-      rename_done k m s sound fits place name slot rec (λ _. (named, there)) other (rest_of_rename k.parts place name slot (given_before k.parts rec other (file_of s.files name).bytes) here ∙ row)
-      ∙ (ap₂ (λ n ws. changed now (file_replaced s n (new_file other ws (file_of s.files name).bytes))) (sym taken_named) old_words
-      ∙ ap (λ bs. changed now (file_replaced s rec.name (new_file other assigned bs))) same)
+  module _ (place : List Formula) (here : is_among k.parts place name ≡ true) (assigned : List (List ℕ)) (words_are : assigned ≡ words_told k.parts.dict rec.tags) where
+    abbrev at_place : Situation
+    at_place = record { state = s; place = place }
+
+    old_words : (file_of s.files name).assigned ≡ assigned
+    old_words = old_given k s sound fits name slot rec named there ∙ sym words_are
+
+    written_done : (payload : Payload) → payload.size ≤ file_limit k.parts.limits.version
+        → first_refusal (overwriting_checks k.parts slot rec (given_before k.parts rec name payload.bytes) payload.size) ≡ None
+        → write at_place name payload ≡ changed at_place (file_replaced s name (new_file name assigned payload.bytes))
+    written_done payload small none =
+        write_done k s sound fits place name slot rec (λ _. (named, there)) payload (rest_of_write k.parts place name slot rec (given_before k.parts rec name payload.bytes) payload.size small here ∙ none)
+        ∙ ap (λ ws. changed at_place (file_replaced s name (new_file name ws payload.bytes))) old_words
+
+    pub renamed_done : (other bytes : List ℕ) → bytes_told k.parts.limits fits.kept rec ≡ bytes → first_refusal (renaming_checks k.parts slot (given_before k.parts rec other bytes)) ≡ None
+        → rename at_place name other ≡ changed at_place (file_replaced s rec.name (new_file other assigned bytes))
+    renamed_done other bytes told none =
+        let same : (file_of s.files name).bytes ≡ bytes = bytes_are ∙ told in
+        let row = subst (λ bs. first_refusal (renaming_checks k.parts slot (given_before k.parts rec other bs)) ≡ None) (sym same) none in
+        rename_done k s sound fits place name slot rec (λ _. (named, there)) other (rest_of_rename k.parts place name slot (given_before k.parts rec other (file_of s.files name).bytes) here ∙ row)
+        ∙ (ap₂ (λ n ws. changed at_place (file_replaced s n (new_file other ws (file_of s.files name).bytes))) (sym (filed_named k.parts sound.parts name slot rec named there).1) old_words
+        ∙ ap (λ bs. changed at_place (file_replaced s rec.name (new_file other assigned bs))) same)
+
+-- ---- a write that is let in
+module _ {old now : Stored} (same : old ≡ now) (sound : IsSound old) (place : List Formula) (name : List ℕ) {slot : ℕ} (named_now : slot_of now.parts.catalog name ≡ Some slot)
+    (here_now : true ≡ is_among now.parts place name) (bytes : List ℕ) {size : ℕ} (small : size ≤ file_limit old.parts.limits.version) (whole : size ≤ file_limit now.parts.limits.version → length bytes ≡ size)
+    (row : (rec : FileRecord) → rec_at old.parts.catalog slot ≡ Some rec → first_refusal (overwriting_checks old.parts slot rec (given_before old.parts rec name bytes) size) ≡ None)
+    {words : List (List ℕ)} (words_are : (rec : FileRecord) → rec_at old.parts.catalog slot ≡ Some rec → words ≡ words_told old.parts.dict rec.tags) where
+  abbrev p : Kept
+  p = old.parts
+
+  named : slot_of p.catalog name ≡ Some slot
+  named = ap (λ (k : Stored). slot_of k.parts.catalog name) same ∙ named_now
+
+  here : is_among p place name ≡ true
+  here = ap (λ (k : Stored). is_among k.parts place name) same ∙ sym here_now
+
+  found : (rec : FileRecord) × (rec_at p.catalog slot ≡ Some rec) × (rec.name ≡ name)
+  found = found_there same sound name named_now
+
+  long : length bytes ≡ size
+  long = whole (subst (λ (k : Stored). size ≤ file_limit k.parts.limits.version) same small)
+
+  -- what is asked of parts in which a file makes way for these bytes
+  abbrev pub WriteAsks : Kept → Type 0
+  WriteAsks k =
+      (slot_of k.catalog name ≡ Some slot)
+      × IsSomeAnd (rec_at k.catalog slot) (λ (rec : FileRecord). MayReplace k slot rec (new_file name words bytes))
+      × (list_all (is_assignable (declared_of k)) words ≡ true)
+      × ((rec : FileRecord) → rec_at k.catalog slot ≡ Some rec → blocks_taken k.limits.version (length bytes) ≤ free_instead k rec)
+
+  pub write_asks : {k : Kept} → k ≡ now.parts → WriteAsks k
+  write_asks is = subst (λ (k : Kept). WriteAsks k) (sym is) (subst (λ (k : Stored). WriteAsks k.parts) same asks)
+    where
+      may : MayReplace p slot found.0 (new_file name words bytes)
+      may =
+          subst (λ ws. MayReplace p slot found.0 (new_file name ws bytes)) (sym (words_are found.0 found.1))
+          (write_first old sound place name slot found.0 named found.1 here bytes size small long (row found.0 found.1))
+
+      asks : WriteAsks p
+      asks = (
+        named,
+        subst (λ o. IsSomeAnd o (λ (rec : FileRecord). MayReplace p slot rec (new_file name words bytes))) (sym found.1) may,
+        may.assignable,
+        λ rec there. write_enough old sound place name slot rec named there here bytes size long (row rec there),
+      )
+
+  pub write_does : (m : Meaning) (base s : State) → StoreHolds now m base s
+      → write (record { state = s; place = place }) name (record { size = size; bytes = bytes }) ≡ changed (record { state = s; place = place }) (file_replaced s name (new_file name words bytes))
+  write_does m base s holds =
+      let held : StoreHolds old m base s = subst (λ (k : Stored). StoreHolds k m base s) (sym same) holds in
+      written_done old s sound (told_held old m base s sound held) name slot found.0 named found.1 place here words (words_are found.0 found.1) (record { size = size; bytes = bytes }) small (row found.0 found.1)
 
 -- ---- calls that are refused
 -- the slot of a name, where there is one
@@ -132,30 +187,30 @@ slot_there k sound place name = by (slot_of k.catalog name) refl
         (0, record { name = []; size = 0; tags = []; blocks = [] }, λ some. absurd (both_ways (is_among k place name) (none_here k sound place name none) some))
     by (Some slot) is = let found = rec_at-slot_of k.catalog name slot sound.catalog is in (slot, found.0, λ some. (is, found.1))
 
-module _ {T : Type 0} (old : Stored) (m : Meaning) (place : List Formula) (name : List ℕ) (result : Result T Change) (sound : IsSound old) (s : State) (fits : StoreFits old m s) where
+module _ {T : Type 0} (old : Stored) (m : Meaning) (place : List Formula) (name : List ℕ) (result : Result T Change) (sound : IsSound old) (base s : State) (holds : StoreHolds old m base s) where
   abbrev now : Situation
   now = record { state = s; place = place }
 
   module _ (slot : ℕ) (rec : FileRecord) (there : is_among old.parts place name ≡ true → (slot_of old.parts.catalog name ≡ Some slot) × (rec_at old.parts.catalog slot ≡ Some rec)) where
     pub written_refused : (payload : Payload) (refusal : Refusal) → first_refusal (write_checks_of old.parts place name slot rec (given_before old.parts rec name payload.bytes) payload.size) ≡ Some refusal
-        → result ≡ Err (Refused refusal) → Changes now (write now name payload) old m m result
+        → result ≡ Err (Refused refusal) → Holds base now (write now name payload) old m m result
     written_refused payload refusal first ends =
-        change_refused old m now (write now name payload) refusal result fits (write_refused old m s sound fits place name slot rec there payload refusal first) ends
+        change_refused old m base now (write now name payload) refusal result holds (write_refused old s sound (told_held old m base s sound holds) place name slot rec there payload refusal first) ends
 
     pub renamed_refused : (other : List ℕ) (refusal : Refusal) → first_refusal (rename_checks_of old.parts place name slot (given_before old.parts rec other (file_of s.files name).bytes)) ≡ Some refusal
-        → result ≡ Err (Refused refusal) → Changes now (rename now name other) old m m result
+        → result ≡ Err (Refused refusal) → Holds base now (rename now name other) old m m result
     renamed_refused other refusal first ends =
-        change_refused old m now (rename now name other) refusal result fits (rename_refused old m s sound fits place name slot rec there other refusal first) ends
+        change_refused old m base now (rename now name other) refusal result holds (rename_refused old s sound (told_held old m base s sound holds) place name slot rec there other refusal first) ends
 
   pub written_nowhere : (payload : Payload) → payload.size ≤ file_limit old.parts.limits.version → is_among old.parts place name ≡ false → result ≡ Err (Refused NoFileHere)
-      → Changes now (write now name payload) old m m result
+      → Holds base now (write now name payload) old m m result
   written_nowhere payload small none ends =
       let at = slot_there old.parts sound.parts place name in
       let rest = first_refusal (overwriting_checks old.parts at.0 at.1 (given_before old.parts at.1 name payload.bytes) payload.size) in
       written_refused at.0 at.1 at.2 payload NoFileHere
       (ap (λ b. cond b (Some LargeFile) (cond (not (is_among old.parts place name)) (Some NoFileHere) rest)) (le-ltb (file_limit old.parts.limits.version) payload.size small) ∙ ap (λ b. cond (not b) (Some NoFileHere) rest) none) ends
 
-  pub renamed_nowhere : (other : List ℕ) → is_among old.parts place name ≡ false → result ≡ Err (Refused NoFileHere) → Changes now (rename now name other) old m m result
+  pub renamed_nowhere : (other : List ℕ) → is_among old.parts place name ≡ false → result ≡ Err (Refused NoFileHere) → Holds base now (rename now name other) old m m result
   renamed_nowhere other none ends =
       let at = slot_there old.parts sound.parts place name in
       let rest = first_refusal (renaming_checks old.parts at.0 (given_before old.parts at.1 other (file_of s.files name).bytes)) in

@@ -9,10 +9,11 @@ use Rattle.lis_ext.specs.Ext.{Ext, set_of}
 use Rattle.lis_ext.specs.Numbers.{differs, numbers_where}
 use Rattle.lis_model.specs.declared.refusal.Refusal.{Refusal}
 use Rattle.lis_model.specs.Image.{image_blocks}
+use Rattle.lis_model.specs.State.{State}
 use Rattle.lis_model.specs.Replies.{ok_line}
 use Rattle.lis_model.specs.Step.{Situation, Outcome, refused}
 use Rattle.lis_store.specs.Stands.{Stands}
-use Rattle.lis_store.specs.Stored.{Stored, StoreFits}
+use Rattle.lis_store.specs.Stored.{Stored, StoreFits, StoreHolds}
 use Rattle.lis_store.specs.declared.change.Change.{Change}
 use Rattle.lis_store.specs.declared.change.Change.TheVariants.{Refused, Disk}
 
@@ -36,6 +37,40 @@ pub record Changes {T : Type 0} (now : Situation) (outcome : Outcome) (new : Sto
   pub moments : Leaves before after (λ image. Stands image now.state ⊎ Stands image outcome.next.state)
   pub past : KeepsPast (image_blocks now.state.limits) before after
   pub ended : ChangeEnded now outcome new after result
+
+-- ---- changes that are held back
+-- At an answer that is no fault of the disk memory tells the new state, or with a refusal the old one, and the images stand for the base
+-- or, where so much was held back that it was committed, for the new state.
+abbrev pub HeldEnded : {T : Type 0} → State → Situation → Outcome → Stored → Meaning → Result T Change → Type 0
+HeldEnded base now outcome new m (Ok done) =
+    (outcome.reply ≡ ok_line) × (StoreHolds new m base outcome.next.state ⊎ StoreHolds new m outcome.next.state outcome.next.state)
+HeldEnded base now outcome new m (Err (Refused refusal)) = (outcome ≡ refused now refusal) × StoreHolds new m base now.state
+HeldEnded base now outcome new m (Err Disk) = new.is_broken ≡ true
+
+-- At each moment in the call the image stands for the base, the old state or the new one, and blocks past the image stay.
+pub record Holds {T : Type 0} (base : State) (now : Situation) (outcome : Outcome) (new : Stored) (before after : Meaning) (result : Result T Change) : Type 0 where
+  pub moments : Leaves before after (λ image. (Stands image base ⊎ Stands image now.state) ⊎ Stands image outcome.next.state)
+  pub past : KeepsPast (image_blocks base.limits) before after
+  pub ended : HeldEnded base now outcome new after result
+
+-- What a commit answers: it refuses nothing.
+abbrev pub CommitEnded : {T : Type 0} → State → Stored → Meaning → Result T Change → Type 0
+CommitEnded s new m (Ok done) = StoreFits new m s
+CommitEnded s new m (Err (Refused refusal)) = false ≡ true
+CommitEnded s new m (Err Disk) = new.is_broken ≡ true
+
+-- All that is held back is committed: at each moment the image stands for the base or for the state that memory tells.
+pub record Commits {T : Type 0} (base s : State) (new : Stored) (before after : Meaning) (result : Result T Change) : Type 0 where
+  pub moments : Leaves before after (λ image. Stands image base ⊎ Stands image s)
+  pub past : KeepsPast (image_blocks base.limits) before after
+  pub ended : CommitEnded s new after result
+
+-- ---- on any disk
+-- What a commit says of a store on any disk.
+abbrev pub CommitLeft : {T : Type 0} → Stored → Result T Change → Type 0
+CommitLeft new (Ok done) = (new.is_broken ≡ false) × (new.journal.staged ≡ [])
+CommitLeft new (Err (Refused refusal)) = false ≡ true
+CommitLeft new (Err Disk) = new.is_broken ≡ true
 
 -- A fault of the disk comes only where the count rose, and at each other answer the count stays.
 abbrev pub HasChangeCause : {T : Type 0} → ℕ → ℕ → Result T Change → Type 0

@@ -1,5 +1,5 @@
 -- How the contents of files are put on the disk, and given back.
-use Rattle.std.specs.Prelude.{◌≡◌, ℕ, ◌≤◌, nat_lt, Bool, true, false, List, length, Result, Ok, Err, IsTrue}
+use Rattle.std.specs.Prelude.{◌≡◌, ℕ, ◌+◌, ◌≤◌, nat_lt, Bool, true, false, List, [], length, Result, Ok, Err, IsTrue}
 use Rattle.std.specs.List.{list_all}
 use Rattle.arrayvec.specs.ArrayVec.{ArrayVec}
 use Rattle.lis_ports.specs.Meaning.{Meaning}
@@ -8,7 +8,8 @@ use Rattle.lis_journal.specs.Journal.{Held}
 use Rattle.lis_journal.specs.Images.{StandsBut, Fits, KeepsPast, is_among}
 use Rattle.lis_journal.specs.Phases.{looked}
 use Rattle.lis_content.specs.Content.{given, marked, are_free, are_distinct, has_home}
-use Rattle.lis_content.specs.Placing.{Asks}
+use Rattle.lis_content.specs.Large.{is_large}
+use Rattle.lis_content.specs.Placing.{Asks, homes_of}
 use Rattle.lis_fields.specs.Records.{FileRecord}
 use Rattle.lis_fields.specs.Layouts.{are_blocks}
 use Rattle.lis_model.specs.declared.limits.Limits.{Limits}
@@ -16,7 +17,7 @@ use Rattle.lis_model.specs.Image.{bitmap_start, data_start}
 use Rattle.lis_kept.specs.Kept.{Kept}
 use Rattle.lis_kept.specs.Areas.{is_marked}
 use Rattle.lis_kept.specs.Telling.{blocks_told}
-use Rattle.lis_kept.specs.Changes.{Marks, Lands, Gives, Puts, PutTorn}
+use Rattle.lis_kept.specs.Changes.{Marks, Lands, Gives, Puts}
 use Rattle.lis_store.specs.declared.change.Change.{Change}
 use Rattle.lis_store.specs.declared.change.Change.TheVariants.{Refused, Disk}
 
@@ -30,11 +31,22 @@ ContentEnded is_broken (Ok done) = is_broken ≡ false
 ContentEnded is_broken (Err (Refused refusal)) = false ≡ true
 ContentEnded is_broken (Err Disk) = is_broken ≡ true
 
--- The bytes are put into free blocks, and the numbers that a slot has of them answered. At a fault of the disk only what is on it counts.
+-- The disk failed while a content was put: only what is on it counts. At any moment a crash leaves all blocks as before but spare ones that
+-- were free, and for a content that is not large all blocks.
+pub record ContentTorn (bytes : List ℕ) (p q : Kept) (old new : Held) (before after : Meaning) : Type 0 where
+  pub parts : q ≡ record p { taken = q.taken; marks = q.marks }
+  pub image : new.blocks ≡ old.blocks
+  pub spare : List ℕ
+  pub were_free : IsTrue (are_free p.taken spare)
+  pub small : is_large (length bytes) ≡ false → spare ≡ []
+  pub moments : (kept : ℕ → List ℕ) → Fits old before kept → Leaves before after (StandsBut old.blocks (homes_of (data_start p.limits) spare) kept)
+  pub past : (kept : ℕ → List ℕ) → Fits old before kept → KeepsPast old.blocks before after
+
+-- The bytes are put into free blocks, and the numbers that a slot has of them answered.
 abbrev pub ContentPut : List ℕ → Kept → Kept → Held → Held → Meaning → Meaning → Result (ArrayVec ℕ) Change → Type 0
 ContentPut bytes p q old new before after (Ok numbers) = Puts bytes numbers.items p q old new before after
 ContentPut bytes p q old new before after (Err (Refused refusal)) = false ≡ true
-ContentPut bytes p q old new before after (Err Disk) = PutTorn p q old new before after
+ContentPut bytes p q old new before after (Err Disk) = ContentTorn bytes p q old new before after
 
 -- The blocks of the file of a record are given back. The disk is asked alone, and at a fault none is.
 abbrev pub ContentGiven : {T : Type 0} → FileRecord → Kept → Kept → Held → Meaning → Meaning → Result T Change → Type 0
@@ -65,8 +77,8 @@ pub record Renews (bytes numbers : List ℕ) (rec : FileRecord) (p q : Kept) (ol
   pub below : IsTrue (list_all (λ n. nat_lt n p.limits.blocks) numbers)
   pub image : new.blocks ≡ old.blocks
   pub broken : new.is_broken ≡ old.is_broken
-  pub few_staged : length new.staged ≤ 16
-  pub unstaged : p.limits.version ≡ 2 → new.staged ≡ old.staged
+  pub few_staged : length new.staged ≤ length old.staged + 16
+  pub unplaced : is_large (length bytes) ≡ false → new.placed ≡ []
   pub spare : List ℕ
   pub were_free : IsTrue (are_free p.taken spare)
   pub placed : (n : ℕ) → is_among new.placed n ≡ true → has_home (data_start p.limits) spare n ≡ true
@@ -79,4 +91,4 @@ pub record Renews (bytes numbers : List ℕ) (rec : FileRecord) (p q : Kept) (ol
 abbrev pub ContentRenewed : List ℕ → FileRecord → Kept → Kept → Held → Held → Meaning → Meaning → Result (ArrayVec ℕ) Change → Type 0
 ContentRenewed bytes rec p q old new before after (Ok numbers) = Renews bytes numbers.items rec p q old new before after
 ContentRenewed bytes rec p q old new before after (Err (Refused refusal)) = false ≡ true
-ContentRenewed bytes rec p q old new before after (Err Disk) = PutTorn p q old new before after
+ContentRenewed bytes rec p q old new before after (Err Disk) = ContentTorn bytes p q old new before after

@@ -1,8 +1,9 @@
--- How a command ends: what is marked is staged, and all that is staged is committed.
-use Rattle.std.specs.Prelude.{◌≡◌, ℕ, ◌≤◌, Bool, true, false, List, [], length, replicate, Result, Ok, Err}
+-- How a command ends: what is marked is staged, and all that is staged is committed, or held back.
+use Rattle.std.specs.Prelude.{◌≡◌, ℕ, ◌<◌, ◌≤◌, Bool, true, false, List, [], length, replicate, Result, Ok, Err, OnOk, OnErr}
 use Rattle.lis_ports.specs.Meaning.{Meaning}
+use Rattle.lis_ports.specs.Runs.{Leaves}
 use Rattle.lis_journal.specs.Journal.{Held}
-use Rattle.lis_journal.specs.Images.{StandsBut, Fits, is_among}
+use Rattle.lis_journal.specs.Images.{StandsBut, StandsForAllOrNone, Fits, KeepsPast, is_among}
 use Rattle.lis_journal.specs.Phases.{looked}
 use Rattle.lis_model.specs.Image.{bitmap_start, data_start}
 use Rattle.lis_model.specs.State.{State}
@@ -15,7 +16,7 @@ use Rattle.lis_store.specs.declared.change.Change.{Change}
 use Rattle.lis_store.specs.declared.change.Change.TheVariants.{Refused, Disk}
 use Rattle.lis_store.specs.Stands.{Stands}
 use Rattle.lis_store.specs.Stored.{Stored}
-use Rattle.lis_store.specs.Changes.{Changes}
+use Rattle.lis_store.specs.Changes.{Holds}
 
 -- the parts without marks
 abbrev pub clean : Kept → Kept
@@ -34,13 +35,22 @@ pub record IsReady (k : Kept) (at : ℕ → List ℕ) (s : State) : Type 0 where
   pub tells : Tells k at s
   pub saved : IsSaved k at
 
--- From any state for which each image stands that keeps all but the placed blocks, to any for which the parts are ready, saving them is
--- that change.
+-- What is staged is kept, all or none of it, as a commit of the journal says.
+pub record KeepsStaged {T : Type 0} (old new : Held) (before after : Meaning) (result : Result T Change) : Type 0 where
+  pub moments : (kept : ℕ → List ℕ) → Fits old before kept → Leaves before after (StandsForAllOrNone old.blocks old.placed kept old.staged)
+  pub past : (kept : ℕ → List ℕ) → Fits old before kept → KeepsPast old.blocks before after
+  pub kept : OnOk result ((kept : ℕ → List ℕ) → Fits old before kept → Fits new after (looked old.staged kept))
+  pub done : OnOk result (new ≡ record old { staged = []; records = new.records; placed = new.placed })
+  pub none_placed : OnOk result (0 < length old.staged → new.placed ≡ [])
+  pub broken : OnErr result (new ≡ record old { records = new.records; is_broken = true })
+
+-- From any state for which each image stands that keeps all but the placed blocks, to any for which the parts are ready, this is a change
+-- that may be held back.
 abbrev pub Saves : {T : Type 0} → Kept → Held → Stored → Meaning → Meaning → Result T Change → Type 0
 Saves k j new before after result =
-    (now : Situation) (outcome : Outcome) (t : State) (kept : ℕ → List ℕ) → Fits j before kept → k.limits ≡ now.state.limits
-    → ((image : List ℕ) → StandsBut j.blocks j.placed kept image → Stands image now.state)
-    → (AreSound k → IsReady k (looked j.staged kept) t) → outcome ≡ changed now t → Changes now outcome new before after result
+    (base : State) (now : Situation) (outcome : Outcome) (t : State) (kept : ℕ → List ℕ) → Fits j before kept → k.limits ≡ base.limits
+    → ((image : List ℕ) → StandsBut j.blocks j.placed kept image → Stands image base)
+    → (AreSound k → IsReady k (looked j.staged kept) t) → outcome ≡ changed now t → Holds base now outcome new before after result
 
 -- It breaks the store exactly at a fault of the disk, and refuses nothing.
 abbrev pub SaveEnded : {T : Type 0} → Bool → Result T Change → Type 0

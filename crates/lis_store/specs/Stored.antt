@@ -1,8 +1,10 @@
 -- A store: what memory keeps of an image, with its journal, and when it fits a disk.
-use Rattle.std.specs.Prelude.{◌≡◌, ℕ, ◌≤◌, Bool, true, false, Some, is_some, List, [], length, replicate, slice_get}
+use Rattle.std.specs.Prelude.{◌≡◌, ℕ, ◌≤◌, Bool, true, false, Some, is_some, List, [], length, replicate, slice_get, IsTrue}
 use Rattle.lis_ports.specs.Meaning.{Meaning}
 use Rattle.lis_journal.specs.Journal.{Held, no_records}
-use Rattle.lis_journal.specs.Images.{Fits, held_in}
+use Rattle.lis_journal.specs.Images.{StandsFor, Fits, held_in}
+use Rattle.lis_journal.specs.Phases.{looked}
+use Rattle.lis_journal.specs.Staging.{are_whole}
 use Rattle.lis_dict.specs.Dict.{word_of}
 use Rattle.lis_ext.specs.Ext.{has, set_of as numbers_at, empty_ext}
 use Rattle.lis_catalog.specs.Catalog.{rec_at}
@@ -21,6 +23,7 @@ use Rattle.lis_kept.specs.Sound.{AreSound, FreeSlotsAreEmpty}
 use Rattle.lis_kept.specs.Telling.{Tells}
 use Rattle.lis_kept.specs.TestEdges.{test_by}
 use Rattle.lis_kept.specs.Forgetting.{KeepsInUse}
+use Rattle.lis_store.specs.Stands.{Stands}
 
 pub record Stored : Type 0 where
   pub parts : Kept
@@ -48,7 +51,8 @@ pub record TestsAreMet (k : Kept) : Type 0 where
   pub met : (slot : ℕ) (rec : FileRecord) → rec_at k.catalog slot ≡ Some rec → (n : ℕ) → is_some {T = Bool × ℕ} (test_by (word_of k.dict n)) ≡ true
       → has k.ext n slot ≡ is_met (test_by (word_of k.dict n)) rec.size
 
--- What holds of every store. Where it is not broken nothing is staged, placed or marked between calls.
+-- What holds of every store. Where it is not broken nothing is placed or marked between calls, and of what is staged there are few blocks,
+-- each of them whole.
 pub record IsSound (k : Stored) : Type 0 where
   pub parts : AreSound k.parts
   pub free : FreeSlotsAreEmpty k.parts
@@ -59,18 +63,30 @@ pub record IsSound (k : Stored) : Type 0 where
   pub in_use : KeepsInUse k.parts
   pub image : k.journal.blocks ≡ image_blocks k.parts.limits
   pub journal : k.is_broken ≡ false → k.journal.is_broken ≡ false
-  pub staged : k.is_broken ≡ false → k.journal.staged ≡ []
+  pub few : k.is_broken ≡ false → length k.journal.staged ≤ 44
+  pub whole : k.is_broken ≡ false → IsTrue (are_whole k.journal.staged)
   pub placed : k.is_broken ≡ false → k.journal.placed ≡ []
   pub clean : k.is_broken ≡ false → k.parts.marks ≡ replicate (length k.parts.marks) false
 
--- A store fits a disk at a state: its journal fits the disk, and by the blocks that the disk keeps, what memory keeps is written there and
--- tells the state. So every image of the disk stands for the state.
+-- A store fits a disk at a state: its journal fits the disk, nothing is staged, and by the blocks that the disk keeps, what memory keeps is
+-- written there and tells the state. So every image of the disk stands for the state.
 pub record StoreFits (k : Stored) (m : Meaning) (s : State) : Type 0 where
   pub kept : ℕ → List ℕ
   pub journal : Fits k.journal m kept
   pub unbroken : k.is_broken ≡ false
+  pub settled : k.journal.staged ≡ []
   pub tells : Tells k.parts kept s
   pub written : IsWritten k.parts kept
+
+-- Changes are held back: each image of the disk stands for the base, and by what the disk keeps under what is staged, memory tells the state.
+pub record StoreHolds (k : Stored) (m : Meaning) (base s : State) : Type 0 where
+  pub kept : ℕ → List ℕ
+  pub journal : Fits k.journal m kept
+  pub unbroken : k.is_broken ≡ false
+  pub limits : k.parts.limits ≡ base.limits
+  pub stands : (image : List ℕ) → StandsFor k.journal.blocks kept image → Stands image base
+  pub tells : Tells k.parts (looked k.journal.staged kept) s
+  pub written : IsWritten k.parts (looked k.journal.staged kept)
 
 -- what is kept where there are no words, axioms and files
 abbrev pub empty_parts : Limits → ℕ → Kept

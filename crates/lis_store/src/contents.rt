@@ -1,10 +1,11 @@
 //! Contents of files that are put on the disk, put in the place of others, and given back. A fault of the disk breaks the store.
 
-ghost use Rattle.std.specs.Prelude.{◌≡◌, ◌*◌, ◌≤◌, ℕ, List, Bool, Some, true, false, [], length, IsSome, IsTrue, OnOk, OnErr, Ok};
+ghost use Rattle.std.specs.Prelude.{◌≡◌, ◌+◌, ◌*◌, ◌≤◌, ℕ, List, Bool, Some, true, false, [], length, IsSome, IsTrue, OnOk, OnErr, Ok};
 ghost use Rattle.lis_ports.specs.Calls.{DiskFaultEnds};
 ghost use Rattle.lis_ports.specs.Runs.{IsDiskRun};
 ghost use Rattle.lis_blockmap.specs.Bitmap.{free_count};
 ghost use Rattle.lis_catalog.specs.Catalog.{rec_at};
+ghost use Rattle.lis_content.specs.Large.{is_large};
 ghost use Rattle.lis_fields.specs.Records.{FileRecord};
 ghost use Rattle.lis_model.specs.Image.{image_blocks};
 ghost use Rattle.lis_model.specs.State.{blocks_taken, file_limit};
@@ -33,12 +34,13 @@ pub(crate) fn put_content<D: Disk>(
     requires unbroken { journal.old.is_broken ≡ false }
     requires whole { is_broken.old ≡ false }
     requires unplaced { journal.old.placed ≡ [] }
-    requires unstaged { journal.old.staged ≡ [] }
+    requires unstaged { is_large (length payload.now) ≡ true → journal.old.staged ≡ [] }
+    requires room { length journal.old.staged + 16 ≤ 575 }
     requires long { 4096 * journal.old.blocks ≤ (D.meaning disk.old).len }
     ensures put { ContentPut payload.now parts.old parts.new journal.old journal.new (D.meaning disk.old) (D.meaning disk.new) result }
     ensures ended { ContentEnded is_broken.new result }
     ensures sound { AreSound parts.new }
-    ensures torn { OnErr result (parts.old.limits.version ≡ 2) }
+    ensures torn { OnErr result (is_large (length payload.now) ≡ true) }
     ensures run { IsDiskRun (D.meaning disk.old) (D.meaning disk.new) }
     ensures cause { HasChangeCause (D.meaning disk.old).disk_faults (D.meaning disk.new).disk_faults result }
     ensures first_fault { DiskFaultEnds (D.meaning disk.old) (D.meaning disk.new) }
@@ -115,7 +117,8 @@ pub(crate) fn put_instead<D: Disk>(
     requires unbroken { journal.old.is_broken ≡ false }
     requires whole { is_broken.old ≡ false }
     requires unplaced { journal.old.placed ≡ [] }
-    requires unstaged { journal.old.staged ≡ [] }
+    requires unstaged { is_large (length payload.now) ≡ true → journal.old.staged ≡ [] }
+    requires room { length journal.old.staged + 16 ≤ 575 }
     requires long { 4096 * journal.old.blocks ≤ (D.meaning disk.old).len }
     ensures renewed { (rec : FileRecord) → rec_at parts.old.catalog slot ≡ Some rec
         → ContentRenewed payload.now rec parts.old parts.new journal.old journal.new (D.meaning disk.old) (D.meaning disk.new) result }

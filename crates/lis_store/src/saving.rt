@@ -1,49 +1,107 @@
-//! The one end of every command.
+//! The end of every change: it is committed, or held back.
 
-ghost use Rattle.std.specs.Prelude.{◌≡◌, ℕ, ◌+◌, ◌*◌, ◌≤◌, false, [], length};
+ghost use Rattle.std.specs.Prelude.{◌≡◌, ℕ, ◌+◌, ◌*◌, ◌<◌, ◌≤◌, false, [], Ok, length, OnOk};
 ghost use Rattle.lis_ports.specs.Calls.{DiskFaultEnds};
 ghost use Rattle.lis_ports.specs.Runs.{IsDiskRun};
+ghost use Rattle.lis_content.specs.Large.{is_large};
 ghost use Rattle.lis_model.specs.Image.{image_blocks};
 ghost use Rattle.lis_kept.specs.Areas.{marked_count};
 ghost use Rattle.lis_kept.specs.Sound.{AreSound};
 ghost use Rattle.lis_store.specs.Stored.{IsSound};
+ghost use Rattle.lis_kept.specs.Staging.{Stages};
 ghost use Rattle.lis_store.specs.Changes.{HasChangeCause};
-ghost use Rattle.lis_store.specs.Saving.{settled, ArePlaced, Saves, SaveEnded};
+ghost use Rattle.lis_store.specs.Saving.{clean, settled, ArePlaced, KeepsStaged, Saves, SaveEnded};
 
 use crate::change::Change;
+use lis_content::is_large;
 use lis_journal::Journal;
 use lis_kept::Parts;
 use lis_ports::Disk;
 
-/// Stages all marked blocks, and commits what is staged, 531 blocks at most. Then nothing is marked.
-pub(crate) fn save<D: Disk>(
+/// The most blocks that are held back between two calls.
+pub(crate) const MOST_HELD: u32 = 44;
+
+/// The most blocks that are held back behind a change with this content: none where it is large, and so was placed.
+pub(crate) fn most_held(payload: &[u8]) -> u32
+    requires { length payload.now ≤ 1048576 }
+    ensures few { result ≤ 44 }
+    ensures large { 0 < result → is_large (length payload.now) ≡ false }
+{
+    if is_large(payload.len() as u32) {
+        return 0;
+    }
+    MOST_HELD
+}
+
+// Stages all marked blocks, at most 575 with those that are staged. Then nothing is marked.
+fn stage(parts: &mut Parts, journal: &mut Journal)
+    requires image { journal.old.blocks ≡ image_blocks parts.old.limits }
+    requires unbroken { journal.old.is_broken ≡ false }
+    requires placed { ArePlaced parts.old journal.old }
+    requires room { length journal.old.staged + marked_count parts.old ≤ 575 }
+    ensures parts { parts.new ≡ clean parts.old }
+    ensures staged { Stages parts.old journal.old journal.new }
+    ensures sound { AreSound parts.old }
+{
+    parts.stage(journal);
+    parts.settle();
+}
+
+/// Commits what is staged. A fault of the disk breaks the store.
+pub(crate) fn commit<D: Disk>(
+    journal: &mut Journal,
+    is_broken: &mut bool,
+    disk: &mut D,
+) -> Result<(), Change>
+    requires unbroken { journal.old.is_broken ≡ false }
+    requires whole { is_broken.old ≡ false }
+    requires long { 4096 * journal.old.blocks ≤ (D.meaning disk.old).len }
+    ensures keeps { KeepsStaged journal.old journal.new (D.meaning disk.old) (D.meaning disk.new) result }
+    ensures idle { journal.old.staged ≡ [] → (result ≡ Ok _) × (disk.new ≡ disk.old) × (journal.new ≡ journal.old) }
+    ensures ended { SaveEnded is_broken.new result }
+    ensures image { journal.new.blocks ≡ journal.old.blocks }
+    ensures run { IsDiskRun (D.meaning disk.old) (D.meaning disk.new) }
+    ensures cause { HasChangeCause (D.meaning disk.old).disk_faults (D.meaning disk.new).disk_faults result }
+    ensures first_fault { DiskFaultEnds (D.meaning disk.old) (D.meaning disk.new) }
+{
+    if let Err(fault) = journal.commit(disk) {
+        *is_broken = true;
+        return Err(Change::from(fault));
+    }
+    Ok(())
+}
+
+/// Stages all marked blocks, and commits what is staged where it is more than `most` blocks. Where something is placed, `most` is 0.
+pub(crate) fn hold<D: Disk>(
     parts: &mut Parts,
     journal: &mut Journal,
     is_broken: &mut bool,
     disk: &mut D,
+    most: u32,
 ) -> Result<(), Change>
     requires sound { AreSound parts.old → IsSound (settled parts.old journal.old) }
     requires image { journal.old.blocks ≡ image_blocks parts.old.limits }
     requires unbroken { journal.old.is_broken ≡ false }
     requires whole { is_broken.old ≡ false }
     requires placed { ArePlaced parts.old journal.old }
-    requires room { length journal.old.staged + marked_count parts.old ≤ 531 }
+    requires unplaced { 0 < most → journal.old.placed ≡ [] }
+    requires few { most ≤ 44 }
+    requires room { length journal.old.staged + marked_count parts.old ≤ 575 }
     requires long { 4096 * journal.old.blocks ≤ (D.meaning disk.old).len }
     ensures sound { IsSound (record { parts = parts.new; journal = journal.new; is_broken = is_broken.new }) }
     ensures saves { Saves parts.old journal.old (record { parts = parts.new; journal = journal.new; is_broken = is_broken.new })
         (D.meaning disk.old) (D.meaning disk.new) result }
     ensures ended { SaveEnded is_broken.new result }
+    ensures few { OnOk result (length journal.new.staged ≤ most) }
     ensures parts { parts.new ≡ record parts.old { marks = parts.new.marks } }
     ensures image { journal.new.blocks ≡ journal.old.blocks }
     ensures run { IsDiskRun (D.meaning disk.old) (D.meaning disk.new) }
     ensures cause { HasChangeCause (D.meaning disk.old).disk_faults (D.meaning disk.new).disk_faults result }
     ensures first_fault { DiskFaultEnds (D.meaning disk.old) (D.meaning disk.new) }
 {
-    parts.stage(journal);
-    if let Err(fault) = journal.commit(disk) {
-        *is_broken = true;
-        return Err(Change::from(fault));
+    stage(parts, journal);
+    if journal.staged() > most {
+        return commit(journal, is_broken, disk);
     }
-    parts.settle();
     Ok(())
 }

@@ -1,21 +1,25 @@
 //! A store: what memory keeps of an image, its journal, and the calls that change both.
 
-ghost use Rattle.std.specs.Prelude.{◌≡◌, ℕ, ◌*◌, ◌<◌, ◌≤◌, List, false, is_some, length, take, Some, Err, IsTrue, OnOk, IfSome, IsSomeAnd};
+ghost use Rattle.std.specs.Prelude.{◌≡◌, ℕ, ◌*◌, ◌<◌, ◌≤◌, List, true, false, is_some, [], length, take, Some, Ok, Err, IsTrue, OnOk, IfSome, IsSomeAnd};
 ghost use Rattle.lis_ports.specs.Bytes.{part};
 ghost use Rattle.lis_ports.specs.Runs.{IsDiskRun, Leaves};
 ghost use Rattle.lis_ports.specs.Calls.{HasCause, IsUnchanged, DiskFaultEnds};
 ghost use Rattle.lis_catalog.specs.Catalog.{slot_of, rec_at};
 ghost use Rattle.lis_fields.specs.Records.{FileRecord};
 ghost use Rattle.lis_model.specs.declared.refusal.Refusal.{Refusal};
-ghost use Rattle.lis_model.specs.Changes.{file_of};
-ghost use Rattle.lis_model.specs.State.{State, file_limit};
-ghost use Rattle.lis_model.specs.Step.{add, rm};
+ghost use Rattle.lis_blockmap.specs.Bitmap.{free_count};
+ghost use Rattle.lis_content.specs.Large.{is_large};
+ghost use Rattle.lis_model.specs.Changes.{file_of, new_file, file_added};
+ghost use Rattle.lis_model.specs.State.{State, file_limit, blocks_taken};
+ghost use Rattle.lis_model.specs.Step.{Situation, changed, add, rm};
 ghost use Rattle.lis_eval.specs.Room.{HasRoom};
 ghost use Rattle.lis_kept.specs.Telling.{is_declared};
 ghost use Rattle.lis_store.specs.declared.change.Change.TheVariants.{Refused};
-ghost use Rattle.lis_store.specs.Stored.{IsSound, StoreFits, IsIndex};
+ghost use Rattle.lis_store.specs.Stored.{IsSound, StoreFits, StoreHolds, IsIndex};
 ghost use Rattle.lis_store.specs.Judging.{is_among};
-ghost use Rattle.lis_store.specs.Changes.{Changes, HasChangeCause, ChangeLeft, EditsFew};
+ghost use Rattle.lis_store.specs.Changes.{Changes, Holds, Commits, CommitLeft, HasChangeCause, ChangeLeft, EditsFew};
+ghost use Rattle.lis_store.specs.Saving.{SaveEnded};
+ghost use Rattle.lis_store.specs.Admitting.{IsAdmitted};
 
 mod declaring;
 mod linking;
@@ -28,8 +32,8 @@ use crate::admitting::may_add;
 use crate::change::Change;
 use crate::contents::{give_content, put_content};
 use crate::removing::take_out;
-use crate::saving::save;
-use lis_content::{Buffer, read_block, read_block_by, read_index_block};
+use crate::saving::{MOST_HELD, commit, hold, most_held};
+use lis_content::{Buffer, is_large, read_block, read_block_by, read_index_block};
 use lis_eval::{Scratch, View, evaluate, found};
 use lis_ext::Ext;
 use lis_journal::Journal;
@@ -90,6 +94,24 @@ impl Store {
     /// Gives back its memory. A store has many parts, so that its end takes long to check: those who let one go make this call, and it
     /// is checked once.
     pub fn close(self) {}
+
+    /// Commits all changes that are held back. Where there are none it makes no call of the disk.
+    pub fn commit<D: Disk>(&mut self, disk: &mut D) -> Result<(), Change>
+        requires unbroken { self.old.is_broken ≡ false }
+        requires long { 4096 * self.old.journal.blocks ≤ (D.meaning disk.old).len }
+        ensures commits { (base s : State) → StoreHolds self.old (D.meaning disk.old) base s
+            → Commits base s self.new (D.meaning disk.old) (D.meaning disk.new) result }
+        ensures idle { self.old.journal.staged ≡ [] → (result ≡ Ok _) × (disk.new ≡ disk.old) × (self.new ≡ self.old) }
+        ensures parts { self.new.parts ≡ self.old.parts }
+        ensures image { self.new.journal.blocks ≡ self.old.journal.blocks }
+        ensures left { CommitLeft self.new result }
+        ensures sound { IsSound self.new }
+        ensures run { IsDiskRun (D.meaning disk.old) (D.meaning disk.new) }
+        ensures cause { HasChangeCause (D.meaning disk.old).disk_faults (D.meaning disk.new).disk_faults result }
+        ensures first_fault { DiskFaultEnds (D.meaning disk.old) (D.meaning disk.new) }
+    {
+        commit(&mut self.journal, &mut self.is_broken, disk)
+    }
 
     /// The limits of the image.
     pub fn limits(&self) -> Limits
@@ -292,7 +314,77 @@ impl Store {
         ensures cause { HasChangeCause (D.meaning disk.old).disk_faults (D.meaning disk.new).disk_faults result }
         ensures first_fault { DiskFaultEnds (D.meaning disk.old) (D.meaning disk.new) }
     {
+        self.add_file_held(disk, scratch, place, name, tags, payload, size)?;
+        self.commit(disk)
+    }
+
+    /// As `add_file`, and held back: the change is in memory, and its blocks are committed with those of later ones.
+    pub fn add_file_held<D: Disk>(
+        &mut self,
+        disk: &mut D,
+        scratch: &mut Scratch,
+        place: &Place,
+        name: &Name,
+        tags: &Tags,
+        payload: &[u8],
+        size: u64,
+    ) -> Result<(), Change>
+        requires whole { size ≤ file_limit self.old.parts.limits.version → length payload.now ≡ size }
+        requires scratch { HasRoom scratch.old self.old.parts.limits }
+        requires unbroken { self.old.is_broken ≡ false }
+        requires long { 4096 * self.old.journal.blocks ≤ (D.meaning disk.old).len }
+        ensures scratch { HasRoom scratch.new self.old.parts.limits }
+        ensures holds { (base : State) (s : State) → StoreHolds self.old (D.meaning disk.old) base s
+            → Holds base (record { state = s; place = place.now })
+            (add (record { state = s; place = place.now }) name.now tags.now (record { size = size; bytes = payload.now }))
+            self.new (D.meaning disk.old) (D.meaning disk.new) result }
+        ensures untouched { (refusal : Refusal) → result ≡ Err (Refused refusal) → disk.new ≡ disk.old }
+        ensures limits { self.new.parts.limits ≡ self.old.parts.limits }
+        ensures image { self.new.journal.blocks ≡ self.old.journal.blocks }
+        ensures left { ChangeLeft self.old self.new result }
+        ensures edits { EditsFew self.old self.new }
+        ensures entry { IsSound self.old }
+        ensures sound { IsSound self.new }
+        ensures run { IsDiskRun (D.meaning disk.old) (D.meaning disk.new) }
+        ensures cause { HasChangeCause (D.meaning disk.old).disk_faults (D.meaning disk.new).disk_faults result }
+        ensures first_fault { DiskFaultEnds (D.meaning disk.old) (D.meaning disk.new) }
+    {
         let assigned = may_add(&self.parts, scratch, place, name, tags, payload, size)?;
+        if is_large(payload.len() as u32) {
+            self.commit(disk)?;
+        }
+        self.put_file(disk, scratch, name, assigned.as_slice(), payload)
+    }
+
+    // Puts a file in that is admitted. A large one is committed at once.
+    fn put_file<D: Disk>(
+        &mut self,
+        disk: &mut D,
+        scratch: &mut Scratch,
+        name: &Name,
+        assigned: &[Word],
+        payload: &[u8],
+    ) -> Result<(), Change>
+        requires admitted { IsAdmitted self.old.parts (new_file name.now assigned.now payload.now) }
+        requires enough { blocks_taken self.old.parts.limits.version (length payload.now) ≤ free_count self.old.parts.taken }
+        requires alone { is_large (length payload.now) ≡ true → self.old.journal.staged ≡ [] }
+        requires scratch { HasRoom scratch.old self.old.parts.limits }
+        requires unbroken { self.old.is_broken ≡ false }
+        requires long { 4096 * self.old.journal.blocks ≤ (D.meaning disk.old).len }
+        ensures scratch { HasRoom scratch.new self.old.parts.limits }
+        ensures holds { (base : State) (now : Situation) → StoreHolds self.old (D.meaning disk.old) base now.state
+            → Holds base now (changed now (file_added now.state (new_file name.now assigned.now payload.now)))
+            self.new (D.meaning disk.old) (D.meaning disk.new) result }
+        ensures settled { is_large (length payload.now) ≡ true → OnOk result (self.new.journal.staged ≡ []) }
+        ensures limits { self.new.parts.limits ≡ self.old.parts.limits }
+        ensures image { self.new.journal.blocks ≡ self.old.journal.blocks }
+        ensures ended { SaveEnded self.new.is_broken result }
+        ensures edits { EditsFew self.old self.new }
+        ensures sound { IsSound self.new }
+        ensures run { IsDiskRun (D.meaning disk.old) (D.meaning disk.new) }
+        ensures cause { HasChangeCause (D.meaning disk.old).disk_faults (D.meaning disk.new).disk_faults result }
+        ensures first_fault { DiskFaultEnds (D.meaning disk.old) (D.meaning disk.new) }
+    {
         let blocks = put_content(
             &mut self.parts,
             &mut self.journal,
@@ -300,19 +392,13 @@ impl Store {
             disk,
             payload,
         )?;
-        put_in(
-            &mut self.parts,
-            scratch,
-            name,
-            assigned.as_slice(),
-            payload,
-            blocks,
-        );
-        save(
+        put_in(&mut self.parts, scratch, name, assigned, payload, blocks);
+        hold(
             &mut self.parts,
             &mut self.journal,
             &mut self.is_broken,
             disk,
+            most_held(payload),
         )
     }
 
@@ -341,6 +427,36 @@ impl Store {
         ensures cause { HasChangeCause (D.meaning disk.old).disk_faults (D.meaning disk.new).disk_faults result }
         ensures first_fault { DiskFaultEnds (D.meaning disk.old) (D.meaning disk.new) }
     {
+        self.remove_held(disk, scratch, place, name)?;
+        self.commit(disk)
+    }
+
+    /// As `remove`, and held back: the change is in memory, and its blocks are committed with those of later ones.
+    pub fn remove_held<D: Disk>(
+        &mut self,
+        disk: &mut D,
+        scratch: &mut Scratch,
+        place: &Place,
+        name: &Name,
+    ) -> Result<(), Change>
+        requires scratch { HasRoom scratch.old self.old.parts.limits }
+        requires unbroken { self.old.is_broken ≡ false }
+        requires long { 4096 * self.old.journal.blocks ≤ (D.meaning disk.old).len }
+        ensures scratch { HasRoom scratch.new self.old.parts.limits }
+        ensures holds { (base : State) (s : State) → StoreHolds self.old (D.meaning disk.old) base s
+            → Holds base (record { state = s; place = place.now }) (rm (record { state = s; place = place.now }) name.now)
+            self.new (D.meaning disk.old) (D.meaning disk.new) result }
+        ensures untouched { (refusal : Refusal) → result ≡ Err (Refused refusal) → disk.new ≡ disk.old }
+        ensures limits { self.new.parts.limits ≡ self.old.parts.limits }
+        ensures image { self.new.journal.blocks ≡ self.old.journal.blocks }
+        ensures left { ChangeLeft self.old self.new result }
+        ensures edits { EditsFew self.old self.new }
+        ensures entry { IsSound self.old }
+        ensures sound { IsSound self.new }
+        ensures run { IsDiskRun (D.meaning disk.old) (D.meaning disk.new) }
+        ensures cause { HasChangeCause (D.meaning disk.old).disk_faults (D.meaning disk.new).disk_faults result }
+        ensures first_fault { DiskFaultEnds (D.meaning disk.old) (D.meaning disk.new) }
+    {
         let Some(slot) = self.slot_here(scratch, place, name) else {
             return Err(Change::Refused(Refusal::NoFileHere));
         };
@@ -352,11 +468,12 @@ impl Store {
             slot,
         )?;
         take_out(&mut self.parts, slot);
-        save(
+        hold(
             &mut self.parts,
             &mut self.journal,
             &mut self.is_broken,
             disk,
+            MOST_HELD,
         )
     }
 }

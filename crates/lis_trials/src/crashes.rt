@@ -5,6 +5,7 @@ ghost use Rattle.lis_memdisk.specs.MemStation.{meaning_of};
 
 use crate::images::{MAKES, made, run, session};
 use crate::tests::tables::{KINDS, ONE_FILE, Script, TWO_FILES};
+use crate::tests::{Outside, SOUND, call};
 use lis_memdisk::MemStation;
 use lis_shell::status::Status;
 use std::alloc::Global;
@@ -148,6 +149,66 @@ fn wrong_of(
     Ok(None)
 }
 
+// The script over such an image, loaded out of pieces of so many bytes.
+fn loaded(alloc: Global, words: &[&str], script: &Script, step: usize) -> Result<MemStation, Fail>
+    ensures { IfOk result (λ station. IsTrue (meaning_of station).is_recorded) }
+{
+    let mut station = MemStation::new(alloc, &made(alloc, words)?, ROOM)?;
+    let outside = Outside { step, ..SOUND };
+    let (status, _) = call(alloc, &["load", "i"], script.row, &outside, &mut station)?;
+    if status != Status::DONE {
+        return Err("the script was not loaded".into());
+    }
+    Ok(station)
+}
+
+// It is the state behind some commands, those among them whose replies were shown whole or begun.
+fn is_kept(script: &Script, left: &str, shown: u64) -> bool {
+    let behind = script.states.iter().skip(shown.div_ceil(REPLY_LEN) as usize);
+    for state in behind {
+        if left == *state {
+            return true;
+        }
+    }
+    false
+}
+
+// What the first crash in a load leaves that leaves another state, by a pick of the bytes that were not synced.
+fn wrong_load(
+    alloc: Global,
+    script: &Script,
+    station: &MemStation,
+    pick: u8,
+) -> Result<Option<String>, Fail>
+    requires { IsTrue (meaning_of station.now).is_recorded }
+{
+    let last = station.calls();
+    for call in 0..last {
+        let left = left_by(alloc, script, station, call, pick)?;
+        if !is_kept(script, left.as_str(), shown_at(station, call + 1)) {
+            return Ok(Some(left));
+        }
+    }
+    let left = left_by(alloc, script, station, last, pick)?;
+    Ok(if is_last(script, left.as_str()) {
+        None
+    } else {
+        Some(left)
+    })
+}
+
+// The same of the first of the scripts, out of such pieces.
+fn wrong_load_of_any(alloc: Global, words: &[&str], step: usize) -> Result<Option<String>, Fail> {
+    for script in [&KINDS, &ONE_FILE, &TWO_FILES] {
+        let station = loaded(alloc, words, script, step)?;
+        let wrong = wrong_load(alloc, script, &station, PICK)?;
+        if wrong.is_some() {
+            return Ok(wrong);
+        }
+    }
+    Ok(None)
+}
+
 // What a session that looks shows of an image whose opening stopped at the call behind the fuse. None where it was not stopped.
 fn left_by_opening(
     alloc: Global,
@@ -233,6 +294,18 @@ fn so_it_is_on_an_image_of_version_2_where_all_or_nothing_is_taken(
 fn and_where_some_is_taken(rt: HostRuntime) -> Result<(), Fail> {
     let wrong = wrong_of_any(rt.alloc(), MAKES[1], [2, 165])?;
     assert!(rt; wrong.is_none(), "{wrong:?}");
+    Ok(())
+}
+
+// In one piece, and so that each line comes in pieces: then each command is committed alone.
+#[test]
+fn a_crash_in_a_load_leaves_the_state_behind_some_commands(rt: HostRuntime) -> Result<(), Fail> {
+    for words in MAKES {
+        for step in [1 << 20, 7, 1] {
+            let wrong = wrong_load_of_any(rt.alloc(), words, step)?;
+            assert!(rt; wrong.is_none(), "in pieces of {step}: {wrong:?}");
+        }
+    }
     Ok(())
 }
 

@@ -55,6 +55,12 @@ static CASES: [Case; 10] = [
         &[Kind::Take, Kind::Disk, Kind::Show],
     ),
     (
+        &["load", "i"],
+        "mkdir old;create o old;",
+        "mkdir music;mkdir rock;create s1 rock;add m 5 music;hello;axiom rock music;ls;cat m;frob;write m 2;hi;rename s1 s2.c;cd music;stat;unaxiom rock music;rm m;rmdir nosuch;ls",
+        &[Kind::Take, Kind::Disk, Kind::Show],
+    ),
+    (
         &["rooms", "i"],
         "mkdir old;create o old;",
         "@0 cd old;@7 mkdir music;@0 create p music;@0 pwd;@7 pwd;@7 ls;@3;ls;@1 add m 5 music;hello;@0 cat m;@7 rm o;@0 way p;@1 stat",

@@ -1,11 +1,12 @@
 //! Blocks that contents take, and give back.
 
-ghost use Rattle.std.specs.Prelude.{◌≡◌, ℕ, ◌*◌, ◌≤◌, true, false, [], List, Some, length, slice_set, IsSome, IsTrue, OnOk, OnErr, MatchResult};
+ghost use Rattle.std.specs.Prelude.{◌≡◌, ℕ, ◌+◌, ◌*◌, ◌≤◌, true, false, [], List, Some, length, slice_set, IsSome, IsTrue, OnOk, OnErr, MatchResult};
 ghost use Rattle.lis_ports.specs.Runs.{IsDiskRun, Leaves};
 ghost use Rattle.lis_ports.specs.Calls.{HasCause, IsUnchanged, DiskFaultEnds};
 ghost use Rattle.lis_journal.specs.Images.{Fits};
 ghost use Rattle.lis_blockmap.specs.Bitmap.{free_count};
 ghost use Rattle.lis_catalog.specs.Catalog.{rec_at};
+ghost use Rattle.lis_content.specs.Large.{is_large};
 ghost use Rattle.lis_fields.specs.Records.{FileRecord};
 ghost use Rattle.lis_model.specs.Image.{bitmap_start, data_start, image_blocks};
 ghost use Rattle.lis_model.specs.Ranges.{are_in_range};
@@ -17,7 +18,7 @@ use crate::parts::Parts;
 use crate::places::{bitmap_start, data_start};
 use arrayvec::ArrayVec;
 use lis_bits::Flags;
-use lis_content::{PutFault, drop_large, place_file, put};
+use lis_content::{PutFault, drop_large, is_large, place_file, put};
 use lis_journal::Journal;
 use lis_model::limits::Limits;
 use lis_ports::{Disk, Failed};
@@ -32,8 +33,8 @@ fn mark_bitmap(marks: &mut Flags, limits: &Limits)
 }
 
 impl Parts {
-    /// Puts bytes into free blocks, which it takes, and answers the numbers that a slot has of them. In version 1 they are staged; in
-    /// version 2 they are placed, with an index block where they are many. After a fault of the disk the journal is broken.
+    /// Puts bytes into free blocks, which it takes, and answers the numbers that a slot has of them. They are staged; where they are
+    /// large, they are placed, with an index block, and then nothing may be staged. After a fault of the disk the journal is broken.
     pub fn put_content<D: Disk>(
         &mut self,
         journal: &mut Journal,
@@ -45,12 +46,13 @@ impl Parts {
         requires image { journal.old.blocks ≡ image_blocks self.old.limits }
         requires unbroken { journal.old.is_broken ≡ false }
         requires unplaced { journal.old.placed ≡ [] }
-        requires unstaged { journal.old.staged ≡ [] }
+        requires unstaged { is_large (length bytes.now) ≡ true → journal.old.staged ≡ [] }
+        requires room { length journal.old.staged + 16 ≤ 575 }
         requires long { 4096 * journal.old.blocks ≤ (D.meaning disk.old).len }
         ensures ended { MatchResult result
             (λ numbers. Puts bytes.now numbers.items self.old self.new journal.old journal.new (D.meaning disk.old) (D.meaning disk.new))
             (λ _. PutTorn self.old self.new journal.old journal.new (D.meaning disk.old) (D.meaning disk.new)) }
-        ensures torn { OnErr result (self.old.limits.version ≡ 2) }
+        ensures torn { OnErr result (is_large (length bytes.now) ≡ true) }
         ensures sound { AreSound self.new }
         ensures run { IsDiskRun (D.meaning disk.old) (D.meaning disk.new) }
         ensures cause { HasCause (D.meaning disk.old).disk_faults (D.meaning disk.new).disk_faults result }
@@ -58,7 +60,7 @@ impl Parts {
     {
         let base = data_start(&self.limits);
         mark_bitmap(&mut self.marks, &self.limits);
-        let put = if self.limits.version == 2 {
+        let put = if is_large(bytes.len() as u32) {
             place_file(&mut self.map, journal, disk, base, bytes)
         } else {
             put(&mut self.map, journal, disk, base, &[], bytes)

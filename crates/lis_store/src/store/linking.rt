@@ -6,14 +6,15 @@ ghost use Rattle.lis_ports.specs.Runs.{IsDiskRun};
 ghost use Rattle.lis_model.specs.declared.refusal.Refusal.{Refusal};
 ghost use Rattle.lis_model.specs.Step.{Situation, add_axiom};
 ghost use Rattle.lis_eval.specs.Room.{HasRoom};
+ghost use Rattle.lis_model.specs.State.{State};
 ghost use Rattle.lis_store.specs.declared.change.Change.TheVariants.{Refused};
-ghost use Rattle.lis_store.specs.Stored.{IsSound, StoreFits};
-ghost use Rattle.lis_store.specs.Changes.{Changes, HasChangeCause, ChangeLeft, EditsFew};
+ghost use Rattle.lis_store.specs.Stored.{IsSound, StoreFits, StoreHolds};
+ghost use Rattle.lis_store.specs.Changes.{Changes, Holds, HasChangeCause, ChangeLeft, EditsFew};
 
 use crate::change::Change;
 use crate::relating::may_relate;
 use crate::relating_in::relate;
-use crate::saving::save;
+use crate::saving::{MOST_HELD, hold};
 use crate::store::Store;
 use lis_eval::Scratch;
 use lis_ports::Disk;
@@ -44,13 +45,43 @@ impl Store {
         ensures cause { HasChangeCause (D.meaning disk.old).disk_faults (D.meaning disk.new).disk_faults result }
         ensures first_fault { DiskFaultEnds (D.meaning disk.old) (D.meaning disk.new) }
     {
+        self.axiom_held(disk, scratch, left, right)?;
+        self.commit(disk)
+    }
+
+    /// As `axiom`, and held back: the change is in memory, and its blocks are committed with those of later ones.
+    pub fn axiom_held<D: Disk>(
+        &mut self,
+        disk: &mut D,
+        scratch: &mut Scratch,
+        left: &Word,
+        right: &Word,
+    ) -> Result<(), Change>
+        requires scratch { HasRoom scratch.old self.old.parts.limits }
+        requires unbroken { self.old.is_broken ≡ false }
+        requires long { 4096 * self.old.journal.blocks ≤ (D.meaning disk.old).len }
+        ensures scratch { HasRoom scratch.new self.old.parts.limits }
+        ensures holds { (base : State) (now : Situation) → StoreHolds self.old (D.meaning disk.old) base now.state
+            → Holds base now (add_axiom now (left.now, right.now)) self.new (D.meaning disk.old) (D.meaning disk.new) result }
+        ensures untouched { (refusal : Refusal) → result ≡ Err (Refused refusal) → disk.new ≡ disk.old }
+        ensures limits { self.new.parts.limits ≡ self.old.parts.limits }
+        ensures image { self.new.journal.blocks ≡ self.old.journal.blocks }
+        ensures left { ChangeLeft self.old self.new result }
+        ensures edits { EditsFew self.old self.new }
+        ensures entry { IsSound self.old }
+        ensures sound { IsSound self.new }
+        ensures run { IsDiskRun (D.meaning disk.old) (D.meaning disk.new) }
+        ensures cause { HasChangeCause (D.meaning disk.old).disk_faults (D.meaning disk.new).disk_faults result }
+        ensures first_fault { DiskFaultEnds (D.meaning disk.old) (D.meaning disk.new) }
+    {
         may_relate(&self.parts, left, right)?;
         relate(&mut self.parts, scratch, left, right);
-        save(
+        hold(
             &mut self.parts,
             &mut self.journal,
             &mut self.is_broken,
             disk,
+            MOST_HELD,
         )
     }
 }

@@ -1,15 +1,24 @@
 //! Calls that change a file.
 
-ghost use Rattle.std.specs.Prelude.{◌≡◌, ℕ, ◌*◌, ◌≤◌, false, length, Err, IsTrue};
+ghost use Rattle.std.specs.Prelude.{◌≡◌, ℕ, ◌*◌, ◌≤◌, true, false, [], Some, length, Err, IsTrue, OnOk, IsSomeAnd};
+ghost use Rattle.std.specs.List.{list_all};
 ghost use Rattle.lis_ports.specs.Runs.{IsDiskRun};
+ghost use Rattle.lis_catalog.specs.Catalog.{slot_of, rec_at};
+ghost use Rattle.lis_content.specs.Large.{is_large};
+ghost use Rattle.lis_fields.specs.Records.{FileRecord};
 ghost use Rattle.lis_ports.specs.Calls.{IsUnchanged, DiskFaultEnds};
 ghost use Rattle.lis_model.specs.declared.refusal.Refusal.{Refusal};
-ghost use Rattle.lis_model.specs.State.{State, file_limit};
-ghost use Rattle.lis_model.specs.Step.{write, rename, mv};
+ghost use Rattle.lis_model.specs.State.{State, blocks_taken, file_limit, is_assignable};
+ghost use Rattle.lis_model.specs.Changes.{new_file, file_replaced};
+ghost use Rattle.lis_model.specs.Step.{Situation, changed, write, rename, mv};
 ghost use Rattle.lis_eval.specs.Room.{HasRoom};
 ghost use Rattle.lis_store.specs.declared.change.Change.TheVariants.{Refused};
-ghost use Rattle.lis_store.specs.Stored.{IsSound, StoreFits};
-ghost use Rattle.lis_store.specs.Changes.{Changes, HasChangeCause, ChangeLeft, EditsFew};
+ghost use Rattle.lis_store.specs.Stored.{IsSound, StoreFits, StoreHolds};
+ghost use Rattle.lis_kept.specs.Telling.{declared_of};
+ghost use Rattle.lis_store.specs.Instead.{free_instead};
+ghost use Rattle.lis_store.specs.Replacing.{MayReplace};
+ghost use Rattle.lis_store.specs.Saving.{SaveEnded};
+ghost use Rattle.lis_store.specs.Changes.{Changes, Holds, HasChangeCause, ChangeLeft, EditsFew};
 
 use crate::admitting::file_limit;
 use crate::change::Change;
@@ -18,13 +27,14 @@ use crate::file_bytes::read_file;
 use crate::instead::{has_room_instead, may_rename, may_write};
 use crate::replacing::refile;
 use crate::retagging::{led_by, may_move};
-use crate::saving::save;
+use crate::saving::{MOST_HELD, hold, most_held};
 use crate::store::Store;
+use lis_content::is_large;
 use lis_eval::Scratch;
 use lis_model::refusal::Refusal;
 use lis_place::{Place, Text};
 use lis_ports::Disk;
-use lis_words::Name;
+use lis_words::{Name, Word};
 
 impl Store {
     /// Gives a file other bytes: `write` at the place. Where there are more bytes than a file may have, only their number counts.
@@ -56,6 +66,40 @@ impl Store {
         ensures cause { HasChangeCause (D.meaning disk.old).disk_faults (D.meaning disk.new).disk_faults result }
         ensures first_fault { DiskFaultEnds (D.meaning disk.old) (D.meaning disk.new) }
     {
+        self.write_held(disk, scratch, place, name, payload, size)?;
+        self.commit(disk)
+    }
+
+    /// As `write`, and held back: the change is in memory, and its blocks are committed with those of later ones.
+    pub fn write_held<D: Disk>(
+        &mut self,
+        disk: &mut D,
+        scratch: &mut Scratch,
+        place: &Place,
+        name: &Name,
+        payload: &[u8],
+        size: u64,
+    ) -> Result<(), Change>
+        requires whole { size ≤ file_limit self.old.parts.limits.version → length payload.now ≡ size }
+        requires scratch { HasRoom scratch.old self.old.parts.limits }
+        requires unbroken { self.old.is_broken ≡ false }
+        requires long { 4096 * self.old.journal.blocks ≤ (D.meaning disk.old).len }
+        ensures scratch { HasRoom scratch.new self.old.parts.limits }
+        ensures holds { (base : State) (s : State) → StoreHolds self.old (D.meaning disk.old) base s
+            → Holds base (record { state = s; place = place.now })
+            (write (record { state = s; place = place.now }) name.now (record { size = size; bytes = payload.now }))
+            self.new (D.meaning disk.old) (D.meaning disk.new) result }
+        ensures untouched { (refusal : Refusal) → result ≡ Err (Refused refusal) → disk.new ≡ disk.old }
+        ensures limits { self.new.parts.limits ≡ self.old.parts.limits }
+        ensures image { self.new.journal.blocks ≡ self.old.journal.blocks }
+        ensures left { ChangeLeft self.old self.new result }
+        ensures edits { EditsFew self.old self.new }
+        ensures entry { IsSound self.old }
+        ensures sound { IsSound self.new }
+        ensures run { IsDiskRun (D.meaning disk.old) (D.meaning disk.new) }
+        ensures cause { HasChangeCause (D.meaning disk.old).disk_faults (D.meaning disk.new).disk_faults result }
+        ensures first_fault { DiskFaultEnds (D.meaning disk.old) (D.meaning disk.new) }
+    {
         if size > file_limit(self.parts.limits().version) {
             return Err(Change::Refused(Refusal::LargeFile));
         }
@@ -63,6 +107,45 @@ impl Store {
             return Err(Change::Refused(Refusal::NoFileHere));
         };
         let words = may_write(&self.parts, scratch, slot, name, payload, size)?;
+        if is_large(payload.len() as u32) {
+            self.commit(disk)?;
+        }
+        self.put_other(disk, scratch, slot, name, words.as_slice(), payload)
+    }
+
+    // Puts other bytes in the place of those of the file in a slot. Large ones are committed at once.
+    fn put_other<D: Disk>(
+        &mut self,
+        disk: &mut D,
+        scratch: &mut Scratch,
+        slot: u16,
+        name: &Name,
+        assigned: &[Word],
+        payload: &[u8],
+    ) -> Result<(), Change>
+        requires named { slot_of self.old.parts.catalog name.now ≡ Some slot }
+        requires may { IsSomeAnd (rec_at self.old.parts.catalog slot) (λ (rec : FileRecord). MayReplace self.old.parts slot rec (new_file name.now assigned.now payload.now)) }
+        requires assignable { IsTrue (list_all (is_assignable (declared_of self.old.parts)) assigned.now) }
+        requires enough { (rec : FileRecord) → rec_at self.old.parts.catalog slot ≡ Some rec
+            → blocks_taken self.old.parts.limits.version (length payload.now) ≤ free_instead self.old.parts rec }
+        requires alone { is_large (length payload.now) ≡ true → self.old.journal.staged ≡ [] }
+        requires scratch { HasRoom scratch.old self.old.parts.limits }
+        requires unbroken { self.old.is_broken ≡ false }
+        requires long { 4096 * self.old.journal.blocks ≤ (D.meaning disk.old).len }
+        ensures scratch { HasRoom scratch.new self.old.parts.limits }
+        ensures holds { (base : State) (now : Situation) → StoreHolds self.old (D.meaning disk.old) base now.state
+            → Holds base now (changed now (file_replaced now.state name.now (new_file name.now assigned.now payload.now)))
+            self.new (D.meaning disk.old) (D.meaning disk.new) result }
+        ensures limits { self.new.parts.limits ≡ self.old.parts.limits }
+        ensures image { self.new.journal.blocks ≡ self.old.journal.blocks }
+        ensures ended { SaveEnded self.new.is_broken result }
+        ensures settled { is_large (length payload.now) ≡ true → OnOk result (self.new.journal.staged ≡ []) }
+        ensures edits { EditsFew self.old self.new }
+        ensures sound { IsSound self.new }
+        ensures run { IsDiskRun (D.meaning disk.old) (D.meaning disk.new) }
+        ensures cause { HasChangeCause (D.meaning disk.old).disk_faults (D.meaning disk.new).disk_faults result }
+        ensures first_fault { DiskFaultEnds (D.meaning disk.old) (D.meaning disk.new) }
+    {
         let blocks = put_instead(
             &mut self.parts,
             &mut self.journal,
@@ -76,15 +159,16 @@ impl Store {
             scratch,
             slot,
             name,
-            words.as_slice(),
+            assigned,
             payload,
             blocks,
         );
-        save(
+        hold(
             &mut self.parts,
             &mut self.journal,
             &mut self.is_broken,
             disk,
+            most_held(payload),
         )
     }
 
@@ -115,6 +199,38 @@ impl Store {
         ensures cause { HasChangeCause (D.meaning disk.old).disk_faults (D.meaning disk.new).disk_faults result }
         ensures first_fault { DiskFaultEnds (D.meaning disk.old) (D.meaning disk.new) }
     {
+        self.rename_held(disk, scratch, place, name, new)?;
+        self.commit(disk)
+    }
+
+    /// As `rename`, and held back: the change is in memory, and its blocks are committed with those of later ones.
+    pub fn rename_held<D: Disk>(
+        &mut self,
+        disk: &mut D,
+        scratch: &mut Scratch,
+        place: &Place,
+        name: &Name,
+        new: &Name,
+    ) -> Result<(), Change>
+        requires scratch { HasRoom scratch.old self.old.parts.limits }
+        requires unbroken { self.old.is_broken ≡ false }
+        requires long { 4096 * self.old.journal.blocks ≤ (D.meaning disk.old).len }
+        ensures scratch { HasRoom scratch.new self.old.parts.limits }
+        ensures holds { (base : State) (s : State) → StoreHolds self.old (D.meaning disk.old) base s
+            → Holds base (record { state = s; place = place.now }) (rename (record { state = s; place = place.now }) name.now new.now)
+            self.new (D.meaning disk.old) (D.meaning disk.new) result }
+        ensures untouched { (refusal : Refusal) → result ≡ Err (Refused refusal) → IsTrue (D.meaning disk.old).is_honest
+            → IsUnchanged (D.meaning disk.old) (D.meaning disk.new) }
+        ensures limits { self.new.parts.limits ≡ self.old.parts.limits }
+        ensures image { self.new.journal.blocks ≡ self.old.journal.blocks }
+        ensures left { ChangeLeft self.old self.new result }
+        ensures edits { EditsFew self.old self.new }
+        ensures entry { IsSound self.old }
+        ensures sound { IsSound self.new }
+        ensures run { IsDiskRun (D.meaning disk.old) (D.meaning disk.new) }
+        ensures cause { HasChangeCause (D.meaning disk.old).disk_faults (D.meaning disk.new).disk_faults result }
+        ensures first_fault { DiskFaultEnds (D.meaning disk.old) (D.meaning disk.new) }
+    {
         let Some(slot) = self.slot_here(scratch, place, name) else {
             return Err(Change::Refused(Refusal::NoFileHere));
         };
@@ -136,11 +252,12 @@ impl Store {
             self.bytes.bytes(),
             blocks,
         );
-        save(
+        hold(
             &mut self.parts,
             &mut self.journal,
             &mut self.is_broken,
             disk,
+            MOST_HELD,
         )
     }
 
@@ -166,6 +283,38 @@ impl Store {
         ensures image { self.new.journal.blocks ≡ self.old.journal.blocks }
         ensures left { ChangeLeft self.old self.new result }
         ensures edits { EditsFew self.old self.new }
+        ensures sound { IsSound self.new }
+        ensures run { IsDiskRun (D.meaning disk.old) (D.meaning disk.new) }
+        ensures cause { HasChangeCause (D.meaning disk.old).disk_faults (D.meaning disk.new).disk_faults result }
+        ensures first_fault { DiskFaultEnds (D.meaning disk.old) (D.meaning disk.new) }
+    {
+        self.retag_held(disk, scratch, place, name, text)?;
+        self.commit(disk)
+    }
+
+    /// As `retag`, and held back: the change is in memory, and its blocks are committed with those of later ones.
+    pub fn retag_held<D: Disk>(
+        &mut self,
+        disk: &mut D,
+        scratch: &mut Scratch,
+        place: &Place,
+        name: &Name,
+        text: &Text,
+    ) -> Result<(), Change>
+        requires scratch { HasRoom scratch.old self.old.parts.limits }
+        requires unbroken { self.old.is_broken ≡ false }
+        requires long { 4096 * self.old.journal.blocks ≤ (D.meaning disk.old).len }
+        ensures scratch { HasRoom scratch.new self.old.parts.limits }
+        ensures holds { (base : State) (s : State) → StoreHolds self.old (D.meaning disk.old) base s
+            → Holds base (record { state = s; place = place.now }) (mv (record { state = s; place = place.now }) name.now text.now)
+            self.new (D.meaning disk.old) (D.meaning disk.new) result }
+        ensures untouched { (refusal : Refusal) → result ≡ Err (Refused refusal) → IsTrue (D.meaning disk.old).is_honest
+            → IsUnchanged (D.meaning disk.old) (D.meaning disk.new) }
+        ensures limits { self.new.parts.limits ≡ self.old.parts.limits }
+        ensures image { self.new.journal.blocks ≡ self.old.journal.blocks }
+        ensures left { ChangeLeft self.old self.new result }
+        ensures edits { EditsFew self.old self.new }
+        ensures entry { IsSound self.old }
         ensures sound { IsSound self.new }
         ensures run { IsDiskRun (D.meaning disk.old) (D.meaning disk.new) }
         ensures cause { HasChangeCause (D.meaning disk.old).disk_faults (D.meaning disk.new).disk_faults result }
@@ -200,11 +349,12 @@ impl Store {
             self.bytes.bytes(),
             blocks,
         );
-        save(
+        hold(
             &mut self.parts,
             &mut self.journal,
             &mut self.is_broken,
             disk,
+            MOST_HELD,
         )
     }
 }

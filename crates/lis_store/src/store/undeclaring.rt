@@ -5,13 +5,14 @@ ghost use Rattle.lis_ports.specs.Calls.{DiskFaultEnds};
 ghost use Rattle.lis_ports.specs.Runs.{IsDiskRun};
 ghost use Rattle.lis_model.specs.declared.refusal.Refusal.{Refusal};
 ghost use Rattle.lis_model.specs.Step.{Situation, rmdir};
+ghost use Rattle.lis_model.specs.State.{State};
 ghost use Rattle.lis_store.specs.declared.change.Change.TheVariants.{Refused};
-ghost use Rattle.lis_store.specs.Stored.{IsSound, StoreFits};
-ghost use Rattle.lis_store.specs.Changes.{Changes, HasChangeCause, ChangeLeft, EditsFew};
+ghost use Rattle.lis_store.specs.Stored.{IsSound, StoreFits, StoreHolds};
+ghost use Rattle.lis_store.specs.Changes.{Changes, Holds, HasChangeCause, ChangeLeft, EditsFew};
 
 use crate::change::Change;
 use crate::judging::may_undeclare;
-use crate::saving::save;
+use crate::saving::{MOST_HELD, hold};
 use crate::store::Store;
 use crate::testing::undeclare_unmet;
 use lis_ports::Disk;
@@ -34,13 +35,35 @@ impl Store {
         ensures cause { HasChangeCause (D.meaning disk.old).disk_faults (D.meaning disk.new).disk_faults result }
         ensures first_fault { DiskFaultEnds (D.meaning disk.old) (D.meaning disk.new) }
     {
+        self.undeclare_held(disk, word)?;
+        self.commit(disk)
+    }
+
+    /// As `undeclare`, and held back: the change is in memory, and its blocks are committed with those of later ones.
+    pub fn undeclare_held<D: Disk>(&mut self, disk: &mut D, word: &Word) -> Result<(), Change>
+        requires unbroken { self.old.is_broken ≡ false }
+        requires long { 4096 * self.old.journal.blocks ≤ (D.meaning disk.old).len }
+        ensures holds { (base : State) (now : Situation) → StoreHolds self.old (D.meaning disk.old) base now.state
+            → Holds base now (rmdir now word.now) self.new (D.meaning disk.old) (D.meaning disk.new) result }
+        ensures untouched { (refusal : Refusal) → result ≡ Err (Refused refusal) → disk.new ≡ disk.old }
+        ensures limits { self.new.parts.limits ≡ self.old.parts.limits }
+        ensures image { self.new.journal.blocks ≡ self.old.journal.blocks }
+        ensures left { ChangeLeft self.old self.new result }
+        ensures edits { EditsFew self.old self.new }
+        ensures entry { IsSound self.old }
+        ensures sound { IsSound self.new }
+        ensures run { IsDiskRun (D.meaning disk.old) (D.meaning disk.new) }
+        ensures cause { HasChangeCause (D.meaning disk.old).disk_faults (D.meaning disk.new).disk_faults result }
+        ensures first_fault { DiskFaultEnds (D.meaning disk.old) (D.meaning disk.new) }
+    {
         let number = may_undeclare(&self.parts, word)?;
         undeclare_unmet(&mut self.parts, number);
-        save(
+        hold(
             &mut self.parts,
             &mut self.journal,
             &mut self.is_broken,
             disk,
+            MOST_HELD,
         )
     }
 }

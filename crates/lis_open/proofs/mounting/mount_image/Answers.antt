@@ -69,6 +69,7 @@ returns-clause-opened g c = λ honest.
       sound = subst (λ (o : Result Stored OpenFault). IfOk o IsSound) is c.read_store.ensures.sound;
       over = subst (λ (o : Result Stored OpenFault). IfOk o (λ k. k.journal ≡ c.in_ok-journal.journal)) is c.read_store.ensures.journal;
       unbroken = subst (λ (o : Result Stored OpenFault). IfOk o (λ k. k.is_broken ≡ false)) is c.read_store.ensures.unbroken;
+      settled = ap (λ (h : Held). h.staged) (subst (λ (o : Result Stored OpenFault). IfOk o (λ k. k.journal ≡ c.in_ok-journal.journal)) is c.read_store.ensures.journal ∙ c.in_ok-journal.ensures.held);
     })
     c.read_store.ensures.ended
 

@@ -3,7 +3,9 @@ use Rattle.std.proofs.lemmas.Bool.{cond-true, eq-eqb}
 use Rattle.std.proofs.lemmas.Result.{err_from_is_err_and}
 use Rattle.lis_blockmap.specs.Bitmap.{is_taken, free_count}
 use Rattle.lis_catalog.specs.Catalog.{rec_at}
+use Rattle.lis_content.proofs.Indexes.{small_size}
 use Rattle.lis_model.specs.declared.limits.Limits.{Limits}
+use Rattle.lis_model.specs.State.{file_limit}
 use Rattle.lis_kept.specs.Kept.{Kept}
 use Rattle.lis_store.proofs.FreeAgain.{rec_some, first_version, enough_given}
 use Rattle.lis_store.proofs.Renewed.{renews_placed, lost_last, lost_first, put_last}
@@ -55,4 +57,4 @@ returns-clause-renewed g c = λ rec there.
     let one = first_version p.limits c.limits.ensures.sound.range (λ two. c.if-limits-eq2.false (ap (λ (l : Limits). l.version) c.limits.ensures.value ∙ two)) in
     put_last p c.give_content-2.new.parts c.put_content-2.new.parts rec c.args.payload.now c.args.journal.now c.put_content-2.new.journal
     (g.D.Disk.meaning c.args.disk.now) (g.D.Disk.meaning c.give_content-2.new.disk) (g.D.Disk.meaning c.put_content-2.new.disk) c.put_content-2.result
-    c.limits.ensures.sound c.requires.unplaced one given.0 given.1 c.put_content-2.ensures.put c.put_content-2.ensures.torn
+    c.limits.ensures.sound c.requires.unplaced (small_size (length c.args.payload.now) (omega (arith, c.requires.short, ap file_limit one))) given.0 given.1 c.put_content-2.ensures.put c.put_content-2.ensures.torn

@@ -1,5 +1,6 @@
 use Rattle.lis_store.proofs.Facts.{table_told}
+use Rattle.lis_store.proofs.ToldBy.{told_fits}
 use Rattle.lis_store.proofs.laws.fitting_stores_tell.Goals as goal
 
 pub returns : goal.returns
-returns g c k s sound fits = table_told k (g.D.Disk.meaning c.args.disk.now) s sound fits
+returns g c k s sound fits = table_told k s sound (told_fits k (g.D.Disk.meaning c.args.disk.now) s sound fits)

@@ -1,70 +1,27 @@
-use Rattle.std.proofs.Common.{◌∙◌, Err, sym, ap, subst}
+use Rattle.std.proofs.Common.{◌∙◌, ap, subst, Err}
 use Rattle.std.proofs.lemmas.Result.{err_from_is_err_and}
 use Rattle.lis_model.specs.Step.{add_axiom}
-use Rattle.lis_store.specs.Stored.{Stored, StoreFits}
-use Rattle.lis_store.specs.Changes.{Changes}
-use Rattle.lis_store.proofs.Edits.{edits_saved}
-use Rattle.lis_store.proofs.AddAxiom.{axiom_sound, axiom_marks, axiom_changes}
-use Rattle.lis_store.proofs.Judged.{change_refused}
-use Rattle.lis_store.proofs.Related.{related, axiom_refused, axiom_done}
-use Rattle.lis_store.proofs.RelatesMarks.{few_edits}
-use Rattle.lis_store.proofs.SavedAlone.{alone_placed}
+use Rattle.lis_store.specs.Changes.{Holds}
+use Rattle.lis_store.proofs.Facts.{limits_told}
+use Rattle.lis_store.proofs.Holding.{fits_held, changes_ended, changes_committed}
 use Rattle.lis_store.proofs.store.Store.axiom.Goals as goal
 
-pub returns-in_err-may_relate-clause-changes : goal.returns-in_err-may_relate-clause-changes
-returns-in_err-may_relate-clause-changes g c = λ now fits.
+pub returns-in_err-axiom_held-clause-changes : goal.returns-in_err-axiom_held-clause-changes
+returns-in_err-axiom_held-clause-changes g c = λ now fits.
     let p = err_from_is_err_and c.from_residual.result c.from_residual.ensures.1 in
     let m = g.D.Disk.meaning c.args.disk.now in
-    let old : Stored = record { parts = c.self.inside.parts; journal = c.self.inside.journal; is_broken = c.self.inside.is_broken } in
     let outcome = add_axiom now (c.args.left.now, c.args.right.now) in
-    let refusal = c.in_err-may_relate.field-0.0 in
-    let P : Stored → Type 0 = λ k. StoreFits k m now.state in
-    let Q : Stored → Type 0 = λ k. Changes now outcome k m m c.from_residual.result in
-    let here = subst P (sym c.self.view_is) fits in
-    subst Q c.self.view_is
-    (change_refused old m now outcome refusal c.from_residual.result here
-    (axiom_refused old here.kept now c.self.invariant here.tells c.args.left.now c.args.right.now refusal c.in_err-may_relate.ensures.row)
-    (p.1 ∙ ap Err p.2))
-
-pub relate-requires-clause-may : goal.relate-requires-clause-may
-relate-requires-clause-may g c = related c.self.inside.parts c.args.left.now c.args.right.now c.in_ok-may_relate.ensures.row
-
-pub save-requires-clause-sound : goal.save-requires-clause-sound
-save-requires-clause-sound g c =
-    let old : Stored = record { parts = c.self.inside.parts; journal = c.self.inside.journal; is_broken = c.self.inside.is_broken } in
-    let unbroken = ap (λ (k : Stored). k.is_broken) c.self.view_is ∙ c.requires.unbroken in
-    let may = related c.self.inside.parts c.args.left.now c.args.right.now c.in_ok-may_relate.ensures.row in
-    axiom_sound old c.relate.new.parts c.args.left.now c.args.right.now c.self.invariant unbroken may c.relate.ensures.relates
-
-pub save-requires-clause-placed : goal.save-requires-clause-placed
-save-requires-clause-placed g c =
-    let old : Stored = record { parts = c.self.inside.parts; journal = c.self.inside.journal; is_broken = c.self.inside.is_broken } in
-    let unbroken = ap (λ (k : Stored). k.is_broken) c.self.view_is ∙ c.requires.unbroken in
-    alone_placed old c.self.invariant unbroken c.relate.new.parts
-
-pub save-requires-clause-room : goal.save-requires-clause-room
-save-requires-clause-room g c =
-    let old : Stored = record { parts = c.self.inside.parts; journal = c.self.inside.journal; is_broken = c.self.inside.is_broken } in
-    let unbroken = ap (λ (k : Stored). k.is_broken) c.self.view_is ∙ c.requires.unbroken in
-    let may = related c.self.inside.parts c.args.left.now c.args.right.now c.in_ok-may_relate.ensures.row in
-    axiom_marks old c.relate.new.parts c.args.left.now c.args.right.now c.self.invariant unbroken may c.relate.ensures.relates
+    let held = fits_held c.args.self.now m now.state c.axiom_held.ensures.entry fits in
+    changes_ended now outcome c.args.self.now c.axiom_held.new.self m (g.D.Disk.meaning c.axiom_held.new.disk) c.in_err-axiom_held.field-0.0 c.axiom_held.result c.from_residual.result
+    c.in_err-axiom_held.was (p.1 ∙ ap Err p.2) fits c.axiom_held.ensures.left (c.axiom_held.ensures.holds now.state now held)
 
 pub returns-clause-changes : goal.returns-clause-changes
 returns-clause-changes g c = λ now fits.
     let m = g.D.Disk.meaning c.args.disk.now in
-    let old : Stored = record { parts = c.self.inside.parts; journal = c.self.inside.journal; is_broken = c.self.inside.is_broken } in
-    let new : Stored = record { parts = c.save.new.parts; journal = c.save.new.journal; is_broken = c.save.new.is_broken } in
-    let unbroken = ap (λ (k : Stored). k.is_broken) c.self.view_is ∙ c.requires.unbroken in
-    let row = c.in_ok-may_relate.ensures.row in
-    let may = related c.self.inside.parts c.args.left.now c.args.right.now row in
-    let P : Stored → Type 0 = λ k. StoreFits k m now.state in
-    let here = subst P (sym c.self.view_is) fits in
-    axiom_changes old c.relate.new.parts c.args.left.now c.args.right.now c.self.invariant unbroken may c.relate.ensures.relates
-    new m (g.D.Disk.meaning c.save.new.disk) c.save.result c.save.ensures.saves now (add_axiom now (c.args.left.now, c.args.right.now)) here
-    (axiom_done old here.kept now c.self.invariant here.tells c.args.left.now c.args.right.now row)
-
-pub returns-clause-edits : goal.returns-clause-edits
-returns-clause-edits g c =
-    let may = related c.self.inside.parts c.args.left.now c.args.right.now c.in_ok-may_relate.ensures.row in
-    let few = few_edits c.self.inside.parts c.relate.new.parts c.args.left.now c.args.right.now c.relate.ensures.relates c.self.invariant.parts may c.self.invariant.free in
-    edits_saved c.relate.new.parts c.self.view_is c.save.ensures.parts few
+    let between = g.D.Disk.meaning c.axiom_held.new.disk in
+    let sound = c.axiom_held.ensures.entry in
+    let outcome = add_axiom now (c.args.left.now, c.args.right.now) in
+    let held = fits_held c.args.self.now m now.state sound fits in
+    changes_committed now outcome c.axiom_held.new.self c.commit.new.self m between (g.D.Disk.meaning c.commit.new.disk) c.in_ok-axiom_held.field-0 c.commit.result
+    (subst (λ r. Holds now.state now outcome c.axiom_held.new.self m between r) c.in_ok-axiom_held.was (c.axiom_held.ensures.holds now.state now held)) c.commit.ensures.commits
+    (c.axiom_held.ensures.limits ∙ limits_told c.args.self.now.parts fits.kept now.state sound.parts sound.free fits.tells)

@@ -1,4 +1,4 @@
-use Rattle.std.proofs.Common.{◌∙◌, ◌*◌, ◌<◌, sym, ap, subst, IsSomeAnd}
+use Rattle.std.proofs.Common.{◌∙◌, ◌<◌, sym, ap, subst, IsSomeAnd}
 use Rattle.std.proofs.lemmas.Result.{on_ok_weaker}
 use Rattle.lis_catalog.specs.Catalog.{rec_at}
 use Rattle.lis_fields.specs.Records.{FileRecord}

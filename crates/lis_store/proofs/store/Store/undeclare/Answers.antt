@@ -1,83 +1,27 @@
-use Rattle.std.proofs.Common.{◌∙◌, sym, ap, subst, Err}
+use Rattle.std.proofs.Common.{◌∙◌, ap, subst, Err}
 use Rattle.std.proofs.lemmas.Result.{err_from_is_err_and}
-use Rattle.lis_model.specs.Image.{image_blocks}
 use Rattle.lis_model.specs.Step.{rmdir}
-use Rattle.lis_kept.specs.Kept.{Kept}
-use Rattle.lis_store.specs.Stored.{Stored, StoreFits}
-use Rattle.lis_store.specs.Changes.{Changes}
-use Rattle.lis_store.proofs.Edits.{edits_saved}
-use Rattle.lis_store.proofs.Undeclared.{undeclared_may, undeclared_named, undeclared_limits, undeclared_edits, undeclared_marks, undeclared_sound, undeclared_changes, undeclared_refused}
-use Rattle.lis_store.proofs.SavedAlone.{alone_placed}
+use Rattle.lis_store.specs.Changes.{Holds}
+use Rattle.lis_store.proofs.Facts.{limits_told}
+use Rattle.lis_store.proofs.Holding.{fits_held, changes_ended, changes_committed}
 use Rattle.lis_store.proofs.store.Store.undeclare.Goals as goal
 
-pub returns-in_err-number-clause-changes : goal.returns-in_err-number-clause-changes
-returns-in_err-number-clause-changes g c = λ now fits.
+pub returns-in_err-undeclare_held-clause-changes : goal.returns-in_err-undeclare_held-clause-changes
+returns-in_err-undeclare_held-clause-changes g c = λ now fits.
     let p = err_from_is_err_and c.from_residual.result c.from_residual.ensures.1 in
     let m = g.D.Disk.meaning c.args.disk.now in
-    let old : Stored = record { parts = c.self.inside.parts; journal = c.self.inside.journal; is_broken = c.self.inside.is_broken } in
-    let P : Stored → Type 0 = λ k. StoreFits k m now.state in
-    let Q : Stored → Type 0 = λ k. Changes now (rmdir now c.args.word.now) k m m c.from_residual.result in
-    subst Q c.self.view_is
-    (undeclared_refused old m c.args.word.now c.in_err-number.field-0.0 c.from_residual.result c.self.invariant
-    c.in_err-number.ensures.row (p.1 ∙ ap Err p.2) now (subst P (sym c.self.view_is) fits))
-
-pub undeclare_unmet-requires-clause-may : goal.undeclare_unmet-requires-clause-may
-undeclare_unmet-requires-clause-may g c =
-    let old : Stored = record { parts = c.self.inside.parts; journal = c.self.inside.journal; is_broken = c.self.inside.is_broken } in
-    let unbroken = ap (λ (k : Stored). k.is_broken) c.self.view_is ∙ c.requires.unbroken in
-    undeclared_may old c.args.word.now c.in_ok-number.number c.self.invariant unbroken c.in_ok-number.ensures.row c.in_ok-number.ensures.number
-
-pub undeclare_unmet-requires-clause-number : goal.undeclare_unmet-requires-clause-number
-undeclare_unmet-requires-clause-number g c =
-    let old : Stored = record { parts = c.self.inside.parts; journal = c.self.inside.journal; is_broken = c.self.inside.is_broken } in
-    let unbroken = ap (λ (k : Stored). k.is_broken) c.self.view_is ∙ c.requires.unbroken in
-    undeclared_named old c.args.word.now c.in_ok-number.number c.self.invariant unbroken c.in_ok-number.ensures.row c.in_ok-number.ensures.number
-
-pub save-requires-clause-image : goal.save-requires-clause-image
-save-requires-clause-image g c =
-    let old : Stored = record { parts = c.self.inside.parts; journal = c.self.inside.journal; is_broken = c.self.inside.is_broken } in
-    let unbroken = ap (λ (k : Stored). k.is_broken) c.self.view_is ∙ c.requires.unbroken in
-    c.self.invariant.image ∙ sym (ap image_blocks (undeclared_limits old c.args.word.now c.in_ok-number.number c.self.invariant unbroken c.in_ok-number.ensures.row c.in_ok-number.ensures.number c.undeclare_unmet.new.parts c.undeclare_unmet.ensures))
-
-pub save-requires-clause-placed : goal.save-requires-clause-placed
-save-requires-clause-placed g c =
-    let old : Stored = record { parts = c.self.inside.parts; journal = c.self.inside.journal; is_broken = c.self.inside.is_broken } in
-    let unbroken = ap (λ (k : Stored). k.is_broken) c.self.view_is ∙ c.requires.unbroken in
-    alone_placed old c.self.invariant unbroken c.undeclare_unmet.new.parts
-
-pub save-requires-clause-room : goal.save-requires-clause-room
-save-requires-clause-room g c =
-    let old : Stored = record { parts = c.self.inside.parts; journal = c.self.inside.journal; is_broken = c.self.inside.is_broken } in
-    let unbroken = ap (λ (k : Stored). k.is_broken) c.self.view_is ∙ c.requires.unbroken in
-    undeclared_marks old c.args.word.now c.in_ok-number.number c.self.invariant unbroken c.in_ok-number.ensures.row c.in_ok-number.ensures.number c.undeclare_unmet.new.parts c.undeclare_unmet.ensures
-
-pub returns-clause-edits : goal.returns-clause-edits
-returns-clause-edits g c =
-    let old : Stored = record { parts = c.self.inside.parts; journal = c.self.inside.journal; is_broken = c.self.inside.is_broken } in
-    let unbroken = ap (λ (k : Stored). k.is_broken) c.self.view_is ∙ c.requires.unbroken in
-    let few = undeclared_edits old c.args.word.now c.in_ok-number.number c.self.invariant unbroken c.in_ok-number.ensures.row c.in_ok-number.ensures.number c.undeclare_unmet.new.parts c.undeclare_unmet.ensures in
-    edits_saved c.undeclare_unmet.new.parts c.self.view_is c.save.ensures.parts few
-
-pub returns-clause-limits : goal.returns-clause-limits
-returns-clause-limits g c =
-    let old : Stored = record { parts = c.self.inside.parts; journal = c.self.inside.journal; is_broken = c.self.inside.is_broken } in
-    let unbroken = ap (λ (k : Stored). k.is_broken) c.self.view_is ∙ c.requires.unbroken in
-    ap (λ (k : Kept). k.limits) c.save.ensures.parts
-    ∙ (undeclared_limits old c.args.word.now c.in_ok-number.number c.self.invariant unbroken c.in_ok-number.ensures.row c.in_ok-number.ensures.number c.undeclare_unmet.new.parts c.undeclare_unmet.ensures ∙ ap (λ (k : Stored). k.parts.limits) c.self.view_is)
-
-pub save-requires-clause-sound : goal.save-requires-clause-sound
-save-requires-clause-sound g c =
-    let old : Stored = record { parts = c.self.inside.parts; journal = c.self.inside.journal; is_broken = c.self.inside.is_broken } in
-    let unbroken = ap (λ (k : Stored). k.is_broken) c.self.view_is ∙ c.requires.unbroken in
-    undeclared_sound old c.args.word.now c.in_ok-number.number c.self.invariant unbroken c.in_ok-number.ensures.row c.in_ok-number.ensures.number
-    c.undeclare_unmet.new.parts c.undeclare_unmet.ensures
+    let outcome = rmdir now c.args.word.now in
+    let held = fits_held c.args.self.now m now.state c.undeclare_held.ensures.entry fits in
+    changes_ended now outcome c.args.self.now c.undeclare_held.new.self m (g.D.Disk.meaning c.undeclare_held.new.disk) c.in_err-undeclare_held.field-0.0 c.undeclare_held.result c.from_residual.result
+    c.in_err-undeclare_held.was (p.1 ∙ ap Err p.2) fits c.undeclare_held.ensures.left (c.undeclare_held.ensures.holds now.state now held)
 
 pub returns-clause-changes : goal.returns-clause-changes
 returns-clause-changes g c = λ now fits.
     let m = g.D.Disk.meaning c.args.disk.now in
-    let old : Stored = record { parts = c.self.inside.parts; journal = c.self.inside.journal; is_broken = c.self.inside.is_broken } in
-    let new : Stored = record { parts = c.save.new.parts; journal = c.save.new.journal; is_broken = c.save.new.is_broken } in
-    let unbroken = ap (λ (k : Stored). k.is_broken) c.self.view_is ∙ c.requires.unbroken in
-    let P : Stored → Type 0 = λ k. StoreFits k m now.state in
-    undeclared_changes old c.args.word.now c.in_ok-number.number c.self.invariant unbroken c.in_ok-number.ensures.row c.in_ok-number.ensures.number
-    c.undeclare_unmet.new.parts c.undeclare_unmet.ensures new m (g.D.Disk.meaning c.save.new.disk) c.save.result c.save.ensures.saves now (subst P (sym c.self.view_is) fits)
+    let between = g.D.Disk.meaning c.undeclare_held.new.disk in
+    let sound = c.undeclare_held.ensures.entry in
+    let outcome = rmdir now c.args.word.now in
+    let held = fits_held c.args.self.now m now.state sound fits in
+    changes_committed now outcome c.undeclare_held.new.self c.commit.new.self m between (g.D.Disk.meaning c.commit.new.disk) c.in_ok-undeclare_held.field-0 c.commit.result
+    (subst (λ r. Holds now.state now outcome c.undeclare_held.new.self m between r) c.in_ok-undeclare_held.was (c.undeclare_held.ensures.holds now.state now held)) c.commit.ensures.commits
+    (c.undeclare_held.ensures.limits ∙ limits_told c.args.self.now.parts fits.kept now.state sound.parts sound.free fits.tells)

@@ -1,0 +1,23 @@
+use Rattle.std.proofs.Common.{◌≡◌, ap}
+use Rattle.lis_kept.specs.Kept.{Kept}
+use Rattle.lis_session.specs.Session.{Situated}
+use Rattle.lis_session.proofs.Holding.{kept_ends, unbroken_committed}
+use Rattle.lis_session.proofs.session.Session.commit.Goals as goal
+
+pub returns-clause-commits : goal.returns-clause-commits
+returns-clause-commits g c =
+    let store : c.self.inside.store ≡ c.args.self.now.store = ap (λ (s : Situated). s.store) c.self.view_is in
+    rw store at c.commit.ensures.commits
+
+pub returns-clause-keeps : goal.returns-clause-keeps
+returns-clause-keeps g c =
+    let store : c.self.inside.store ≡ c.args.self.now.store = ap (λ (s : Situated). s.store) c.self.view_is in
+    record {
+      left = record {
+        limits = ap (λ (k : Kept). k.limits) (rw store at c.commit.ensures.parts);
+        image = rw store at c.commit.ensures.image;
+        unbroken = unbroken_committed c.commit.new.self c.commit.result c.commit.ensures.left;
+      };
+      sound = c.commit.ensures.sound;
+      ends = kept_ends c.commit.result c.commit.ensures.run c.commit.ensures.cause c.commit.ensures.first_fault;
+    }

@@ -1,0 +1,24 @@
+use Rattle.std.proofs.Common.{◌≡◌, ap}
+use Rattle.lis_session.specs.Session.{Situated}
+use Rattle.lis_session.proofs.Holding.{kept_ends, unbroken_held}
+use Rattle.lis_session.proofs.session.Session.hold.Goals as goal
+
+pub returns-clause-holds : goal.returns-clause-holds
+returns-clause-holds g c =
+    let store : c.self.inside.store ≡ c.args.self.now.store = ap (λ (s : Situated). s.store) c.self.view_is in
+    let place : c.self.inside.place ≡ c.args.self.now.place = ap (λ (s : Situated). s.place) c.self.view_is in
+    rw (store, place) at c.hold.ensures.holds
+
+pub returns-clause-keeps : goal.returns-clause-keeps
+returns-clause-keeps g c =
+    let store : c.self.inside.store ≡ c.args.self.now.store = ap (λ (s : Situated). s.store) c.self.view_is in
+    let left = rw store at c.hold.ensures.left in
+    record {
+      left = record {
+        limits = rw store at c.hold.ensures.limits;
+        image = rw store at c.hold.ensures.image;
+        unbroken = unbroken_held c.args.self.now.store c.hold.new.store c.hold.result c.requires.unbroken left;
+      };
+      sound = c.hold.ensures.sound;
+      ends = kept_ends c.hold.result c.hold.ensures.run c.hold.ensures.cause c.hold.ensures.first_fault;
+    }

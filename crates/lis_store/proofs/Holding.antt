@@ -1,0 +1,104 @@
+-- A store at which nothing is held back, and one at which changes are; and a change that is held back and then committed.
+use Rattle.std.proofs.Common.{◌≡◌, ◌⊎◌, refl, sym, ap, ◌∙◌, subst, inl, inr, ℕ, true, false, List, [], Result, Ok, Err}
+use Rattle.lis_ports.specs.Meaning.{Meaning}
+use Rattle.lis_ports.specs.Runs.{Leaves}
+use Rattle.lis_ports.proofs.Moments.{leaves_weaken, leaves_then}
+use Rattle.lis_journal.specs.Record.{Entry}
+use Rattle.lis_journal.specs.Phases.{looked}
+use Rattle.lis_journal.specs.Images.{KeepsPast}
+use Rattle.lis_model.specs.Image.{image_blocks}
+use Rattle.lis_model.specs.State.{State}
+use Rattle.lis_model.specs.Step.{Situation, Outcome}
+use Rattle.lis_kept.specs.Areas.{IsWritten}
+use Rattle.lis_kept.specs.Telling.{Tells}
+use Rattle.lis_store.specs.declared.change.Change.{Change}
+use Rattle.lis_store.specs.declared.change.Change.TheVariants.{Refused, Disk}
+use Rattle.lis_store.specs.Stands.{Stands}
+use Rattle.lis_store.specs.Stored.{Stored, IsSound, StoreFits, StoreHolds}
+use Rattle.lis_store.specs.Changes.{Changes, ChangeEnded, ChangeLeft, Holds, HeldEnded, Commits, CommitEnded}
+use Rattle.lis_store.proofs.Facts.{limits_told}
+use Rattle.lis_store.proofs.Standing.{change_stands}
+
+-- a store that fits holds back nothing
+pub fits_held : (k : Stored) (m : Meaning) (s : State) → IsSound k → StoreFits k m s → StoreHolds k m s s
+fits_held k m s sound fits = record {
+  kept = fits.kept;
+  journal = fits.journal;
+  unbroken = fits.unbroken;
+  limits = limits_told k.parts fits.kept s sound.parts sound.free fits.tells;
+  stands = λ image stands. change_stands k k.journal.blocks fits.kept s sound.parts sound.free sound.pairs fits.tells fits.written sound.image image stands;
+  tells = subst (λ (es : List Entry). Tells k.parts (looked es fits.kept) s) (sym fits.settled) fits.tells;
+  written = subst (λ (es : List Entry). IsWritten k.parts (looked es fits.kept)) (sym fits.settled) fits.written;
+}
+
+-- and one where nothing is staged fits
+abbrev pub held_fits : (k : Stored) (m : Meaning) (base s : State) → k.journal.staged ≡ [] → StoreHolds k m base s → StoreFits k m s
+held_fits k m base s settled holds = record {
+  kept = holds.kept;
+  journal = holds.journal;
+  unbroken = holds.unbroken;
+  settled = settled;
+  tells = subst (λ (es : List Entry). Tells k.parts (looked es holds.kept) s) settled holds.tells;
+  written = subst (λ (es : List Entry). IsWritten k.parts (looked es holds.kept)) settled holds.written;
+}
+
+-- A change that was refused, or that a fault of the disk ended, of a store that held back nothing.
+pub changes_ended : {T : Type 0} (now : Situation) (outcome : Outcome) (old new : Stored) (before after : Meaning) (change : Change) (held result : Result T Change) → held ≡ Err change → result ≡ Err change
+    → StoreFits old before now.state → ChangeLeft old new held → Holds now.state now outcome new before after held → Changes now outcome new before after result
+changes_ended {T = T} now outcome old new before after change held result was ends fits left holds =
+    record {
+      moments = leaves_weaken (λ image. Stands image now.state ⊎ Stands image outcome.next.state) holds.moments one_of;
+      past = holds.past;
+      ended = subst (λ r. ChangeEnded now outcome new after r) (sym ends) (by change (subst (λ r. ChangeLeft old new r) was left) (subst (λ r. HeldEnded now.state now outcome new after r) was holds.ended));
+    }
+  where
+    one_of : (image : List ℕ) → (Stands image now.state ⊎ Stands image now.state) ⊎ Stands image outcome.next.state → Stands image now.state ⊎ Stands image outcome.next.state
+    one_of image (inl (inl old)) = inl old
+    one_of image (inl (inr old)) = inl old
+    one_of image (inr new) = inr new
+
+    by : (c : Change) → ChangeLeft {T = T} old new (Err c) → HeldEnded {T = T} now.state now outcome new after (Err c) → ChangeEnded {T = T} now outcome new after (Err c)
+    by (Refused refusal) same ended = (ended.0, held_fits new after now.state now.state (ap (λ (k : Stored). k.journal.staged) same ∙ fits.settled) ended.1)
+    by Disk broken ended = ended
+
+-- A change that is held back, and a commit behind it.
+module _ {T U : Type 0} (now : Situation) (outcome : Outcome) (mid new : Stored) (before between after : Meaning) (done : U) (result : Result T Change)
+    (holds : Holds {T = U} now.state now outcome mid before between (Ok done))
+    (commits : (base s : State) → StoreHolds mid between base s → Commits base s new between after result) where
+  abbrev next : State
+  next = outcome.next.state
+
+  abbrev Either : List ℕ → Type 0
+  Either image = Stands image now.state ⊎ Stands image next
+
+  one_of : (image : List ℕ) → (Stands image now.state ⊎ Stands image now.state) ⊎ Stands image next → Either image
+  one_of image (inl (inl old)) = inl old
+  one_of image (inl (inr old)) = inl old
+  one_of image (inr new) = inr new
+
+  first : Leaves before between Either
+  first = leaves_weaken Either holds.moments one_of
+
+  ended_by : (r : Result T Change) → CommitEnded next new after r → ChangeEnded now outcome new after r
+  ended_by (Ok d) fits = (holds.ended.0, fits)
+  ended_by (Err (Refused refusal)) never = absurd (let e : false ≡ true = never in cc)
+  ended_by (Err Disk) broken = broken
+
+  whole : (base : State) → ((image : List ℕ) → Stands image base ⊎ Stands image next → Either image) → image_blocks base.limits ≡ image_blocks now.state.limits → Commits base next new between after result
+      → Changes now outcome new before after result
+  whole base either blocks commit = record {
+    moments = leaves_then first (leaves_weaken Either commit.moments either);
+    past = λ n le. subst (λ (b : ℕ). KeepsPast b between after) blocks commit.past n le ∙ holds.past n le;
+    ended = ended_by result commit.ended;
+  }
+
+  pub changes_committed : mid.parts.limits ≡ now.state.limits → Changes now outcome new before after result
+  changes_committed limits = by holds.ended.1
+    where
+      same : (image : List ℕ) → Stands image next ⊎ Stands image next → Either image
+      same image (inl s) = inr s
+      same image (inr s) = inr s
+
+      by : StoreHolds mid between now.state next ⊎ StoreHolds mid between next next → Changes now outcome new before after result
+      by (inl held) = whole now.state (λ image either. either) refl (commits now.state next held)
+      by (inr held) = whole next same (ap image_blocks (sym held.limits ∙ limits)) (commits next next held)

@@ -1,0 +1,50 @@
+-- What memory tells by what a disk keeps, whether changes are held back or not.
+use Rattle.std.proofs.Common.{◌≡◌, inr, ℕ, ◌+◌, ◌<◌, ◌==◌, Bool, true, false, cond, List, [], ◌∷◌, length, arith}
+use Rattle.std.proofs.lemmas.Bool.{and_parts, eqb-true}
+use Rattle.lis_ports.specs.Meaning.{Meaning}
+use Rattle.lis_journal.specs.Record.{Entry}
+use Rattle.lis_journal.specs.Images.{look}
+use Rattle.lis_journal.specs.Phases.{looked}
+use Rattle.lis_journal.specs.Staging.{are_whole}
+use Rattle.lis_journal.proofs.Fitting.{kept_whole}
+use Rattle.lis_model.specs.Image.{data_start}
+use Rattle.lis_model.specs.State.{State}
+use Rattle.lis_kept.specs.Areas.{IsWritten}
+use Rattle.lis_kept.specs.Telling.{Tells}
+use Rattle.lis_store.specs.Stored.{Stored, IsSound, StoreFits, StoreHolds}
+
+-- by these blocks memory tells the state and is written, and each data block is whole
+pub record ToldBy (k : Stored) (s : State) : Type 0 where
+  pub kept : ℕ → List ℕ
+  pub tells : Tells k.parts kept s
+  pub written : IsWritten k.parts kept
+  pub whole : (b : ℕ) → b < k.parts.limits.blocks → length (kept (data_start k.parts.limits + b)) ≡ 4096
+
+-- whole blocks over whole blocks are whole
+pub look_whole : (es : List Entry) (n : ℕ) (old : List ℕ) → are_whole es ≡ true → length old ≡ 4096 → length (look es n old) ≡ 4096
+look_whole [] n old whole len = len
+look_whole (e ∷ es) n old whole len =
+    let parts = and_parts (length e.bytes == 4096) (are_whole es) whole in
+    look_whole es n (cond (n == e.home) e.bytes old) parts.1 (by (n == e.home) (eqb-true (length e.bytes) 4096 parts.0))
+  where
+    by : (b : Bool) → length e.bytes ≡ 4096 → length (cond b e.bytes old) ≡ 4096
+    by true here = here
+    by false here = len
+
+abbrev pub told_fits : (k : Stored) (m : Meaning) (s : State) → IsSound k → StoreFits k m s → ToldBy k s
+told_fits k m s sound fits = record {
+  kept = fits.kept;
+  tells = fits.tells;
+  written = fits.written;
+  whole = λ b lt. kept_whole k.journal fits.journal (data_start k.parts.limits + b) (inr (omega arith)) (omega (arith, lt, sound.image));
+}
+
+abbrev pub told_held : (k : Stored) (m : Meaning) (base s : State) → IsSound k → StoreHolds k m base s → ToldBy k s
+told_held k m base s sound holds = record {
+  kept = looked k.journal.staged holds.kept;
+  tells = holds.tells;
+  written = holds.written;
+  whole = λ b lt.
+      look_whole k.journal.staged (data_start k.parts.limits + b) (holds.kept (data_start k.parts.limits + b)) (sound.whole holds.unbroken)
+      (kept_whole k.journal holds.journal (data_start k.parts.limits + b) (inr (omega arith)) (omega (arith, lt, sound.image)));
+}

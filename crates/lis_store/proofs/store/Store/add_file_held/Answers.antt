@@ -1,0 +1,83 @@
+use Rattle.std.proofs.Common.{◌∙◌, sym, ap, subst, ℕ, ◌≤◌, List, Ok, Err, length}
+use Rattle.std.proofs.lemmas.Result.{err_from_is_err_and}
+use Rattle.lis_blockmap.specs.Bitmap.{free_count}
+use Rattle.lis_model.specs.Changes.{new_file, file_added}
+use Rattle.lis_model.specs.State.{blocks_taken}
+use Rattle.lis_model.specs.Step.{Situation, Outcome, Payload, changed, add}
+use Rattle.lis_kept.specs.Kept.{Kept}
+use Rattle.lis_store.specs.Admitting.{IsAdmitted}
+use Rattle.lis_store.specs.Stored.{Stored, StoreHolds}
+use Rattle.lis_store.specs.Changes.{Holds, Commits}
+use Rattle.lis_store.proofs.Admitted.{whole_inside, admitted, enough_free, add_done, added_refused}
+use Rattle.lis_store.proofs.Holding.{fits_held}
+use Rattle.lis_store.proofs.Large.{held_behind_commit, held_lost_commit}
+use Rattle.lis_store.proofs.ToldBy.{told_held}
+use Rattle.lis_store.proofs.store.Store.add_file_held.Goals.{then-is_large+in_ok-commit, else-is_large}
+use Rattle.lis_store.proofs.store.Store.add_file_held.Goals as goal
+
+pub returns-in_err-assigned-clause-holds : goal.returns-in_err-assigned-clause-holds
+returns-in_err-assigned-clause-holds g c = λ base s holds.
+    let p = err_from_is_err_and c.from_residual.result c.from_residual.ensures.1 in
+    let m = g.D.Disk.meaning c.args.disk.now in
+    let old : Stored = record { parts = c.self.inside.parts; journal = c.self.inside.journal; is_broken = c.self.inside.is_broken } in
+    let now : Situation = record { state = s; place = c.args.place.now } in
+    let payload : Payload = record { size = c.args.size; bytes = c.args.payload.now } in
+    let H : Stored → Type 0 = λ k. StoreHolds k m base s in
+    let Q : Stored → Type 0 = λ k. Holds base now (add now c.args.name.now c.args.tags.now payload) k m m c.from_residual.result in
+    subst Q c.self.view_is
+    (added_refused old m c.args.place.now c.args.name.now c.args.tags.now payload c.in_err-assigned.field-0.0 c.from_residual.result c.self.invariant
+    c.in_err-assigned.ensures.row (p.1 ∙ ap Err p.2) base s (subst H (sym c.self.view_is) holds))
+
+pub returns-in_err-commit-clause-holds : goal.returns-in_err-commit-clause-holds
+returns-in_err-commit-clause-holds g c = λ base s holds.
+    let p = err_from_is_err_and c.from_residual-in_err-commit.result c.from_residual-in_err-commit.ensures.1 in
+    let m = g.D.Disk.meaning c.args.disk.now in
+    let now : Situation = record { state = s; place = c.args.place.now } in
+    held_lost_commit base now (add now c.args.name.now c.args.tags.now (record { size = c.args.size; bytes = c.args.payload.now })) m m (g.D.Disk.meaning c.commit.new.disk)
+    c.commit.new.self c.in_err-commit.field-0.0 c.from_residual-in_err-commit.result (c.in_err-commit.ensures.commits base s holds) (p.1 ∙ ap Err p.2)
+
+pub put_file-requires-clause-admitted : goal.put_file-requires-clause-admitted
+put_file-requires-clause-admitted g c =
+    let one = admitted c.self.inside.parts c.args.place.now c.args.name.now c.args.tags.now c.args.payload.now c.args.size c.in_ok-assigned.ensures.name (whole_inside c.args.payload.now c.args.size c.self.view_is c.requires.whole) c.in_ok-assigned.ensures.row in
+    let W : List (List ℕ) → Type 0 = λ ws. IsAdmitted c.self.inside.parts (new_file c.args.name.now ws c.args.payload.now) in
+    let A : Kept → Type 0 = λ k. IsAdmitted k (new_file c.args.name.now c.as_slice.result.now c.args.payload.now) in
+    let there = subst (λ (k : Stored). A k.parts) c.self.view_is (subst W (sym (c.as_slice.ensures.value ∙ c.in_ok-assigned.ensures.words)) one) in
+    elim c.if-is_large.branch [
+      | then-is_large+in_ok-commit w ↦ subst A (sym (ap (λ (k : Stored). k.parts) w.self-is ∙ w.commit.ensures.parts)) there
+      | else-is_large w ↦ subst A (sym (ap (λ (k : Stored). k.parts) w.self-is)) there
+    ]
+
+pub put_file-requires-clause-enough : goal.put_file-requires-clause-enough
+put_file-requires-clause-enough g c =
+    let E : Kept → Type 0 = λ k. blocks_taken k.limits.version (length c.args.payload.now) ≤ free_count k.taken in
+    let enough = subst (λ (k : Stored). E k.parts) c.self.view_is (enough_free c.self.inside.parts c.args.place.now c.args.name.now c.args.tags.now c.args.payload.now c.args.size c.in_ok-assigned.ensures.name (whole_inside c.args.payload.now c.args.size c.self.view_is c.requires.whole) c.in_ok-assigned.ensures.row) in
+    elim c.if-is_large.branch [
+      | then-is_large+in_ok-commit w ↦ subst E (sym (ap (λ (k : Stored). k.parts) w.self-is ∙ w.commit.ensures.parts)) enough
+      | else-is_large w ↦ subst E (sym (ap (λ (k : Stored). k.parts) w.self-is)) enough
+    ]
+
+pub returns-clause-holds : goal.returns-clause-holds
+returns-clause-holds g c = λ base s holds.
+    let m = g.D.Disk.meaning c.args.disk.now in
+    let mid = c.if-is_large.self in
+    let between = g.D.Disk.meaning c.if-is_large.disk in
+    let after = g.D.Disk.meaning c.put_file.new.disk in
+    let old : Stored = record { parts = c.self.inside.parts; journal = c.self.inside.journal; is_broken = c.self.inside.is_broken } in
+    let now : Situation = record { state = s; place = c.args.place.now } in
+    let payload : Payload = record { size = c.args.size; bytes = c.args.payload.now } in
+    let made : List (List ℕ) → Outcome = λ ws. changed now (file_added s (new_file c.args.name.now ws c.args.payload.now)) in
+    let outcome = made c.as_slice.result.now in
+    let H : Stored → Type 0 = λ k. StoreHolds k m base s in
+    let held = subst H (sym c.self.view_is) holds in
+    let is = add_done old s c.self.invariant (told_held old m base s c.self.invariant held) c.args.place.now c.args.tags.now c.args.name.now payload c.in_ok-assigned.ensures.row ∙ ap made (sym (c.as_slice.ensures.value ∙ c.in_ok-assigned.ensures.words)) in
+    let O : Outcome → Type 0 = λ o. Holds base now o c.put_file.new.self m after c.put_file.result in
+    subst O (sym is)
+    (elim c.if-is_large.branch [
+      | then-is_large+in_ok-commit w ↦
+          let commits : Commits {T = Unit {0}} base s mid m between (Ok tt) = rw (w.self-is, w.disk-is) (w.in_ok-commit.ensures.commits base s holds) in
+          held_behind_commit base now outcome m between after old mid c.put_file.new.self tt c.put_file.result c.self.invariant held commits
+          c.put_file.ensures.sound (c.put_file.ensures.settled (sym c.is_large.ensures ∙ w.if-is_large.true)) c.put_file.ensures.ended
+          (c.put_file.ensures.holds s now (fits_held mid between s (rw w.self-is w.commit.ensures.sound) commits.ended))
+      | else-is_large w ↦
+          rw (← w.disk-is) (c.put_file.ensures.holds base now (rw (w.self-is, w.disk-is) holds))
+    ])

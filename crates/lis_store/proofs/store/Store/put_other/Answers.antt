@@ -1,0 +1,125 @@
+use Rattle.std.proofs.Common.{◌≡◌, ◌∙◌, ℕ, true, length, Err, sym, ap, subst, arith}
+use Rattle.std.proofs.lemmas.Result.{err_from_is_err_and}
+use Rattle.arrayvec.specs.ArrayVec.{ArrayVec}
+use Rattle.lis_content.specs.Large.{is_large}
+use Rattle.lis_model.specs.declared.limits.Limits.{Limits}
+use Rattle.lis_model.specs.Changes.{new_file, file_replaced}
+use Rattle.lis_model.specs.Step.{changed}
+use Rattle.lis_eval.specs.Room.{HasRoom}
+use Rattle.lis_kept.specs.Kept.{Kept}
+use Rattle.lis_store.specs.Stored.{Stored, StoreHolds}
+use Rattle.lis_store.proofs.AddFile.{lost_sound, lost_holds}
+use Rattle.lis_store.proofs.Edits.{edits_saved}
+use Rattle.lis_store.proofs.Large.{none_left}
+use Rattle.lis_store.proofs.ReplaceFile.{mid_form, mid_first, mid_in_form, mid_below, mid_limits, mid_short, mid_image, mid_unplaced, written_sound, written_image, written_unbroken, written_placed, written_room, written_limits, written_edits, written_holds, renewed_lost}
+use Rattle.lis_store.proofs.WriteFile.{found_there}
+use Rattle.lis_store.proofs.store.Store.put_other.Goals as goal
+
+pub invariant_of-self : goal.invariant_of-self
+invariant_of-self g c =
+    let old : Stored = record { parts = c.self.inside.parts; journal = c.self.inside.journal; is_broken = c.self.inside.is_broken } in
+    let found = found_there c.self.view_is c.self.invariant c.args.name.now c.requires.named in
+    let m = g.D.Disk.meaning c.args.disk.now in
+    let after = g.D.Disk.meaning c.put_instead.new.disk in
+    let lost = renewed_lost c.args.payload.now found.0 c.self.inside.parts c.put_instead.new.parts c.self.inside.journal c.put_instead.new.journal m after c.in_err-blocks.field-0.0 (c.in_err-blocks.ensures.renewed found.0 found.1) in
+    lost_sound (ArrayVec ℕ) old c.self.invariant c.args.payload.now c.put_instead.new.parts c.put_instead.new.journal c.put_instead.new.is_broken c.in_err-blocks.field-0.0 m after lost c.in_err-blocks.ensures.ended c.put_instead.ensures.sound
+
+pub returns-in_err-blocks-clause-sound : goal.returns-in_err-blocks-clause-sound
+returns-in_err-blocks-clause-sound g c =
+    let old : Stored = record { parts = c.self.inside.parts; journal = c.self.inside.journal; is_broken = c.self.inside.is_broken } in
+    let found = found_there c.self.view_is c.self.invariant c.args.name.now c.requires.named in
+    let m = g.D.Disk.meaning c.args.disk.now in
+    let after = g.D.Disk.meaning c.put_instead.new.disk in
+    let lost = renewed_lost c.args.payload.now found.0 c.self.inside.parts c.put_instead.new.parts c.self.inside.journal c.put_instead.new.journal m after c.in_err-blocks.field-0.0 (c.in_err-blocks.ensures.renewed found.0 found.1) in
+    lost_sound (ArrayVec ℕ) old c.self.invariant c.args.payload.now c.put_instead.new.parts c.put_instead.new.journal c.put_instead.new.is_broken c.in_err-blocks.field-0.0 m after lost c.in_err-blocks.ensures.ended c.put_instead.ensures.sound
+
+pub returns-in_err-blocks-clause-holds : goal.returns-in_err-blocks-clause-holds
+returns-in_err-blocks-clause-holds g c = λ base now holds.
+    let old : Stored = record { parts = c.self.inside.parts; journal = c.self.inside.journal; is_broken = c.self.inside.is_broken } in
+    let found = found_there c.self.view_is c.self.invariant c.args.name.now c.requires.named in
+    let m = g.D.Disk.meaning c.args.disk.now in
+    let after = g.D.Disk.meaning c.put_instead.new.disk in
+    let lost = renewed_lost c.args.payload.now found.0 c.self.inside.parts c.put_instead.new.parts c.self.inside.journal c.put_instead.new.journal m after c.in_err-blocks.field-0.0 (c.in_err-blocks.ensures.renewed found.0 found.1) in
+    let alone = λ (large : is_large (length c.args.payload.now) ≡ true). ap (λ (k : Stored). k.journal.staged) c.self.view_is ∙ c.requires.alone large in
+    let H : Stored → Type 0 = λ k. StoreHolds k m base now.state in
+    let r = err_from_is_err_and c.from_residual.result c.from_residual.ensures.1 in
+    lost_holds (ArrayVec ℕ) old c.self.invariant c.args.payload.now c.put_instead.new.parts c.put_instead.new.journal c.put_instead.new.is_broken c.in_err-blocks.field-0.0 m after lost c.in_err-blocks.ensures.ended base now
+    (changed now (file_replaced now.state c.args.name.now (new_file c.args.name.now c.args.assigned.now c.args.payload.now))) c.from_residual.result (r.1 ∙ ap Err r.2) alone (subst H (sym c.self.view_is) holds)
+
+pub refile-requires-clause-form : goal.refile-requires-clause-form
+refile-requires-clause-form g c =
+    mid_form c.self.view_is c.args.slot c.args.name.now c.args.assigned.now c.args.payload.now c.in_ok-blocks.blocks.items c.self.invariant c.in_ok-blocks.ensures.sound c.requires.may c.in_ok-blocks.ensures.renewed
+
+pub refile-requires-clause-may : goal.refile-requires-clause-may
+refile-requires-clause-may g c =
+    mid_first c.self.view_is c.args.slot c.args.name.now c.args.assigned.now c.args.payload.now c.in_ok-blocks.blocks.items c.self.invariant c.in_ok-blocks.ensures.sound c.requires.may c.in_ok-blocks.ensures.renewed
+
+pub refile-requires-clause-in_form : goal.refile-requires-clause-in_form
+refile-requires-clause-in_form g c =
+    mid_in_form c.self.view_is c.args.slot c.args.name.now c.args.assigned.now c.args.payload.now c.in_ok-blocks.blocks.items c.self.invariant c.in_ok-blocks.ensures.sound c.requires.may c.in_ok-blocks.ensures.renewed
+
+pub refile-requires-clause-below : goal.refile-requires-clause-below
+refile-requires-clause-below g c =
+    mid_below c.self.view_is c.args.slot c.args.name.now c.args.assigned.now c.args.payload.now c.in_ok-blocks.blocks.items c.self.invariant c.in_ok-blocks.ensures.sound c.requires.may c.in_ok-blocks.ensures.renewed
+
+pub refile-requires-clause-scratch : goal.refile-requires-clause-scratch
+refile-requires-clause-scratch g c =
+    subst (λ (l : Limits). HasRoom c.args.scratch.now l) (sym (mid_limits c.self.view_is c.args.slot c.args.name.now c.args.assigned.now c.args.payload.now c.in_ok-blocks.blocks.items c.self.invariant c.in_ok-blocks.ensures.sound c.requires.may c.in_ok-blocks.ensures.renewed)) c.requires.scratch
+
+pub most_held-requires : goal.most_held-requires
+most_held-requires g c =
+    mid_short c.self.view_is c.args.slot c.args.name.now c.args.assigned.now c.args.payload.now c.in_ok-blocks.blocks.items c.self.invariant c.in_ok-blocks.ensures.sound c.requires.may c.in_ok-blocks.ensures.renewed
+
+pub hold-requires-clause-sound : goal.hold-requires-clause-sound
+hold-requires-clause-sound g c =
+    written_sound c.self.view_is c.args.slot c.args.name.now c.args.assigned.now c.args.payload.now c.in_ok-blocks.blocks.items c.self.invariant c.in_ok-blocks.ensures.sound c.requires.may c.in_ok-blocks.ensures.renewed c.refile.ensures.refiled c.requires.unbroken
+
+pub hold-requires-clause-unbroken : goal.hold-requires-clause-unbroken
+hold-requires-clause-unbroken g c =
+    written_unbroken c.self.view_is c.args.slot c.args.name.now c.args.assigned.now c.args.payload.now c.in_ok-blocks.blocks.items c.self.invariant c.in_ok-blocks.ensures.sound c.requires.may c.in_ok-blocks.ensures.renewed c.refile.ensures.refiled c.requires.unbroken
+
+pub hold-requires-clause-placed : goal.hold-requires-clause-placed
+hold-requires-clause-placed g c =
+    written_placed c.self.view_is c.args.slot c.args.name.now c.args.assigned.now c.args.payload.now c.in_ok-blocks.blocks.items c.self.invariant c.in_ok-blocks.ensures.sound c.requires.may c.in_ok-blocks.ensures.renewed c.refile.ensures.refiled c.requires.unbroken
+
+pub hold-requires-clause-room : goal.hold-requires-clause-room
+hold-requires-clause-room g c =
+    written_room c.self.view_is c.args.slot c.args.name.now c.args.assigned.now c.args.payload.now c.in_ok-blocks.blocks.items c.self.invariant c.in_ok-blocks.ensures.sound c.requires.may c.in_ok-blocks.ensures.renewed c.refile.ensures.refiled c.requires.unbroken
+
+pub hold-requires-clause-image : goal.hold-requires-clause-image
+hold-requires-clause-image g c =
+    written_image c.self.view_is c.args.slot c.args.name.now c.args.assigned.now c.args.payload.now c.in_ok-blocks.blocks.items c.self.invariant c.in_ok-blocks.ensures.sound c.requires.may c.in_ok-blocks.ensures.renewed c.refile.ensures.refiled
+
+pub hold-requires-clause-unplaced : goal.hold-requires-clause-unplaced
+hold-requires-clause-unplaced g c = λ some.
+    mid_unplaced c.self.view_is c.args.slot c.args.name.now c.args.assigned.now c.args.payload.now c.in_ok-blocks.blocks.items c.self.invariant c.in_ok-blocks.ensures.sound c.requires.may c.in_ok-blocks.ensures.renewed (c.most_held.ensures.large some)
+
+pub hold-requires-clause-long : goal.hold-requires-clause-long
+hold-requires-clause-long g c =
+    omega (arith, c.requires.long, mid_image c.self.view_is c.args.slot c.args.name.now c.args.assigned.now c.args.payload.now c.in_ok-blocks.blocks.items c.self.invariant c.in_ok-blocks.ensures.sound c.requires.may c.in_ok-blocks.ensures.renewed, c.in_ok-blocks.ensures.run.len)
+
+pub returns-clause-scratch : goal.returns-clause-scratch
+returns-clause-scratch g c =
+    subst (λ (l : Limits). HasRoom c.refile.new.scratch l) (mid_limits c.self.view_is c.args.slot c.args.name.now c.args.assigned.now c.args.payload.now c.in_ok-blocks.blocks.items c.self.invariant c.in_ok-blocks.ensures.sound c.requires.may c.in_ok-blocks.ensures.renewed) c.refile.ensures.scratch
+
+pub returns-clause-holds : goal.returns-clause-holds
+returns-clause-holds g c = λ base now holds.
+    let new : Stored = record { parts = c.hold.new.parts; journal = c.hold.new.journal; is_broken = c.hold.new.is_broken } in
+    written_holds c.self.view_is c.args.slot c.args.name.now c.args.assigned.now c.args.payload.now c.in_ok-blocks.blocks.items c.self.invariant c.in_ok-blocks.ensures.sound c.requires.may c.in_ok-blocks.ensures.renewed c.refile.ensures.refiled
+    base now holds c.requires.named c.requires.enough c.requires.alone new (g.D.Disk.meaning c.hold.new.disk) c.hold.result c.hold.ensures.saves
+
+pub returns-clause-settled : goal.returns-clause-settled
+returns-clause-settled g c = λ large.
+    none_left (length c.args.payload.now) c.most_held.result c.hold.new.journal.staged c.hold.result c.most_held.ensures.large large c.hold.ensures.few
+
+pub returns-clause-limits : goal.returns-clause-limits
+returns-clause-limits g c =
+    ap (λ (k : Kept). k.limits) c.hold.ensures.parts ∙ written_limits c.self.view_is c.args.slot c.args.name.now c.args.assigned.now c.args.payload.now c.in_ok-blocks.blocks.items c.self.invariant c.in_ok-blocks.ensures.sound c.requires.may c.in_ok-blocks.ensures.renewed c.refile.ensures.refiled
+
+pub returns-clause-image : goal.returns-clause-image
+returns-clause-image g c =
+    c.hold.ensures.image ∙ mid_image c.self.view_is c.args.slot c.args.name.now c.args.assigned.now c.args.payload.now c.in_ok-blocks.blocks.items c.self.invariant c.in_ok-blocks.ensures.sound c.requires.may c.in_ok-blocks.ensures.renewed
+
+pub returns-clause-edits : goal.returns-clause-edits
+returns-clause-edits g c =
+    edits_saved c.refile.new.parts c.self.view_is c.hold.ensures.parts (written_edits c.self.view_is c.args.slot c.args.name.now c.args.assigned.now c.args.payload.now c.in_ok-blocks.blocks.items c.self.invariant c.in_ok-blocks.ensures.sound c.requires.may c.in_ok-blocks.ensures.renewed c.refile.ensures.refiled)
