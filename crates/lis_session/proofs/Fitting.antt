@@ -32,6 +32,7 @@ store_shown {k} fitting call =
           leaves = λ image is. fits.journal.leaves image (same.images.only image is);
         };
         unbroken = fits.unbroken;
+        settled = fits.settled;
         tells = fits.tells;
         written = fits.written;
       };
