@@ -1,5 +1,4 @@
 pub mod Moments
-mod Held
 pub mod Settling
 pub mod Holding
 pub mod Stepping

@@ -21,7 +21,7 @@ use Rattle.lis_session.proofs.Moments.{adds_since}
 use Rattle.lis_load.specs.declared.loader.Loader.{Loader}
 use Rattle.lis_load.specs.Load.{Loads, LoadServed, LoadStopped}
 use Rattle.lis_load.specs.Loading.{HasLoaded, IsIdle}
-use Rattle.lis_load.proofs.Held.{fits_of_held}
+use Rattle.lis_store.proofs.Holding.{held_fits}
 use Rattle.lis_load.proofs.Moments.{load_more, load_stopped_more}
 use Rattle.lis_load.proofs.Settling.{all_shown, shown_all}
 
@@ -71,7 +71,7 @@ module _ (limit : ℕ) (left_before left : Option (List ℕ)) (start now : Loade
       carried : {first : List Item} (these : List Item) → IsIdle now → HasLoaded start entry first now m (Ok tt) → these ≡ first → Carried step from these entry.shown m
       carried {first} these idle loaded is =
           let waits = (loaded.serves state fitting).ended in
-          let fits = fits_of_held now.session.store m _ (after_by step from first).state idle.committed waits.holds in
+          let fits = held_fits now.session.store m _ (after_by step from first).state idle.committed waits.holds in
           subst (λ xs. Carried step from xs entry.shown m) (sym is) (record { shown = shown_all waits idle.shown; stands = (store_fits_at loaded.keeps.sound fits).stands })
 
       loads_items : {first : List Item} {ended : Type 0} → HasLoaded start entry first now m (Ok tt) → script input limit ≡ first → ended → Loads from (script input limit) entry m ended

@@ -34,7 +34,7 @@ use Rattle.lis_session.proofs.Saying.{unchanged_past}
 use Rattle.lis_load.specs.declared.loader.Loader.{Loader}
 use Rattle.lis_load.specs.Load.{lag, LoadMoment}
 use Rattle.lis_load.specs.Loading.{answer, Waits, LoadEnded, HasLoaded}
-use Rattle.lis_load.proofs.Held.{held_of_fits}
+use Rattle.lis_store.proofs.Holding.{fits_held}
 use Rattle.lis_load.proofs.Moments.{out_whole, load_at, load_between, load_more, load_stopped_more}
 
 -- What is done next: its moments, told since the start, that the blocks past the image stay, and how it ended.
@@ -117,7 +117,7 @@ all_shown start items before now m none shown sound fits at =
       within = omega arith;
       shown = shown ∙ ap (append_known before) all;
       answers = all ∙ sym (append-nil (out step start items (length items))) ∙ ap (λ held. out step start items (length items) ++ flat_map answer held) (sym none);
-      holds = subst (λ s. StoreHolds now.session.store m s last) (sym (state_whole step start items)) (held_of_fits now.session.store m last sound fits);
+      holds = subst (λ s. StoreHolds now.session.store m s last) (sym (state_whole step start items)) (fits_held now.session.store m last sound fits);
       at = at;
     }
 

@@ -19,7 +19,7 @@ use Rattle.lis_session.proofs.Fitting.{store_fits_at}
 use Rattle.lis_session.proofs.Moments.{adds_later, moment_in}
 use Rattle.lis_load.specs.declared.loader.Loader.{Loader}
 use Rattle.lis_load.specs.Loading.{Waits, LoadEnded, HasLoaded, IsIdle}
-use Rattle.lis_load.proofs.Held.{fits_of_held}
+use Rattle.lis_store.proofs.Holding.{held_fits}
 use Rattle.lis_load.proofs.Moments.{load_more, load_session}
 use Rattle.lis_load.proofs.Settling.{Next, loaded_then, all_shown, shown_all}
 
@@ -67,7 +67,7 @@ module _ {start now : Loader} (next : Loader) {entry mid : Meaning} (m : Meaning
       → CarriesOut step (StoreFits now.session.store mid) now.session.place mid m result (StoreFits next.session.store m) next.session.place item → HasLoaded start entry (first ++ item ∷ []) next m result
   goes_on item result keeps carries = loaded_then (λ from. load_more from first (item ∷ [])) loaded keeps (λ from waits.
       let last = after_by step from first in
-      let fits = fits_of_held now.session.store mid _ last.state idle.committed waits.holds in
+      let fits = held_fits now.session.store mid _ last.state idle.committed waits.holds in
       item_next from first item next m waits idle.shown same result keeps.sound
       (subst (λ p. OneItem (record { state = last.state; place = p }) (step (record { state = last.state; place = p }) item) mid m result (StoreFits next.session.store m) next.session.place) waits.at
       (carries last.state (store_fits_at loaded.keeps.sound fits))))
