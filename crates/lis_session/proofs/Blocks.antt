@@ -20,6 +20,7 @@ use Rattle.lis_model.specs.Step.{Situation, Outcome, shown_here}
 use Rattle.lis_store.specs.Stands.{Stands}
 use Rattle.lis_store.specs.Stored.{Stored, IsSound, StoreFits}
 use Rattle.lis_store.specs.Judging.{is_among}
+use Rattle.lis_store.proofs.ToldBy.{told_fits}
 use Rattle.lis_store.proofs.Facts.{sizes_told, here_told}
 use Rattle.lis_session.specs.declared.end.End.{End}
 use Rattle.lis_session.specs.declared.end.End.TheVariants.{DiskFault}
@@ -33,7 +34,7 @@ use Rattle.lis_session.proofs.Saying.{Shows, unchanged_past, quiet_broke, quiet_
 -- a file has as many bytes as its record says
 pub size_is : {k : Stored} {m : Meaning} {s : State} (name : List ℕ) (slot size : ℕ) → IsSound k → StoreFits k m s → slot_of k.parts.catalog name ≡ Some slot
     → IsSomeAnd (rec_at k.parts.catalog slot) (λ (rec : FileRecord). size ≡ rec.size) → length (file_of s.files name).bytes ≡ size
-size_is {k} {m} {s} name slot size sound fits is_slot told = by (rec_at k.parts.catalog slot) (sizes_told k m s sound fits name slot is_slot) told
+size_is {k} {m} {s} name slot size sound fits is_slot told = by (rec_at k.parts.catalog slot) (sizes_told k s sound (told_fits k m s sound fits) name slot is_slot) told
   where
     by : (o : Option FileRecord) → IsSomeAnd o (λ (rec : FileRecord). length (file_of s.files name).bytes ≡ rec.size) → IsSomeAnd o (λ (rec : FileRecord). size ≡ rec.size)
         → length (file_of s.files name).bytes ≡ size
@@ -153,8 +154,8 @@ module _ {k : Stored} {old mid : Meaning} {state : State} (bytes : List ℕ) {si
 -- a file of which something is shown, by whether the store finds it
 module _ {k : Stored} {old new : Meaning} {result : Result (Unit {0}) End} (now : Situation) (name body : List ℕ) (sound : IsSound k) (fitting : FitsAt (StoreFits k old) old now.state) where
   pub shows_nowhere : is_among k.parts now.place name ≡ false → Answers old new (refusal_line NoFileHere) result → OneItem now (shown_here now name body) old new result (StoreFits k new) now.place
-  shows_nowhere nowhere answers = shows_item (shown_here now name body) now.place fitting answers (refused_nowhere now name body (sym (here_told k old now.state sound fitting.own now.place name) ∙ nowhere))
+  shows_nowhere nowhere answers = shows_item (shown_here now name body) now.place fitting answers (refused_nowhere now name body (sym (here_told k now.state sound (told_fits k old now.state sound fitting.own) now.place name) ∙ nowhere))
 
   pub shows_here : is_among k.parts now.place name ≡ true → Shows now.state (body ++ ok_line) old new result (StoreFits k new) → OneItem now (shown_here now name body) old new result (StoreFits k new) now.place
   shows_here here item =
-      subst (λ (o : Outcome). OneItem now o old new result (StoreFits k new) now.place) (sym (shown_if_here now name body (sym (here_told k old now.state sound fitting.own now.place name) ∙ here))) (item_then result (item_none now fitting) item.past item)
+      subst (λ (o : Outcome). OneItem now o old new result (StoreFits k new) now.place) (sym (shown_if_here now name body (sym (here_told k now.state sound (told_fits k old now.state sound fitting.own) now.place name) ∙ here))) (item_then result (item_none now fitting) item.past item)

@@ -31,6 +31,7 @@ use Rattle.lis_kept.proofs.Numbered.{Numbers, numbers_are}
 use Rattle.lis_store.specs.Stored.{Stored, IsSound, StoreFits}
 use Rattle.lis_store.specs.Seen.{table_of}
 use Rattle.lis_store.specs.Judging.{is_among}
+use Rattle.lis_store.proofs.ToldBy.{told_fits}
 use Rattle.lis_store.proofs.Facts.{any_is_found, table_told}
 use Rattle.lis_store.proofs.Described.{description_told, entry_found}
 use Rattle.lis_session.specs.Described.{words_had}
@@ -98,7 +99,7 @@ module _ (k : Kept) (slot : ℕ) where
 module _ {k : Stored} {m : Meaning} (now : Situation) (name : List ℕ) (sound : IsSound k) (fits : StoreFits k m now.state) where
   -- ---- the description of a file
   pub had_described : (slot : ℕ) → slot_of k.parts.catalog name ≡ Some slot → words_had k.parts slot k.parts.dict.entries ≡ description now.state (file_of now.state.files name)
-  had_described slot is = had_told k.parts slot sound.parts ∙ description_told m k now.state sound fits name slot is
+  had_described slot is = had_told k.parts slot sound.parts ∙ description_told k now.state sound (told_fits k m now.state sound fits) name slot is
 
   -- ---- the route to a file
   pub way_here : is_among k.parts now.place name ≡ is_some (file_here (table_of k.parts) now.place name)
@@ -106,6 +107,6 @@ module _ {k : Stored} {m : Meaning} (now : Situation) (name : List ℕ) (sound :
 
   pub way_is : (words : List (List ℕ)) → IsWay (table_of k.parts) now.place name words → words ≡ route (table now.state) now.place (entry_at now.state name)
   way_is words is =
-      let told = table_told k m now.state sound fits in
-      let entry = entry_found m k now.state sound fits now.place name is.file (ap (λ (t : Table). file_here t now.place name) (sym told) ∙ is.here) in
+      let told = table_told k now.state sound (told_fits k m now.state sound fits) in
+      let entry = entry_found k now.state sound (told_fits k m now.state sound fits) now.place name is.file (ap (λ (t : Table). file_here t now.place name) (sym told) ∙ is.here) in
       is.steps ∙ (ap (λ (t : Table). route t now.place is.file) told ∙ ap (route (table now.state) now.place) entry)

@@ -25,6 +25,7 @@ use Rattle.lis_store.specs.declared.change.Change.{Change}
 use Rattle.lis_store.specs.declared.change.Change.TheVariants.{Refused, Disk}
 use Rattle.lis_store.specs.Stored.{Stored, IsSound, StoreFits}
 use Rattle.lis_store.specs.Judging.{is_among}
+use Rattle.lis_store.proofs.ToldBy.{told_fits}
 use Rattle.lis_store.proofs.Facts.{here_told}
 use Rattle.lis_store.specs.Changes.{Changes}
 use Rattle.lis_store.specs.Stands.{Stands}
@@ -79,7 +80,7 @@ refused_answer (Err refusal) = refl
 -- ---- a file of which something is shown
 pub tallied_look : {k : Stored} {m : Meaning} (now : Situation) (name body : List ℕ) → IsSound k → FitsAt (StoreFits k m) m now.state → is_refusal (body ++ ok_line) ≡ false
     → Tallied now (shown_here now name body) 0 m m (Ok (tally_with (not (is_among k.parts now.place name)) 0)) (StoreFits k m) now.place
-tallied_look {k} {m} now name body sound fitting said = by (is_among k.parts now.place name) (sym (here_told k m now.state sound fitting.own now.place name))
+tallied_look {k} {m} now name body sound fitting said = by (is_among k.parts now.place name) (sym (here_told k now.state sound (told_fits k m now.state sound fitting.own) now.place name))
   where
     by : (here : Bool) → is_here now name ≡ here → Tallied now (shown_here now name body) 0 m m (Ok (tally_with (not here) 0)) (StoreFits k m) now.place
     by false is = tallied_still _ 0 now.place (refusal_line NoFileHere) _ fitting (refused_nowhere now name body is) refl

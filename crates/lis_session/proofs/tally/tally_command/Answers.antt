@@ -7,6 +7,7 @@ use Rattle.lis_model.specs.Route.{route}
 use Rattle.lis_model.specs.State.{description}
 use Rattle.lis_model.specs.Step.{Situation, entry_at, cd, ls, pwd, stat}
 use Rattle.lis_model.specs.Table.{Table, table}
+use Rattle.lis_store.proofs.ToldBy.{told_fits}
 use Rattle.lis_store.proofs.Facts.{table_told}
 use Rattle.lis_session.proofs.Staying.{done_stays}
 use Rattle.lis_session.proofs.Answering.{words_known}
@@ -44,7 +45,7 @@ pub returns-in-Ls-clause-tallies : goal.returns-in-Ls-clause-tallies
 returns-in-Ls-clause-tallies g c =
     rw (c.in-Ls.is, c.list.ensures.listed) (λ state fitting.
     let now : Situation = record { state = state; place = c.args.place.now } in
-    let told = table_told c.args.store.now (g.D.Disk.meaning c.args.disk.now) state c.requires.sound fitting.own in
+    let told = table_told c.args.store.now state c.requires.sound (told_fits c.args.store.now (g.D.Disk.meaning c.args.disk.now) state c.requires.sound fitting.own) in
     tallied_still (ls now) _ c.args.place.now _ _ fitting refl (ap₂ tally_with (sym (listing_no_refusal (increments (table state) c.args.place.now) (locals (table state) c.args.place.now)))
     (ap (λ (t : Table). length (increments t c.args.place.now) + length (locals t c.args.place.now)) told)))
 
