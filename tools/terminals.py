@@ -88,8 +88,12 @@ class Person:
             file.write("set -s escape-time 0\nset -s exit-empty off\n")
         self._socket = os.path.abspath("tmux.socket")
         words = environment(XDG_STATE_HOME=os.path.abspath("state"), SHELL="/bin/sh", LC_ALL="C.UTF-8")
-        subprocess.run([*self._words("-f", "tmux.conf", "new-session"), "-d", "-x", str(COLUMNS), "-y", str(ROWS), command],
-                       env=words, timeout=LONG, check=True)
+        try:
+            subprocess.run([*self._words("-f", "tmux.conf", "new-session"), "-d", "-x", str(COLUMNS), "-y", str(ROWS), command],
+                           env=words, timeout=LONG, check=True)
+        except BaseException:
+            self._end()
+            raise
 
     def _words(self, *words):
         return ["tmux", "-u", "-S", self._socket, *words]
@@ -98,6 +102,9 @@ class Person:
         return self
 
     def __exit__(self, *_):
+        self._end()
+
+    def _end(self):
         subprocess.run(self._words("kill-server"), stderr=subprocess.DEVNULL, timeout=LONG, check=False)
 
     def asks(self, *words):
