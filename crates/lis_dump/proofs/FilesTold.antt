@@ -21,6 +21,7 @@ use Rattle.lis_kept.proofs.Known.{among_place}
 use Rattle.lis_replay.specs.Dump.{words_line, mv_lines, file_lines}
 use Rattle.lis_store.specs.Seen.{placed}
 use Rattle.lis_store.specs.Stored.{Stored, IsSound, StoreFits}
+use Rattle.lis_store.proofs.ToldBy.{told_fits}
 use Rattle.lis_store.proofs.Described.{tags_told}
 use Rattle.lis_store.proofs.Facts.{limits_told, files_told, file_in_slot}
 use Rattle.lis_session.specs.Item.{FitsAt}
@@ -92,7 +93,7 @@ module _ {k : Stored} {m : Meaning} (sound : IsSound k) (state : State) (fitting
   -- ---- its lines
   module _ (name : List ℕ) (slot : ℕ) (is_slot : slot_of k.parts.catalog name ≡ Some slot) where
     assigned_is : (words : List (List ℕ)) → IsSomeAnd (rec_at k.parts.catalog slot) (λ (rec : FileRecord). words ≡ words_told k.parts.dict rec.tags) → words ≡ (file_of state.files name).assigned
-    assigned_is words told = by (rec_at k.parts.catalog slot) (tags_told m k state sound fits name slot is_slot) told
+    assigned_is words told = by (rec_at k.parts.catalog slot) (tags_told k state sound (told_fits k m state sound fits) name slot is_slot) told
       where
         by : (o : Option FileRecord) → IsSomeAnd o (λ (rec : FileRecord). words_told k.parts.dict rec.tags ≡ (file_of state.files name).assigned)
             → IsSomeAnd o (λ (rec : FileRecord). words ≡ words_told k.parts.dict rec.tags) → words ≡ (file_of state.files name).assigned
