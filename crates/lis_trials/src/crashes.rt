@@ -164,7 +164,10 @@ fn loaded(alloc: Global, words: &[&str], script: &Script, step: usize) -> Result
 
 // It is the state behind some commands, those among them whose replies were shown whole or begun.
 fn is_kept(script: &Script, left: &str, shown: u64) -> bool {
-    let behind = script.states.iter().skip(shown.div_ceil(REPLY_LEN) as usize);
+    let behind = script
+        .states
+        .iter()
+        .skip(shown.div_ceil(REPLY_LEN) as usize);
     for state in behind {
         if left == *state {
             return true;
