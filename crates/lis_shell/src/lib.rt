@@ -4,8 +4,8 @@
 pub mod dumping;
 mod growing;
 pub mod image;
-pub mod loading;
 pub mod laws;
+pub mod loading;
 mod parting;
 pub mod rooming;
 pub mod serving;

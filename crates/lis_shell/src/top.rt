@@ -124,18 +124,18 @@ fn carry_task<S: Source, T: Station>(
 
 /// Does what the words after the program's name ask for.
 ///
-/// `try FILES PROPS BLOCKS` carries out the commands of the input on a state that begins empty, and shows the replies; what the disk
-/// reads as, and what a crash leaves of it, stays. `make IMAGE FILES PROPS BLOCKS` makes an image of the empty state; it reads no input
-/// and shows nothing. With `v2` behind the words of these two the state is of version 2, and else of version 1. `run IMAGE` opens the
-/// image, carries out the commands of the input on it and shows the replies. `load IMAGE` does the same with many changes to a commit: a
-/// reply comes behind the commit, and at most 256 wait for it. `rooms IMAGE` does what `run` does for up to eight sessions in one stream, each at a place of its own: the tag of a line, `@0` to `@7`, says whose it is, and stands behind the reply. `upgrade IMAGE`
-/// makes the image one of version 2; it reads no input and shows nothing. `dump IMAGE` opens the image and shows the session that makes
-/// its state again; it reads no input and changes nothing. `grow IMAGE N` opens the image and carries out the large session that is made
-/// of the number, below 2^31; it reads no input, and shows a summary in place of the replies. `view IMAGE NAME F` opens the image and
-/// shows the lines of the file NAME of which the formula F holds, with marks in place of the others; it reads no input and changes
-/// nothing. `put IMAGE NAME F` opens the image, reads an edited view of the file, of at most 8,388,608 bytes, and makes the file anew of
-/// it. IMAGE is not looked at here: the station is the image. Any other words are `Usage`, which is judged before anything is read or
-/// taken.
+/// `try FILES PROPS BLOCKS` carries out the commands of the input on a state that begins empty, and shows the replies; what the disk reads
+/// as, and what a crash leaves of it, stays. `make IMAGE FILES PROPS BLOCKS` makes an image of the empty state; it reads no input and shows
+/// nothing. With `v2` behind the words of these two the state is of version 2, and else of version 1. `run IMAGE` opens the image, carries
+/// out the commands of the input on it and shows the replies. `load IMAGE` does the same with many changes to a commit: a reply comes
+/// behind the commit, and at most 256 wait for it. `rooms IMAGE` does what `run` does for up to eight sessions in one stream, each at a
+/// place of its own: the tag of a line, `@0` to `@7`, says whose it is, and stands behind the reply. `upgrade IMAGE` makes the image one of
+/// version 2; it reads no input and shows nothing. `dump IMAGE` opens the image and shows the session that makes its state again; it reads
+/// no input and changes nothing. `grow IMAGE N` opens the image and carries out the large session that is made of the number, below 2^31;
+/// it reads no input, and shows a summary in place of the replies. `view IMAGE NAME F` opens the image and shows the lines of the file NAME
+/// of which the formula F holds, with marks in place of the others; it reads no input and changes nothing. `put IMAGE NAME F` opens the
+/// image, reads an edited view of the file, of at most 8,388,608 bytes, and makes the file anew of it. IMAGE is not looked at here: the
+/// station is the image. Any other words are `Usage`, which is judged before anything is read or taken.
 ///
 /// Want of memory in a word that opens an image comes at the opening alone, with nothing shown; in `try` it may come between two
 /// commands.

@@ -164,7 +164,10 @@ fn loaded(alloc: Global, words: &[&str], script: &Script, step: usize) -> Result
 
 // It is the state behind some commands, those among them whose replies were shown whole or begun.
 fn is_kept(script: &Script, left: &str, shown: u64) -> bool {
-    let behind = script.states.iter().skip(shown.div_ceil(REPLY_LEN) as usize);
+    let behind = script
+        .states
+        .iter()
+        .skip(shown.div_ceil(REPLY_LEN) as usize);
     for state in behind {
         if left == *state {
             return true;
@@ -297,14 +300,24 @@ fn and_where_some_is_taken(rt: HostRuntime) -> Result<(), Fail> {
     Ok(())
 }
 
-// In one piece, and so that each line comes in pieces: then each command is committed alone.
 #[test]
 fn a_crash_in_a_load_leaves_the_state_behind_some_commands(rt: HostRuntime) -> Result<(), Fail> {
     for words in MAKES {
-        for step in [1 << 20, 7, 1] {
+        for step in [1 << 20, 7] {
             let wrong = wrong_load_of_any(rt.alloc(), words, step)?;
             assert!(rt; wrong.is_none(), "in pieces of {step}: {wrong:?}");
         }
+    }
+    Ok(())
+}
+
+// Byte by byte no item lies whole ahead, so that none is held back.
+#[test]
+fn a_load_of_single_bytes_commits_each_command(rt: HostRuntime) -> Result<(), Fail> {
+    for script in [&KINDS, &ONE_FILE, &TWO_FILES] {
+        let station = loaded(rt.alloc(), MAKES[0], script, 1)?;
+        let wrong = wrong_state(rt.alloc(), script, &station, PICK)?;
+        assert!(rt; wrong.is_none(), "{wrong:?}");
     }
     Ok(())
 }

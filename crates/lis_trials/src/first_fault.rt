@@ -29,7 +29,7 @@ type Case = (
 );
 
 /// The session leaves open records, so that the opening brings them home.
-static CASES: [Case; 10] = [
+static CASES: [Case; 11] = [
     (
         &["try", "64", "64", "8"],
         "",
