@@ -67,9 +67,9 @@ def head(name):
 
 
 def cells(figures, form):
-    """The cells of a figure of each program, None where there is none."""
+    """The cells of a figure of each program, None where there is none. What is less than an opening differs by has no ratio."""
     shown = [DASH if figure is None else format(figure, form) for figure in figures]
-    return shown if len(PROGRAMS) == 1 else shown + [DASH if None in figures or figures[1] <= 0 else f"{figures[0] / figures[1]:.2f}"]
+    return shown if len(PROGRAMS) == 1 else shown + [DASH if None in figures or min(figures) <= 0 else f"{figures[0] / figures[1]:.2f}"]
 
 
 def flat(parts):
