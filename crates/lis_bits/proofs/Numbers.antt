@@ -1,7 +1,6 @@
 -- Truth values as numbers and as bytes.
-use Rattle.std.proofs.Common.{◌≡◌, ℕ, zero, suc, ◌+◌, ◌*◌, ◌/◌, ◌%◌, ◌-◌, ◌^◌, ◌<◌, ◌≤◌, Bool, true, false, ◌&&◌, if◌then◌else◌, List, length, map, get_or, nat_eq, refl, sym, ap, ◌∙◌, arith, add-one, bit_and}
+use Rattle.std.proofs.Common.{◌≡◌, ℕ, zero, suc, ◌+◌, ◌*◌, ◌/◌, ◌%◌, ◌^◌, ◌<◌, Bool, true, false, ◌&&◌, if◌then◌else◌, List, length, get_or, nat_eq, refl, sym, ap, ◌∙◌, arith, add-one, bit_and}
 use Rattle.std.specs.Int.{bit_at}
-use Rattle.std.specs.List.{range_with_len}
 use Rattle.std.proofs.Math.Nat.{pow-suc, div-div-eq-div-mul}
 use Rattle.std.proofs.lemmas.Nat.{pow-add, and_le_r}
 use Rattle.std.proofs.lemmas.Nat.Bits.{bit_at-lt, bit_at-suc, bit_at_lowest, bit_at_ones, same_from_bits_below}
@@ -71,7 +70,7 @@ pub bytes_are : (bytes : List ℕ) (count : ℕ) (bit : ℕ → Bool) → length
 unfolding bits_bytes
 bytes_are bytes count bit long each = fill_by_all (λ k. bits_number 8 (λ i. bit (8 * k + i))) bytes count 0 long each
 
-number_same : (n : ℕ) (f g : ℕ → Bool) → ((i : ℕ) → i < n → f i ≡ g i) → bits_number n f ≡ bits_number n g
+pub number_same : (n : ℕ) (f g : ℕ → Bool) → ((i : ℕ) → i < n → f i ≡ g i) → bits_number n f ≡ bits_number n g
 number_same n f g same = number_is n (bits_number n f) g (number_below n f) (λ i lt. number_bit n f i lt ∙ same i lt)
 
 -- other truth values that are the same

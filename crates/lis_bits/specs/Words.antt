@@ -1,5 +1,6 @@
 -- What the loops over the words of rows do. No public clause cites this module.
-use Rattle.std.specs.Prelude.{◌≡◌, ℕ, ◌+◌, ◌*◌, ◌/◌, ◌%◌, ◌<◌, ◌≤◌, ◌⊎◌, Bool, true, false, nat_eq, List, length, slice_index}
+use Rattle.std.specs.Prelude.{◌≡◌, ℕ, ◌+◌, ◌*◌, ◌/◌, ◌%◌, ◌<◌, ◌≤◌, ◌⊎◌, Bool, true, false, nat_eq, List, slice_index}
+use Rattle.std.specs.List.{list_any}
 use Rattle.std.specs.Int.{bit_at}
 use Rattle.lis_bits.specs.Bytes.{bits_number}
 
@@ -37,16 +38,20 @@ pub record IsNextIn (word start bit : ℕ) : Type 0 where
 abbrev pub words_bit : List ℕ → ℕ → Bool
 words_bit words bit = word_bit (slice_index words (bit / 64)) (bit % 64)
 
--- no bit of the words from `start` on is 1
-abbrev pub NoneNextFrom : List ℕ → ℕ → Type 0
-NoneNextFrom words start = (k : ℕ) → start ≤ k → k < 64 * length words → words_bit words k ≡ false
+-- whether a bit is 1 in one of these rows of the words
+abbrev pub rows_bit : List ℕ → List ℕ → ℕ → ℕ → Bool
+rows_bit words rows width bit = list_any (λ row. word_bit (slice_index words (row * width + bit / 64)) (bit % 64)) rows
 
--- this is the least bit of the words from `start` on that is 1
-pub record IsNextFrom (words : List ℕ) (start bit : ℕ) : Type 0 where
+-- no bit from `start` on is true, of so many
+abbrev pub NoneNextFrom : (ℕ → Bool) → ℕ → ℕ → Type 0
+NoneNextFrom value bits start = (k : ℕ) → start ≤ k → k < bits → value k ≡ false
+
+-- this is the least bit from `start` on that is true, of so many
+pub record IsNextFrom (value : ℕ → Bool) (bits start bit : ℕ) : Type 0 where
   pub from : start ≤ bit
-  pub in_words : bit < 64 * length words
-  pub set : words_bit words bit ≡ true
-  pub none_before : (k : ℕ) → start ≤ k → k < bit → words_bit words k ≡ false
+  pub in_words : bit < bits
+  pub set : value bit ≡ true
+  pub none_before : (k : ℕ) → start ≤ k → k < bit → value k ≡ false
 
 -- each of the first bytes tells eight bits of the words
 abbrev pub HasBytes : List ℕ → List ℕ → ℕ → Type 0

@@ -1,4 +1,4 @@
-use crate::{Flags, Rows, and_not_row, and_row, copy_row, meets, within};
+use crate::{Flags, Rows, and_not_row, and_row, copy_row, meets, or_row, within};
 use std::test::Fail;
 
 #[test]
@@ -8,6 +8,10 @@ fn finds_and_counts_true_bits(rt: HostRuntime) -> Result<(), Fail> {
     rows.put(0, 64, true);
     rows.put(0, 100, true);
     assert_eq!(rt; rows.count(0), 3);
+    assert_eq!(rt;
+        (rows.byte(0, 8), rows.byte(0, 12), rows.byte(1, 12)),
+        (1, 16, 0)
+    );
     assert_eq!(rt; rows.next(0, 1), Some(64));
     assert_eq!(rt; rows.next(0, 65), Some(100));
     assert_eq!(rt; rows.next(0, 101), None);
@@ -48,6 +52,29 @@ fn joins_rows_across(rt: HostRuntime) -> Result<(), Fail> {
     assert_eq!(rt; both.count(1), 63);
     and_row(&low, 0, &mut both, 1);
     assert_eq!(rt; both.count(1), 0);
+    both.put(1, 6, true);
+    or_row(&low, 0, &mut both, 1);
+    assert!(rt; both.get(1, 5) && both.get(1, 6) && both.count(1) == 2);
+    Ok(())
+}
+
+#[test]
+fn looks_into_some_rows(rt: HostRuntime) -> Result<(), Fail> {
+    let mut rows = Rows::new(rt.alloc(), 4, 192)?;
+    rows.put(0, 3, true);
+    rows.put(1, 100, true);
+    rows.put(3, 100, true);
+    rows.put(3, 191, true);
+    assert_eq!(rt; rows.next_of(&[1, 3], 0), Some(100));
+    assert_eq!(rt; rows.next_of(&[1, 3], 101), Some(191));
+    assert_eq!(rt; rows.next_of(&[0, 1, 2], 101), None);
+    assert_eq!(rt; rows.next_of(&[], 0), None);
+    assert_eq!(rt; rows.next_of(&[0, 3], 192), None);
+    let mut own = Rows::new(rt.alloc(), 1, 192)?;
+    own.put(0, 100, true);
+    own.put(0, 101, true);
+    assert_eq!(rt; own.count_with(0, &rows, &[1, 3]), 3);
+    assert_eq!(rt; own.count_with(0, &rows, &[]), 2);
     Ok(())
 }
 
