@@ -173,6 +173,10 @@ impl BlockMap {
         requires { k < 4096 }
         ensures { result ≡ bits_number (take 8 (drop (8 * k) self.now)) }
     {
+        // The row tells the free ones of eight blocks at once; the last byte may have fewer blocks.
+        if 8 * k + 8 <= self.blocks {
+            return !self.rows.byte(0, k);
+        }
         let mut byte = 0;
         for i in 0..8 {
             byte = 2 * byte + u8::from(self.tells(8 * k + 7 - i));
