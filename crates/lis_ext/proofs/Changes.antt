@@ -52,10 +52,10 @@ changes_same old now old_marks marks props files touched touched' value value' h
 
 -- ---- tests of the next number of a list
 module _ (numbers : List ℕ) (k : ℕ) (lt : k < length numbers) where
-  next_has : has_number (take (k + 1) numbers) (get_or numbers k 0) ≡ true
+  pub next_has : has_number (take (k + 1) numbers) (get_or numbers k 0) ≡ true
   next_has = has_more numbers k (get_or numbers k 0) lt ∙ (ap (λ b. has_number (take k numbers) (get_or numbers k 0) || b) (eq-eqb (get_or numbers k 0) (get_or numbers k 0) refl) ∙ or_true (has_number (take k numbers) (get_or numbers k 0)))
 
-  other_has : (p : ℕ) → (p ≡ get_or numbers k 0 → ⊥) → has_number (take (k + 1) numbers) p ≡ has_number (take k numbers) p
+  pub other_has : (p : ℕ) → (p ≡ get_or numbers k 0 → ⊥) → has_number (take (k + 1) numbers) p ≡ has_number (take k numbers) p
   other_has p differ = has_more numbers k p lt ∙ (ap (λ b. has_number (take k numbers) p || b) (ne_eqb (get_or numbers k 0) p (λ e. differ (sym e))) ∙ or_false (has_number (take k numbers) p))
     where
       or_false : (b : Bool) → (b || false) ≡ b

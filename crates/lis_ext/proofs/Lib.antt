@@ -1,4 +1,5 @@
 pub mod Numbers
 mod Changes
 mod Widened
+mod InStep
 pub mod Seen

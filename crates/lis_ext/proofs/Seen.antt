@@ -1,5 +1,5 @@
 -- What a contract sees of the rows, and of the rows that the loops leave.
-use Rattle.std.proofs.Common.{◌≡◌, ◌⊎◌, ℕ, ◌+◌, ◌<◌, ◌≤◌, Bool, true, false, not, ◌&&◌, ◌||◌, if◌then◌else◌, List, [], ◌∷◌, length, map, get_or, set, replicate, refl, sym, ap, subst, ◌∙◌, inl, inr, arith, eq-eqb, length-set, get_or-set_same, get_or-set_other}
+use Rattle.std.proofs.Common.{◌≡◌, ◌⊎◌, ℕ, ◌+◌, ◌<◌, ◌≤◌, Bool, true, false, not, ◌&&◌, ◌||◌, ◌==◌, if◌then◌else◌, List, [], ◌∷◌, length, map, get_or, set, replicate, refl, sym, ap, subst, ◌∙◌, inl, inr, arith, eq-eqb, length-set, get_or-set_same, get_or-set_other}
 use Rattle.std.specs.List.{range_with_len, list_any, All}
 use Rattle.std.specs.List.Sorted.{IsStrictlyIncreasing}
 use Rattle.std.proofs.lemmas.Bool.{cases_eq, ne_eqb}
@@ -11,7 +11,7 @@ use Rattle.lis_bits.specs.Rows.{HasShape, Rows, get, with_row, empty_rows}
 use Rattle.lis_bits.proofs.Laws.{get-with_row_same, get-empty_rows}
 use Rattle.lis_ext.specs.Numbers.{has_number, numbers_where, differs}
 use Rattle.lis_ext.specs.Ext.{Ext, empty_ext, is_lacked}
-use Rattle.lis_ext.specs.Inside.{AddsNumbers, DropsNumbers, Widens, lacks, sets_of, seen}
+use Rattle.lis_ext.specs.Inside.{AddsNumbers, DropsNumbers, Widens, HasSets, lacks, sets_of, seen}
 use Rattle.lis_ext.proofs.Numbers.{among_where, sorted_where, has-numbers_where, numbers_same, numbers_of, numbers_none, numbers_apart}
 
 module _ (rows : Rows) (props files : ℕ) where
@@ -94,6 +94,13 @@ module _ (old mid new old_marks mid_marks marks : Rows) (props files file : ℕ)
       at k lt (inl same) = rw same (get_or-set_same (sets_of old props files) file to [] (omega (arith, length-sets_of old props files)) ∙ sym (numbers_same props (λ p. get new p file) (has_number to) bit_at_file ∙ numbers_of props to rises below))
       at k lt (inr differ) = get_or-set_other (sets_of old props files) file k to [] differ ∙ (set-sets_of old props files k lt ∙ numbers_same props (λ p. get old p k) (λ p. get new p k) (λ p p_in. sym (bit_other p k p_in lt differ)))
 
+  pub in_step_set : (sets sets' : Rows) → HasSets sets props files (λ i p. get old p i) → HasSets sets' props files (λ i p. if i == file then has_number to p else get sets i p) → HasSets sets' props files (λ i p. get new p i)
+  in_step_set sets sets' h h' = record { shape = h'.shape; bits = λ i p i_in p_in. h'.bits i p i_in p_in ∙ at i p i_in p_in (cases_eq i file) }
+    where
+      at : (i p : ℕ) → i < files → p < props → (i ≡ file) ⊎ (i ≡ file → ⊥) → (if i == file then has_number to p else get sets i p) ≡ get new p i
+      at i p i_in p_in (inl same) = rw (same, eq-eqb file file refl) (sym (bit_at_file p p_in))
+      at i p i_in p_in (inr differ) = rw (ne_eqb i file differ) (h.bits i p i_in p_in ∙ sym (bit_other p i p_in i_in differ))
+
   pub marks_set : numbers_where props (get marks 0) ≡ numbers_where props (λ p. has_number (numbers_where props (get old_marks 0)) p || differs from to p)
   marks_set = numbers_same props (get marks 0) (λ p. has_number (numbers_where props (get old_marks 0)) p || differs from to p)
       (λ p lt. d.marks p lt ∙ (rw (a.marks p lt, sym (had p lt), has-numbers_where props (get old_marks 0) p lt) (or_assoc (get old_marks 0 p) (has_number to p && not (has_number from p)) (has_number from p && not (has_number to p)))))
@@ -126,6 +133,16 @@ module _ (old new old_marks marks : Rows) (props files left : ℕ) (ups : ℕ �
   unfolding sets_of
   sets_widened = sym (fill_by_all (λ i. numbers_where props (λ p. get new p i)) (map widen_set (sets_of old props files)) files [] (length-map (sets_of old props files) widen_set ∙ length-sets_of old props files)
       (λ k lt. get_or-map widen_set (sets_of old props files) k [] [] (omega (arith, length-sets_of old props files)) ∙ (ap widen_set (set-sets_of old props files k lt) ∙ widened_at k lt (get old left k) refl)))
+
+  pub in_step_widened : (sets sets' : Rows) → HasSets sets props files (λ i p. get old p i) → HasSets sets' props files (λ i p. get sets i p || (get old left i && ups p)) → HasSets sets' props files (λ i p. get new p i)
+  in_step_widened sets sets' was now = record {
+    shape = now.shape;
+    bits = λ i p i_in p_in. now.bits i p i_in p_in ∙ (ap (λ b. b || (get old left i && ups p)) (was.bits i p i_in p_in) ∙ (ap (λ b. get old p i || b) (either_way (get old left i) (ups p)) ∙ sym (h.bits p i p_in i_in)));
+  }
+    where
+      either_way : (x y : Bool) → (x && y) ≡ (y && x)
+      either_way true y = sym (and_true y)
+      either_way false y = sym (and_false y)
 
   any_same : {A : Type 0} (f : ℕ → A) (t : A → Bool) (u : ℕ → Bool) (xs : List ℕ) → ((x : ℕ) → Among xs x → t (f x) ≡ u x) → list_any t (map f xs) ≡ list_any u xs
   any_same f t u [] same = refl

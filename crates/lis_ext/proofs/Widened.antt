@@ -33,7 +33,7 @@ none_lacks rows files left q all = by (lacks rows files left q) refl
         cc
         )
 
-or_false : (b : Bool) → (b || false) ≡ b
+pub or_false : (b : Bool) → (b || false) ≡ b
 or_false true = refl
 or_false false = refl
 
@@ -45,25 +45,35 @@ or_some : (b t : Bool) → (b || (t && b)) ≡ b
 or_some true t = refl
 or_some false t = and_false t
 
-module _ (old now old_marks marks : Rows) (props files left start q : ℕ) (ups : ℕ → Bool) (left_in : left < props) (le : start ≤ q) (q_in : q < props) (set : ups q ≡ true) (least : (p : ℕ) → start ≤ p → p < q → ups p ≡ false)
-    (h : Widens old now old_marks marks props files left (λ p. nat_lt p start && ups p)) where
-  before : (nat_lt q start && ups q) ≡ false
+-- ---- the next number that passes a test
+module _ (start q : ℕ) (test : ℕ → Bool) (le : start ≤ q) (set : test q ≡ true) (least : (p : ℕ) → start ≤ p → p < q → test p ≡ false) where
+  pub before : (nat_lt q start && test q) ≡ false
   before = let t : nat_lt q start ≡ false = grind (arith, tests) in rw t
 
-  after : (nat_lt q (q + 1) && ups q) ≡ true
+  pub after : (nat_lt q (q + 1) && test q) ≡ true
   after = let t : nat_lt q (q + 1) ≡ true = grind (arith, tests) in rw (t, set)
 
-  other : (p : ℕ) → (p ≡ q → ⊥) → (nat_lt p (q + 1) && ups p) ≡ (nat_lt p start && ups p)
+  pub other : (p : ℕ) → (p ≡ q → ⊥) → (nat_lt p (q + 1) && test p) ≡ (nat_lt p start && test p)
   other p differ = by (cases_lt p start) (cases_lt p q)
     where
-      by : (p < start) ⊎ (start ≤ p) → (p < q) ⊎ (q ≤ p) → (nat_lt p (q + 1) && ups p) ≡ (nat_lt p start && ups p)
+      by : (p < start) ⊎ (start ≤ p) → (p < q) ⊎ (q ≤ p) → (nat_lt p (q + 1) && test p) ≡ (nat_lt p start && test p)
       by (inl low) place = let s : nat_lt p (q + 1) ≡ true = grind (arith, tests) in let t : nat_lt p start ≡ true = grind (arith, tests) in rw (s, t)
       by (inr high) (inl below) = rw (least p high below) (and_false (nat_lt p (q + 1)) ∙ sym (and_false (nat_lt p start)))
       by (inr high) (inr above) = let s : nat_lt p (q + 1) ≡ false = grind (arith, tests, differ) in let t : nat_lt p start ≡ false = grind (arith, tests) in rw (s, t)
 
+-- where none from the place on passes, those before it are all
+pub all_before : (start end : ℕ) (test : ℕ → Bool) → ((p : ℕ) → start ≤ p → p < end → test p ≡ false) → (p : ℕ) → p < end → test p ≡ (nat_lt p start && test p)
+all_before start end test none p lt = by (cases_lt p start)
+  where
+    by : (p < start) ⊎ (start ≤ p) → test p ≡ (nat_lt p start && test p)
+    by (inl low) = let t : nat_lt p start ≡ true = grind (arith, tests) in rw t
+    by (inr high) = rw (none p high lt) (sym (and_false (nat_lt p start)))
+
+module _ (old now old_marks marks : Rows) (props files left start q : ℕ) (ups : ℕ → Bool) (left_in : left < props) (le : start ≤ q) (q_in : q < props) (set : ups q ≡ true) (least : (p : ℕ) → start ≤ p → p < q → ups p ≡ false)
+    (h : Widens old now old_marks marks props files left (λ p. nat_lt p start && ups p)) where
   -- the row is as it was, and so is that of the left number
   row_now : (i : ℕ) → i < files → get now q i ≡ get old q i
-  row_now i lt = h.bits q i q_in lt ∙ (rw before (or_false (get old q i)))
+  row_now i lt = h.bits q i q_in lt ∙ (rw (before start q ups le set least) (or_false (get old q i)))
 
   left_now : (i : ℕ) → i < files → get now left i ≡ get old left i
   left_now i lt = h.bits left i left_in lt ∙ or_some (get old left i) (nat_lt left start && ups left)
@@ -72,10 +82,10 @@ module _ (old now old_marks marks : Rows) (props files left start q : ℕ) (ups 
       → Widens old (with_row now q (λ i. get now q i || get now left i)) old_marks (with_row marks 0 (λ p. if p == q then true else get marks 0 p)) props files left (λ p. nat_lt p (q + 1) && ups p)
   widens_row lacked = changes_more old now old_marks marks props files (λ p. (nat_lt p start && ups p) && lacks old files left p) (λ p. (nat_lt p (q + 1) && ups p) && lacks old files left p)
       (λ p i. get old p i || ((nat_lt p start && ups p) && get old left i)) (λ p i. get old p i || ((nat_lt p (q + 1) && ups p) && get old left i)) q (λ i. get now q i || get now left i)
-      h q_in (rw before) (rw (after, lacked))
-      (λ p p_in differ. ap (λ b. b && lacks old files left p) (other p differ))
-      (λ i lt. rw (after, row_now i lt, left_now i lt))
-      (λ p i p_in lt differ. ap (λ b. get old p i || (b && get old left i)) (other p differ))
+      h q_in (rw (before start q ups le set least)) (rw (after start q ups le set least, lacked))
+      (λ p p_in differ. ap (λ b. b && lacks old files left p) (other start q ups le set least p differ))
+      (λ i lt. rw (after start q ups le set least, row_now i lt, left_now i lt))
+      (λ p i p_in lt differ. ap (λ b. get old p i || (b && get old left i)) (other start q ups le set least p differ))
 
   pub keeps_row : lacks old files left q ≡ false → Widens old now old_marks marks props files left (λ p. nat_lt p (q + 1) && ups p)
   keeps_row none = changes_same old now old_marks marks props files (λ p. (nat_lt p start && ups p) && lacks old files left p) (λ p. (nat_lt p (q + 1) && ups p) && lacks old files left p)
@@ -84,15 +94,15 @@ module _ (old now old_marks marks : Rows) (props files left start q : ℕ) (ups 
     where
       touched : (p : ℕ) → (p ≡ q) ⊎ (p ≡ q → ⊥) → ((nat_lt p (q + 1) && ups p) && lacks old files left p) ≡ ((nat_lt p start && ups p) && lacks old files left p)
       touched p (inl same) = rw (same, none) (and_false (nat_lt q (q + 1) && ups q) ∙ sym (and_false (nat_lt q start && ups q)))
-      touched p (inr differ) = ap (λ b. b && lacks old files left p) (other p differ)
+      touched p (inr differ) = ap (λ b. b && lacks old files left p) (other start q ups le set least p differ)
 
       had : (i : ℕ) → i < files → (b : Bool) → get old left i ≡ b → (get old q i || b) ≡ (get old q i || false)
       had i lt false e = refl
       had i lt true e = rw (lacked_by_none old files left q none i lt e)
 
       value : (p i : ℕ) → i < files → (p ≡ q) ⊎ (p ≡ q → ⊥) → (get old p i || ((nat_lt p (q + 1) && ups p) && get old left i)) ≡ (get old p i || ((nat_lt p start && ups p) && get old left i))
-      value p i lt (inl same) = rw (same, after, before) (had i lt (get old left i) refl)
-      value p i lt (inr differ) = ap (λ b. get old p i || (b && get old left i)) (other p differ)
+      value p i lt (inl same) = rw (same, after start q ups le set least, before start q ups le set least) (had i lt (get old left i) refl)
+      value p i lt (inr differ) = ap (λ b. get old p i || (b && get old left i)) (other start q ups le set least p differ)
 
   -- what `subset` answers at the row says whether it is lacked
   pub lacked_is : (r : Bool) → r ≡ false → (IsTrue r → ((i : ℕ) → i < now.bits → IsTrue (get now left i) → IsTrue (get now q i))) × (((i : ℕ) → i < now.bits → IsTrue (get now left i) → IsTrue (get now q i)) → IsTrue r) → lacks old files left q ≡ true
@@ -110,8 +120,4 @@ pub widened_whole : (old now old_marks marks : Rows) (props files left start : �
     → Widens old now old_marks marks props files left (λ p. nat_lt p start && ups p) → Widens old now old_marks marks props files left ups
 widened_whole old now old_marks marks props files left start ups none h = changes_same old now old_marks marks props files (λ p. (nat_lt p start && ups p) && lacks old files left p) (λ p. ups p && lacks old files left p)
     (λ p i. get old p i || ((nat_lt p start && ups p) && get old left i)) (λ p i. get old p i || (ups p && get old left i))
-    h (λ p p_in. ap (λ b. b && lacks old files left p) (same p p_in (cases_lt p start))) (λ p i p_in lt. ap (λ b. get old p i || (b && get old left i)) (same p p_in (cases_lt p start)))
-  where
-    same : (p : ℕ) → p < props → (p < start) ⊎ (start ≤ p) → ups p ≡ (nat_lt p start && ups p)
-    same p p_in (inl low) = let t : nat_lt p start ≡ true = grind (arith, tests) in rw t
-    same p p_in (inr high) = rw (none p high p_in) (sym (and_false (nat_lt p start)))
+    h (λ p p_in. ap (λ b. b && lacks old files left p) (all_before start props ups none p p_in)) (λ p i p_in lt. ap (λ b. get old p i || (b && get old left i)) (all_before start props ups none p p_in))

@@ -36,6 +36,11 @@ abbrev pub Widens : Rows → Rows → Rows → Rows → ℕ → ℕ → ℕ → 
 Widens old new old_marks new_marks props files left ups =
     Changes old new old_marks new_marks props files (λ p. ups p && lacks old files left p) (λ p i. get old p i || (ups p && get old left i))
 
+-- each file's row has these bits
+pub record HasSets (sets : Rows) (props files : ℕ) (value : ℕ → ℕ → Bool) : Type 0 where
+  pub shape : HasShape sets files props
+  pub bits : (i p : ℕ) → i < files → p < props → get sets i p ≡ value i p
+
 -- the set of each file, by its column of bits
 unfoldable pub sets_of : Rows → ℕ → ℕ → List (List ℕ)
 sets_of rows props files = map (λ i. numbers_where props (λ p. get rows p i)) (range_with_len 0 files)
@@ -45,8 +50,9 @@ abbrev pub seen : Rows → Rows → ℕ → ℕ → Ext
 seen rows marks props files = record { props = props; sets = sets_of rows props files; marks = numbers_where props (get marks 0); edits = rows.edits }
 
 -- what the rows keep
-pub record IsSound (rows marks : Rows) (props files : ℕ) : Type 0 where
+pub record IsSound (rows sets marks : Rows) (props files : ℕ) : Type 0 where
   pub few_props : props ≤ 8192
   pub few_files : files ≤ 4096
   pub rows_shape : HasShape rows props files
   pub marks_shape : HasShape marks 1 props
+  pub in_step : HasSets sets props files (λ i p. get rows p i)

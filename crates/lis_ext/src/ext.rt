@@ -17,6 +17,8 @@ pub struct Ext {
     files: u32,
     // Row p has bit i where file i has the number p.
     rows: Rows,
+    // Row i has bit p where file i has the number p: the bits of `rows`, by file.
+    sets: Rows,
     // One row, of the numbers that are marked.
     marks: Rows,
 }
@@ -30,7 +32,7 @@ impl Model for Ext {
 
     ghost view = { λ e. seen e.rows e.marks e.props e.files };
 
-    ghost invariant = { λ e. IsSound e.rows e.marks e.props e.files };
+    ghost invariant = { λ e. IsSound e.rows e.sets e.marks e.props e.files };
 }
 
 impl Ext {
@@ -48,6 +50,7 @@ impl Ext {
             props,
             files,
             rows: Rows::new(alloc, props, files)?,
+            sets: Rows::new(alloc, files, props)?,
             marks: Rows::new(alloc, 1, props)?,
         })
     }
@@ -83,6 +86,7 @@ impl Ext {
             old,
             new,
         );
+        tables::put_set(&mut self.sets, self.props, self.files, file, new);
     }
 
     /// Adds the numbers of a row to the set of each file that has the left number, and marks those of them that
@@ -100,6 +104,15 @@ impl Ext {
             + length (numbers_where self.old.props (λ p. get ups.now row p && is_lacked self.old left p)) }
         ensures no_fewer { self.old.edits ≤ self.new.edits }
     {
+        tables::widen_sets(
+            &mut self.sets,
+            &self.rows,
+            self.props,
+            self.files,
+            left,
+            ups,
+            row,
+        );
         tables::widen(
             &mut self.rows,
             &mut self.marks,
@@ -156,6 +169,18 @@ impl Ext {
         ensures few_files { length self.now.sets ≤ 4096 }
     {
         &self.rows
+    }
+
+    /// The sets: a row for each file, with a bit for each number.
+    pub fn sets(&self) -> &Rows
+        ensures shape { HasShape result.now (length self.now.sets) self.now.props }
+        ensures values { (i p : ℕ) → i < length self.now.sets → p < self.now.props
+            → get result.now i p ≡ has self.now p i }
+        ensures tells { (i : ℕ) → i < length self.now.sets
+            → set_of self.now i ≡ numbers_where self.now.props (get result.now i) }
+        ensures few_props { self.now.props ≤ 8192 }
+    {
+        &self.sets
     }
 
     /// Writes the files that have a number as bytes: bit i % 8 of byte i / 8, bit 0 the lowest, tells file i.

@@ -1,10 +1,10 @@
-ghost use Rattle.std.specs.Prelude.{◌≡◌, ℕ, ◌+◌, ◌<◌, ◌≤◌, All, length, slice_get};
+ghost use Rattle.std.specs.Prelude.{◌≡◌, ℕ, ◌+◌, ◌<◌, ◌≤◌, ◌&&◌, ◌||◌, ◌==◌, if◌then◌else◌, All, length, slice_get};
 ghost use Rattle.std.specs.List.Sorted.{IsStrictlyIncreasing};
 ghost use Rattle.lis_bits.specs.Rows.{HasShape, get};
 ghost use Rattle.lis_ext.specs.Numbers.{has_number, numbers_where};
-ghost use Rattle.lis_ext.specs.Inside.{AddsNumbers, DropsNumbers, Widens};
+ghost use Rattle.lis_ext.specs.Inside.{AddsNumbers, DropsNumbers, Widens, HasSets};
 
-use lis_bits::Rows;
+use lis_bits::{Rows, or_row};
 
 // Whether the number is one of those that rise.
 fn is_among(numbers: &[u16], number: u16) -> bool
@@ -62,6 +62,45 @@ pub(crate) fn drop_numbers(
             rows.put(prop, file, false);
             marks.put(0, prop, true);
         }
+    }
+}
+
+// Sets the row of a file to these numbers.
+pub(crate) fn put_set(sets: &mut Rows, props: u32, files: u32, file: u32, numbers: &[u16])
+    requires shape { HasShape sets.old files props }
+    requires file { file < files }
+    requires in_props { All (λ number. number < props) numbers.now }
+    ensures { HasSets sets.new props files
+        (λ i p. if i == file then has_number numbers.now p else get sets.old i p) }
+{
+    sets.fill(file, false);
+    for number in numbers {
+        sets.put(file, u32::from(*number), true);
+    }
+}
+
+// Adds the numbers of a row of `ups` to the row of each file that has the left number.
+pub(crate) fn widen_sets(
+    sets: &mut Rows,
+    rows: &Rows,
+    props: u32,
+    files: u32,
+    left: u32,
+    ups: &Rows,
+    row: u32,
+)
+    requires shape { HasShape sets.old files props }
+    requires rows_shape { HasShape rows.now props files }
+    requires left { left < props }
+    requires row { row < length ups.now.rows }
+    requires bits { ups.now.bits ≡ props }
+    ensures { HasSets sets.new props files
+        (λ i p. get sets.old i p || (get rows.now left i && get ups.now row p)) }
+{
+    let mut start = 0;
+    while let Some(file) = rows.next(left, start) {
+        or_row(ups, row, sets, file);
+        start = file + 1;
     }
 }
 

@@ -14,6 +14,9 @@ fn marks_what_differs(rt: HostRuntime) -> Result<(), Fail> {
     assert_eq!(rt; ext.changed(2), None);
     assert_eq!(rt; ext.rows().edits(), 4);
     assert!(rt; ext.has(1, 3) && !ext.has(5, 3) && ext.has(7, 3));
+    let sets = ext.sets();
+    assert_eq!(rt; (sets.next(3, 0), sets.next(3, 2)), (Some(1), Some(7)));
+    assert_eq!(rt; sets.next(3, 8), None);
     let mut bytes = [0; 8];
     ext.row_bytes(7, &mut bytes);
     assert_eq!(rt; bytes, [8, 0, 0, 0, 0, 0, 0, 0]);
@@ -36,6 +39,8 @@ fn adds_what_some_file_lacks(rt: HostRuntime) -> Result<(), Fail> {
     assert_eq!(rt; ext.changed(1), Some(8));
     assert_eq!(rt; ext.changed(2), None);
     assert_eq!(rt; ext.rows().edits(), 7);
+    assert_eq!(rt; (ext.sets().count(4), ext.sets().count(6)), (4, 1));
+    assert!(rt; ext.sets().get(4, 8) && !ext.sets().get(4, 2));
     let mut files = Rows::new(rt.alloc(), 1, 64)?;
     ext.copy_row(8, &mut files, 0);
     assert_eq!(rt; files.count(0), 2);

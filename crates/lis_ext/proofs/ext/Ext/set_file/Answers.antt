@@ -1,5 +1,5 @@
 use Rattle.std.proofs.Common.{refl, arith}
-use Rattle.lis_ext.proofs.Seen.{length-sets_of, set_rises, set_below, each_below, sets_set, marks_set, edits_set}
+use Rattle.lis_ext.proofs.Seen.{length-sets_of, set_rises, set_below, each_below, sets_set, marks_set, edits_set, in_step_set}
 use Rattle.lis_ext.proofs.ext.Ext.set_file.Goals as goal
 
 pub add_numbers-requires-clause-file : goal.add_numbers-requires-clause-file
@@ -19,6 +19,23 @@ drop_numbers-requires-clause-old_rises c =
     let e = c.self.inside in
     let file_in = rw (← c.self.view_is, length-sets_of e.rows e.props e.files) at c.requires.file in
     set_rises e.rows e.props e.files c.args.file c.args.old.now file_in (rw (← c.self.view_is) at c.requires.old_set)
+
+pub put_set-requires-clause-file : goal.put_set-requires-clause-file
+put_set-requires-clause-file c = rw (← c.self.view_is, length-sets_of c.self.inside.rows c.self.inside.props c.self.inside.files) at c.requires.file
+
+pub invariant_of-self : goal.invariant_of-self
+invariant_of-self c =
+    let e = c.self.inside in
+    let file_in = rw (← c.self.view_is, length-sets_of e.rows e.props e.files) at c.requires.file in
+    let old_set = rw (← c.self.view_is) at c.requires.old_set in
+    record {
+      few_props = c.self.invariant.few_props;
+      few_files = c.self.invariant.few_files;
+      rows_shape = c.drop_numbers.ensures.rows_shape;
+      marks_shape = c.drop_numbers.ensures.marks_shape;
+      in_step = in_step_set e.rows c.add_numbers.new.rows c.drop_numbers.new.rows e.marks c.add_numbers.new.marks c.drop_numbers.new.marks e.props e.files c.args.file c.args.old.now c.args.new.now file_in old_set
+          c.add_numbers.ensures c.drop_numbers.ensures e.sets c.put_set.new.sets c.self.invariant.in_step c.put_set.ensures;
+    }
 
 pub returns-clause-in_range : goal.returns-clause-in_range
 returns-clause-in_range c =
