@@ -64,7 +64,7 @@ weaker_apart (Some p) h = by p.0 h
     by false e = omega (arith, ltb-true p.1 p.1 e)
 
 -- the two words are tests
-tests_by : (q p : Option (Bool × ℕ)) → are_weaker q p ≡ true → (is_some {T = Bool × ℕ} q ≡ true) × (is_some {T = Bool × ℕ} p ≡ true)
+pub tests_by : (q p : Option (Bool × ℕ)) → are_weaker q p ≡ true → (is_some {T = Bool × ℕ} q ≡ true) × (is_some {T = Bool × ℕ} p ≡ true)
 tests_by None p h = absurd cc
 tests_by (Some q) None h = absurd cc
 tests_by (Some q) (Some p) h = (refl, refl)

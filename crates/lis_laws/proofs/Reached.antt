@@ -2,7 +2,7 @@
 use Rattle.std.proofs.Common.{◌⊎◌, ℕ, zero, suc, List, subst, inl, inr}
 use Rattle.lis_graph.specs.Graph.{Chain}
 use Rattle.lis_graph.proofs.Members.{Among}
-use Rattle.lis_model.specs.State.{File, links, up, own_words, file_words}
+use Rattle.lis_model.specs.State.{File, links, up, own_words, file_words, all_up}
 use Rattle.lis_laws.proofs.Chains.{Pairs, OwnLink, links_head, links_weaker, up_own, up_edge, entails_from_up}
 use Rattle.lis_laws.proofs.Chains.OwnLink.{Head, Weaker}
 use Rattle.lis_laws.proofs.Closures.{entailing, all_up_closed}
@@ -25,9 +25,13 @@ module _ (declared : List (List ℕ)) (axioms : Pairs) (P : List ℕ → Type 0)
   chain_keeps zero p q at c = subst P c at
   chain_keeps (suc n) p q at c = chain_keeps n c.0 q (link p c.0 at (link_cases declared axioms p c.0 c.1)) c.2
 
-  -- what holds of each word that a file has by itself, and passes every link, holds of all its words
-  pub described_keeps : (file : File) → ((w : List ℕ) → OwnWord declared file w → P w) → (w : List ℕ) → Among (file_words declared axioms file) w → P w
-  described_keeps file own w has =
-      let source = entailing declared axioms (own_words declared file) w has in
+  -- what holds of some words, and passes every link, holds of all that they entail
+  pub all_up_keeps : (words : List (List ℕ)) → ((w : List ℕ) → Among words w → P w) → (w : List ℕ) → Among (all_up declared axioms words) w → P w
+  all_up_keeps words own w has =
+      let source = entailing declared axioms words w has in
       let chain = entails_from_up declared axioms source.0 w source.2 in
-      chain_keeps chain.0 source.0 w (own source.0 (own_word declared file source.0 source.1)) chain.1
+      chain_keeps chain.0 source.0 w (own source.0 source.1) chain.1
+
+  -- what holds of each word that a file has by itself holds of all its words
+  pub described_keeps : (file : File) → ((w : List ℕ) → OwnWord declared file w → P w) → (w : List ℕ) → Among (file_words declared axioms file) w → P w
+  described_keeps file own = all_up_keeps (own_words declared file) (λ w m. own w (own_word declared file w m))

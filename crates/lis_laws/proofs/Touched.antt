@@ -76,11 +76,11 @@ held_among s word words file w m has there = subst (λ (b : Bool). Among (cond b
 
 -- ---- a word declared under others
 -- what a file has then it had, or it has the word and what that entails
-record IsBrought (t : State) (word : List ℕ) (file : File) (w : List ℕ) : Type 0 where
-  has : Among (description t file) word
-  entails : Among (up t.declared t.axioms word) w
+pub record IsBrought (t : State) (word : List ℕ) (file : File) (w : List ℕ) : Type 0 where
+  pub has : Among (description t file) word
+  pub entails : Among (up t.declared t.axioms word) w
 
-under_split : (s : State) (word : List ℕ) (words : List (List ℕ)) (file : File) (w : List ℕ) → Among (description (declared_under s word words) file) w
+pub under_split : (s : State) (word : List ℕ) (words : List (List ℕ)) (file : File) (w : List ℕ) → Among (description (declared_under s word words) file) w
     → Among (description s file) w ⊎ IsBrought (declared_under s word words) word file w
 under_split s word words file = described_keeps t.declared t.axioms (λ w. Among (description s file) w ⊎ IsBrought t word file w) link file own
   where
@@ -230,7 +230,7 @@ module _ (s : State) (formed : WellFormed s) (word : List ℕ) (unused : not (is
       (has_word_from_among _ word (among_left (map (λ (k : List ℕ × List ℕ). k.0) s.axioms) (map (λ (k : List ℕ × List ℕ). k.1) s.axioms) word
       (subst (λ (w : List ℕ). Among (map (λ (k : List ℕ × List ℕ). k.0) s.axioms) w) same (map_among (λ (k : List ℕ × List ℕ). k.0) s.axioms e m))))
 
-  had_test : (file : File) → Among s.files file → Among (description s file) word → is_test word ≡ true
+  pub had_test : (file : File) → Among s.files file → Among (description s file) word → is_test word ≡ true
   had_test file m has = by (and_cases _ _ (or_parts _ _ (not-true _ unused)).1)
     where
       had : List (List ℕ)
@@ -250,11 +250,11 @@ module _ (s : State) (formed : WellFormed s) (word : List ℕ) (unused : not (is
       by false e = inr (filter_among (λ k. not (same_word k word)) s.declared w m (not_from_false _ e))
 
   -- what a file had and has, or the word itself
-  record IsLeft (file : File) (w : List ℕ) : Type 0 where
-    was : Among (description s file) w
-    now : (word ≡ w) ⊎ Among (description (undeclared s word) file) w
+  pub record IsLeft (file : File) (w : List ℕ) : Type 0 where
+    pub was : Among (description s file) w
+    pub now : (word ≡ w) ⊎ Among (description (undeclared s word) file) w
 
-  undeclared_split : (file : File) → Among s.files file → (w : List ℕ) → Among (description s file) w → IsLeft file w
+  pub undeclared_split : (file : File) → Among s.files file → (w : List ℕ) → Among (description s file) w → IsLeft file w
   undeclared_split file m = described_keeps s.declared s.axioms (IsLeft file) link file own
     where
       u : State
