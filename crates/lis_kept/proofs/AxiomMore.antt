@@ -1,23 +1,12 @@
 -- An axiom that comes into a free slot.
-use Rattle.std.proofs.Common.{◌≡◌, ◌⊎◌, ◌↔◌, refl, sym, ap, ap₂, ◌∙◌, subst, inl, inr, ℕ, ◌<◌, ◌==◌, ◌&&◌, ◌||◌, Bool, true, false, List, [], set, slice_get, Some, Result, Err, is_some, IsSome, arith, length-set, get_or-set_other, eq-eqb}
-use Rattle.std.specs.List.{list_any}
-use Rattle.std.specs.List.Sorted.{IsStrictlySortedBy}
-use Rattle.std.proofs.lemmas.Bool.{cases_eq, ne_eqb, both_ways}
-use Rattle.std.proofs.lemmas.Option.{same_Some}
-use Rattle.lis_graph.proofs.Members.{Among, among_insert_key, insert_key_old, insert_key_new}
-use Rattle.lis_graph.proofs.Sets.{same_sets, sorted_nil, sorted_with_more, sorted_insert_key}
+use Rattle.std.proofs.Common.{◌≡◌, ◌⊎◌, ◌↔◌, refl, sym, ap, ap₂, ◌∙◌, subst, inl, inr, ℕ, ◌<◌, ◌==◌, ◌&&◌, ◌||◌, Bool, true, false, List, [], set, slice_get, Some, Result, Err, is_some, length, get_or, arith, length-set, get_or-set_other}
+use Rattle.lis_kept.proofs.Common.{list_any, IsStrictlySortedBy, same_Some, Among, among_insert_key, insert_key_old, insert_key_new, same_sets, sorted_insert_key, word_of, Taxonomy, has_edge, with_edge, EdgeFault, Present, Cycle, Absent, has_word, is_plain_word, axiom_bytes, AxiomSlot, FreeAxiom, Pair, up, with_axiom, pair_exact}
+use Rattle.std.proofs.lemmas.Bool.{both_ways}
+use Rattle.lis_graph.proofs.Sets.{sorted_nil, sorted_with_more}
 use Rattle.lis_blockmap.specs.Bitmap.{is_taken}
-use Rattle.lis_dict.specs.Dict.{word_of}
-use Rattle.lis_taxonomy.specs.Taxonomy.{Taxonomy, has_edge, with_edge, Entails as Leads}
-use Rattle.lis_taxonomy.specs.declared.taxonomy.EdgeFault.{EdgeFault}
-use Rattle.lis_taxonomy.specs.declared.taxonomy.EdgeFault.TheVariants.{Present, Cycle, Absent}
-use Rattle.lis_words.specs.Words.{has_word, is_plain_word}
-use Rattle.lis_fields.specs.Layouts.{axiom_bytes}
-use Rattle.lis_fields.specs.declared.slots.AxiomSlot.{AxiomSlot}
-use Rattle.lis_fields.specs.declared.slots.AxiomSlot.TheVariants.{Free as FreeAxiom, Pair}
-use Rattle.lis_model.specs.State.{pair_cmp, up}
-use Rattle.lis_model.specs.Changes.{with_axiom}
-use Rattle.lis_laws.proofs.Members.{pair_exact, pair_order, has_word_from_among}
+use Rattle.lis_taxonomy.specs.Taxonomy.{Entails as Leads}
+use Rattle.lis_model.specs.State.{pair_cmp}
+use Rattle.lis_laws.proofs.Members.{pair_order, has_word_from_among}
 use Rattle.lis_catalog.proofs.Slots.{swapped as or_swapped}
 use Rattle.lis_kept.specs.Kept.{Kept}
 use Rattle.lis_kept.specs.Areas.{Area, slots_of, block_of, spelled}
@@ -29,7 +18,7 @@ use Rattle.lis_kept.specs.Linking.{are_both, MayLink, Links}
 use Rattle.lis_kept.specs.Changes.{Marks}
 use Rattle.lis_kept.proofs.InArea.{among_slots}
 use Rattle.lis_kept.proofs.Marking.{block_marked}
-use Rattle.lis_kept.proofs.HeadEdges.{has_edge-with_edge}
+use Rattle.lis_kept.proofs.HeadEdges.{has_edge-with_edge, swapped as edges_swapped}
 use Rattle.lis_kept.proofs.Known.{axiom_among, among_axiom}
 use Rattle.lis_kept.proofs.OwnLinks.{own_to_plain}
 use Rattle.lis_kept.proofs.Entailed.{up_from_leads}
@@ -39,174 +28,178 @@ pub sorted_axioms : (k : Kept) → IsStrictlySortedBy pair_cmp (axioms_of k)
 sorted_axioms k = sorted_with_more pair_cmp pair_order [] (pairs_told k.dict k.axioms) (sorted_nil pair_cmp pair_order)
 
 pub swapped : (x y : ℕ) → (x == y) ≡ (y == x)
-swapped x y = by (cases_eq x y)
-  where
-    by : (x ≡ y) ⊎ (x ≡ y → ⊥) → (x == y) ≡ (y == x)
-    by (inl same) = eq-eqb x y same ∙ sym (eq-eqb y x (sym same))
-    by (inr differ) = ne_eqb x y differ ∙ sym (ne_eqb y x (λ e. differ (sym e)))
+swapped = edges_swapped
 
 pub used_more : (d h a b x y : Bool) → (d || h || ((a || x) || (b || y))) ≡ (a || b || (d || h || (x || y)))
-used_more true h true b x y = refl
-used_more true h false true x y = refl
-used_more true h false false x y = refl
-used_more false true true b x y = refl
-used_more false true false true x y = refl
-used_more false true false false x y = refl
-used_more false false true b x y = refl
-used_more false false false true true y = refl
-used_more false false false true false y = refl
-used_more false false false false x y = refl
+used_more d h a b x y = grind arith
 
-module _ (p : Kept) (t : Taxonomy) (held : AreHeld p t) {left right : ℕ} (may : MayLink left right p) {slot : ℕ} (below : slot < p.limits.props) (free : slice_get p.axioms slot ≡ Some FreeAxiom) where
-  abbrev pub linked : Kept
-  linked = record p { axioms = set p.axioms slot (Pair left right); marks = set p.marks (block_of p.limits Axioms slot) true }
+-- ---- another slot's content
+-- One slot has another axiom, or none, and its block is marked.
+pub record OneAxiom (p : Kept) (slot : ℕ) (now : AxiomSlot) (axioms : List AxiomSlot) (marks : List Bool) : Type 0 where
+  pub was : AxiomSlot
+  pub there : slice_get p.axioms slot ≡ Some was
+  pub below : slot < p.limits.props
+  pub sound : (x y : ℕ) → now ≡ Pair x y → IsSoundAxiom p slot x y
+  pub axioms_are : axioms ≡ set p.axioms slot now
+  pub marked : marks ≡ set p.marks (block_of p.limits Axioms slot) true
 
-  -- ---- soundness
-  axiom_then : (at x y : ℕ) → slice_get linked.axioms at ≡ Some (Pair x y) → IsSoundAxiom linked at x y
-  axiom_then at x y is = by (set_cases p.axioms slot FreeAxiom (Pair left right) free at (Pair x y) is)
+module _ (p : Kept) (sound : AreSound p) {slot : ℕ} {now : AxiomSlot} {axioms : List AxiomSlot} {marks : List Bool} (one : OneAxiom p slot now axioms marks) where
+  abbrev pub after : Kept
+  after = record p { axioms = axioms; marks = marks }
+
+  -- what stands in each slot then
+  pub cases_then : (at : ℕ) (a : AxiomSlot) → slice_get axioms at ≡ Some a → ((at ≡ slot) × (now ≡ a)) ⊎ ((at ≡ slot → ⊥) × (slice_get p.axioms at ≡ Some a))
+  cases_then at a is = set_cases p.axioms slot one.was now one.there at a (ap (λ xs. slice_get xs at) (sym one.axioms_are) ∙ is)
+
+  axiom_then : (at x y : ℕ) → slice_get axioms at ≡ Some (Pair x y) → IsSoundAxiom p at x y
+  axiom_then at x y is = by (cases_then at (Pair x y) is)
     where
-      by : ((at ≡ slot) × (◌≡◌ {A = AxiomSlot} (Pair left right) (Pair x y))) ⊎ ((at ≡ slot → ⊥) × (slice_get p.axioms at ≡ Some (Pair x y))) → IsSoundAxiom linked at x y
-      by (inl new) =
-          let lefts : left ≡ x = (same_sides new.1).0 in
-          let rights : right ≡ y = (same_sides new.1).1 in
-          record {
-            below = omega (arith, below, new.0);
-            left = subst (λ n. IsSome (word_of p.dict n)) lefts (ap is_some may.is_left);
-            right = subst (λ n. IsSome (word_of p.dict n)) rights (ap is_some may.is_right);
-            plain = λ word is_y.
-                let same = same_Some may.to word (sym may.is_right ∙ (ap (word_of p.dict) rights ∙ is_y)) in
-                subst (λ w. is_plain_word w ≡ true) same may.plain;
-          }
-      by (inr old) = let one = held.sound.axioms at x y old.1 in record { below = one.below; left = one.left; right = one.right; plain = one.plain }
+      by : ((at ≡ slot) × (now ≡ Pair x y)) ⊎ ((at ≡ slot → ⊥) × (slice_get p.axioms at ≡ Some (Pair x y))) → IsSoundAxiom p at x y
+      by (inl new) = subst (λ n. IsSoundAxiom p n x y) (sym new.0) (one.sound x y new.1)
+      by (inr old) = sound.axioms at x y old.1
 
-  pub sound_then : AreSound linked
+  pub sound_then : AreSound after
   sound_then = record {
-    range = held.sound.range;
-    numbers = held.sound.numbers;
-    dict = held.sound.dict;
-    heads = held.sound.heads;
-    bits = held.sound.bits;
-    flagged = held.sound.flagged;
-    properties = held.sound.properties;
-    axiom_count = length-set p.axioms slot (Pair left right) ∙ held.sound.axiom_count;
-    axioms = axiom_then;
-    slots = held.sound.slots;
-    catalog = held.sound.catalog;
-    records = held.sound.records;
-    blocks = held.sound.blocks;
-    rows = held.sound.rows;
-    files = held.sound.files;
-    named = held.sound.named;
-    settled = held.sound.settled;
-    marks = omega (arith, length-set p.marks (block_of p.limits Axioms slot) true, held.sound.marks);
+    range = sound.range;
+    numbers = sound.numbers;
+    dict = sound.dict;
+    heads = sound.heads;
+    bits = sound.bits;
+    flagged = sound.flagged;
+    properties = sound.properties;
+    axiom_count = ap length one.axioms_are ∙ (length-set p.axioms slot now ∙ sound.axiom_count);
+    axioms = λ at x y is. let one = axiom_then at x y is in record { below = one.below; left = one.left; right = one.right; plain = one.plain };
+    slots = sound.slots;
+    catalog = sound.catalog;
+    records = sound.records;
+    blocks = sound.blocks;
+    rows = sound.rows;
+    files = sound.files;
+    named = sound.named;
+    settled = sound.settled;
+    marks = omega (arith, ap length one.marked, length-set p.marks (block_of p.limits Axioms slot) true, sound.marks);
   }
 
-  -- ---- the marked block
-  spelled_before : (area : Area) (n : ℕ) → n < (slots_of p.limits area).count → (block_of p.limits area n ≡ block_of p.limits Axioms slot → ⊥) → spelled linked area n ≡ spelled p area n
+  spelled_before : (area : Area) (n : ℕ) → n < (slots_of p.limits area).count → (block_of p.limits area n ≡ block_of p.limits Axioms slot → ⊥) → spelled after area n ≡ spelled p area n
   spelled_before Properties n lt apart = refl
-  spelled_before Axioms n lt apart = ap axiom_bytes (get_or-set_other p.axioms slot n (Pair left right) FreeAxiom (λ same. apart (ap (block_of p.limits Axioms) same)))
+  spelled_before Axioms n lt apart =
+      ap (λ xs. axiom_bytes (get_or xs n FreeAxiom)) one.axioms_are ∙ ap axiom_bytes (get_or-set_other p.axioms slot n now FreeAxiom (λ same. apart (ap (block_of p.limits Axioms) same)))
   spelled_before Files n lt apart = refl
   spelled_before Rows n lt apart = refl
   spelled_before Bitmap n lt apart = refl
 
-  marks_then : Marks 1 p linked
+  pub marks_then : Marks 1 p after
   marks_then =
-      block_marked p linked (block_of p.limits Axioms slot) refl refl
-      (omega (arith, (among_slots p.limits held.sound.range Axioms slot (axiom_within p.limits slot below)).1, held.sound.marks)) spelled_before
+      block_marked p after (block_of p.limits Axioms slot) refl one.marked
+      (omega (arith, (among_slots p.limits sound.range Axioms slot (axiom_within p.limits slot one.below)).1, sound.marks)) spelled_before
 
-  -- ---- what is told
-  axioms_then : (l r : List ℕ) → word_of p.dict left ≡ Some l → word_of p.dict right ≡ Some r → axioms_of linked ≡ with_axiom (axioms_of p) (l, r)
-  axioms_then l r is_l is_r =
-      same_sets pair_cmp pair_order (axioms_of linked) (with_axiom (axioms_of p) (l, r)) (sorted_axioms linked) (sorted_insert_key pair_cmp pair_order (axioms_of p) (l, r) (sorted_axioms p))
-      to (λ e m. from e (among_insert_key pair_cmp (axioms_of p) (l, r) e m))
+-- ---- with an axiom and without it
+-- a slot that was free has the axiom
+pub record IsFilled (before after : List AxiomSlot) (slot left right : ℕ) : Type 0 where
+  pub free : slice_get before slot ≡ Some FreeAxiom
+  pub filled : after ≡ set before slot (Pair left right)
+
+module _ (few : Kept) (sound : AreSound few) (marks : List Bool) {axioms : List AxiomSlot} {slot left right : ℕ} (is : IsFilled few.axioms axioms slot left right) where
+  abbrev many : Kept
+  many = record few { axioms = axioms; marks = marks }
+
+  any_filled : (f : AxiomSlot → Bool) → f FreeAxiom ≡ false → list_any f axioms ≡ (f (Pair left right) || list_any f few.axioms)
+  any_filled f none = ap (list_any f) is.filled ∙ any_set f few.axioms slot FreeAxiom (Pair left right) is.free none
+
+  pub pairs_more : (x y : ℕ) → has_pair axioms x y ≡ (are_both left right x y || has_pair few.axioms x y)
+  pairs_more x y = any_filled (is_pair x y) refl
+
+  pub links_more : (x y : ℕ) → is_linked many x y ≡ (are_both left right x y || is_linked few x y)
+  links_more x y =
+      let own = is_own_link (declared_of few) (word_of few.dict x) (word_of few.dict y) in
+      ap (λ b. own || b) (pairs_more x y) ∙ or_swapped own (are_both left right x y) (has_pair few.axioms x y)
+
+  pub used_then : (n : ℕ) → is_used many n ≡ ((left == n) || is_head_by (word_of few.dict left) (word_of few.dict n) || is_used few n)
+  used_then n =
+      ap₂ (λ a b. is_taken few.declared n || is_had few.ext n || (a || b)) (any_filled (is_left_of n) refl) (any_filled (is_left_head_of few.dict n) refl)
+      ∙ used_more (is_taken few.declared n) (is_had few.ext n) (left == n) (is_head_by (word_of few.dict left) (word_of few.dict n))
+      (list_any (is_left_of n) few.axioms) (list_any (is_left_head_of few.dict n) few.axioms)
+
+  pub told_more : AreSound many → (l r : List ℕ) → word_of few.dict left ≡ Some l → word_of few.dict right ≡ Some r → axioms_of many ≡ with_axiom (axioms_of few) (l, r)
+  told_more sound_many l r is_l is_r =
+      same_sets pair_cmp pair_order (axioms_of many) (with_axiom (axioms_of few) (l, r)) (sorted_axioms many) (sorted_insert_key pair_cmp pair_order (axioms_of few) (l, r) (sorted_axioms few))
+      to (λ e m. from e (among_insert_key pair_cmp (axioms_of few) (l, r) e m))
     where
-      to : (e : List ℕ × List ℕ) → Among (axioms_of linked) e → Among (with_axiom (axioms_of p) (l, r)) e
-      to e m = by (set_cases p.axioms slot FreeAxiom (Pair left right) free found.0 (Pair found.1 found.2) found.3)
-        where
-          found : (at : ℕ) × (x : ℕ) × (y : ℕ) × (slice_get linked.axioms at ≡ Some (Pair x y)) × (word_of p.dict x ≡ Some e.0) × (word_of p.dict y ≡ Some e.1)
-          found = among_axiom linked sound_then e m
+      there : (at : ℕ) (a : AxiomSlot) → slice_get (set few.axioms slot (Pair left right)) at ≡ Some a → slice_get axioms at ≡ Some a
+      there at a stands = ap (λ xs. slice_get xs at) is.filled ∙ stands
 
-          by : ((found.0 ≡ slot) × (◌≡◌ {A = AxiomSlot} (Pair left right) (Pair found.1 found.2))) ⊎ ((found.0 ≡ slot → ⊥) × (slice_get p.axioms found.0 ≡ Some (Pair found.1 found.2))) → Among (with_axiom (axioms_of p) (l, r)) e
+      to : (e : List ℕ × List ℕ) → Among (axioms_of many) e → Among (with_axiom (axioms_of few) (l, r)) e
+      to e m = by (set_cases few.axioms slot FreeAxiom (Pair left right) is.free found.0 (Pair found.1 found.2) (ap (λ xs. slice_get xs found.0) (sym is.filled) ∙ found.3))
+        where
+          found : (at : ℕ) × (x : ℕ) × (y : ℕ) × (slice_get axioms at ≡ Some (Pair x y)) × (word_of few.dict x ≡ Some e.0) × (word_of few.dict y ≡ Some e.1)
+          found = among_axiom many sound_many e m
+
+          by : ((found.0 ≡ slot) × (◌≡◌ {A = AxiomSlot} (Pair left right) (Pair found.1 found.2))) ⊎ ((found.0 ≡ slot → ⊥) × (slice_get few.axioms found.0 ≡ Some (Pair found.1 found.2))) → Among (with_axiom (axioms_of few) (l, r)) e
           by (inl new) =
-              let lefts : left ≡ found.1 = (same_sides new.1).0 in
-              let rights : right ≡ found.2 = (same_sides new.1).1 in
-              let same_l : l ≡ e.0 = same_Some l e.0 (sym is_l ∙ (ap (word_of p.dict) lefts ∙ found.4)) in
-              let same_r : r ≡ e.1 = same_Some r e.1 (sym is_r ∙ (ap (word_of p.dict) rights ∙ found.5)) in
+              let same_l : l ≡ e.0 = same_Some l e.0 (sym is_l ∙ (ap (word_of few.dict) (same_sides new.1).0 ∙ found.4)) in
+              let same_r : r ≡ e.1 = same_Some r e.1 (sym is_r ∙ (ap (word_of few.dict) (same_sides new.1).1 ∙ found.5)) in
               let same : ◌≡◌ {A = List ℕ × List ℕ} (l, r) e = ap₂ (λ (a b : List ℕ). (a, b)) same_l same_r in
-              subst (λ (x : List ℕ × List ℕ). Among (with_axiom (axioms_of p) (l, r)) x) same (insert_key_new pair_cmp pair_exact (axioms_of p) (l, r))
-          by (inr old) = insert_key_old pair_cmp (axioms_of p) (l, r) e (axiom_among p held.sound found.0 found.1 found.2 e.0 e.1 old.1 found.4 found.5)
+              subst (λ (x : List ℕ × List ℕ). Among (with_axiom (axioms_of few) (l, r)) x) same (insert_key_new pair_cmp pair_exact (axioms_of few) (l, r))
+          by (inr old) = insert_key_old pair_cmp (axioms_of few) (l, r) e (axiom_among few sound found.0 found.1 found.2 e.0 e.1 old.1 found.4 found.5)
 
-      from : (e : List ℕ × List ℕ) → (◌≡◌ {A = List ℕ × List ℕ} (l, r) e) ⊎ Among (axioms_of p) e → Among (axioms_of linked) e
+      from : (e : List ℕ × List ℕ) → (◌≡◌ {A = List ℕ × List ℕ} (l, r) e) ⊎ Among (axioms_of few) e → Among (axioms_of many) e
       from e (inl same) =
-          subst (λ (x : List ℕ × List ℕ). Among (axioms_of linked) x) same
-          (axiom_among linked sound_then slot left right l r (set_here p.axioms slot FreeAxiom (Pair left right) free) is_l is_r)
-      from e (inr m) = axiom_among linked sound_then found.0 found.1 found.2 e.0 e.1 (set_there p.axioms slot (Pair left right) found.0 differ ∙ found.3) found.4 found.5
+          subst (λ (x : List ℕ × List ℕ). Among (axioms_of many) x) same
+          (axiom_among many sound_many slot left right l r (there slot (Pair left right) (set_here few.axioms slot FreeAxiom (Pair left right) is.free)) is_l is_r)
+      from e (inr m) = axiom_among many sound_many found.0 found.1 found.2 e.0 e.1 (there found.0 (Pair found.1 found.2) (set_there few.axioms slot (Pair left right) found.0 differ ∙ found.3)) found.4 found.5
         where
-          found : (at : ℕ) × (x : ℕ) × (y : ℕ) × (slice_get p.axioms at ≡ Some (Pair x y)) × (word_of p.dict x ≡ Some e.0) × (word_of p.dict y ≡ Some e.1)
-          found = among_axiom p held.sound e m
+          found : (at : ℕ) × (x : ℕ) × (y : ℕ) × (slice_get few.axioms at ≡ Some (Pair x y)) × (word_of few.dict x ≡ Some e.0) × (word_of few.dict y ≡ Some e.1)
+          found = among_axiom few sound e m
 
           differ : found.0 ≡ slot → ⊥
           differ same =
-              let both : ◌≡◌ {A = AxiomSlot} FreeAxiom (Pair found.1 found.2) = same_Some FreeAxiom (Pair found.1 found.2) (sym free ∙ (ap (slice_get p.axioms) (sym same) ∙ found.3)) in
+              let both : ◌≡◌ {A = AxiomSlot} FreeAxiom (Pair found.1 found.2) = same_Some FreeAxiom (Pair found.1 found.2) (sym is.free ∙ (ap (slice_get few.axioms) (sym same) ∙ found.3)) in
               cc
 
-  -- ---- links
-  pairs_then : (x y : ℕ) → has_pair linked.axioms x y ≡ (are_both left right x y || has_pair p.axioms x y)
-  pairs_then x y = any_set (is_pair x y) p.axioms slot FreeAxiom (Pair left right) free refl
+-- ---- the axiom comes, over what memory kept
+module _ (k p : Kept) (t u : Taxonomy) (left right slot : ℕ) (axioms : List AxiomSlot) (marks : List Bool) (is : p ≡ k) (held : AreHeld p t) (may : MayLink left right p) (below : slot < p.limits.props)
+    (free : slice_get p.axioms slot ≡ Some FreeAxiom) (filled : axioms ≡ set p.axioms slot (Pair left right)) (linked_is : u ≡ with_edge t left right)
+    (marked : marks ≡ set p.marks (block_of p.limits Axioms slot) true) where
+  abbrev linked : Kept
+  linked = record p { axioms = axioms; marks = marks }
 
-  links_then : (x y : ℕ) → is_linked linked x y ≡ (are_both left right x y || is_linked p x y)
-  links_then x y =
-      let own = is_own_link (declared_of p) (word_of p.dict x) (word_of p.dict y) in
-      ap (λ b. own || b) (pairs_then x y) ∙ or_swapped own (are_both left right x y) (has_pair p.axioms x y)
+  into : IsFilled p.axioms axioms slot left right
+  into = record { free = free; filled = filled }
 
-  edges_then : (x y : ℕ) → has_edge (with_edge t left right) x y ≡ is_linked linked x y
+  one : OneAxiom p slot (Pair left right) axioms marks
+  one = record { was = FreeAxiom; there = free; below = below; sound = new; axioms_are = filled; marked = marked }
+    where
+      new : (x y : ℕ) → ◌≡◌ {A = AxiomSlot} (Pair left right) (Pair x y) → IsSoundAxiom p slot x y
+      new x y same =
+          let sides = same_sides same in
+          record {
+            below = below;
+            left = ap is_some (ap (word_of p.dict) (sym sides.0) ∙ may.is_left);
+            right = ap is_some (ap (word_of p.dict) (sym sides.1) ∙ may.is_right);
+            plain = λ word is_y. subst (λ w. is_plain_word w ≡ true) (same_Some may.to word (sym may.is_right ∙ (ap (word_of p.dict) sides.1 ∙ is_y))) may.plain;
+          }
+
+  edges_then : (x y : ℕ) → has_edge u x y ≡ is_linked linked x y
   edges_then x y =
-      has_edge-with_edge t left right x y
+      ap (λ (v : Taxonomy). has_edge v x y) linked_is ∙ (has_edge-with_edge t left right x y
       ∙ (ap₂ (λ a b. (a && b) || has_edge t x y) (swapped x left) (swapped y right)
-      ∙ (ap (λ b. are_both left right x y || b) (held.links.edges x y) ∙ sym (links_then x y)))
+      ∙ (ap (λ b. are_both left right x y || b) (held.links.edges x y) ∙ sym (links_more p held.sound marks into x y))))
 
-  -- ---- what is used
-  used_then : (n : ℕ) → is_used linked n ≡ ((left == n) || is_head_by (word_of p.dict left) (word_of p.dict n) || is_used p n)
-  used_then n =
-      ap₂ (λ a b. is_taken p.declared n || is_had p.ext n || (a || b))
-      (any_set (is_left_of n) p.axioms slot FreeAxiom (Pair left right) free refl)
-      (any_set (is_left_head_of p.dict n) p.axioms slot FreeAxiom (Pair left right) free refl)
-      ∙ used_more (is_taken p.declared n) (is_had p.ext n) (left == n) (is_head_by (word_of p.dict left) (word_of p.dict n))
-      (list_any (is_left_of n) p.axioms) (list_any (is_left_head_of p.dict n) p.axioms)
-
-  pub linked_made : AreHeld linked (with_edge t left right) × Links left right p linked
-  linked_made = (
-    record {
-      sound = sound_then;
-      links = record { props = held.links.props; edges = edges_then };
-    },
-    record {
+  pub links : AreHeld linked u × Links left right k linked
+  links = (
+    record { sound = sound_then p held.sound one; links = record { props = ap (λ (v : Taxonomy). v.props) linked_is ∙ held.links.props; edges = edges_then } },
+    subst (λ (x : Kept). Links left right x linked) is (record {
       slot = slot;
       below = below;
       free = free;
-      parts = refl;
-      marks = marks_then;
-      pairs = pairs_then;
-      linked = links_then;
-      state = λ at l r is_l is_r. ap (λ (axioms : List (List ℕ × List ℕ)). record (state_of p at) { axioms = axioms }) (axioms_then l r is_l is_r);
-      used = used_then;
-    },
+      parts = cc (filled, marked);
+      marks = marks_then p held.sound one;
+      pairs = pairs_more p held.sound marks into;
+      linked = links_more p held.sound marks into;
+      state = λ at l r is_l is_r. ap (λ (xs : List (List ℕ × List ℕ)). record (state_of p at) { axioms = xs }) (told_more p held.sound marks into (sound_then p held.sound one) l r is_l is_r);
+      used = used_then p held.sound marks into;
+    }),
   )
-
--- the same, over what memory kept
-pub links : (k p : Kept) (t u : Taxonomy) (left right slot : ℕ) (axioms : List AxiomSlot) (marks : List Bool) → p ≡ k → AreHeld p t → MayLink left right p
-    → slot < p.limits.props → slice_get p.axioms slot ≡ Some FreeAxiom → axioms ≡ set p.axioms slot (Pair left right) → u ≡ with_edge t left right
-    → marks ≡ set p.marks (block_of p.limits Axioms slot) true
-    → AreHeld (record p { axioms = axioms; marks = marks }) u × Links left right k (record p { axioms = axioms; marks = marks })
-links k p t u left right slot axioms marks is held may below free axioms_are linked_is marks_are =
-    let q : Kept = linked p t held may below free in
-    let P : Kept → Type 0 = λ x. AreHeld x u × Links left right k x in
-    let R : Taxonomy → Type 0 = λ v. AreHeld q v × Links left right k q in
-    let Q : Kept → Type 0 = λ x. AreHeld q (with_edge t left right) × Links left right x q in
-    let same : q ≡ record p { axioms = axioms; marks = marks } =
-    ap (λ (xs : List AxiomSlot). record p { axioms = xs; marks = set p.marks (block_of p.limits Axioms slot) true }) (sym axioms_are)
-    ∙ ap (λ (ms : List Bool). record p { axioms = axioms; marks = ms }) (sym marks_are) in
-    subst P same (subst R (sym linked_is) (subst Q is (linked_made p t held may below free)))
 
 -- ---- why its edge is not refused
 pub link_refused : {T : Type 0} (p : Kept) (t : Taxonomy) → AreHeld p t → (left right : ℕ) → MayLink left right p → (x y : ℕ) (fault : EdgeFault) (r : Result T EdgeFault) → r ≡ Err fault

@@ -1,14 +1,11 @@
 -- A list with another element in one place.
 use Rattle.std.proofs.Common.{◌≡◌, ◌⊎◌, ℕ, zero, suc, ◌+◌, ◌*◌, ◌/◌, ◌<◌, ◌≤◌, ◌==◌, ◌||◌, cond, Bool, true, false, Option, Some, None, slice_get, List, [], ◌∷◌, length, set, get_or, refl, sym, ap, ap₂, ◌∙◌, subst, inl, inr, arith}
-use Rattle.std.specs.List.{list_any, position, position_or_len}
-use Rattle.std.proofs.lemmas.Bool.{cases_eq, cases_lt, and_parts, both_ways, eqb-true, lt-ltb}
+use Rattle.lis_kept.proofs.Common.{list_any, cases_eq, cases_lt, and_parts, eqb-true, lt-ltb, same_Some, slice_get_within, get_or_from_slice_get, among_from_any, AxiomSlot, FreeAxiom, Pair, Limits}
+use Rattle.std.specs.List.{position, position_or_len}
+use Rattle.std.proofs.lemmas.Bool.{both_ways}
 use Rattle.std.proofs.lemmas.List.Sums.{fails_before_first}
-use Rattle.std.proofs.lemmas.Option.{same_Some, slice_get-get_or, slice_get_within, get_or_from_slice_get}
+use Rattle.std.proofs.lemmas.Option.{slice_get-get_or}
 use Rattle.std.proofs.lemmas.List.Quantifiers.{position-Some}
-use Rattle.lis_graph.proofs.Members.{among_from_any}
-use Rattle.lis_fields.specs.declared.slots.AxiomSlot.{AxiomSlot}
-use Rattle.lis_fields.specs.declared.slots.AxiomSlot.TheVariants.{Free as FreeAxiom, Pair}
-use Rattle.lis_model.specs.declared.limits.Limits.{Limits}
 use Rattle.lis_catalog.proofs.Slots.{swapped}
 use Rattle.lis_kept.specs.Kept.{Kept}
 use Rattle.lis_kept.specs.Areas.{axiom_slots}
@@ -65,11 +62,6 @@ pub set_back : {X : Type 0} (xs : List X) (i : ℕ) (x y : X) → slice_get xs i
 set_back [] i x y is = refl
 set_back (z ∷ xs) zero x y is = ap (λ w. w ∷ xs) (sym (same_Some z x is))
 set_back (z ∷ xs) (suc i) x y is = ap (λ ws. z ∷ ws) (set_back xs i x y is)
-
--- one element that passes no test goes
-pub any_unset : {X : Type 0} (f : X → Bool) (xs : List X) (i : ℕ) (x y : X) → slice_get xs i ≡ Some x → f y ≡ false → list_any f xs ≡ (f x || list_any f (set xs i y))
-any_unset f xs i x y is none =
-    ap (list_any f) (sym (set_back xs i x y is)) ∙ any_set f (set xs i y) i y x (set_here xs i x y is) none
 
 -- the sides of two pairs
 pub same_sides : {a b x y : ℕ} → ◌≡◌ {A = AxiomSlot} (Pair a b) (Pair x y) → (a ≡ x) × (b ≡ y)

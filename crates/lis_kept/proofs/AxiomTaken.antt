@@ -1,17 +1,13 @@
 -- What an axiom more or fewer leaves of descriptions.
 use Rattle.std.proofs.Common.{◌≡◌, ◌⊎◌, ℕ, not, Bool, true, false, cond, List, refl, sym, ap, ap₂, ◌∙◌, subst, inl, inr}
 use Rattle.std.specs.List.{filter}
-use Rattle.std.specs.List.Sorted.{IsStrictlySortedBy}
-use Rattle.std.proofs.lemmas.Bool.{and_parts, both_ways, not_from_false, false_from_ne_true}
-use Rattle.std.proofs.lemmas.List.Kept.{IsStrictlySortedBy-filter}
-use Rattle.lis_graph.proofs.Members.{Among, among_filter, filter_among, among_insert_key, insert_key_old, insert_key_new}
-use Rattle.lis_graph.proofs.Sets.{same_sets, sorted_insert_key}
-use Rattle.lis_words.specs.Words.{same_word, has_word}
+use Rattle.lis_kept.proofs.Common.{IsStrictlySortedBy, and_parts, not_from_false, IsStrictlySortedBy-filter, Among, among_filter, among_insert_key, insert_key_old, insert_key_new, same_sets, sorted_insert_key, same_word, has_word, File, up, same_pair, with_axiom, pair_exact, same_word_decides, among_from_has_word}
+use Rattle.std.proofs.lemmas.Bool.{both_ways, false_from_ne_true}
+use Rattle.lis_graph.proofs.Members.{filter_among}
 use Rattle.lis_model.specs.Sets.{with_words}
-use Rattle.lis_model.specs.State.{File, pair_cmp, up, own_words, file_words}
-use Rattle.lis_model.specs.Changes.{same_pair, with_axiom}
+use Rattle.lis_model.specs.State.{pair_cmp, own_words, file_words}
 use Rattle.lis_laws.proofs.Closures.{with_one_axiom}
-use Rattle.lis_laws.proofs.Members.{pair_exact, pair_order, same_word_decides, has_word_from_among, among_from_has_word, with_words_old}
+use Rattle.lis_laws.proofs.Members.{pair_order, has_word_from_among, with_words_old}
 
 -- ---- an axiom from a word that a file has not
 pub one_unfelt : (declared : List (List ℕ)) (axioms : List (List ℕ × List ℕ)) (pair : List ℕ × List ℕ) (file : File) → has_word (file_words declared axioms file) pair.0 ≡ false

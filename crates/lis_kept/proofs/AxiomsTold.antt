@@ -1,20 +1,10 @@
 -- The axioms that memory tells, by their slots.
-use Rattle.std.proofs.Common.{◌≡◌, ◌⊎◌, ℕ, zero, suc, ◌+◌, ◌<◌, ◌≤◌, ◌==◌, true, cond, Some, List, [], ◌∷◌, ◌++◌, length, slice_get, count_by, IsSome, refl, sym, ap, ap₂, ◌∙◌, subst, inl, inr, arith, eq-eqb}
-use Rattle.std.specs.declared.cmp.Ordering.{Ordering}
-use Rattle.std.specs.declared.cmp.Ordering.TheVariants.{Less, Equal, Greater}
-use Rattle.std.specs.Ordering.{match_ordering}
-use Rattle.std.specs.BTreeSet.{insert_key}
-use Rattle.std.specs.List.{fold}
-use Rattle.std.proofs.lemmas.Bool.{and_parts, and_from, eqb-true}
-use Rattle.std.proofs.lemmas.List.Sums.{sum_by-cons}
-use Rattle.lis_graph.proofs.Members.{Among, among_right, among_from_any, any_from_among, among_flat_map, among_insert_key}
-use Rattle.lis_dict.specs.Dict.{Dict, word_of}
-use Rattle.lis_fields.specs.declared.slots.AxiomSlot.{AxiomSlot}
-use Rattle.lis_fields.specs.declared.slots.AxiomSlot.TheVariants.{Free as FreeAxiom, Pair}
-use Rattle.lis_words.specs.Words.{same_word}
+use Rattle.std.proofs.Common.{◌≡◌, ◌⊎◌, ℕ, zero, suc, ◌+◌, ◌<◌, ◌≤◌, ◌==◌, ◌&&◌, Bool, true, false, cond, Some, List, [], ◌∷◌, ◌++◌, length, slice_get, count_by, IsSome, refl, sym, ap, ap₂, ◌∙◌, subst, inl, inr, arith, eq-eqb}
+use Rattle.lis_kept.proofs.Common.{Ordering, Less, Equal, Greater, match_ordering, insert_key, fold, list_any, eqb-true, same_Some, sum_by-cons, Among, among_right, among_from_any, among_flat_map, among_insert_key, Dict, word_of, AxiomSlot, FreeAxiom, Pair, same_word, same_pair, pair_exact, same_word_decides}
+use Rattle.std.proofs.lemmas.Bool.{both_ways}
+use Rattle.lis_graph.proofs.Members.{any_from_among}
 use Rattle.lis_model.specs.State.{pair_cmp}
-use Rattle.lis_model.specs.Changes.{same_pair, has_axiom}
-use Rattle.lis_laws.proofs.Members.{pair_exact, same_word_decides}
+use Rattle.lis_model.specs.Changes.{has_axiom}
 use Rattle.lis_laws.proofs.Locals.{same_tests}
 use Rattle.lis_kept.specs.Kept.{Kept}
 use Rattle.lis_kept.specs.Sound.{AreSound}
@@ -25,35 +15,41 @@ use Rattle.lis_kept.proofs.Formed.{some_word}
 use Rattle.lis_kept.proofs.OwnLinks.{slot_at, among_slot}
 use Rattle.lis_kept.proofs.Known.{only_pair, one_number, axiom_among, among_axiom}
 
--- ---- an axiom between two words is one between their numbers
-module _ (k : Kept) (sound : AreSound k) (left right : ℕ) (l r : List ℕ) (is_l : word_of k.dict left ≡ Some l) (is_r : word_of k.dict right ≡ Some r) where
-  numbered : has_axiom (axioms_of k) (l, r) ≡ true → has_pair k.axioms left right ≡ true
-  numbered has = by (among_from_any (λ e. same_pair e (l, r)) (axioms_of k) has)
-    where
-      by : (e : List ℕ × List ℕ) × Among (axioms_of k) e × (same_pair e (l, r) ≡ true) → has_pair k.axioms left right ≡ true
-      by found =
-          let e = found.0 in
-          let same = and_parts (same_word e.0 l) (same_word e.1 r) found.2 in
-          let at = among_axiom k sound e found.1 in
-          let lefts : at.1 ≡ left = one_number k sound at.1 left l (at.4 ∙ ap Some ((same_word_decides e.0 l).0 same.0)) is_l in
-          let rights : at.2 ≡ right = one_number k sound at.2 right r (at.5 ∙ ap Some ((same_word_decides e.1 r).0 same.1)) is_r in
-          any_from_among (is_pair left right) k.axioms (Pair at.1 at.2) (among_slot k.axioms at.0 (Pair at.1 at.2) at.3)
-          (and_from (at.1 == left) (at.2 == right) (eq-eqb at.1 left lefts) (eq-eqb at.2 right rights))
+-- ---- by words and by numbers
+module _ (k : Kept) (sound : AreSound k) where
+  -- numbers are the same where their words are
+  pub same_number : (x n : ℕ) (v w : List ℕ) → word_of k.dict x ≡ Some v → word_of k.dict n ≡ Some w → (x == n) ≡ same_word v w
+  same_number x n v w is_v is_w =
+      same_tests (x == n) (same_word v w)
+      (λ e. (same_word_decides v w).1 (same_Some v w (sym is_v ∙ (ap (word_of k.dict) (eqb-true x n e) ∙ is_w))))
+      (λ e. eq-eqb x n (one_number k sound x n w (is_v ∙ ap Some ((same_word_decides v w).0 e)) is_w))
 
-  worded : has_pair k.axioms left right ≡ true → has_axiom (axioms_of k) (l, r) ≡ true
-  worded has = let found = among_from_any (is_pair left right) k.axioms has in by found.0 found.1 found.2
+  -- a test of slots that tells the same of words as one of axioms
+  pub by_axioms : (test : AxiomSlot → Bool) (told : List ℕ × List ℕ → Bool) → test FreeAxiom ≡ false
+      → ((x y : ℕ) (l r : List ℕ) → word_of k.dict x ≡ Some l → word_of k.dict y ≡ Some r → test (Pair x y) ≡ told (l, r)) → list_any told (axioms_of k) ≡ list_any test k.axioms
+  by_axioms test told none same =
+      same_tests (list_any told (axioms_of k)) (list_any test k.axioms)
+      (λ h. let found = among_from_any told (axioms_of k) h in from found.0 found.1 found.2)
+      (λ h. let found = among_from_any test k.axioms h in to found.0 found.1 found.2)
     where
-      by : (a : AxiomSlot) → Among k.axioms a → is_pair left right a ≡ true → has_axiom (axioms_of k) (l, r) ≡ true
-      by FreeAxiom m is = absurd cc
-      by (Pair x y) m is =
+      to : (a : AxiomSlot) → Among k.axioms a → test a ≡ true → list_any told (axioms_of k) ≡ true
+      to FreeAxiom m is = absurd (both_ways (test FreeAxiom) none is)
+      to (Pair x y) m is =
           let at = slot_at k.axioms (Pair x y) m in
-          let sides = and_parts (x == left) (y == right) is in
-          any_from_among (λ e. same_pair e (l, r)) (axioms_of k) (l, r)
-          (axiom_among k sound at.0 x y l r at.1 (ap (word_of k.dict) (eqb-true x left sides.0) ∙ is_l) (ap (word_of k.dict) (eqb-true y right sides.1) ∙ is_r))
-          (and_from (same_word l l) (same_word r r) ((same_word_decides l l).1 refl) ((same_word_decides r r).1 refl))
+          let one = sound.axioms at.0 x y at.1 in
+          let l = some_word (word_of k.dict x) one.left in
+          let r = some_word (word_of k.dict y) one.right in
+          any_from_among told (axioms_of k) (l.0, r.0) (axiom_among k sound at.0 x y l.0 r.0 at.1 l.1 r.1) (sym (same x y l.0 r.0 l.1 r.1) ∙ is)
 
-  pub axiom_told : has_axiom (axioms_of k) (l, r) ≡ has_pair k.axioms left right
-  axiom_told = same_tests (has_axiom (axioms_of k) (l, r)) (has_pair k.axioms left right) numbered worded
+      from : (e : List ℕ × List ℕ) → Among (axioms_of k) e → told e ≡ true → list_any test k.axioms ≡ true
+      from e m is =
+          let at = among_axiom k sound e m in
+          any_from_among test k.axioms (Pair at.1 at.2) (among_slot k.axioms at.0 (Pair at.1 at.2) at.3) (same at.1 at.2 e.0 e.1 at.4 at.5 ∙ is)
+
+-- an axiom between two words is one between their numbers
+pub axiom_told : (k : Kept) (sound : AreSound k) (left right : ℕ) (l r : List ℕ) → word_of k.dict left ≡ Some l → word_of k.dict right ≡ Some r → has_axiom (axioms_of k) (l, r) ≡ has_pair k.axioms left right
+axiom_told k sound left right l r is_l is_r =
+    by_axioms k sound (is_pair left right) (λ e. same_pair e (l, r)) refl (λ x y v w is_v is_w. ap₂ (λ a b. a && b) (same_number k sound x left v l is_v is_l) (same_number k sound y right w r is_w is_r))
 
 -- ---- how many there are
 longer : (acc : List (List ℕ × List ℕ)) (e : List ℕ × List ℕ) → (Among acc e → ⊥) → length (insert_key pair_cmp acc e) ≡ length acc + 1
@@ -99,33 +95,28 @@ module _ (d : Dict) (one : (m n : ℕ) (w : List ℕ) → word_of d m ≡ Some w
           let tie = are.apart zero (suc at.0) x y refl (at.1 ∙ ap Some same) in
           omega (arith, tie)
 
+  -- nor is it one of those before, which none of the others is
+  no_other : (acc : List (List ℕ × List ℕ)) (x y : ℕ) (axioms : List AxiomSlot) → AreApart d (Pair x y ∷ axioms) → ((e : List ℕ × List ℕ) → Among (pairs_told d (Pair x y ∷ axioms)) e → Among acc e → ⊥)
+      → (l : (w : List ℕ) × (word_of d x ≡ Some w)) (r : (w : List ℕ) × (word_of d y ≡ Some w)) (e : List ℕ × List ℕ) → Among (pairs_told d axioms) e → (◌≡◌ {A = List ℕ × List ℕ} (l.0, r.0) e) ⊎ Among acc e → ⊥
+  no_other acc x y axioms are new l r e m (inl same) =
+      first_apart x y axioms e are (l.1 ∙ ap (λ (z : List ℕ × List ℕ). Some z.0) same) (r.1 ∙ ap (λ (z : List ℕ × List ℕ). Some z.1) same) m
+  no_other acc x y axioms are new l r e m (inr old) = new e (among_right (pair_told d (Pair x y)) (pairs_told d axioms) e m) old
+
   counted : (acc : List (List ℕ × List ℕ)) (axioms : List AxiomSlot) → AreApart d axioms → ((e : List ℕ × List ℕ) → Among (pairs_told d axioms) e → Among acc e → ⊥)
       → length (fold (insert_key pair_cmp) acc (pairs_told d axioms)) ≡ length acc + count axioms
   counted acc [] are new = omega arith
   counted acc (FreeAxiom ∷ axioms) are new = counted acc axioms (rest_apart FreeAxiom axioms are) new ∙ ap (λ n. length acc + n) (sym (no_more axioms))
-  counted acc (Pair x y ∷ axioms) are new = by (are.named x y (inl refl)) (λ wider apart. counted wider axioms (rest_apart (Pair x y) axioms are) apart)
-    where
-      by : IsSome (word_of d x) × IsSome (word_of d y)
-          → ((wider : List (List ℕ × List ℕ)) → ((e : List ℕ × List ℕ) → Among (pairs_told d axioms) e → Among wider e → ⊥) → length (fold (insert_key pair_cmp) wider (pairs_told d axioms)) ≡ length wider + count axioms)
-          → length (fold (insert_key pair_cmp) acc (pairs_told d (Pair x y ∷ axioms))) ≡ length acc + count (Pair x y ∷ axioms)
-      by some others =
-          let l = some_word (word_of d x) some.0 in
-          let r = some_word (word_of d y) some.1 in
-          let pair : pair_told d (Pair x y) ≡ (l.0, r.0) ∷ [] = ap₂ pair_by l.1 r.1 in
-          let told : pairs_told d (Pair x y ∷ axioms) ≡ (l.0, r.0) ∷ pairs_told d axioms = ap (λ es. es ++ pairs_told d axioms) pair in
-          let rest = others (insert_key pair_cmp acc (l.0, r.0)) (λ e m n. other e m l r (among_insert_key pair_cmp acc (l.0, r.0) e n)) in
-          let grown = longer acc (l.0, r.0) (new (l.0, r.0) (subst (λ es. Among es (l.0, r.0)) (sym told) (inl refl))) in
-          let sum : length (insert_key pair_cmp acc (l.0, r.0)) + count axioms ≡ length acc + count (Pair x y ∷ axioms) = omega (arith, grown, one_more x y axioms) in
-          ap (λ es. length (fold (insert_key pair_cmp) acc es)) told ∙ (rest ∙ sum)
-        where
-          other : (e : List ℕ × List ℕ) → Among (pairs_told d axioms) e → (l : (w : List ℕ) × (word_of d x ≡ Some w)) (r : (w : List ℕ) × (word_of d y ≡ Some w))
-              → (◌≡◌ {A = List ℕ × List ℕ} (l.0, r.0) e) ⊎ Among acc e → ⊥
-          other e m l r (inl same) =
-              first_apart x y axioms e are (l.1 ∙ ap (λ (z : List ℕ × List ℕ). Some z.0) same) (r.1 ∙ ap (λ (z : List ℕ × List ℕ). Some z.1) same) m
-          other e m l r (inr old) = new e (more e m) old
-            where
-              more : (e : List ℕ × List ℕ) → Among (pairs_told d axioms) e → Among (pairs_told d (Pair x y ∷ axioms)) e
-              more e m = among_right (pair_told d (Pair x y)) (pairs_told d axioms) e m
+  counted acc (Pair x y ∷ axioms) are new =
+      let some = are.named x y (inl refl) in
+      let l = some_word (word_of d x) some.0 in
+      let r = some_word (word_of d y) some.1 in
+      let pair : pair_told d (Pair x y) ≡ (l.0, r.0) ∷ [] = ap₂ pair_by l.1 r.1 in
+      let told : pairs_told d (Pair x y ∷ axioms) ≡ (l.0, r.0) ∷ pairs_told d axioms = ap (λ es. es ++ pairs_told d axioms) pair in
+      let rest = counted (insert_key pair_cmp acc (l.0, r.0)) axioms (rest_apart (Pair x y) axioms are)
+      (λ e m n. no_other acc x y axioms are new l r e m (among_insert_key pair_cmp acc (l.0, r.0) e n)) in
+      let grown = longer acc (l.0, r.0) (new (l.0, r.0) (subst (λ es. Among es (l.0, r.0)) (sym told) (inl refl))) in
+      let sum : length (insert_key pair_cmp acc (l.0, r.0)) + count axioms ≡ length acc + count (Pair x y ∷ axioms) = omega (arith, grown, one_more x y axioms) in
+      ap (λ es. length (fold (insert_key pair_cmp) acc es)) told ∙ (rest ∙ sum)
 
 -- as many as slots that have one, where no two have the same
 pub axioms_counted : (k : Kept) → AreSound k → ((slot other left right : ℕ) → slice_get k.axioms slot ≡ Some (Pair left right) → slice_get k.axioms other ≡ Some (Pair left right) → slot ≡ other)

@@ -1,7 +1,7 @@
 -- A block whose slots are written one by one.
 use Rattle.std.proofs.Common.{◌≡◌, ◌⊎◌, sym, ap, ◌∙◌, subst, inl, inr, ℕ, ◌+◌, ◌*◌, ◌<◌, ◌≤◌, List, ◌++◌, length, take, drop, arith}
-use Rattle.std.proofs.lemmas.Bool.{cases_eq}
-use Rattle.lis_ports.specs.Bytes.{part, put}
+use Rattle.lis_kept.proofs.Common.{cases_eq, part}
+use Rattle.lis_ports.specs.Bytes.{put}
 use Rattle.lis_ports.proofs.Parts.{Apart, length-part, part-put, part-put_other}
 use Rattle.lis_slots.proofs.Putting.{put_between, places_apart}
 

@@ -1,17 +1,17 @@
 -- Blocks that are taken for a content, or given back.
-use Rattle.std.proofs.Common.{◌≡◌, refl, sym, ap, ◌∙◌, subst, ℕ, zero, suc, ◌+◌, ◌^◌, ◌<◌, ◌≤◌, ◌==◌, ◌&&◌, if◌then◌else◌, nat_lt, not, Bool, true, false, List, [], ◌∷◌, length, drop, set, Result, Ok, Err, MatchResult, is_some, arith, length-set}
-use Rattle.std.specs.List.{list_all}
-use Rattle.std.proofs.lemmas.Bool.{and_parts, and_from, cond-true, cond-false, eq-eqb, ltb-true, ltb-false, lt-ltb}
+use Rattle.std.proofs.Common.{◌≡◌, refl, sym, ap, ◌∙◌, subst, ℕ, zero, suc, ◌+◌, ◌^◌, ◌<◌, ◌≤◌, ◌==◌, ◌&&◌, if◌then◌else◌, nat_lt, not, Bool, true, false, List, [], ◌∷◌, length, drop, set, Result, Ok, Err, MatchResult, arith, length-set}
+use Rattle.lis_kept.proofs.Common.{list_all, and_parts, ltb-true, lt-ltb, Held, are_distinct, slot_count, FileRecord, slot_blocks, slots_distinct, Taxonomy, bitmap_start, data_start, all_among}
+use Rattle.std.proofs.lemmas.Bool.{and_from, cond-true, cond-false, eq-eqb, ltb-false}
 use Rattle.lis_ports.specs.Meaning.{Meaning}
 use Rattle.lis_ports.specs.Runs.{Leaves}
 use Rattle.lis_ports.proofs.Moments.{leaves_none}
-use Rattle.lis_journal.specs.Journal.{OpenRecords, Held}
+use Rattle.lis_journal.specs.Journal.{OpenRecords}
 use Rattle.lis_journal.specs.Record.{Entry}
 use Rattle.lis_journal.specs.Images.{look, is_among, StandsBut, FitsAt, Fits}
 use Rattle.lis_journal.specs.Phases.{looked}
 use Rattle.lis_blockmap.specs.Bitmap.{free_count}
-use Rattle.lis_content.specs.Content.{given, are_free, are_distinct, are_within, has_number}
-use Rattle.lis_content.specs.Large.{is_large, slot_count, file_blocks}
+use Rattle.lis_content.specs.Content.{given, are_free, are_within, has_number}
+use Rattle.lis_content.specs.Large.{is_large, file_blocks}
 use Rattle.lis_content.specs.Placing.{HasFile, Places, IsPlaced, IsTornOff, IsUnplaced}
 use Rattle.lis_content.specs.Putting.{IsPut, IsRefused}
 use Rattle.lis_content.specs.declared.fault.PutFault.{PutFault}
@@ -20,13 +20,10 @@ use Rattle.lis_content.proofs.Numbers.{are_below, below_from_free, within_if_bel
 use Rattle.lis_content.proofs.Indexes.{small_blocks, small_content, small_size}
 use Rattle.lis_content.proofs.Files.{slot_were_free}
 use Rattle.lis_content.proofs.Laying.{among_homes}
-use Rattle.lis_dict.specs.Dict.{word_of}
-use Rattle.lis_fields.specs.Records.{FileRecord}
-use Rattle.lis_fields.specs.Layouts.{is_record, are_short, are_blocks, slot_blocks, are_distinct as slots_distinct}
-use Rattle.lis_taxonomy.specs.Taxonomy.{Taxonomy}
-use Rattle.lis_model.specs.Image.{bitmap_start, data_start, image_blocks}
+use Rattle.lis_fields.specs.Layouts.{are_short, are_blocks}
+use Rattle.lis_model.specs.Image.{image_blocks}
 use Rattle.lis_model.specs.State.{file_limit, blocks_needed, blocks_taken}
-use Rattle.lis_laws.proofs.Counts.{all_among, all_from}
+use Rattle.lis_laws.proofs.Counts.{all_from}
 use Rattle.lis_kept.specs.Kept.{Kept}
 use Rattle.lis_kept.specs.Areas.{Area, slots_of, block_of, spelled}
 use Rattle.lis_kept.specs.Areas.Area.{Properties, Axioms, Files, Rows, Bitmap}
@@ -34,31 +31,15 @@ use Rattle.lis_kept.specs.Sound.{is_sound_record}
 use Rattle.lis_kept.specs.Links.{AreHeld}
 use Rattle.lis_kept.specs.Changes.{Takes, Gives, Fills, Lands, Puts, PutTorn}
 use Rattle.lis_kept.proofs.InArea.{few_blocks}
-use Rattle.lis_kept.proofs.Formed.{held_files}
+use Rattle.lis_kept.proofs.Formed.{held_files, record_parts}
 use Rattle.lis_kept.proofs.Marking.{block_marked}
 use Rattle.lis_kept.proofs.Filing.{same_distinct}
 use Rattle.lis_kept.proofs.Contents.{slot_blocks_counted}
 
--- ---- other blocks are taken
-module _ (p : Kept) (t : Taxonomy) (held : AreHeld p t) (taken : List Bool) (len : length taken ≡ length p.taken) where
-  abbrev taken_marks : List Bool
-  taken_marks = set p.marks (bitmap_start p.limits) true
-
+-- ---- other blocks are taken, over what memory kept
+module _ (k p : Kept) (t : Taxonomy) (taken marks : List Bool) (is : p ≡ k) (held : AreHeld p t) (len : length taken ≡ length p.taken) (marked_is : marks ≡ set p.marks (bitmap_start p.limits) true) where
   abbrev retaken : Kept
-  retaken = record p { taken = taken; marks = taken_marks }
-
-  held_retaken : AreHeld retaken t
-  held_retaken = held_files p t p.catalog taken p.ext taken_marks held (record {
-    slots = refl;
-    catalog_is = held.sound.catalog;
-    records = held.sound.records;
-    blocks = len;
-    rows = refl;
-    files = refl;
-    named = held.sound.named;
-    settled = held.sound.settled;
-    as_many = length-set p.marks (bitmap_start p.limits) true;
-  })
+  retaken = record p { taken = taken; marks = marks }
 
   spelled_before : (area : Area) (n : ℕ) → n < (slots_of p.limits area).count → (block_of p.limits area n ≡ bitmap_start p.limits → ⊥) → spelled retaken area n ≡ spelled p area n
   spelled_before Properties n lt apart = refl
@@ -67,24 +48,25 @@ module _ (p : Kept) (t : Taxonomy) (held : AreHeld p t) (taken : List Bool) (len
   spelled_before Rows n lt apart = refl
   spelled_before Bitmap n lt apart = absurd (apart (omega (arith, lt)))
 
-  retaken_made : AreHeld retaken t × Takes taken p retaken
-  retaken_made = (
-    held_retaken,
-    record {
-      parts = refl;
+  pub takes : AreHeld retaken t × Takes taken k retaken
+  takes = (
+    held_files p t p.catalog taken p.ext marks held (record {
+      slots = refl;
+      catalog_is = held.sound.catalog;
+      records = held.sound.records;
+      blocks = len;
+      rows = refl;
+      files = refl;
+      named = held.sound.named;
+      settled = held.sound.settled;
+      as_many = ap length marked_is ∙ length-set p.marks (bitmap_start p.limits) true;
+    }),
+    subst (λ (x : Kept). Takes taken x retaken) is (record {
+      parts = cc (marked_is);
       len = len;
-      marks = block_marked p retaken (bitmap_start p.limits) refl refl (omega (arith, held.sound.marks)) spelled_before;
-    },
+      marks = block_marked p retaken (bitmap_start p.limits) refl marked_is (omega (arith, held.sound.marks)) spelled_before;
+    }),
   )
-
--- the same, over what memory kept
-pub takes : (k p : Kept) (t : Taxonomy) (taken marks : List Bool) → p ≡ k → AreHeld p t → length taken ≡ length p.taken → marks ≡ set p.marks (bitmap_start p.limits) true
-    → AreHeld (record p { taken = taken; marks = marks }) t × Takes taken k (record p { taken = taken; marks = marks })
-takes k p t taken marks is held len are_marks =
-    let P : Kept → Type 0 = λ q. AreHeld q t × Takes taken k q in
-    let same : retaken p t held taken len ≡ record p { taken = taken; marks = marks } = ap (λ (ms : List Bool). record p { taken = taken; marks = ms }) (sym are_marks) in
-    let Q : Kept → Type 0 = λ q. AreHeld (retaken p t held taken len) t × Takes taken q (retaken p t held taken len) in
-    subst P same (subst Q is (retaken_made p t held taken len))
 
 -- ---- the numbers of a slot
 -- numbers of which none stands twice stay so where some go at the front
@@ -236,7 +218,7 @@ pub record MayPut (k : Kept) (bytes : List ℕ) (old : Held) : Type 0 where
   pub unstaged : is_large (length bytes) ≡ true → old.staged ≡ []
 
 module _ {T : Type 0} (items : T → List ℕ) (k p : Kept) (t : Taxonomy) (is : p ≡ k) (held : AreHeld p t) (bytes : List ℕ) (old new : Held) (asked : MayPut k bytes old) (taken marks : List Bool)
-    (are_marks : marks ≡ set p.marks (bitmap_start p.limits) true) (base : ℕ) (from : base ≡ data_start p.limits) where
+    (are_marks : marks ≡ set p.marks (bitmap_start p.limits) true) where
   abbrev after_put : Kept
   after_put = record p { taken = taken; marks = marks }
 
@@ -263,42 +245,33 @@ module _ {T : Type 0} (items : T → List ℕ) (k p : Kept) (t : Taxonomy) (is :
           image = ap (λ (h : Held). h.blocks) torn.journal;
         })
 
-    ends_placed : (put : Result T PutFault)
+    pub placed_ends : (put : Result T PutFault)
         → MatchResult put (λ s. IsPlaced (data_start p.limits) bytes p.taken taken old new before after (items s)) (λ fault. IsUnplaced (data_start p.limits) bytes p.taken taken old new before after fault)
         → PutEnds items bytes k after_put t old new before after put
-    ends_placed (Ok s) placed =
+    placed_ends (Ok s) placed =
         let P : Kept → Type 0 = λ q. Puts bytes (items s) q after_put old new before after in
         record {
           held = held_put placed.lays.places.len;
           ended = subst P is (placed_puts p t held bytes (items s) taken old new before after may.short (may.unstaged large) large placed after_put (takes_put placed.lays.places.len));
         }
-    ends_placed (Err NoSpace) refused = absurd (omega (arith, refused.2, needed_enough))
-    ends_placed (Err Disk) torn = record { held = held_put torn.1.places.len; ended = torn_off torn.1 }
-
-    pub placed_ends : (put : Result T PutFault) → MatchResult put (λ s. IsPlaced base bytes p.taken taken old new before after (items s)) (λ fault. IsUnplaced base bytes p.taken taken old new before after fault)
-        → PutEnds items bytes k after_put t old new before after put
-    placed_ends put ended =
-        ends_placed put (subst (λ b. MatchResult put (λ s. IsPlaced b bytes p.taken taken old new before after (items s)) (λ fault. IsUnplaced b bytes p.taken taken old new before after fault)) from ended)
+    placed_ends (Err NoSpace) refused = absurd (omega (arith, refused.2, needed_enough))
+    placed_ends (Err Disk) torn = record { held = held_put torn.1.places.len; ended = torn_off torn.1 }
 
   module _ (m : Meaning) (small : is_large (length bytes) ≡ false) where
     content_enough : blocks_needed (length bytes) ≤ free_count p.taken
     content_enough = subst (λ n. n ≤ free_count p.taken) (cond-false (is_large (length bytes)) _ (blocks_needed (length bytes)) small) needed_enough
 
-    ends_staged : (put : Result T PutFault)
+    pub staged_ends : (put : Result T PutFault)
         → MatchResult put (λ s. IsPut (data_start p.limits) [] bytes p.taken taken old new (items s)) (λ fault. IsRefused [] bytes p.taken taken old new fault)
         → PutEnds items bytes k after_put t old new m m put
-    ends_staged (Ok s) is_put =
+    staged_ends (Ok s) is_put =
         let P : Kept → Type 0 = λ q. Puts bytes (items s) q after_put old new m m in
         record {
           held = held_put is_put.len;
           ended = subst P is (staged_puts p t held bytes (items s) taken old new m may.short small may.unplaced is_put after_put (takes_put is_put.len));
         }
-    ends_staged (Err NoSpace) refused = absurd (omega (arith, refused.2, content_enough))
-    ends_staged (Err Disk) never = absurd never
-
-    pub staged_ends : (put : Result T PutFault) → MatchResult put (λ s. IsPut base [] bytes p.taken taken old new (items s)) (λ fault. IsRefused [] bytes p.taken taken old new fault)
-        → PutEnds items bytes k after_put t old new m m put
-    staged_ends put ended = ends_staged put (subst (λ b. MatchResult put (λ s. IsPut b [] bytes p.taken taken old new (items s)) (λ fault. IsRefused [] bytes p.taken taken old new fault)) from ended)
+    staged_ends (Err NoSpace) refused = absurd (omega (arith, refused.2, content_enough))
+    staged_ends (Err Disk) never = absurd never
 
 -- what is said of an answer, said of its value
 pub ended_ok : {T : Type 0} (P : T → Type 0) (Q : PutFault → Type 0) (put : Result T PutFault) (x : T) → put ≡ Ok x → MatchResult put P Q → P x
@@ -312,8 +285,7 @@ ended_err P Q put fault is ended = subst (λ r. MatchResult r P Q) is ended
 pub slot_within : (k : Kept) (rec : FileRecord) (base blocks : ℕ) (numbers : List ℕ) → is_sound_record k.limits.version k.dict k.limits.blocks rec ≡ true → base ≡ data_start k.limits
     → blocks ≡ image_blocks k.limits → numbers ≡ rec.blocks → are_within base blocks numbers ≡ true
 slot_within k rec base blocks numbers sound from image are =
-    let below = (and_parts (is_record k.limits.version rec && list_all (λ n. is_some (word_of k.dict n)) rec.tags) (list_all (λ n. nat_lt n k.limits.blocks) rec.blocks) sound).1 in
-    within_if_below base blocks k.limits.blocks numbers (omega (arith, from, image)) (ap (are_below k.limits.blocks) are ∙ below)
+    within_if_below base blocks k.limits.blocks numbers (omega (arith, from, image)) (ap (are_below k.limits.blocks) are ∙ (record_parts k.limits.version k.dict k.limits.blocks rec sound).2)
 
 pub gives : (k p : Kept) (t : Taxonomy) (rec : FileRecord) (journal : Held) (m : Meaning) (base size : ℕ) (numbers : List ℕ) (taken marks : List Bool) → p ≡ k → AreHeld p t → length taken ≡ length p.taken
     → marks ≡ set p.marks (bitmap_start p.limits) true → base ≡ data_start p.limits → numbers ≡ rec.blocks → size ≡ rec.size

@@ -1,16 +1,11 @@
 -- The bytes and the blocks of a file, and where other blocks change.
 use Rattle.std.proofs.Common.{◌≡◌, refl, sym, ◌∙◌, subst, ℕ, ◌+◌, ◌≤◌, ◌==◌, ◌&&◌, if◌then◌else◌, nat_lt, Bool, true, false, List, length}
-use Rattle.std.proofs.lemmas.Bool.{eqb-true, cond-false}
-use Rattle.lis_graph.proofs.Members.{Among, among_from_any, among_right}
-use Rattle.lis_content.specs.Large.{is_large, slot_count, numbers_in, index_home}
+use Rattle.lis_kept.proofs.Common.{eqb-true, Among, among_from_any, among_right, slot_count, Dict, FileRecord, slot_blocks, Limits, data_start}
+use Rattle.std.proofs.lemmas.Bool.{cond-false}
+use Rattle.lis_content.specs.Large.{is_large, numbers_in, index_home}
 use Rattle.lis_content.proofs.Indexes.{large_blocks, small_blocks, small_size}
 use Rattle.lis_content.proofs.Files.{AreSame, same_file as same_in_content}
-use Rattle.lis_dict.specs.Dict.{Dict}
-use Rattle.lis_fields.specs.Records.{FileRecord}
-use Rattle.lis_fields.specs.Layouts.{slot_blocks}
 use Rattle.lis_fields.proofs.Parts.{few_blocks}
-use Rattle.lis_model.specs.declared.limits.Limits.{Limits}
-use Rattle.lis_model.specs.Image.{data_start}
 use Rattle.lis_model.specs.State.{file_limit, blocks_needed}
 use Rattle.lis_kept.specs.Sound.{is_sound_record}
 use Rattle.lis_kept.specs.Telling.{bytes_told, blocks_told, HasIndex}

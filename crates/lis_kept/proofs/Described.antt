@@ -1,25 +1,19 @@
 -- A file slot that gets other numbers.
 use Rattle.std.proofs.Common.{◌≡◌, ◌⊎◌, ℕ, ◌+◌, ◌<◌, ◌≤◌, ◌&&◌, ◌||◌, not, nat_lt, nat_eq, Bool, true, false, List, [], length, get_or, set, map, is_some, IsSome, refl, sym, ap, ◌∙◌, subst, inl, inr, arith, length-set, get_or-set_same, get_or-set_other}
-use Rattle.std.specs.List.{All, list_all, range_with_len}
-use Rattle.std.proofs.lemmas.List.Elements.{Contains-get_or}
-use Rattle.std.proofs.lemmas.Bool.{cases_eq, lt-ltb, eqb-true, both_ways, false_from_ne_true, and_parts, or_cases}
+use Rattle.lis_kept.proofs.Common.{list_all, Contains-get_or, cases_eq, lt-ltb, eqb-true, and_parts, or_cases, Among, among_from_any, among_from_contains, length-marked, word_of, rec_at, Ext, has, Taxonomy, all_among, filter_le, among_where}
+use Rattle.std.specs.List.{All, range_with_len}
+use Rattle.std.proofs.lemmas.Bool.{both_ways, false_from_ne_true}
 use Rattle.std.proofs.lemmas.List.FromFn.{length-range_with_len}
-use Rattle.lis_graph.proofs.Members.{Among, among_from_any, among_from_contains}
 use Rattle.lis_content.specs.Content.{marked}
-use Rattle.lis_content.proofs.Numbers.{length-marked}
-use Rattle.lis_dict.specs.Dict.{word_of}
-use Rattle.lis_catalog.specs.Catalog.{rec_at}
-use Rattle.lis_ext.specs.Ext.{Ext, has, set_of, with_marks}
+use Rattle.lis_ext.specs.Ext.{set_of, with_marks}
 use Rattle.lis_ext.specs.Numbers.{has_number, differs, numbers_where}
-use Rattle.lis_taxonomy.specs.Taxonomy.{Taxonomy}
-use Rattle.lis_laws.proofs.Counts.{all_among, all_from, filter_le}
+use Rattle.lis_laws.proofs.Counts.{all_from}
 use Rattle.lis_kept.specs.Kept.{Kept}
 use Rattle.lis_kept.specs.Areas.{block_of}
 use Rattle.lis_kept.specs.Areas.Area.{Rows}
 use Rattle.lis_kept.specs.Sound.{AreSound}
 use Rattle.lis_kept.specs.Links.{AreHeld}
 use Rattle.lis_kept.specs.Changes.{Marks, Describes}
-use Rattle.lis_ext.proofs.Numbers.{among_where}
 use Rattle.lis_kept.proofs.Formed.{held_files, named_below, AreWithin, had_within}
 use Rattle.lis_kept.proofs.RowsMarked.{rows_marked}
 
@@ -28,10 +22,7 @@ same_numbers : (old new : List ℕ) (n : ℕ) → differs old new n ≡ false �
 same_numbers old new n same = by (has_number old n) (has_number new n) same
   where
     by : (a b : Bool) → ((b && not a) || (a && not b)) ≡ false → b ≡ a
-    by true true none = refl
-    by true false none = absurd cc
-    by false true none = absurd cc
-    by false false none = refl
+    by a b is = grind arith
 
 -- with nothing marked before, what differs is marked
 pub marks_differ : (e : Ext) (old new : List ℕ) → e.marks ≡ [] → with_marks e (differs old new) ≡ numbers_where e.props (differs old new)

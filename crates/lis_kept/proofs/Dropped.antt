@@ -1,21 +1,11 @@
 -- A file that goes.
-use Rattle.std.proofs.Common.{◌≡◌, refl, sym, ap, ◌∙◌, subst, ℕ, ◌<◌, ◌==◌, if◌then◌else◌, ◌&&◌, nat_lt, not, Bool, true, false, List, length, map, set, Some, None, is_some, IsSome, arith, length-set}
-use Rattle.std.specs.List.{list_all}
-use Rattle.std.proofs.lemmas.Bool.{eq-eqb, eqb-true, ne_eqb, and_parts}
-use Rattle.std.proofs.lemmas.Option.{same_Some}
-use Rattle.lis_graph.proofs.Members.{Among}
-use Rattle.lis_content.specs.Content.{are_distinct}
-use Rattle.lis_catalog.specs.Catalog.{Catalog, Filed, rec_at, slot_of, without_slot}
+use Rattle.std.proofs.Common.{◌≡◌, ◌⊎◌, inl, inr, Option, refl, sym, ap, ◌∙◌, subst, ℕ, ◌<◌, ◌==◌, if◌then◌else◌, ◌&&◌, not, Bool, true, List, length, map, set, Some, None, is_some, IsSome, arith, length-set}
+use Rattle.lis_kept.proofs.Common.{cases_eq, eqb-true, ne_eqb, and_parts, same_Some, Among, are_distinct, Catalog, Filed, IsCatalog, rec_at, slot_of, without_slot, FileRecord, file_bytes, slot_blocks, slots_distinct, Dict, word_of, Taxonomy, same_word, File, same_word_decides, has}
+use Rattle.std.proofs.lemmas.Bool.{both_ways, eq-eqb}
 use Rattle.lis_catalog.proofs.Laws.{rec_at-without_slot, slot_is_below, slot_of-rec_at}
-use Rattle.lis_fields.specs.Records.{FileRecord}
-use Rattle.lis_fields.specs.Layouts.{file_bytes, is_record, are_short, slot_blocks, are_distinct as slots_distinct}
+use Rattle.lis_fields.specs.Layouts.{are_short}
 use Rattle.lis_fields.proofs.Parts.{IsFileRecord, record_tests}
-use Rattle.lis_dict.specs.Dict.{Dict, word_of}
-use Rattle.lis_taxonomy.specs.Taxonomy.{Taxonomy}
-use Rattle.lis_words.specs.Words.{same_word}
-use Rattle.lis_model.specs.State.{File}
 use Rattle.lis_model.specs.Changes.{file_removed}
-use Rattle.lis_laws.proofs.Members.{same_word_decides}
 use Rattle.lis_laws.proofs.Locals.{same_tests, filter_same}
 use Rattle.lis_kept.specs.Kept.{Kept, file_by}
 use Rattle.lis_kept.specs.Areas.{Area, slots_of, block_of, spelled}
@@ -23,77 +13,96 @@ use Rattle.lis_kept.specs.Areas.Area.{Properties, Axioms, Files, Rows, Bitmap}
 use Rattle.lis_kept.specs.Telling.{state_of, file_told}
 use Rattle.lis_kept.specs.Sound.{is_sound_record, AreSound}
 use Rattle.lis_kept.specs.Links.{AreHeld}
-use Rattle.lis_kept.specs.Changes.{Drops}
+use Rattle.lis_kept.specs.Changes.{Marks, Drops}
 use Rattle.lis_kept.proofs.InArea.{among_slots}
-use Rattle.lis_kept.proofs.Formed.{held_files}
+use Rattle.lis_kept.proofs.Formed.{held_files, record_parts}
 use Rattle.lis_kept.proofs.Marking.{block_marked}
 use Rattle.lis_kept.proofs.Filing.{filter-map, catalog_without, filed_rec, filed_slot, same_distinct}
-
--- the block of a file slot has a mark
-pub file_home_below : (k : Kept) (t : Taxonomy) (slot : ℕ) → AreHeld k t → slot < k.limits.files → block_of k.limits Files slot < length k.marks
-file_home_below k t slot held lt = omega (arith, (among_slots k.limits held.sound.range Files slot lt).1, held.sound.marks)
 
 -- a sound record is in the ranges of its layout
 pub record_in_form : (version : ℕ) (dict : Dict) (blocks : ℕ) (rec : FileRecord) → is_sound_record version dict blocks rec ≡ true → IsFileRecord version rec
 record_in_form version dict blocks rec sound =
-    let most = and_parts (is_record version rec && list_all (λ n. is_some (word_of dict n)) rec.tags) (list_all (λ n. nat_lt n blocks) rec.blocks) sound in
-    record_tests version rec (and_parts (is_record version rec) (list_all (λ n. is_some (word_of dict n)) rec.tags) most.0).0
+    record_tests version rec (record_parts version dict blocks rec sound).0
 
--- the blocks of a record are different ones
-pub record_apart : (version : ℕ) (dict : Dict) (blocks : ℕ) (rec : FileRecord) → is_sound_record version dict blocks rec ≡ true → are_distinct rec.blocks ≡ true
-record_apart version dict blocks rec sound =
-    sym (same_distinct rec.blocks) ∙ (and_parts ((length rec.blocks == slot_blocks version rec.size) && are_short rec.blocks) (slots_distinct rec.blocks) (record_in_form version dict blocks rec sound).blocks).1
-
--- and so are those of a file
+-- the blocks of a file are different ones
 pub blocks_apart : (k : Kept) → AreSound k → (slot : ℕ) (rec : FileRecord) → rec_at k.catalog slot ≡ Some rec → are_distinct rec.blocks ≡ true
 blocks_apart k sound slot rec there =
-    record_apart k.limits.version k.dict k.limits.blocks rec (sound.records slot rec there)
+    let form = record_in_form k.limits.version k.dict k.limits.blocks rec (sound.records slot rec there) in
+    sym (same_distinct rec.blocks) ∙ (and_parts ((length rec.blocks == slot_blocks k.limits.version rec.size) && are_short rec.blocks) (slots_distinct rec.blocks) form.blocks).1
 
 pub file_slot_below : (k : Kept) → AreSound k → (slot : ℕ) (rec : FileRecord) → rec_at k.catalog slot ≡ Some rec → slot < k.limits.files
 file_slot_below k sound slot rec there = omega (arith, slot_is_below k.catalog slot sound.catalog (ap is_some there), sound.slots)
 
-module _ (p : Kept) (t : Taxonomy) (held : AreHeld p t) (slot : ℕ) (rec : FileRecord) (there : rec_at p.catalog slot ≡ Some rec) where
-  abbrev dropped_marks : List Bool
-  dropped_marks = set p.marks (block_of p.limits Files slot) true
+-- ---- one slot of the catalog
+-- The records of all other slots stay, and this one's is sound. The block of the slot is marked.
+pub record OneFile (p : Kept) (slot : ℕ) (c : Catalog) (marks : List Bool) : Type 0 where
+  pub below : slot < p.limits.files
+  pub files : c.files ≡ p.catalog.files
+  pub catalog : IsCatalog c
+  pub others : (n : ℕ) → (n ≡ slot → ⊥) → rec_at c n ≡ rec_at p.catalog n
+  pub sound : (rec : FileRecord) → rec_at c slot ≡ Some rec → is_sound_record p.limits.version p.dict p.limits.blocks rec ≡ true
+  pub named : IsSome (rec_at c slot) → (n : ℕ) → has p.ext n slot ≡ true → IsSome (word_of p.dict n)
+  pub marked : marks ≡ set p.marks (block_of p.limits Files slot) true
 
-  abbrev pub dropped : Kept
-  dropped = record p { catalog = without_slot p.catalog slot; marks = dropped_marks }
+module _ (p : Kept) (t : Taxonomy) (held : AreHeld p t) {slot : ℕ} {c : Catalog} {marks : List Bool} (one : OneFile p slot c marks) where
+  abbrev pub refiled : Kept
+  refiled = record p { catalog = c; marks = marks }
 
-  spelled_before : (area : Area) (n : ℕ) → n < (slots_of p.limits area).count → (block_of p.limits area n ≡ block_of p.limits Files slot → ⊥) → spelled dropped area n ≡ spelled p area n
-  spelled_before Properties n lt apart = refl
-  spelled_before Axioms n lt apart = refl
-  spelled_before Files n lt apart =
-      let other : n ≡ slot → ⊥ = λ e. apart (ap (block_of p.limits Files) e) in
-      ap (λ o. file_bytes (file_by o)) (rec_at-without_slot p.catalog slot n ∙ ap (λ b. if b then None else rec_at p.catalog n) (ne_eqb n slot other))
-  spelled_before Rows n lt apart = refl
-  spelled_before Bitmap n lt apart = refl
-
-  records_left : (n : ℕ) (r : FileRecord) → rec_at (without_slot p.catalog slot) n ≡ Some r → is_sound_record p.limits.version p.dict p.limits.blocks r ≡ true
-  records_left n r is = by (n == slot) (sym (rec_at-without_slot p.catalog slot n) ∙ is)
-    where
-      by : (b : Bool) → (if b then None else rec_at p.catalog n) ≡ Some r → is_sound_record p.limits.version p.dict p.limits.blocks r ≡ true
-      by true none = absurd cc
-      by false some = held.sound.records n r some
-
-  was_there : (n : ℕ) → IsSome (rec_at (without_slot p.catalog slot) n) → IsSome (rec_at p.catalog n)
-  was_there n some = by (n == slot) (sym (ap is_some (rec_at-without_slot p.catalog slot n)) ∙ some)
-    where
-      by : (b : Bool) → is_some (if b then None else rec_at p.catalog n) ≡ true → IsSome (rec_at p.catalog n)
-      by true none = absurd cc
-      by false there = there
-
-  held_dropped : AreHeld dropped t
-  held_dropped = held_files p t (without_slot p.catalog slot) p.taken p.ext dropped_marks held (record {
-    slots = refl;
-    catalog_is = catalog_without p.catalog slot held.sound.catalog;
-    records = records_left;
+  pub held_then : AreHeld refiled t
+  held_then = held_files p t c p.taken p.ext marks held (record {
+    slots = one.files;
+    catalog_is = one.catalog;
+    records = λ n rec. records_at n rec (cases_eq n slot);
     blocks = refl;
     rows = refl;
     files = refl;
-    named = λ n s there has_it. held.sound.named n s (was_there s there) has_it;
+    named = λ n s. named_at n s (cases_eq s slot);
     settled = held.sound.settled;
-    as_many = length-set p.marks (block_of p.limits Files slot) true;
+    as_many = ap length one.marked ∙ length-set p.marks (block_of p.limits Files slot) true;
   })
+    where
+      records_at : (n : ℕ) (rec : FileRecord) → (n ≡ slot) ⊎ (n ≡ slot → ⊥) → rec_at c n ≡ Some rec → is_sound_record p.limits.version p.dict p.limits.blocks rec ≡ true
+      records_at n rec (inl same) is = one.sound rec (ap (rec_at c) (sym same) ∙ is)
+      records_at n rec (inr differ) is = held.sound.records n rec (sym (one.others n differ) ∙ is)
+
+      named_at : (n s : ℕ) → (s ≡ slot) ⊎ (s ≡ slot → ⊥) → IsSome (rec_at c s) → has p.ext n s ≡ true → IsSome (word_of p.dict n)
+      named_at n s (inl same) file has_it = one.named (ap (λ i. is_some (rec_at c i)) (sym same) ∙ file) n (ap (has p.ext n) (sym same) ∙ has_it)
+      named_at n s (inr differ) file has_it = held.sound.named n s (ap is_some (sym (one.others s differ)) ∙ file) has_it
+
+  spelled_before : (area : Area) (n : ℕ) → n < (slots_of p.limits area).count → (block_of p.limits area n ≡ block_of p.limits Files slot → ⊥) → spelled refiled area n ≡ spelled p area n
+  spelled_before Properties n lt apart = refl
+  spelled_before Axioms n lt apart = refl
+  spelled_before Files n lt apart = ap (λ o. file_bytes (file_by o)) (one.others n (λ e. apart (ap (block_of p.limits Files) e)))
+  spelled_before Rows n lt apart = refl
+  spelled_before Bitmap n lt apart = refl
+
+  pub marks_then : Marks 1 p refiled
+  marks_then =
+      block_marked p refiled (block_of p.limits Files slot) refl one.marked
+      (omega (arith, (among_slots p.limits held.sound.range Files slot one.below).1, held.sound.marks)) spelled_before
+
+-- ---- a file that goes, over what memory kept
+module _ (k p : Kept) (t : Taxonomy) (slot : ℕ) (rec : FileRecord) (c : Catalog) (marks : List Bool) (is : p ≡ k) (held : AreHeld p t) (there : rec_at p.catalog slot ≡ Some rec)
+    (gone : c ≡ without_slot p.catalog slot) (marked : marks ≡ set p.marks (block_of p.limits Files slot) true) where
+  abbrev left : Kept
+  left = record p { catalog = c; marks = marks }
+
+  rec_then : (n : ℕ) → rec_at c n ≡ (if n == slot then None else rec_at p.catalog n)
+  rec_then n = ap (λ (x : Catalog). rec_at x n) gone ∙ rec_at-without_slot p.catalog slot n
+
+  none_here : rec_at c slot ≡ None
+  none_here = rec_then slot ∙ ap (λ b. if b then None else rec_at p.catalog slot) (eq-eqb slot slot refl)
+
+  one : OneFile p slot c marks
+  one = record {
+    below = file_slot_below p held.sound slot rec there;
+    files = ap (λ (x : Catalog). x.files) gone;
+    catalog = subst (λ (x : Catalog). IsCatalog x) (sym gone) (catalog_without p.catalog slot held.sound.catalog);
+    others = λ n differ. rec_then n ∙ ap (λ b. if b then None else rec_at p.catalog n) (ne_eqb n slot differ);
+    sound = λ r is_r. absurd (let both : ◌≡◌ {A = Option FileRecord} None (Some r) = sym none_here ∙ is_r in cc);
+    named = λ some. absurd (both_ways (is_some (rec_at c slot)) (ap is_some none_here) some);
+    marked = marked;
+  }
 
   -- the slot's file is the file of its name
   told_apart : (f : Filed) → Among p.catalog.entries f → not (same_word f.rec.name rec.name) ≡ not (f.slot == slot)
@@ -112,32 +121,21 @@ module _ (p : Kept) (t : Taxonomy) (held : AreHeld p t) (slot : ℕ) (rec : File
           let is : f.rec ≡ rec = same_Some f.rec rec (sym here ∙ (ap (rec_at p.catalog) (eqb-true f.slot slot same) ∙ there)) in
           (same_word_decides f.rec.name rec.name).1 (ap (λ (r : FileRecord). r.name) is)
 
-  state_dropped : (at : ℕ → List ℕ) → state_of dropped at ≡ file_removed (state_of p at) rec.name
+  state_dropped : (at : ℕ → List ℕ) → state_of left at ≡ file_removed (state_of p at) rec.name
   state_dropped at =
       let told : Filed → File = file_told p.limits p.dict at in
-      ap (λ (fs : List File). record (state_of p at) { files = fs })
+      ap (λ (x : Catalog). state_of (record p { catalog = x; marks = marks }) at) gone
+      ∙ ap (λ (fs : List File). record (state_of p at) { files = fs })
       (sym (filter-map (λ (file : File). not (same_word file.name rec.name)) told p.catalog.entries
       ∙ ap (map told) (filter_same (λ (f : Filed). not (same_word f.rec.name rec.name)) (λ (f : Filed). not (f.slot == slot)) p.catalog.entries told_apart)))
 
-  pub dropped_made : AreHeld dropped t × Drops slot rec p dropped
-  dropped_made = (
-    held_dropped,
-    record {
+  pub drops : AreHeld left t × Drops slot rec k left
+  drops = (
+    held_then p t held one,
+    subst (λ (x : Kept). Drops slot rec x left) is (record {
       there = there;
-      parts = refl;
-      marks = block_marked p dropped (block_of p.limits Files slot) refl refl (file_home_below p t slot held (file_slot_below p held.sound slot rec there)) spelled_before;
+      parts = cc (gone, marked);
+      marks = marks_then p t held one;
       state = state_dropped;
-    },
+    }),
   )
-
--- the same, over what memory kept
-pub drops : (k p : Kept) (t : Taxonomy) (slot : ℕ) (rec : FileRecord) (catalog : Catalog) (marks : List Bool) → p ≡ k → AreHeld p t → rec_at p.catalog slot ≡ Some rec
-    → catalog ≡ without_slot p.catalog slot → marks ≡ set p.marks (block_of p.limits Files slot) true
-    → AreHeld (record p { catalog = catalog; marks = marks }) t × Drops slot rec k (record p { catalog = catalog; marks = marks })
-drops k p t slot rec catalog marks is held there gone are_marks =
-    let P : Kept → Type 0 = λ q. AreHeld q t × Drops slot rec k q in
-    let same : dropped p t held slot rec there ≡ record p { catalog = catalog; marks = marks } =
-    ap (λ (c : Catalog). record p { catalog = c; marks = dropped_marks p t held slot rec there }) (sym gone)
-    ∙ ap (λ (ms : List Bool). record p { catalog = catalog; marks = ms }) (sym are_marks) in
-    let Q : Kept → Type 0 = λ q. AreHeld (dropped p t held slot rec there) t × Drops slot rec q (dropped p t held slot rec there) in
-    subst P same (subst Q is (dropped_made p t held slot rec there))

@@ -2,30 +2,24 @@
 use Rattle.std.proofs.Common.{◌≡◌, ◌⊎◌, ℕ, zero, suc, ◌==◌, true, List, Option, Some, None, refl, sym, ap, ap₂, ◌∙◌, subst, inl, inr, eq-eqb}
 use Rattle.std.specs.Ordering.{eq_by_cmp}
 use Rattle.std.specs.FinSet as set
-use Rattle.std.proofs.lemmas.Bool.{and_parts, and_from, or_cases, or_left, or_right, eqb-true}
-use Rattle.std.proofs.lemmas.Option.{same_Some}
-use Rattle.lis_graph.specs.Graph.{Linked, Chain}
-use Rattle.lis_graph.proofs.Members.{Among, among_from_contains, contains_from_among, among_from_any, any_from_among}
-use Rattle.lis_dict.specs.Dict.{word_of, number_of}
-use Rattle.lis_dict.proofs.Laws.{word_from_number}
-use Rattle.lis_taxonomy.specs.Taxonomy.{Taxonomy, pair_cmp, no_links, has_edge, Entails as Leads, entails as leads}
+use Rattle.lis_kept.proofs.Common.{or_cases, same_Some, Chain, Among, among_from_contains, contains_from_among, among_from_any, word_of, number_of, word_from_number, Taxonomy, no_links, has_edge, Pair, head_bytes, has_word, up, among_from_has_word, OwnLink, own_link, Head, Weaker}
+use Rattle.std.proofs.lemmas.Bool.{and_from, or_left, or_right}
+use Rattle.lis_graph.specs.Graph.{Linked}
+use Rattle.lis_graph.proofs.Members.{any_from_among}
+use Rattle.lis_taxonomy.specs.Taxonomy.{pair_cmp, Entails as Leads, entails as leads}
 use Rattle.lis_taxonomy.proofs.Laws.{entails_decides}
 use Rattle.lis_taxonomy.proofs.Seen.{pair_decides}
-use Rattle.lis_fields.specs.declared.slots.AxiomSlot.{AxiomSlot}
-use Rattle.lis_fields.specs.declared.slots.AxiomSlot.TheVariants.{Free as FreeAxiom, Pair}
-use Rattle.lis_words.specs.Words.{head_bytes, has_word}
-use Rattle.lis_model.specs.State.{links, up}
-use Rattle.lis_laws.proofs.Members.{among_from_has_word, has_word_from_among}
-use Rattle.lis_laws.proofs.Chains.{OwnLink, own_link, up_from_entails, entails_from_up}
-use Rattle.lis_laws.proofs.Chains.OwnLink.{Head, Weaker}
+use Rattle.lis_model.specs.State.{links}
+use Rattle.lis_laws.proofs.Members.{has_word_from_among}
+use Rattle.lis_laws.proofs.Chains.{up_from_entails, entails_from_up}
 use Rattle.lis_laws.proofs.Locals.{same_tests}
 use Rattle.lis_kept.specs.Kept.{Kept}
 use Rattle.lis_kept.specs.Sound.{AreSound}
 use Rattle.lis_kept.specs.Telling.{declared_of, axioms_of}
 use Rattle.lis_kept.specs.Links.{is_pair, has_pair, is_own_link, is_linked, TellsLinks}
 use Rattle.lis_kept.proofs.Formed.{some_word}
-use Rattle.lis_kept.proofs.Numbered.{Numbers}
-use Rattle.lis_kept.proofs.Known.{some_number, placed_at, among_place, one_number, declared_has_number, axiom_among, among_axiom}
+use Rattle.lis_kept.proofs.OwnLinks.{pair_slot}
+use Rattle.lis_kept.proofs.Known.{some_number, among_place, one_number, declared_has_number, axiom_among, among_axiom}
 
 -- ---- the edges of a taxonomy
 pub edge_among : (t : Taxonomy) (p q : ℕ) → has_edge t p q ≡ true → Among (set.items t.edges) (p, q)
@@ -88,21 +82,12 @@ module _ (k : Kept) (sound : AreSound k) where
       own None named h = absurd cc
       own (Some r) named h = (r, named, inl (contains_from_among (links (declared_of k) p) r (among_from_has_word (links (declared_of k) p) r h)))
 
-      pair : (a : AxiomSlot) → Among k.axioms a → is_pair n m a ≡ true → (r : List ℕ) × (word_of k.dict m ≡ Some r) × WordLink p r
-      pair FreeAxiom there h = absurd cc
-      pair (Pair a b) there h =
-          let sides = and_parts (a == n) (b == m) h in
-          let place = placed_at k.axioms (Pair a b) there in
-          let right = some_word (word_of k.dict b) (sound.axioms place.0 a b place.1).right in
-          let left : word_of k.dict a ≡ Some p = ap (word_of k.dict) (eqb-true a n sides.0) ∙ is in (
-            right.0,
-            ap (word_of k.dict) (sym (eqb-true b m sides.1)) ∙ right.1,
-            inr (contains_from_among (axioms_of k) (p, right.0) (axiom_among k sound place.0 a b p right.0 place.1 left right.1)),
-          )
-
       by : (is_own_link (declared_of k) (word_of k.dict n) (word_of k.dict m) ≡ true) ⊎ (has_pair k.axioms n m ≡ true) → (r : List ℕ) × (word_of k.dict m ≡ Some r) × WordLink p r
       by (inl h) = own (word_of k.dict m) refl (ap (λ o. is_own_link (declared_of k) o (word_of k.dict m)) (sym is) ∙ h)
-      by (inr h) = let found = among_from_any (is_pair n m) k.axioms h in pair found.0 found.1 found.2
+      by (inr h) =
+          let at = pair_slot k.axioms n m h in
+          let right = some_word (word_of k.dict m) (sound.axioms at.0 n m at.1).right in
+          (right.0, right.1, inr (contains_from_among (axioms_of k) (p, right.0) (axiom_among k sound at.0 n m p right.0 at.1 is right.1)))
 
   -- the end of a chain from a word with a number has one
   pub chain_has_number : (len n : ℕ) (p q : List ℕ) → word_of k.dict n ≡ Some p → Chain (links (declared_of k)) (axioms_of k) len p q → (m : ℕ) × (word_of k.dict m ≡ Some q)
@@ -140,16 +125,6 @@ module _ (k : Kept) (sound : AreSound k) where
         let named = chain_named leads.0 n m p is_p leads.1 in
         let same : named.0 ≡ q = same_Some named.0 q (sym named.1 ∙ is_q) in
         subst (λ w. Among (up (declared_of k) (axioms_of k) p) w) same (up_from_entails (declared_of k) (axioms_of k) p named.0 (leads.0, named.2))
-
-    -- the numbers to which a number leads are those of the words that its word entails
-    pub leads_numbers : (n : ℕ) (p : List ℕ) → word_of k.dict n ≡ Some p → Numbers k.dict (leads t n) (up (declared_of k) (axioms_of k) p)
-    leads_numbers n p is = record {
-      numbered = λ w m.
-          let chain = entails_from_up (declared_of k) (axioms_of k) p w m in
-          let found = chain_numbered chain.0 n p w is chain.1 in
-          (found.0, found.1, (entails_decides t n found.0).1 (chain.0, found.2));
-      worded = λ m w named h. up_from_leads n m p w is named ((entails_decides t n m).0 h);
-    }
 
     -- what the tests of numbers and of words answer
     pub leads_told : (n m : ℕ) (p q : List ℕ) → word_of k.dict n ≡ Some p → word_of k.dict m ≡ Some q → leads t n m ≡ has_word (up (declared_of k) (axioms_of k) p) q

@@ -1,24 +1,17 @@
 -- Lists of files in the order of their names, and catalogs with a file more or fewer.
-use Rattle.std.proofs.Common.{◌≡◌, ◌⊎◌, refl, sym, ap, ap₂, ◌∙◌, subst, inl, inr, ℕ, ◌+◌, ◌<◌, ◌≤◌, nat_lt, ◌==◌, ◌&&◌, ◌||◌, not, Bool, true, false, cond, List, [], ◌∷◌, ◌++◌, length, map, filter, Option, Some, None, option_map, arith}
-use Rattle.std.specs.declared.cmp.Ordering.{Ordering}
-use Rattle.std.specs.declared.cmp.Ordering.TheVariants.{Less, Equal, Greater}
-use Rattle.std.specs.Ordering.{match_ordering, is_lt}
-use Rattle.std.specs.BTreeSet.{insert_key}
-use Rattle.std.specs.List.{find, list_all, list_any}
-use Rattle.std.proofs.lemmas.Bool.{and_parts, and_from, both_ways, eq-eqb, eqb-true, false_from_ne_true, lt-ltb, not-true, not_from_false}
-use Rattle.std.proofs.lemmas.List.{map-append}
-use Rattle.std.proofs.lemmas.List.Folds.{list_any-append}
+use Rattle.std.proofs.Common.{◌≡◌, ◌⊎◌, refl, sym, ap, ap₂, ◌∙◌, subst, inl, inr, ℕ, ◌+◌, ◌<◌, ◌≤◌, nat_lt, ◌==◌, ◌&&◌, not, Bool, true, false, cond, List, [], ◌∷◌, length, map, filter, Option, Some, None, option_map, arith}
+use Rattle.lis_kept.proofs.Common.{Ordering, Less, Equal, Greater, match_ordering, insert_key, find, list_all, list_any, and_parts, eqb-true, lt-ltb, not-true, Among, among_filter, among_from_any, among_insert_key, among_map, are_distinct, FileRecord, slots_distinct, Catalog, Filed, IsCatalog, slot_of, rec_at, without_slot, word_cmp, word_order, all_among, filter_le}
+use Rattle.std.specs.Ordering.{is_lt}
+use Rattle.std.proofs.lemmas.Bool.{and_from, both_ways, eq-eqb, false_from_ne_true, or_parts}
 use Rattle.lis_graph.specs.Graph.{is_rising}
-use Rattle.lis_graph.proofs.Members.{Among, among_filter, among_from_any, among_insert_key, among_map, any_from_among, map_among}
-use Rattle.lis_content.specs.Content.{has_number, are_distinct}
-use Rattle.lis_content.proofs.Numbers.{neither, not_true, from_false}
-use Rattle.lis_fields.specs.Records.{FileRecord}
-use Rattle.lis_fields.specs.Layouts.{are_distinct as slots_distinct}
-use Rattle.lis_catalog.specs.Catalog.{Catalog, Filed, IsCatalog, names, slots, slot_of, rec_at, filed_cmp, with_filed, without_slot}
+use Rattle.lis_graph.proofs.Members.{any_from_among, map_among}
+use Rattle.lis_content.specs.Content.{has_number}
+use Rattle.lis_catalog.specs.Catalog.{names, slots, filed_cmp, with_filed}
 use Rattle.lis_catalog.proofs.Laws.{slot_of-rec_at}
-use Rattle.lis_words.specs.Words.{word_cmp, is_file_name}
-use Rattle.lis_laws.proofs.Members.{word_exact, word_order}
-use Rattle.lis_laws.proofs.Counts.{all_among, all_from, all_insert_key, rising_insert_key, insert_key_le, filter_le}
+use Rattle.lis_catalog.proofs.Slots.{apart_filter, apart_from, apart_parts, any_map}
+use Rattle.lis_words.specs.Words.{is_file_name}
+pub use Rattle.lis_laws.proofs.Routes.{find_among}
+use Rattle.lis_laws.proofs.Counts.{all_from, all_insert_key, rising_insert_key, insert_key_le}
 
 -- ---- tests and numbers
 pub among_from_number : (ns : List ℕ) (n : ℕ) → has_number ns n ≡ true → Among ns n
@@ -29,22 +22,7 @@ among_from_number ns n has =
 pub number_from_among : (ns : List ℕ) (n : ℕ) → Among ns n → has_number ns n ≡ true
 number_from_among ns n m = any_from_among (λ k. k == n) ns n m (eq-eqb n n refl)
 
-none_among : (ns : List ℕ) (n : ℕ) → has_number ns n ≡ false → Among ns n → ⊥
-none_among ns n none m = both_ways (has_number ns n) none (number_from_among ns n m)
-
-no_number : (ns : List ℕ) (n : ℕ) → (Among ns n → ⊥) → has_number ns n ≡ false
-no_number ns n none = false_from_ne_true (has_number ns n) (λ has. none (among_from_number ns n has))
-
 -- ---- what a test finds
-module _ {X : Type 0} (test : X → Bool) where
-  pub find_among : (xs : List X) (x : X) → find test xs ≡ Some x → Among xs x × (test x ≡ true)
-  find_among [] x is = absurd cc
-  find_among (y ∷ ys) x is = by (test y) refl is (find_among ys x)
-    where
-      by : (b : Bool) → test y ≡ b → cond b (Some y) (find test ys) ≡ Some x → (find test ys ≡ Some x → Among ys x × (test x ≡ true)) → Among (y ∷ ys) x × (test x ≡ true)
-      by true e found more = let same : y ≡ x = cc in (inl same, subst (λ k. test k ≡ true) same e)
-      by false e found more = let rest = more found in (inr rest.0, rest.1)
-
 -- what was found has the value
 pub found_has : {X Y : Type 0} (v : X → Y) (y : Y) (o : Option X) → option_map v o ≡ Some y → (x : X) × (o ≡ Some x) × (v x ≡ y)
 found_has v y None is = absurd cc
@@ -128,19 +106,6 @@ module _ {X K : Type 0} (v : X → K) (keep : X → Bool) where
 abbrev slot_in : Filed → ℕ
 slot_in f = f.slot
 
-slots_kept : (keep : Filed → Bool) (es : List Filed) → slots_distinct (map slot_in es) ≡ true → slots_distinct (map slot_in (filter keep es)) ≡ true
-slots_kept keep [] h = refl
-slots_kept keep (e ∷ es) h = by (keep e) (and_parts (not (list_any (λ m. m == e.slot) (map slot_in es))) (slots_distinct (map slot_in es)) h) (slots_kept keep es)
-  where
-    fewer : list_any (λ m. m == e.slot) (map slot_in es) ≡ false → list_any (λ m. m == e.slot) (map slot_in (filter keep es)) ≡ false
-    fewer none = no_number (map slot_in (filter keep es)) e.slot (λ m.
-        let f = among_map slot_in (filter keep es) e.slot m in
-        none_among (map slot_in es) e.slot none (subst (λ k. Among (map slot_in es) k) f.2 (map_among slot_in es f.0 (among_filter keep es f.0 f.1).0)))
-
-    by : (b : Bool) → (not (list_any (λ m. m == e.slot) (map slot_in es)) ≡ true) × (slots_distinct (map slot_in es) ≡ true) → (slots_distinct (map slot_in es) ≡ true → slots_distinct (map slot_in (filter keep es)) ≡ true) → slots_distinct (map slot_in (cond b (e ∷ filter keep es) (filter keep es))) ≡ true
-    by true parts more = and_from _ _ (not_from_false _ (fewer (not-true _ parts.0))) (more parts.1)
-    by false parts more = more parts.1
-
 pub catalog_without : (c : Catalog) (slot : ℕ) → IsCatalog c → IsCatalog (without_slot c slot)
 catalog_without c slot is =
     let keep : Filed → Bool = λ f. not (f.slot == slot) in
@@ -148,74 +113,49 @@ catalog_without c slot is =
       rising = rising_kept (λ (f : Filed). f.rec.name) keep word_cmp c.entries is.rising;
       forms = all_kept (λ (f : Filed). f.rec.name) keep is_file_name c.entries is.forms;
       below = all_kept slot_in keep (λ n. nat_lt n c.files) c.entries is.below;
-      apart = slots_kept keep c.entries is.apart;
+      apart = apart_filter keep c.entries is.apart;
       few = omega (arith, is.few, filter_le keep c.entries);
     }
 
 -- ---- numbers of which none stands twice
-distinct_append : (ms ns : List ℕ) → are_distinct ms ≡ true → are_distinct ns ≡ true → ((n : ℕ) → Among ms n → has_number ns n ≡ false) → are_distinct (ms ++ ns) ≡ true
-distinct_append [] ns left right apart = right
-distinct_append (m ∷ ms) ns left right apart =
-    let parts = and_parts (not (has_number ms m)) (are_distinct ms) left in
-    let none : has_number (ms ++ ns) m ≡ false = list_any-append (λ n. n == m) ms ns ∙ ap₂ (λ a b. a || b) (not_true (has_number ms m) parts.0) (apart m (inl refl)) in
-    and_from (not (has_number (ms ++ ns) m)) (are_distinct (ms ++ ns)) (from_false (has_number (ms ++ ns) m) none) (distinct_append ms ns parts.1 right (λ n k. apart n (inr k)))
-
--- put between the numbers of a list
-pub distinct_between : (front middle behind : List ℕ) → are_distinct (front ++ behind) ≡ true → are_distinct middle ≡ true → ((n : ℕ) → Among middle n → has_number (front ++ behind) n ≡ false) → are_distinct (front ++ (middle ++ behind)) ≡ true
-distinct_between [] middle behind outer inner apart = distinct_append middle behind inner outer apart
-distinct_between (a ∷ front) middle behind outer inner apart =
-    let parts = and_parts (not (has_number (front ++ behind) a)) (are_distinct (front ++ behind)) outer in
-    let split = neither (has_number front a) (has_number behind a) (sym (list_any-append (λ n. n == a) front behind) ∙ not_true (has_number (front ++ behind) a) parts.0) in
-    let none : has_number (front ++ (middle ++ behind)) a ≡ false =
-    list_any-append (λ n. n == a) front (middle ++ behind)
-    ∙ ap₂ (λ x y. x || y) split.0 (list_any-append (λ n. n == a) middle behind ∙ ap₂ (λ x y. x || y) (false_from_ne_true (has_number middle a) not_between) split.1) in
-    and_from (not (has_number (front ++ (middle ++ behind)) a)) (are_distinct (front ++ (middle ++ behind))) (from_false (has_number (front ++ (middle ++ behind)) a) none)
-    (distinct_between front middle behind parts.1 inner (λ n m. (neither (a == n) (has_number (front ++ behind) n) (apart n m)).1))
-  where
-    not_between : has_number middle a ≡ true → ⊥
-    not_between has =
-        let found = among_from_any (λ n. n == a) middle has in
-        let here = subst (λ n. Among middle n) (eqb-true found.0 a found.2) found.1 in
-        both_ways (a == a) (neither (a == a) (has_number (front ++ behind) a) (apart a here)).0 (eq-eqb a a refl)
-
 pub same_distinct : (ns : List ℕ) → slots_distinct ns ≡ are_distinct ns
 same_distinct [] = refl
 same_distinct (n ∷ ns) = ap (λ b. not (has_number ns n) && b) (same_distinct ns)
 
--- ---- a key that no other ties stands between two parts
-pub split_key : {K : Type 0} (cmp : K → K → Ordering) (xs : List K) (k : K) → ((x : K) → Among xs x → cmp k x ≡ Equal → ⊥)
-    → (front : List K) × (behind : List K) × (xs ≡ front ++ behind) × (insert_key cmp xs k ≡ front ++ k ∷ behind)
-split_key cmp [] k new = ([], [], refl, refl)
-split_key cmp (x ∷ xs) k new = by (cmp k x) refl (split_key cmp xs k (λ y m. new y (inr m)))
+-- slots are different ones with one more, that no file has
+apart_more : (f : Filed) (es : List Filed) → slots_distinct (map slot_in es) ≡ true → list_any (λ (g : Filed). g.slot == f.slot) es ≡ false
+    → slots_distinct (map slot_in (insert_key filed_cmp es f)) ≡ true
+apart_more f [] apart none = refl
+apart_more f (x ∷ xs) apart none = by (filed_cmp f x) (apart_more f xs parts.1 others.1)
   where
-    by : (r : Ordering) → cmp k x ≡ r → (front : List _) × (behind : List _) × (xs ≡ front ++ behind) × (insert_key cmp xs k ≡ front ++ k ∷ behind)
-        → (front : List _) × (behind : List _) × (x ∷ xs ≡ front ++ behind) × (match_ordering r (k ∷ x ∷ xs) (x ∷ xs) (x ∷ insert_key cmp xs k) ≡ front ++ k ∷ behind)
-    by Less e rest = ([], x ∷ xs, refl, refl)
-    by Equal e rest = absurd (new x (inl refl) e)
-    by Greater e rest = (x ∷ rest.0, rest.1, ap (λ ys. x ∷ ys) rest.2, ap (λ ys. x ∷ ys) rest.3)
+    parts : (list_any (λ (g : Filed). g.slot == x.slot) xs ≡ false) × (slots_distinct (map slot_in xs) ≡ true)
+    parts = apart_parts x xs apart
+
+    others : ((x.slot == f.slot) ≡ false) × (list_any (λ (g : Filed). g.slot == f.slot) xs ≡ false)
+    others = or_parts (x.slot == f.slot) (list_any (λ (g : Filed). g.slot == f.slot) xs) none
+
+    not_there : list_any (λ (g : Filed). g.slot == x.slot) (insert_key filed_cmp xs f) ≡ false
+    not_there = false_from_ne_true (list_any (λ (g : Filed). g.slot == x.slot) (insert_key filed_cmp xs f)) (λ has.
+        let found = among_from_any (λ (g : Filed). g.slot == x.slot) (insert_key filed_cmp xs f) has in
+        which found.0 found.2 (among_insert_key filed_cmp xs f found.0 found.1))
+      where
+        which : (g : Filed) → (g.slot == x.slot) ≡ true → (f ≡ g) ⊎ Among xs g → ⊥
+        which g same (inl is) = both_ways (x.slot == f.slot) others.0 (eq-eqb x.slot f.slot (sym (ap slot_in is ∙ eqb-true g.slot x.slot same)))
+        which g same (inr m) = both_ways (list_any (λ (h : Filed). h.slot == x.slot) xs) parts.0 (any_from_among (λ (h : Filed). h.slot == x.slot) xs g m same)
+
+    by : (r : Ordering) → slots_distinct (map slot_in (insert_key filed_cmp xs f)) ≡ true
+        → slots_distinct (map slot_in (match_ordering r (f ∷ x ∷ xs) (x ∷ xs) (x ∷ insert_key filed_cmp xs f))) ≡ true
+    by Less rest = apart_from f (x ∷ xs) none apart
+    by Equal rest = apart
+    by Greater rest = apart_from x (insert_key filed_cmp xs f) not_there rest
 
 -- ---- a file whose name is new
 module _ (c : Catalog) (is : IsCatalog c) (slot : ℕ) (rec : FileRecord) (absent : slot_of c rec.name ≡ None) where
   abbrev filed : Filed
   filed = record { slot = slot; rec = rec }
 
-  no_tie : (f : Filed) → Among c.entries f → filed_cmp filed f ≡ Equal → ⊥
-  no_tie f m level =
-      let there = filed_slot c is f m in
-      let none = subst (λ n. slot_of c n ≡ None) (word_exact rec.name f.rec.name level) absent in
-      cc
-
-  pub split_filed : (front : List Filed) × (behind : List Filed) × (c.entries ≡ front ++ behind) × ((with_filed c slot rec).entries ≡ front ++ filed ∷ behind)
-  split_filed = split_key filed_cmp c.entries filed no_tie
-
   pub entries_longer : length (with_filed c slot rec).entries ≤ length c.entries + 1
   entries_longer = insert_key_le filed_cmp c.entries filed
-
-  slots_then : slots (with_filed c slot rec) ≡ map (λ (f : Filed). f.slot) split_filed.0 ++ (slot ∷ map (λ (f : Filed). f.slot) split_filed.1)
-  slots_then = ap (map (λ (f : Filed). f.slot)) split_filed.3 ∙ map-append (λ (f : Filed). f.slot) split_filed.0 (filed ∷ split_filed.1)
-
-  slots_before : slots c ≡ map (λ (f : Filed). f.slot) split_filed.0 ++ map (λ (f : Filed). f.slot) split_filed.1
-  slots_before = ap (map (λ (f : Filed). f.slot)) split_filed.2 ∙ map-append (λ (f : Filed). f.slot) split_filed.0 split_filed.1
 
   names_then : names (with_filed c slot rec) ≡ insert_key word_cmp (names c) rec.name
   names_then = map_insert_key (λ (f : Filed). f.rec.name) filed_cmp word_cmp (λ x y. refl) c.entries filed
@@ -235,11 +175,7 @@ module _ (c : Catalog) (is : IsCatalog c) (slot : ℕ) (rec : FileRecord) (absen
     rising = ap (is_rising word_cmp) names_then ∙ rising_insert_key word_cmp word_order (names c) rec.name is.rising;
     forms = ap (list_all is_file_name) names_then ∙ all_insert_key word_cmp is_file_name (names c) rec.name is.forms form;
     below = all_from (λ (n : ℕ). nat_lt n c.files) (slots (with_filed c slot rec)) (λ n m. lower n (among_map (λ (f : Filed). f.slot) (with_filed c slot rec).entries n m));
-    apart = same_distinct (slots (with_filed c slot rec))
-        ∙ (ap are_distinct slots_then
-        ∙ distinct_between (map (λ (f : Filed). f.slot) split_filed.0) (slot ∷ []) (map (λ (f : Filed). f.slot) split_filed.1)
-        (ap are_distinct (sym slots_before) ∙ (sym (same_distinct (slots c)) ∙ is.apart)) refl
-        (λ n m. ap (λ ns. has_number ns n) (sym slots_before) ∙ only n m));
+    apart = apart_more filed c.entries is.apart (sym (any_map (λ n. n == slot) slot_in c.entries) ∙ slot_is_free free);
     few = omega (arith, entries_longer, room);
   }
     where
@@ -249,7 +185,3 @@ module _ (c : Catalog) (is : IsCatalog c) (slot : ℕ) (rec : FileRecord) (absen
 
       lower : (n : ℕ) → (f : Filed) × Among (with_filed c slot rec).entries f × (f.slot ≡ n) → nat_lt n c.files ≡ true
       lower n found = subst (λ i. nat_lt i c.files ≡ true) found.2 (lower_at found.0 (among_insert_key filed_cmp c.entries filed found.0 found.1))
-
-      only : (n : ℕ) → Among (slot ∷ []) n → has_number (slots c) n ≡ false
-      only n (inl same) = subst (λ i. has_number (slots c) i ≡ false) same (slot_is_free free)
-      only n (inr none) = absurd none

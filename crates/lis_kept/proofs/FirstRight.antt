@@ -1,34 +1,26 @@
 -- Of the words right of a number in axiom slots, the first behind another.
-use Rattle.std.proofs.Common.{◌≡◌, ℕ, ◌+◌, ◌<◌, ◌==◌, ◌&&◌, Bool, true, false, cond, if◌then◌else◌, Option, Some, None, List, [], ◌∷◌, ◌++◌, length, get_or, map, filter, take, refl, sym, ap, ap₂, ◌∙◌, inl, inr}
-use Rattle.std.specs.BTreeSet.{insert_key}
-use Rattle.std.specs.List.{AllByRecursion, find, fold}
-use Rattle.std.specs.List.Sorted.{IsStrictlySortedBy}
+use Rattle.std.proofs.Common.{◌≡◌, ℕ, ◌+◌, ◌<◌, ◌==◌, ◌&&◌, Bool, true, false, cond, if◌then◌else◌, option_to_list, Option, ◌⊎◌, subst, Some, None, List, [], ◌∷◌, ◌++◌, length, get_or, map, filter, take, refl, sym, ap, ap₂, ◌∙◌, inl, inr}
+use Rattle.lis_kept.proofs.Common.{insert_key, find, flat_map, fold, IsStrictlySortedBy, match_ordering, Ordering, Less, Equal, Greater, eqb-true, take_more, same_Some, Among, among_filter, among_map, among_flat_map, flat_map_among, sorted_insert_key, Dict, number_of, word_of, number_from_word, AxiomSlot, FreeAxiom, Pair, word_cmp, same_word, pair_exact, word_order, same_word_decides}
+use Rattle.std.specs.List.{AllByRecursion}
+use Rattle.std.proofs.Math.Bool.{and-true}
 use Rattle.std.specs.Cmp.{IsTotalOrder, tied_itself}
-use Rattle.std.specs.Option.{option_map}
-use Rattle.std.specs.Ordering.{is_lt, match_ordering, ordering_then}
-use Rattle.std.specs.declared.cmp.Ordering.{Ordering}
-use Rattle.std.specs.declared.cmp.Ordering.TheVariants.{Less, Equal, Greater}
-use Rattle.std.proofs.lemmas.Bool.{false_from_ne_true, eqb-true, eq-eqb}
+use Rattle.std.specs.Ordering.{is_lt, ordering_then}
+use Rattle.std.proofs.lemmas.Bool.{false_from_ne_true, eq-eqb}
 use Rattle.std.proofs.lemmas.Grind.{flat_map-append}
-use Rattle.std.proofs.lemmas.List.{append-nil, take_more}
+use Rattle.std.proofs.lemmas.List.{append-nil}
 use Rattle.std.proofs.lemmas.List.Sums.{fold-append}
 use Rattle.std.proofs.lemmas.Map.Lookups.{CmpEqualImpliesEq}
-use Rattle.std.proofs.lemmas.Option.{same_Some}
-use Rattle.lis_graph.proofs.Members.{Among}
-use Rattle.lis_graph.proofs.Sets.{below_tail, sorted_tail, sorted_nil, sorted_insert_key, sorted_with_more}
-use Rattle.lis_dict.specs.Dict.{Dict, number_of, word_of}
-use Rattle.lis_dict.proofs.Laws.{number_from_word}
-use Rattle.lis_fields.specs.declared.slots.AxiomSlot.{AxiomSlot}
-use Rattle.lis_fields.specs.declared.slots.AxiomSlot.TheVariants.{Free as FreeAxiom, Pair}
-use Rattle.lis_words.specs.Words.{word_cmp, same_word}
+use Rattle.lis_graph.proofs.Members.{filter_among, map_among, among_with_more, with_more_new}
+use Rattle.lis_graph.proofs.Sets.{below_tail, sorted_tail, sorted_nil, sorted_cons, sorted_with_more}
+use Rattle.lis_model.specs.Sets.{set_of}
 use Rattle.lis_model.specs.State.{pair_cmp}
-use Rattle.lis_laws.proofs.Members.{pair_exact, pair_order, word_order, same_word_decides}
+use Rattle.lis_laws.proofs.Members.{pair_order, word_exact, same_words, among_set_of, set_of_among, sorted_set_of}
 use Rattle.lis_kept.specs.Behind.{rights_of, is_behind, is_before, right_by}
 use Rattle.lis_kept.specs.Inside.{IsShort}
 use Rattle.lis_kept.specs.Kept.{Kept}
 use Rattle.lis_kept.specs.Sound.{AreSound}
 use Rattle.lis_kept.specs.Telling.{pair_by, pair_told, pairs_told, axioms_of}
-use Rattle.lis_kept.proofs.Known.{among_axiom}
+use Rattle.lis_kept.proofs.Known.{only_word, only_pair, among_axiom}
 
 -- ---- the first of a sorted set that passes a test, when one is put in
 module _ {K : Type 0} (cmp : K → K → Ordering) (order : IsTotalOrder cmp) (exact : CmpEqualImpliesEq cmp) (test : K → Bool) where
@@ -75,127 +67,108 @@ module _ {K : Type 0} (cmp : K → K → Ordering) (order : IsTotalOrder cmp) (e
       by Greater tie here rest = later (test x) (test k) tie rest
 
 -- ---- right sides
-abbrev leads_behind : List ℕ → Option (List ℕ) → List ℕ × List ℕ → Bool
-leads_behind left last pair = same_word pair.0 left && is_behind last pair.1
-
-abbrev right : List ℕ × List ℕ → List ℕ
-right pair = pair.1
-
--- the first right side behind the last one is that of the first axiom
-find_right : (left : List ℕ) (last : Option (List ℕ)) (axioms : List (List ℕ × List ℕ)) → find (is_behind last) (rights_of axioms left) ≡ option_map right (find (leads_behind left last) axioms)
-find_right left last [] = refl
-find_right left last (pair ∷ axioms) = by (same_word pair.0 left) (is_behind last pair.1) refl (find_right left last axioms)
-  where
-    by : (a b : Bool) → is_behind last pair.1 ≡ b → find (is_behind last) (rights_of axioms left) ≡ option_map right (find (leads_behind left last) axioms)
-        → find (is_behind last) (map right (cond a (pair ∷ filter (λ p. same_word p.0 left) axioms) (filter (λ p. same_word p.0 left) axioms)))
-        ≡ option_map right (cond (a && b) (Some pair) (find (leads_behind left last) axioms))
-    by true true e rest = ap (λ c. cond c (Some pair.1) (find (is_behind last) (rights_of axioms left))) e
-    by true false e rest = ap (λ c. cond c (Some pair.1) (find (is_behind last) (rights_of axioms left))) e ∙ rest
-    by false b e rest = rest
-
 -- what a loop over the slots takes as the first so far
 abbrev pub taken : Option (List ℕ) → Option (List ℕ) → Option (List ℕ) → Option (List ℕ)
 taken last first None = first
 taken last first (Some word) = cond (is_behind last word && is_before word first) (Some word) first
 
-module _ (left : List ℕ) (last : Option (List ℕ)) where
-  -- a right side is taken as its axiom is put in
-  taken_put : (first : Option (List ℕ × List ℕ)) (word : List ℕ) → ((pair : List ℕ × List ℕ) → first ≡ Some pair → pair.0 ≡ left)
-      → option_map right (put pair_cmp pair_order pair_exact (leads_behind left last) first (left, word)) ≡ taken last (option_map right first) (Some word)
-  taken_put first word lefts = by (same_word left left) ((same_word_decides left left).1 refl) (is_behind last word) first lefts
+-- a word that is taken is the first where it is put in
+put_taken : (last first : Option (List ℕ)) (word : List ℕ) → put word_cmp word_order word_exact (is_behind last) first word ≡ taken last first (Some word)
+put_taken last None word = ap (λ b. cond b (Some word) None) (sym (and-true (is_behind last word)))
+put_taken last (Some x) word = by (is_behind last word) (is_lt (word_cmp word x))
+  where
+    by : (b l : Bool) → cond b (cond l (Some word) (Some x)) (Some x) ≡ cond (b && l) (Some word) (Some x)
+    by true l = refl
+    by false l = refl
+
+-- the right sides of a sorted list of axioms are sorted
+module _ (left : List ℕ) where
+  below_rights : (word : List ℕ) (axioms : List (List ℕ × List ℕ)) → AllByRecursion (λ pair. pair_cmp (left, word) pair ≡ Less) axioms → AllByRecursion (λ w. word_cmp word w ≡ Less) (rights_of axioms left)
+  below_rights word [] below = tt
+  below_rights word (pair ∷ axioms) below = by (same_word pair.0 left) refl (below_rights word axioms below.1)
     where
-      sides : (pair : List ℕ × List ℕ) → pair.0 ≡ left → pair_cmp (left, word) pair ≡ word_cmp word pair.1
-      sides pair same = ap (λ w. ordering_then (word_cmp left w) (word_cmp word pair.1)) same ∙ ap (λ r. ordering_then r (word_cmp word pair.1)) (tied_itself word_order left)
+      sides : pair.0 ≡ left → pair_cmp (left, word) pair ≡ word_cmp word pair.1
+      sides same = ap (λ w. ordering_then (word_cmp left w) (word_cmp word pair.1)) same ∙ ap (λ r. ordering_then r (word_cmp word pair.1)) (tied_itself word_order left)
 
-      picks : (c : Bool) (pair : List ℕ × List ℕ) → option_map right (cond c (Some (left, word)) (Some pair)) ≡ cond c (Some word) (Some pair.1)
-      picks true pair = refl
-      picks false pair = refl
+      by : (b : Bool) → same_word pair.0 left ≡ b → AllByRecursion (λ w. word_cmp word w ≡ Less) (rights_of axioms left)
+          → AllByRecursion (λ w. word_cmp word w ≡ Less) (map (λ p. p.1) (cond b (pair ∷ filter (λ p. same_word p.0 left) axioms) (filter (λ p. same_word p.0 left) axioms)))
+      by true e rest = (sym (sides ((same_word_decides pair.0 left).0 e)) ∙ below.0, rest)
+      by false e rest = rest
 
-      by : (a : Bool) → a ≡ true → (b : Bool) (first : Option (List ℕ × List ℕ)) → ((pair : List ℕ × List ℕ) → first ≡ Some pair → pair.0 ≡ left)
-          → option_map right (cond (a && b) (sooner pair_cmp pair_order pair_exact (leads_behind left last) first (left, word)) first)
-          ≡ cond (b && is_before word (option_map right first)) (Some word) (option_map right first)
-      by true is true None lefts = refl
-      by true is true (Some pair) lefts = picks (is_lt (pair_cmp (left, word) pair)) pair ∙ ap (λ r. cond (is_lt r) (Some word) (Some pair.1)) (sides pair (lefts pair refl))
-      by true is false first lefts = refl
-      by false is b first lefts = absurd cc
-
-  -- what is found has the left side
-  found_left : (axioms : List (List ℕ × List ℕ)) (pair : List ℕ × List ℕ) → find (leads_behind left last) axioms ≡ Some pair → pair.0 ≡ left
-  found_left [] pair is = absurd cc
-  found_left (x ∷ axioms) pair is = by (same_word x.0 left) refl (is_behind last x.1) is (found_left axioms pair)
+  rights_sorted : (axioms : List (List ℕ × List ℕ)) → IsStrictlySortedBy pair_cmp axioms → IsStrictlySortedBy word_cmp (rights_of axioms left)
+  rights_sorted [] sorted = sorted_nil word_cmp word_order
+  rights_sorted (pair ∷ axioms) sorted = by (same_word pair.0 left) refl (rights_sorted axioms (sorted_tail pair_cmp pair_order pair axioms sorted))
     where
-      by : (a : Bool) → same_word x.0 left ≡ a → (b : Bool) → cond (a && b) (Some x) (find (leads_behind left last) axioms) ≡ Some pair
-          → (find (leads_behind left last) axioms ≡ Some pair → pair.0 ≡ left) → pair.0 ≡ left
-      by true same true here rest = ap (λ (o : Option (List ℕ × List ℕ)). first_side o) (sym here) ∙ (same_word_decides x.0 left).0 same
-        where
-          first_side : Option (List ℕ × List ℕ) → List ℕ
-          first_side None = []
-          first_side (Some p) = p.0
-      by true same false here rest = rest here
-      by false same b here rest = rest here
+      by : (b : Bool) → same_word pair.0 left ≡ b → IsStrictlySortedBy word_cmp (rights_of axioms left)
+          → IsStrictlySortedBy word_cmp (map (λ p. p.1) (cond b (pair ∷ filter (λ p. same_word p.0 left) axioms) (filter (λ p. same_word p.0 left) axioms)))
+      by true e rest =
+          let below = subst (λ w. AllByRecursion (λ p. pair_cmp (w, pair.1) p ≡ Less) axioms) ((same_word_decides pair.0 left).0 e) (below_tail pair_cmp pair_order pair axioms sorted) in
+          sorted_cons word_cmp word_order pair.1 (rights_of axioms left) (below_rights pair.1 axioms below) rest
+      by false e rest = rest
 
 -- ---- slots
-module _ (d : Dict) (short : IsShort d) (number : ℕ) (left : List ℕ) (named : word_of d number ≡ Some left) (last : Option (List ℕ)) where
+module _ (d : Dict) (short : IsShort d) (number : ℕ) (left : List ℕ) (named : word_of d number ≡ Some left) where
   abbrev axioms_in : List AxiomSlot → List (List ℕ × List ℕ)
   axioms_in slots = fold (insert_key pair_cmp) [] (pairs_told d slots)
 
-  abbrev first_in : List AxiomSlot → Option (List ℕ)
-  first_in slots = find (is_behind last) (rights_of (axioms_in slots) left)
+  abbrev right_in : AxiomSlot → List (List ℕ)
+  right_in slot = option_to_list (right_by d number slot)
 
-  -- another number has another word
-  other_word : (n : ℕ) (word : List ℕ) → (n == number) ≡ false → word_of d n ≡ Some word → same_word word left ≡ false
-  other_word n word differ is = false_from_ne_true (same_word word left) (λ same.
-      let at : Some n ≡ Some number = sym (number_from_word d short.dict word n is)
-      ∙ (ap (number_of d) ((same_word_decides word left).0 same) ∙ number_from_word d short.dict left number named) in
-      let equal : (n == number) ≡ true = eq-eqb n number (same_Some n number at) in
-      cc)
+  -- the words right of the number
+  rights_told : (slots : List AxiomSlot) → rights_of (axioms_in slots) left ≡ set_of (flat_map right_in slots)
+  rights_told slots =
+      same_words (rights_of (axioms_in slots) left) (set_of (flat_map right_in slots))
+      (rights_sorted left (axioms_in slots) (sorted_with_more pair_cmp pair_order [] (pairs_told d slots) (sorted_nil pair_cmp pair_order))) (sorted_set_of (flat_map right_in slots)) to from
+    where
+      to : (w : List ℕ) → Among (rights_of (axioms_in slots) left) w → Among (set_of (flat_map right_in slots)) w
+      to w m =
+          let pair = among_map (λ p. p.1) (filter (λ p. same_word p.0 left) (axioms_in slots)) w m in
+          let kept = among_filter (λ p. same_word p.0 left) (axioms_in slots) pair.0 pair.1 in
+          by pair.0 pair.2 ((same_word_decides (pair.0).0 left).0 kept.1) (among_with_more pair_cmp [] (pairs_told d slots) pair.0 kept.0)
+        where
+          at : (pair : List ℕ × List ℕ) → pair.1 ≡ w → pair.0 ≡ left → (a : AxiomSlot) → Among slots a → Among (pair_told d a) pair → Among (set_of (flat_map right_in slots)) w
+          at pair right lefts FreeAxiom there told = absurd told
+          at pair right lefts (Pair x y) there told =
+              let names = only_pair (word_of d x) (word_of d y) pair told in
+              let same : x ≡ number = same_Some x number (sym (number_from_word d short.dict left x (names.0 ∙ ap Some lefts)) ∙ number_from_word d short.dict left number named) in
+              let is : right_by d number (Pair x y) ≡ Some w = ap (λ b. if b then word_of d y else None) (eq-eqb x number same) ∙ (names.1 ∙ ap Some right) in
+              set_of_among (flat_map right_in slots) w (flat_map_among right_in slots (Pair x y) w there (subst (λ o. Among (option_to_list o) w) (sym is) (inl refl)))
+
+          by : (pair : List ℕ × List ℕ) → pair.1 ≡ w → pair.0 ≡ left → Among {K = List ℕ × List ℕ} [] pair ⊎ Among (pairs_told d slots) pair → Among (set_of (flat_map right_in slots)) w
+          by pair right lefts (inl none) = absurd none
+          by pair right lefts (inr some) = let found = among_flat_map (pair_told d) slots pair some in at pair right lefts found.0 found.1 found.2
+
+      from : (w : List ℕ) → Among (set_of (flat_map right_in slots)) w → Among (rights_of (axioms_in slots) left) w
+      from w m =
+          let found = among_flat_map right_in slots w (among_set_of (flat_map right_in slots) w m) in
+          at found.0 found.1 (only_word (right_by d number found.0) w found.2)
+        where
+          at : (a : AxiomSlot) → Among slots a → right_by d number a ≡ Some w → Among (rights_of (axioms_in slots) left) w
+          at FreeAxiom there is = absurd cc
+          at (Pair x y) there is = by (x == number) refl is
+            where
+              by : (b : Bool) → (x == number) ≡ b → (if b then word_of d y else None) ≡ Some w → Among (rights_of (axioms_in slots) left) w
+              by true e right =
+                  let told = subst (λ o. Among (pair_by o (word_of d y)) (left, w)) (sym (ap (word_of d) (eqb-true x number e) ∙ named)) (subst (λ o. Among (pair_by (Some left) o) (left, w)) (sym right) (inl refl)) in
+                  map_among (λ p. p.1) (filter (λ p. same_word p.0 left) (axioms_in slots)) (left, w)
+                  (filter_among (λ p. same_word p.0 left) (axioms_in slots) (left, w)
+                  (with_more_new pair_cmp pair_exact [] (pairs_told d slots) (left, w) (flat_map_among (pair_told d) slots (Pair x y) (left, w) there told)) ((same_word_decides left left).1 refl))
+              by false e none = absurd cc
 
   -- one slot more
-  slot_taken : (slots : List AxiomSlot) (slot : AxiomSlot) → first_in (slots ++ slot ∷ []) ≡ taken last (first_in slots) (right_by d number slot)
-  slot_taken slots slot =
-      ap (λ pairs. find (is_behind last) (rights_of (fold (insert_key pair_cmp) [] pairs) left)) (flat_map-append (pair_told d) slots (slot ∷ []) ∙ ap (λ more. pairs_told d slots ++ more) (append-nil (pair_told d slot)))
-      ∙ (ap (λ axioms. find (is_behind last) (rights_of axioms left)) (fold-append (insert_key pair_cmp) [] (pairs_told d slots) (pair_told d slot)) ∙ by slot)
+  slot_taken : (last : Option (List ℕ)) (slots : List AxiomSlot) (slot : AxiomSlot)
+      → find (is_behind last) (rights_of (axioms_in (slots ++ slot ∷ [])) left) ≡ taken last (find (is_behind last) (rights_of (axioms_in slots) left)) (right_by d number slot)
+  slot_taken last slots slot =
+      ap (find (is_behind last)) (rights_told (slots ++ slot ∷ [])
+      ∙ (ap set_of (flat_map-append right_in slots (slot ∷ []) ∙ ap (λ more. flat_map right_in slots ++ more) (append-nil (right_in slot)))
+      ∙ fold-append (insert_key word_cmp) [] (flat_map right_in slots) (right_in slot)))
+      ∙ (by (right_by d number slot) ∙ ap (λ ws. taken last (find (is_behind last) ws) (right_by d number slot)) (sym (rights_told slots)))
     where
-      axioms : List (List ℕ × List ℕ)
-      axioms = axioms_in slots
-
-      sorted : IsStrictlySortedBy pair_cmp axioms
-      sorted = sorted_with_more pair_cmp pair_order [] (pairs_told d slots) (sorted_nil pair_cmp pair_order)
-
-      here : (word : List ℕ) → find (is_behind last) (rights_of (insert_key pair_cmp axioms (left, word)) left) ≡ taken last (first_in slots) (Some word)
-      here word =
-          find_right left last (insert_key pair_cmp axioms (left, word))
-          ∙ (ap (option_map right) (find_put pair_cmp pair_order pair_exact (leads_behind left last) axioms (left, word) sorted)
-          ∙ (taken_put left last (find (leads_behind left last) axioms) word (found_left left last axioms)
-          ∙ ap (λ first. taken last first (Some word)) (sym (find_right left last axioms))))
-
-      elsewhere : (from word : List ℕ) → same_word from left ≡ false → find (is_behind last) (rights_of (insert_key pair_cmp axioms (from, word)) left) ≡ first_in slots
-      elsewhere from word differ =
-          find_right left last (insert_key pair_cmp axioms (from, word))
-          ∙ (ap (option_map right) (find_put pair_cmp pair_order pair_exact (leads_behind left last) axioms (from, word) sorted
-          ∙ ap (λ b. cond (b && is_behind last word) (sooner pair_cmp pair_order pair_exact (leads_behind left last) (find (leads_behind left last) axioms) (from, word)) (find (leads_behind left last) axioms)) differ)
-          ∙ sym (find_right left last axioms))
-
-      same_number : (from to : Option (List ℕ)) → from ≡ Some left
-          → find (is_behind last) (rights_of (fold (insert_key pair_cmp) axioms (pair_by from to)) left) ≡ taken last (first_in slots) to
-      same_number None to is = absurd cc
-      same_number (Some word) None is = refl
-      same_number (Some word) (Some other) is = rw (same_Some word left is) (here other)
-
-      other_number : (from to : Option (List ℕ)) → ((word : List ℕ) → from ≡ Some word → same_word word left ≡ false)
-          → find (is_behind last) (rights_of (fold (insert_key pair_cmp) axioms (pair_by from to)) left) ≡ first_in slots
-      other_number None to apart = refl
-      other_number (Some word) None apart = refl
-      other_number (Some word) (Some other) apart = elsewhere word other (apart word refl)
-
-      by_number : (from to : ℕ) (b : Bool) → (from == number) ≡ b
-          → find (is_behind last) (rights_of (fold (insert_key pair_cmp) axioms (pair_by (word_of d from) (word_of d to))) left) ≡ taken last (first_in slots) (if b then word_of d to else None)
-      by_number from to true is = same_number (word_of d from) (word_of d to) (ap (word_of d) (eqb-true from number is) ∙ named)
-      by_number from to false is = other_number (word_of d from) (word_of d to) (λ word. other_word from word is)
-
-      by : (a : AxiomSlot) → find (is_behind last) (rights_of (fold (insert_key pair_cmp) axioms (pair_told d a)) left) ≡ taken last (first_in slots) (right_by d number a)
-      by FreeAxiom = refl
-      by (Pair from to) = by_number from to (from == number) refl
+      by : (o : Option (List ℕ)) → find (is_behind last) (fold (insert_key word_cmp) (set_of (flat_map right_in slots)) (option_to_list o)) ≡ taken last (find (is_behind last) (set_of (flat_map right_in slots))) o
+      by None = refl
+      by (Some word) =
+          find_put word_cmp word_order word_exact (is_behind last) (set_of (flat_map right_in slots)) word (sorted_set_of (flat_map right_in slots))
+          ∙ put_taken last (find (is_behind last) (set_of (flat_map right_in slots))) word
 
 -- ---- the loop
 abbrev pub FirstSoFar : Dict → ℕ → Option (List ℕ) → List AxiomSlot → Option (List ℕ) → Type 0

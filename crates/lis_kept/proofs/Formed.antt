@@ -1,30 +1,40 @@
 -- What sound parts spell is in the ranges of its layouts.
 use Rattle.std.proofs.Common.{◌≡◌, ◌⊎◌, inl, inr, ℕ, ◌-◌, ◌^◌, ◌<◌, ◌≤◌, ◌&&◌, nat_lt, Bool, true, false, List, [], length, Option, Some, None, is_some, unwrap_or, slice_get, IsSome, refl, sym, ap, ◌∙◌, arith}
-use Rattle.std.specs.List.{list_all, All}
-use Rattle.std.proofs.lemmas.Bool.{and_parts, and_from, lt-ltb, both_ways, cases_lt, false_from_ne_true}
+use Rattle.lis_kept.proofs.Common.{list_all, and_parts, lt-ltb, cases_lt, get_or_from_slice_get, Dict, word_of, number_from_word, number_below, Catalog, IsCatalog, rec_at, Ext, has, Taxonomy, FileRecord, AxiomSlot, FreeAxiom, Pair}
+use Rattle.std.specs.List.{All}
+use Rattle.std.proofs.lemmas.Bool.{and_from, both_ways, false_from_ne_true}
 use Rattle.std.proofs.lemmas.List.{get_or_past}
-use Rattle.std.proofs.lemmas.Option.{unwrap_or-slice_get, get_or_from_slice_get}
-use Rattle.lis_dict.specs.Dict.{word_of}
-use Rattle.lis_dict.proofs.Laws.{number_from_word, number_below}
-use Rattle.lis_catalog.specs.Catalog.{Catalog, IsCatalog, rec_at}
+use Rattle.std.proofs.lemmas.Option.{unwrap_or-slice_get}
 use Rattle.lis_content.specs.Content.{has_number}
-use Rattle.lis_ext.specs.Ext.{Ext, has, set_of}
+use Rattle.lis_ext.specs.Ext.{set_of}
 use Rattle.lis_ext.proofs.Seen.{each_below}
-use Rattle.lis_taxonomy.specs.Taxonomy.{Taxonomy}
-use Rattle.lis_fields.specs.Records.{FileRecord}
-use Rattle.lis_fields.specs.declared.slots.AxiomSlot.{AxiomSlot}
-use Rattle.lis_fields.specs.declared.slots.AxiomSlot.TheVariants.{Free as FreeAxiom, Pair}
 use Rattle.lis_fields.specs.Layouts.{is_axiom, is_file, is_record}
 use Rattle.lis_kept.specs.Kept.{Kept, axiom_at, file_by, record_at}
 use Rattle.lis_kept.specs.Sound.{AreSound, is_sound_record, FreeSlotsAreEmpty}
 use Rattle.lis_kept.specs.Inside.{IsShort}
-use Rattle.lis_kept.specs.Links.{TellsLinks, AreHeld}
+use Rattle.lis_kept.specs.Links.{AreHeld}
 use Rattle.lis_kept.proofs.InArea.{few_properties}
 use Rattle.lis_kept.proofs.Filing.{among_from_number}
 
 pub some_word : (o : Option (List ℕ)) → IsSome o → (w : List ℕ) × (o ≡ Some w)
 some_word None h = absurd cc
 some_word (Some w) h = (w, refl)
+
+-- ---- what makes a record sound
+pub record_parts : (version : ℕ) (dict : Dict) (blocks : ℕ) (rec : FileRecord) → is_sound_record version dict blocks rec ≡ true
+    → (is_record version rec ≡ true) × (list_all (λ n. is_some (word_of dict n)) rec.tags ≡ true) × (list_all (λ n. nat_lt n blocks) rec.blocks ≡ true)
+record_parts version dict blocks rec sound =
+    let most = and_parts (is_record version rec && list_all (λ n. is_some (word_of dict n)) rec.tags) (list_all (λ n. nat_lt n blocks) rec.blocks) sound in
+    let both = and_parts (is_record version rec) (list_all (λ n. is_some (word_of dict n)) rec.tags) most.0 in
+    (both.0, both.1, most.1)
+
+-- it stays so with another dictionary in which its words have numbers
+pub record_stays : (version : ℕ) (d e : Dict) (blocks : ℕ) (rec : FileRecord) → is_sound_record version d blocks rec ≡ true → list_all (λ n. is_some (word_of e n)) rec.tags ≡ true
+    → is_sound_record version e blocks rec ≡ true
+record_stays version d e blocks rec sound named =
+    let parts = record_parts version d blocks rec sound in
+    and_from (is_record version rec && list_all (λ n. is_some (word_of e n)) rec.tags) (list_all (λ n. nat_lt n blocks) rec.blocks)
+    (and_from (is_record version rec) (list_all (λ n. is_some (word_of e n)) rec.tags) parts.0 named) parts.2
 
 module _ (k : Kept) (sound : AreSound k) where
   -- what has a word is below the limit
@@ -63,8 +73,7 @@ module _ (k : Kept) (sound : AreSound k) where
       by : (o : Option FileRecord) → rec_at k.catalog n ≡ o → is_file k.limits.version (file_by o) ≡ true
       by None is = refl
       by (Some rec) is =
-          let most = and_parts (is_record k.limits.version rec && list_all (λ m. is_some (word_of k.dict m)) rec.tags) (list_all (λ m. nat_lt m k.limits.blocks) rec.blocks) (sound.records n rec is) in
-          (and_parts (is_record k.limits.version rec) (list_all (λ m. is_some (word_of k.dict m)) rec.tags) most.0).0
+          (record_parts k.limits.version k.dict k.limits.blocks rec (sound.records n rec is)).0
 
   -- where free slots are empty, each number of any slot has a word
   pub named_all : FreeSlotsAreEmpty k → (n slot : ℕ) → has k.ext n slot ≡ true → IsSome (word_of k.dict n)
@@ -73,6 +82,10 @@ module _ (k : Kept) (sound : AreSound k) where
       by : (o : Option FileRecord) → rec_at k.catalog slot ≡ o → IsSome (word_of k.dict n)
       by None none = absurd (both_ways (has k.ext n slot) (free slot none n) has_it)
       by (Some rec) there = sound.named n slot (ap is_some there) has_it
+
+-- the same, over what memory kept
+pub named_in : (k p : Kept) → p ≡ k → AreSound p → (n : ℕ) → IsSome (word_of k.dict n) → n < p.limits.props
+named_in k p is sound n some = named_below p sound n (ap (λ (x : Kept). is_some (word_of x.dict n)) is ∙ some)
 
 -- ---- rows
 -- what rows tell of each set: its numbers are below the limit
@@ -91,10 +104,6 @@ pub none_past : (e : Ext) → AreWithin e → (n slot : ℕ) → e.props ≤ n �
 none_past e within n slot past = false_from_ne_true (has e n slot) (λ has_it. let below = had_within e within n slot has_it in omega (arith, below, past))
 
 -- ---- parts of which words, axioms and the like stay
-pub links_stay : (p : Kept) (catalog : Catalog) (taken : List Bool) (ext : Ext) (marks : List Bool) (t : Taxonomy) → TellsLinks p t
-    → TellsLinks (record p { catalog = catalog; taken = taken; ext = ext; marks = marks }) t
-links_stay p catalog taken ext marks t links = record { props = links.props; edges = links.edges }
-
 -- files, blocks, numbers and marks that may stand beside words and axioms
 pub record FilesHold (p : Kept) (catalog : Catalog) (taken : List Bool) (ext : Ext) (marks : List Bool) : Type 0 where
   pub slots : catalog.files ≡ p.catalog.files
@@ -130,7 +139,7 @@ held_files p t catalog taken ext marks held hold = record {
     settled = hold.settled;
     marks = omega (arith, hold.as_many, held.sound.marks);
   };
-  links = links_stay p catalog taken ext marks t held.links;
+  links = record { props = held.links.props; edges = held.links.edges };
 }
 
 -- other marks, as many

@@ -1,11 +1,10 @@
 -- In which blocks an area lies, and its slots in a block.
 use Rattle.std.proofs.Common.{◌≡◌, ℕ, ◌+◌, ◌*◌, ◌-◌, ◌/◌, ◌%◌, ◌<◌, ◌≤◌, ◌==◌, ◌&&◌, ◌||◌, Bool, true, List, IsTrue, refl, sym, ap, ◌∙◌, subst, inl, inr, arith, lit<}
 use Rattle.std.proofs.Math.Nat.{div-lt_iff_lt-mul, div-add-mod}
-use Rattle.std.proofs.lemmas.Bool.{and_parts, or_cases, eqb-true}
+use Rattle.lis_kept.proofs.Common.{and_parts, or_cases, eqb-true, Limits, are_in_range, bitmap_start, data_start}
 use Rattle.std.proofs.lemmas.Bool.Decides.{nat_tests}
-use Rattle.lis_model.specs.declared.limits.Limits.{Limits}
-use Rattle.lis_model.specs.Ranges.{is_files_limit, is_props_limit, is_blocks_limit, is_version, are_in_range}
-use Rattle.lis_model.specs.Image.{axioms_start, files_start, rows_start, bitmap_start, data_start}
+use Rattle.lis_model.specs.Ranges.{is_files_limit, is_props_limit, is_blocks_limit, is_version}
+use Rattle.lis_model.specs.Image.{axioms_start, files_start, rows_start}
 use Rattle.lis_fields.proofs.Supers.{files_small}
 use Rattle.lis_kept.specs.Kept.{Kept}
 use Rattle.lis_kept.specs.Areas.{Area, slots_of, block_of, spelled, held_in, row_slots, row_blocks}
@@ -13,11 +12,12 @@ use Rattle.lis_kept.specs.Areas.Area.{Properties, Axioms, Files, Rows, Bitmap}
 use Rattle.lis_kept.specs.Inside.{bytes_in, IsBlock}
 
 -- ---- limits in range
-limit_parts : (limits : Limits) → IsTrue (are_in_range limits) → (is_files_limit limits.files ≡ true) × (is_props_limit limits.props ≡ true)
+limit_parts : (limits : Limits) → IsTrue (are_in_range limits) → (is_files_limit limits.files ≡ true) × (is_props_limit limits.props ≡ true) × (is_blocks_limit limits.blocks ≡ true)
 limit_parts limits range =
     let most = and_parts (is_files_limit limits.files && is_props_limit limits.props && is_blocks_limit limits.blocks) (is_version limits.version) range in
     let both = and_parts (is_files_limit limits.files && is_props_limit limits.props) (is_blocks_limit limits.blocks) most.0 in
-    and_parts (is_files_limit limits.files) (is_props_limit limits.props) both.0
+    let first = and_parts (is_files_limit limits.files) (is_props_limit limits.props) both.0 in
+    (first.0, first.1, both.1)
 
 pub files_range : (limits : Limits) → IsTrue (are_in_range limits) → is_files_limit limits.files ≡ true
 files_range limits range = (limit_parts limits range).0
@@ -44,9 +44,7 @@ props_few : (n : ℕ) → is_props_limit n ≡ true → n ≤ 8192
 props_few n is = grind (arith, nat_tests)
 
 pub few_blocks : (limits : Limits) → IsTrue (are_in_range limits) → limits.blocks ≤ 32768
-few_blocks limits range =
-    let most = and_parts (is_files_limit limits.files && is_props_limit limits.props && is_blocks_limit limits.blocks) (is_version limits.version) range in
-    blocks_few limits.blocks (and_parts (is_files_limit limits.files && is_props_limit limits.props) (is_blocks_limit limits.blocks) most.0).1
+few_blocks limits range = blocks_few limits.blocks (limit_parts limits range).2
 
 pub whole_properties : (limits : Limits) → IsTrue (are_in_range limits) → limits.props % 64 ≡ 0
 whole_properties limits range = props_whole limits.props (props_range limits range)

@@ -1,24 +1,15 @@
 -- The words that have numbers are the known words: each number with a word is in use, and what is known has a number.
-use Rattle.std.proofs.Common.{◌≡◌, ◌⊎◌, ℕ, zero, suc, ◌&&◌, ◌||◌, true, List, [], ◌∷◌, Option, Some, None, option_to_list, is_some, slice_get, IsSome, refl, sym, ap, ◌∙◌, subst, inl, inr}
-use Rattle.std.specs.List.{flat_map, list_any, Contains}
-use Rattle.std.proofs.lemmas.Bool.{and_parts, or_cases, both_ways, eqb-true}
-use Rattle.std.proofs.lemmas.List.{get_or_default}
-use Rattle.std.proofs.lemmas.Option.{same_Some, slice_get-get_or}
-use Rattle.lis_graph.proofs.Members.{Among, contains_from_among, among_from_any, among_filter, filter_among, among_map, map_among, among_flat_map, flat_map_among, among_with_more, with_more_new}
-use Rattle.lis_graph.proofs.Sets.{sorted_from_rising}
+use Rattle.std.proofs.Common.{◌≡◌, ◌⊎◌, ℕ, true, List, [], Option, Some, None, option_to_list, is_some, map, slice_get, IsSome, refl, sym, ap, ap₂, ◌∙◌, subst, inl, inr}
+use Rattle.lis_kept.proofs.Common.{flat_map, Contains, and_parts, same_Some, Among, contains_from_among, among_filter, among_map, among_flat_map, flat_map_among, sorted_from_rising, number_of, word_of, number_from_word, word_from_number, Filed, rec_at, has, numbers_at, FileRecord, AxiomSlot, FreeAxiom, Pair, word_cmp, same_word, has_word, is_valued, head_bytes, File, description, pair_exact, word_order, same_word_decides, among_from_has_word}
+use Rattle.std.proofs.lemmas.Bool.{both_ways}
+use Rattle.lis_graph.proofs.Members.{filter_among, map_among, among_with_more, with_more_new}
 use Rattle.lis_blockmap.specs.Bitmap.{is_taken}
 use Rattle.lis_content.specs.Content.{has_number}
-use Rattle.lis_dict.specs.Dict.{words, number_of, word_of}
-use Rattle.lis_dict.proofs.Laws.{among_from_word, number_from_among, number_from_word, word_from_number}
-use Rattle.lis_catalog.specs.Catalog.{Filed, rec_at}
-use Rattle.lis_ext.specs.Ext.{has, set_of as numbers_at}
-use Rattle.lis_fields.specs.Records.{FileRecord}
-use Rattle.lis_fields.specs.declared.slots.AxiomSlot.{AxiomSlot}
-use Rattle.lis_fields.specs.declared.slots.AxiomSlot.TheVariants.{Free as FreeAxiom, Pair}
-use Rattle.lis_words.specs.Words.{word_cmp, same_word, has_word, is_valued, head_bytes}
-use Rattle.lis_model.specs.State.{pair_cmp, description, known, heads}
+use Rattle.lis_dict.specs.Dict.{words}
+use Rattle.lis_dict.proofs.Laws.{among_from_word, number_from_among}
+use Rattle.lis_model.specs.State.{pair_cmp, known, heads}
 use Rattle.lis_graph.specs.Graph.{is_rising}
-use Rattle.lis_laws.proofs.Members.{pair_exact, word_order, same_word_decides, among_from_has_word, has_word_from_among, among_set_of, set_of_among, same_words}
+use Rattle.lis_laws.proofs.Members.{has_word_from_among, among_set_of, set_of_among, same_words}
 use Rattle.lis_laws.proofs.Counts.{rising_filter}
 use Rattle.lis_laws.proofs.Chains.{among_heads, heads_of_valued}
 use Rattle.lis_laws.proofs.Known.{sorted_known}
@@ -27,9 +18,12 @@ use Rattle.lis_laws.proofs.Sources.Source.{Declared, Left, LeftHead, Described}
 use Rattle.lis_laws.proofs.Locals.{same_tests}
 use Rattle.lis_kept.specs.Kept.{Kept}
 use Rattle.lis_kept.specs.Sound.{AreSound, FreeSlotsAreEmpty}
-use Rattle.lis_kept.specs.Telling.{bit_of, is_declared, declared_of, words_told, pair_by, pair_told, pairs_told, axioms_of, file_told, state_of, is_left_of, is_head_by, is_left_head_of, is_had, is_named_left, AreUsed}
+use Rattle.lis_kept.specs.Telling.{bit_of, is_declared, declared_of, words_told, pair_by, pair_told, pairs_told, axioms_of, file_told, state_of, is_head_by, AreUsed}
+pub use Rattle.lis_kept.proofs.OwnLinks.{placed_at, among_place}
 use Rattle.lis_kept.proofs.Filing.{among_from_number as among_numbers, number_from_among as has_from_among, filed_at_slot}
 use Rattle.lis_kept.proofs.Formed.{some_word}
+use Rattle.lis_kept.proofs.Used.{WhyUsed, why_used}
+use Rattle.lis_kept.proofs.Used.WhyUsed.{Flagged, Had, OnLeft, HeadOfLeft}
 
 pub only_word : (o : Option (List ℕ)) (w : List ℕ) → Among (option_to_list o) w → o ≡ Some w
 only_word None w m = absurd m
@@ -45,20 +39,6 @@ only_pair None q e m = absurd m
 only_pair (Some p) None e m = absurd m
 only_pair (Some p) (Some q) e (inl same) = (ap (λ (x : List ℕ × List ℕ). Some x.0) same, ap (λ (x : List ℕ × List ℕ). Some x.1) same)
 only_pair (Some p) (Some q) e (inr m) = absurd m
-
--- a member stands in some place
-pub placed_at : {X : Type 0} (xs : List X) (x : X) → Among xs x → (n : ℕ) × (slice_get xs n ≡ Some x)
-placed_at xs x m =
-    let at = contains_from_among xs x m in
-    (at.0, slice_get-get_or xs at.0 x at.1 ∙ ap Some at.2)
-
-pub among_place : {X : Type 0} (xs : List X) (n : ℕ) (x : X) → slice_get xs n ≡ Some x → Among xs x
-among_place [] n x is = absurd cc
-among_place (y ∷ ys) n x is = by n is (among_place ys)
-  where
-    by : (k : ℕ) → slice_get (y ∷ ys) k ≡ Some x → ((j : ℕ) (z : _) → slice_get ys j ≡ Some z → Among ys z) → Among (y ∷ ys) x
-    by zero here more = inl (same_Some y x here)
-    by (suc k) here more = inr (more k x here)
 
 -- ---- numbers and their words
 module _ (k : Kept) (sound : AreSound k) where
@@ -126,70 +106,50 @@ module _ (k : Kept) (sound : AreSound k) where
       by (inr some) = let found = among_flat_map (pair_told k.dict) k.axioms e some in at found.0 found.1 found.2
 
 -- ---- known by use
-module _ (k : Kept) (sound : AreSound k) (free : FreeSlotsAreEmpty k) (at : ℕ → List ℕ) (used : AreUsed k)
+module _ (k : Kept) (sound : AreSound k) (free : FreeSlotsAreEmpty k) (at : ℕ → List ℕ)
     (described : (f : Filed) → Contains k.catalog.entries f → words_told k.dict (numbers_at k.ext f.slot) ≡ description (state_of k at) (file_told k.limits k.dict at f)) where
+  abbrev files : List File
+  files = map (file_told k.limits k.dict at) k.catalog.entries
+
   -- a number in a file's slot is that of a word of the file's description
-  slot_described : (slot n : ℕ) (w : List ℕ) → word_of k.dict n ≡ Some w → has k.ext n slot ≡ true → Among (known (state_of k at)) w
+  pub slot_described : (slot n : ℕ) (w : List ℕ) → word_of k.dict n ≡ Some w → has k.ext n slot ≡ true → (file : File) × Among files file × Among (description (state_of k at) file) w
   slot_described slot n w is h = by (rec_at k.catalog slot) refl
     where
-      by : (o : Option FileRecord) → rec_at k.catalog slot ≡ o → Among (known (state_of k at)) w
+      by : (o : Option FileRecord) → rec_at k.catalog slot ≡ o → (file : File) × Among files file × Among (description (state_of k at) file) w
       by None none = absurd (both_ways (has k.ext n slot) (free slot none n) h)
       by (Some rec) there =
           let f : Filed = record { slot = slot; rec = rec } in
-          let m = filed_at_slot k.catalog sound.catalog slot rec there in
-          known_from (state_of k at) w
-          (Described (file_told k.limits k.dict at f) (map_among (file_told k.limits k.dict at) k.catalog.entries f m)
-          (subst (λ ws. Among ws w) (described f (contains_from_among k.catalog.entries f m)) (word_among k sound (numbers_at k.ext slot) n w is h)))
+          let m = filed_at_slot k.catalog sound.catalog slot rec there in (
+            file_told k.limits k.dict at f,
+            map_among (file_told k.limits k.dict at) k.catalog.entries f m,
+            subst (λ ws. Among ws w) (described f (contains_from_among k.catalog.entries f m)) (word_among k sound (numbers_at k.ext slot) n w is h),
+          )
 
-  had_known : (n : ℕ) (w : List ℕ) → word_of k.dict n ≡ Some w → is_had k.ext n ≡ true → Among (known (state_of k at)) w
-  had_known n w is h =
-      let found = among_from_any (λ ns. has_number ns n) k.ext.sets h in
-      let place = contains_from_among k.ext.sets found.0 found.1 in
-      let set_in : numbers_at k.ext place.0 ≡ found.0 = get_or_default k.ext.sets place.0 [] found.0 place.1 ∙ place.2 in
-      slot_described place.0 n w is (ap (λ ns. has_number ns n) set_in ∙ found.2)
+  -- and the other way round
+  pub described_slot : (file : File) (w : List ℕ) → Among files file → Among (description (state_of k at) file) w → (n : ℕ) × (word_of k.dict n ≡ Some w) × (slot : ℕ) × (has k.ext n slot ≡ true)
+  described_slot file w m has_it =
+      let f = among_map (file_told k.limits k.dict at) k.catalog.entries file m in
+      let told = described f.0 (contains_from_among k.catalog.entries f.0 f.1) ∙ ap (description (state_of k at)) f.2 in
+      let found = among_word k sound (numbers_at k.ext (f.0).slot) w (subst (λ ws. Among ws w) (sym told) has_it) in
+      (found.0, found.1, (f.0).slot, found.2)
 
-  left_known : (n : ℕ) (w : List ℕ) → word_of k.dict n ≡ Some w → list_any (is_left_of n) k.axioms ≡ true → Among (known (state_of k at)) w
-  left_known n w is h = let found = among_from_any (is_left_of n) k.axioms h in by found.0 found.1 found.2
-    where
-      by : (a : AxiomSlot) → Among k.axioms a → is_left_of n a ≡ true → Among (known (state_of k at)) w
-      by FreeAxiom m left = absurd cc
-      by (Pair p q) m left =
-          let place = placed_at k.axioms (Pair p q) m in
-          let right = some_word (word_of k.dict q) (sound.axioms place.0 p q place.1).right in
-          let word : word_of k.dict p ≡ Some w = ap (word_of k.dict) (eqb-true p n left) ∙ is in
-          known_from (state_of k at) w (Left (w, right.0) (axiom_among k sound place.0 p q w right.0 place.1 word right.1) refl)
-
-  left_head_known : (n : ℕ) (w : List ℕ) → word_of k.dict n ≡ Some w → list_any (is_left_head_of k.dict n) k.axioms ≡ true → Among (known (state_of k at)) w
-  left_head_known n w is h = let found = among_from_any (is_left_head_of k.dict n) k.axioms h in by found.0 found.1 found.2
-    where
-      by : (a : AxiomSlot) → Among k.axioms a → is_left_head_of k.dict n a ≡ true → Among (known (state_of k at)) w
-      by FreeAxiom m head = absurd cc
-      by (Pair p q) m head =
-          let place = placed_at k.axioms (Pair p q) m in
-          let sides = sound.axioms place.0 p q place.1 in
-          let left = some_word (word_of k.dict p) sides.left in
-          let right = some_word (word_of k.dict q) sides.right in
-          let test : (is_valued left.0 && same_word (head_bytes left.0) w) ≡ true =
-          subst (λ o. is_head_by (Some left.0) o ≡ true) is (subst (λ o. is_head_by o (word_of k.dict n) ≡ true) left.1 head) in
-          let parts = and_parts (is_valued left.0) (same_word (head_bytes left.0) w) test in
-          known_from (state_of k at) w
-          (LeftHead (left.0, right.0) (axiom_among k sound place.0 p q left.0 right.0 place.1 left.1 right.1)
-          (subst (λ v. Among (heads left.0) v) ((same_word_decides (head_bytes left.0) w).0 parts.1) (heads_of_valued left.0 parts.0)))
-
+module _ (k : Kept) (sound : AreSound k) (free : FreeSlotsAreEmpty k) (at : ℕ → List ℕ) (used : AreUsed k)
+    (described : (f : Filed) → Contains k.catalog.entries f → words_told k.dict (numbers_at k.ext f.slot) ≡ description (state_of k at) (file_told k.limits k.dict at f)) where
   used_known : (n : ℕ) (w : List ℕ) → word_of k.dict n ≡ Some w → Among (known (state_of k at)) w
-  used_known n w is = front (or_cases (is_taken k.declared n || is_had k.ext n) (is_named_left k n) (used n (ap is_some is)))
+  used_known n w is = known_from (state_of k at) w (by (why_used k n (used n (ap is_some is))))
     where
-      named : (list_any (is_left_of n) k.axioms ≡ true) ⊎ (list_any (is_left_head_of k.dict n) k.axioms ≡ true) → Among (known (state_of k at)) w
-      named (inl left) = left_known n w is left
-      named (inr head) = left_head_known n w is head
-
-      first : (is_taken k.declared n ≡ true) ⊎ (is_had k.ext n ≡ true) → Among (known (state_of k at)) w
-      first (inl bit) = known_from (state_of k at) w (Declared (declared_word k sound n w is bit))
-      first (inr had) = had_known n w is had
-
-      front : ((is_taken k.declared n || is_had k.ext n) ≡ true) ⊎ (is_named_left k n ≡ true) → Among (known (state_of k at)) w
-      front (inl some) = first (or_cases (is_taken k.declared n) (is_had k.ext n) some)
-      front (inr left) = named (or_cases (list_any (is_left_of n) k.axioms) (list_any (is_left_head_of k.dict n) k.axioms) left)
+      by : WhyUsed k n → Source (state_of k at) w
+      by (Flagged bit) = Declared (declared_word k sound n w is bit)
+      by (Had slot h) = let file = slot_described k sound free at described slot n w is h in Described file.0 file.1 file.2
+      by (OnLeft slot right there) =
+          let r = some_word (word_of k.dict right) (sound.axioms slot n right there).right in
+          Left (w, r.0) (axiom_among k sound slot n right w r.0 there is r.1) refl
+      by (HeadOfLeft slot left right there head) =
+          let one = sound.axioms slot left right there in
+          let l = some_word (word_of k.dict left) one.left in
+          let r = some_word (word_of k.dict right) one.right in
+          let parts = and_parts (is_valued l.0) (same_word (head_bytes l.0) w) (sym (ap₂ is_head_by l.1 is) ∙ head) in
+          LeftHead (l.0, r.0) (axiom_among k sound slot left right l.0 r.0 there l.1 r.1) (subst (λ v. Among (heads l.0) v) ((same_word_decides (head_bytes l.0) w).0 parts.1) (heads_of_valued l.0 parts.0))
 
   known_used : (w : List ℕ) → Source (state_of k at) w → Among (words k.dict) w
   known_used w (Declared m) = (among_filter (is_declared k) (words k.dict) w m).0
@@ -199,11 +159,7 @@ module _ (k : Kept) (sound : AreSound k) (free : FreeSlotsAreEmpty k) (at : ℕ 
       let parts = among_heads e.0 w head in
       let number = some_number (number_of k.dict (head_bytes e.0)) (sound.heads found.1 e.0 found.4 parts.0) in
       subst (λ v. Among (words k.dict) v) parts.1 (word_known k sound number.0 (head_bytes e.0) (word_from_number k.dict sound.dict (head_bytes e.0) number.0 number.1))
-  known_used w (Described file m has) =
-      let f = among_map (file_told k.limits k.dict at) k.catalog.entries file m in
-      let told = described f.0 (contains_from_among k.catalog.entries f.0 f.1) ∙ ap (description (state_of k at)) f.2 in
-      let found = among_word k sound (numbers_at k.ext (f.0).slot) w (subst (λ ws. Among ws w) (sym told) has) in
-      word_known k sound found.0 w found.1
+  known_used w (Described file m has) = let found = described_slot k sound free at described file w m has in word_known k sound found.0 w found.1
 
   pub words_known : words k.dict ≡ known (state_of k at)
   words_known =

@@ -1,3 +1,4 @@
+pub mod Common
 pub mod Blocks
 pub mod InArea
 pub mod RowBytes
@@ -20,7 +21,7 @@ pub mod WordDeclared
 pub mod HeadEdges
 pub mod WordLearnt
 pub mod Known
-pub mod WordGone
+pub mod OneWord
 pub mod WordLess
 pub mod Forgotten
 pub mod Used
@@ -28,15 +29,13 @@ pub mod Emptied
 pub mod Without
 pub mod Numbered
 pub mod Entailed
-pub mod PlainWords
 pub mod AxiomSlots
 pub mod AxiomMore
 pub mod AxiomLess
-pub mod WordUndeclared
+pub mod WordForgotten
 pub mod MarkedWithin
-pub mod Widened
 pub mod AxiomsTold
-pub mod AxiomDescribed
+pub mod AxiomsApart
 pub mod Needed
 pub mod UnderOthers
 pub mod StandsUnder

@@ -1,40 +1,38 @@
 -- The links that words have by themselves.
-use Rattle.std.proofs.Common.{◌≡◌, ℕ, true, false, ◌&&◌, ◌||◌, ◌==◌, Option, Some, None, is_some, IsSome, slice_get, List, refl, inl, inr, ap, ap₂, ◌∙◌, subst}
-use Rattle.std.specs.List.{Contains}
-use Rattle.std.proofs.lemmas.Bool.{and_parts, and_from, or_cases, both_ways, eqb-true, false_from_ne_true}
-use Rattle.std.proofs.lemmas.Option.{slice_get-get_or, slice_get_within, get_or_from_slice_get}
-use Rattle.std.proofs.lemmas.List.Elements.{Contains-get_or}
-use Rattle.lis_graph.proofs.Members.{Among, among_from_any, among_from_contains, contains_from_among}
-use Rattle.lis_dict.specs.Dict.{word_of}
-use Rattle.lis_fields.specs.declared.slots.AxiomSlot.{AxiomSlot}
-use Rattle.lis_fields.specs.declared.slots.AxiomSlot.TheVariants.{Free as FreeAxiom, Pair}
-use Rattle.lis_words.specs.Words.{same_word, has_word, head_bytes, is_valued, is_test, is_plain_word, is_head, is_built_in}
+use Rattle.std.proofs.Common.{zero, suc, [], ◌∷◌, ◌≡◌, ℕ, true, false, ◌&&◌, ◌||◌, ◌==◌, Option, Some, None, is_some, IsSome, slice_get, List, refl, sym, inl, inr, ap, ap₂, ◌∙◌, subst}
+use Rattle.lis_kept.proofs.Common.{list_all, and_parts, or_cases, eqb-true, same_Some, Among, among_right, among_from_any, contains_from_among, word_of, AxiomSlot, FreeAxiom, Pair, same_word, has_word, head_bytes, is_valued, is_test, is_plain_word, is_undeclared, same_word_decides, among_from_has_word, all_among, OwnLink, own_link, Head, Weaker, Taxonomy, has_edge}
+use Rattle.std.proofs.lemmas.Bool.{and_from, both_ways, false_from_ne_true}
+use Rattle.std.proofs.lemmas.Option.{slice_get-get_or}
+use Rattle.lis_words.specs.Words.{stem, is_plain_byte, is_head, is_built_in}
 use Rattle.lis_words.proofs.Tests.{plain_not_test, head_not_test, valued_not_test}
-use Rattle.lis_fields.specs.Layouts.{is_undeclared}
 use Rattle.lis_model.specs.State.{links}
-use Rattle.lis_laws.proofs.Members.{same_word_decides, among_from_has_word, has_word_from_among}
+use Rattle.lis_laws.proofs.Members.{has_word_from_among}
 use Rattle.lis_laws.proofs.Locals.{same_tests}
-use Rattle.lis_laws.proofs.Chains.{OwnLink, own_link, IsWeakerIn, weaker_tests_are, links_head}
-use Rattle.lis_laws.proofs.Chains.OwnLink.{Head, Weaker}
+use Rattle.lis_laws.proofs.Chains.{IsWeakerIn, weaker_tests_are, links_head}
 use Rattle.lis_kept.specs.Kept.{Kept}
 use Rattle.lis_kept.specs.Telling.{declared_of, is_head_by}
 use Rattle.lis_kept.specs.Sound.{AreSound}
-use Rattle.lis_kept.proofs.PlainWords.{not_head}
-use Rattle.lis_kept.specs.Links.{is_own_link, is_linked, is_pair, has_pair}
+use Rattle.lis_kept.specs.Links.{AreHeld, is_own_link, is_linked, is_pair, has_pair}
 
-pub none_before : (o : Option (List ℕ)) → is_head_by o None ≡ false
-none_before None = refl
-none_before (Some v) = refl
+-- a member stands in some place
+pub placed_at : {X : Type 0} (xs : List X) (x : X) → Among xs x → (n : ℕ) × (slice_get xs n ≡ Some x)
+placed_at xs x m =
+    let at = contains_from_among xs x m in
+    (at.0, slice_get-get_or xs at.0 x at.1 ∙ ap Some at.2)
 
--- a slot that is there has an index
+pub among_place : {X : Type 0} (xs : List X) (n : ℕ) (x : X) → slice_get xs n ≡ Some x → Among xs x
+among_place [] n x is = absurd cc
+among_place (y ∷ ys) n x is = by n is (among_place ys)
+  where
+    by : (k : ℕ) → slice_get (y ∷ ys) k ≡ Some x → ((j : ℕ) (z : _) → slice_get ys j ≡ Some z → Among ys z) → Among (y ∷ ys) x
+    by zero here more = inl (same_Some y x here)
+    by (suc k) here more = inr (more k x here)
+
 pub slot_at : (axioms : List AxiomSlot) (a : AxiomSlot) → Among axioms a → (i : ℕ) × (slice_get axioms i ≡ Some a)
-slot_at axioms a m =
-    let found = contains_from_among axioms a m in
-    (found.0, slice_get-get_or axioms found.0 a found.1 ∙ ap Some found.2)
+slot_at = placed_at
 
 pub among_slot : (axioms : List AxiomSlot) (i : ℕ) (a : AxiomSlot) → slice_get axioms i ≡ Some a → Among axioms a
-among_slot axioms i a is =
-    among_from_contains axioms a (subst (λ (b : AxiomSlot). Contains axioms b) (get_or_from_slice_get axioms i a FreeAxiom is) (Contains-get_or axioms i FreeAxiom (slice_get_within axioms i a is)))
+among_slot = among_place
 
 -- ---- links of words by themselves, whatever tests are declared
 pub own_to_none : (declared : List (List ℕ)) (o : Option (List ℕ)) → is_own_link declared o None ≡ false
@@ -60,14 +58,10 @@ untested declared w v none = same_tests (has_word (links declared w) v) (is_head
         by (Head valued is) = and_from (is_valued w) (same_word (head_bytes w) v) valued ((same_word_decides (head_bytes w) v).1 is)
         by (Weaker weaker) = absurd (none weaker)
 
--- a link to a word that is no test, or from one, is that to a head
+-- a link to a word that is no test is that to a head
 pub own_to : (declared : List (List ℕ)) (o : Option (List ℕ)) (v : List ℕ) → is_test v ≡ false → is_own_link declared o (Some v) ≡ is_head_by o (Some v)
 own_to declared None v plain = refl
 own_to declared (Some w) v plain = untested declared w v (λ weaker. both_ways (is_test v) plain (weaker_tests_are declared w v weaker).1)
-
-pub own_from : (declared : List (List ℕ)) (w : List ℕ) (r : Option (List ℕ)) → is_test w ≡ false → is_own_link declared (Some w) r ≡ is_head_by (Some w) r
-own_from declared w None plain = refl
-own_from declared w (Some v) plain = untested declared w v (λ weaker. both_ways (is_test w) plain (weaker_tests_are declared w v weaker).0)
 
 -- what is known without being declared is no test
 pub undeclared_not_test : (word : List ℕ) → is_undeclared word ≡ true → is_test word ≡ false
@@ -76,38 +70,71 @@ undeclared_not_test word h = elim (or_cases (is_valued word) (is_head word && is
   | inr head ↦ head_not_test word (and_parts (is_head word) (is_built_in word) head).0
 ]
 
+-- a plain word is nobody's head
+plain_no_head : (l r : List ℕ) → is_plain_word r ≡ true → head_bytes l ≡ r → ⊥
+plain_no_head l r plain same =
+    let bytes : list_all is_plain_byte r ≡ true = (and_parts _ _ plain).1 in
+    let colon : is_plain_byte 58 ≡ true = all_among is_plain_byte (head_bytes l) 58 (subst (λ (w : List ℕ). list_all is_plain_byte w ≡ true) (sym same) bytes) (among_right (stem l) (58 ∷ []) 58 (inl refl)) in
+    both_ways (is_plain_byte 58) refl colon
+
+not_head : (o w : Option (List ℕ)) → ((r : List ℕ) → w ≡ Some r → is_plain_word r ≡ true) → is_head_by o w ≡ false
+not_head None w plain = refl
+not_head (Some l) None plain = refl
+not_head (Some l) (Some r) plain =
+    false_from_ne_true (is_valued l && same_word (head_bytes l) r)
+    (λ head. plain_no_head l r (plain r refl) ((same_word_decides (head_bytes l) r).0 (and_parts (is_valued l) (same_word (head_bytes l) r) head).1))
+
 -- no word leads to a plain word by itself
 pub own_to_plain : (declared : List (List ℕ)) (o r : Option (List ℕ)) → ((v : List ℕ) → r ≡ Some v → is_plain_word v ≡ true) → is_own_link declared o r ≡ false
 own_to_plain declared o None plain = own_to_none declared o
 own_to_plain declared o (Some v) plain = own_to declared o v (plain_not_test v (plain v refl)) ∙ not_head o (Some v) plain
 
+-- ---- a number that no axiom names
+-- the slot of an axiom between two numbers
+pub pair_slot : (axioms : List AxiomSlot) (x y : ℕ) → has_pair axioms x y ≡ true → (slot : ℕ) × (slice_get axioms slot ≡ Some (Pair x y))
+pair_slot axioms x y has = let found = among_from_any (is_pair x y) axioms has in by found.0 found.1 found.2
+  where
+    by : (a : AxiomSlot) → Among axioms a → is_pair x y a ≡ true → (slot : ℕ) × (slice_get axioms slot ≡ Some (Pair x y))
+    by FreeAxiom m is = absurd cc
+    by (Pair left right) m is =
+        let parts = and_parts (left == x) (right == y) is in
+        let at = slot_at axioms (Pair left right) m in
+        (at.0, at.1 ∙ ap₂ (λ (a b : ℕ). Some (Pair a b)) (eqb-true left x parts.0) (eqb-true right y parts.1))
+
+-- it is no side of one
+pub record IsNoSide (axioms : List AxiomSlot) (number : ℕ) : Type 0 where
+  pub left : (slot left right : ℕ) → slice_get axioms slot ≡ Some (Pair left right) → left ≡ number → ⊥
+  pub right : (slot left right : ℕ) → slice_get axioms slot ≡ Some (Pair left right) → right ≡ number → ⊥
+
+pub no_pair_to : (axioms : List AxiomSlot) (number : ℕ) → IsNoSide axioms number → (x : ℕ) → has_pair axioms x number ≡ false
+no_pair_to axioms number none x = false_from_ne_true (has_pair axioms x number) (λ has. let at = pair_slot axioms x number has in none.right at.0 x number at.1 refl)
+
+pub no_pair_from : (axioms : List AxiomSlot) (number : ℕ) → IsNoSide axioms number → (y : ℕ) → has_pair axioms number y ≡ false
+no_pair_from axioms number none y = false_from_ne_true (has_pair axioms number y) (λ has. let at = pair_slot axioms number y has in none.left at.0 number y at.1 refl)
+
 -- ---- a number that has no word has no link
 module _ (k : Kept) (sound : AreSound k) (number : ℕ) (free : word_of k.dict number ≡ None) where
-  no_some : IsSome (word_of k.dict number) → ⊥
-  no_some some = both_ways (is_some (word_of k.dict number)) (ap is_some free) some
+  pub no_some : (n : ℕ) → IsSome (word_of k.dict n) → n ≡ number → ⊥
+  no_some n some same = both_ways (is_some (word_of k.dict n)) (ap (λ m. is_some (word_of k.dict m)) same ∙ ap is_some free) some
+
+  pub no_side : IsNoSide k.axioms number
+  no_side = record {
+    left = λ slot left right is. no_some left (sound.axioms slot left right is).left;
+    right = λ slot left right is. no_some right (sound.axioms slot left right is).right;
+  }
 
   pub unnamed_to : (x : ℕ) → is_linked k x number ≡ false
   unnamed_to x =
       ap₂ (λ a b. a || b) (ap (is_own_link (declared_of k) (word_of k.dict x)) free ∙ own_to_none (declared_of k) (word_of k.dict x))
-      (false_from_ne_true (has_pair k.axioms x number) (λ has. let found = among_from_any (is_pair x number) k.axioms has in by found.0 found.1 found.2))
-    where
-      by : (a : AxiomSlot) → Among k.axioms a → is_pair x number a ≡ true → ⊥
-      by FreeAxiom m is = cc
-      by (Pair left right) m is =
-          let at = slot_at k.axioms (Pair left right) m in
-          let one = sound.axioms at.0 left right at.1 in
-          let same = eqb-true right number (and_parts (left == x) (right == number) is).1 in
-          no_some (subst (λ n. IsSome (word_of k.dict n)) same one.right)
+      (no_pair_to k.axioms number no_side x)
 
   pub unnamed_from : (y : ℕ) → is_linked k number y ≡ false
   unnamed_from y =
-      ap₂ (λ a b. a || b) (ap (λ o. is_own_link (declared_of k) o (word_of k.dict y)) free)
-      (false_from_ne_true (has_pair k.axioms number y) (λ has. let found = among_from_any (is_pair number y) k.axioms has in by found.0 found.1 found.2))
-    where
-      by : (a : AxiomSlot) → Among k.axioms a → is_pair number y a ≡ true → ⊥
-      by FreeAxiom m is = cc
-      by (Pair left right) m is =
-          let at = slot_at k.axioms (Pair left right) m in
-          let one = sound.axioms at.0 left right at.1 in
-          let same = eqb-true left number (and_parts (left == number) (right == y) is).0 in
-          no_some (subst (λ n. IsSome (word_of k.dict n)) same one.left)
+      ap₂ (λ a b. a || b) (ap (λ o. is_own_link (declared_of k) o (word_of k.dict y)) free) (no_pair_from k.axioms number no_side y)
+
+-- nor an edge
+pub none_to : (p : Kept) (t : Taxonomy) → AreHeld p t → (number : ℕ) → word_of p.dict number ≡ None → (x : ℕ) → has_edge t x number ≡ false
+none_to p t held number free x = held.links.edges x number ∙ unnamed_to p held.sound number free x
+
+pub none_from : (p : Kept) (t : Taxonomy) → AreHeld p t → (number : ℕ) → word_of p.dict number ≡ None → (x : ℕ) → has_edge t number x ≡ false
+none_from p t held number free x = held.links.edges number x ∙ unnamed_from p held.sound number free x

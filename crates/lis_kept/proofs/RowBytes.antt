@@ -4,7 +4,7 @@ use Rattle.std.specs.List.{range_with_len}
 use Rattle.std.proofs.lemmas.List.{get_or-replicate, length-replicate}
 use Rattle.std.proofs.lemmas.List.FromFn.{fill_by_all}
 use Rattle.lis_bits.specs.Bytes.{bits_number, bits_bytes}
-use Rattle.lis_ext.specs.Ext.{Ext, has}
+use Rattle.lis_kept.proofs.Common.{Ext, has}
 use Rattle.lis_kept.specs.Rows.{row_bytes}
 
 no_bits : (n : ℕ) (bit : ℕ → Bool) → ((i : ℕ) → bit i ≡ false) → bits_number n bit ≡ 0

@@ -1,12 +1,11 @@
 -- Marks of the blocks of rows.
 use Rattle.std.proofs.Common.{◌≡◌, ℕ, ◌<◌, Bool, false, List, length, map, refl, subst, arith}
 use Rattle.std.proofs.lemmas.Bool.{false_from_ne_true}
-use Rattle.std.proofs.lemmas.List.{length-map}
-use Rattle.lis_graph.proofs.Members.{Among, among_map, map_among}
+use Rattle.lis_kept.proofs.Common.{length-map, Among, among_map, Ext, has, among_where}
+use Rattle.lis_graph.proofs.Members.{map_among}
 use Rattle.lis_content.specs.Content.{marked}
-use Rattle.lis_ext.specs.Ext.{Ext, has}
 use Rattle.lis_ext.specs.Numbers.{numbers_where}
-use Rattle.lis_ext.proofs.Numbers.{among_where, where_among}
+use Rattle.lis_ext.proofs.Numbers.{where_among}
 use Rattle.lis_kept.specs.Kept.{Kept}
 use Rattle.lis_kept.specs.Areas.{Area, slots_of, block_of, spelled}
 use Rattle.lis_kept.specs.Areas.Area.{Properties, Axioms, Files, Rows, Bitmap}

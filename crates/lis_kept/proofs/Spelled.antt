@@ -1,12 +1,9 @@
 -- Blocks whose slots are spelled by what memory keeps.
 use Rattle.std.proofs.Common.{◌≡◌, ℕ, ◌+◌, ◌*◌, ◌-◌, ◌/◌, ◌%◌, ◌<◌, ◌≤◌, List, IsTrue, refl, ap, ◌∙◌, arith}
 use Rattle.std.proofs.Math.Nat.{mod-lt}
-use Rattle.lis_ports.specs.Bytes.{part}
+use Rattle.lis_kept.proofs.Common.{part, AxiomSlot, prop_bytes, axiom_bytes, file_bytes, are_in_range, bitmap_start}
 use Rattle.lis_blockmap.specs.Bitmap.{bitmap_bytes}
-use Rattle.lis_fields.specs.declared.slots.AxiomSlot.{AxiomSlot}
-use Rattle.lis_fields.specs.Layouts.{prop_bytes, axiom_bytes, file_bytes}
-use Rattle.lis_model.specs.Ranges.{are_in_range}
-use Rattle.lis_model.specs.Image.{axioms_start, files_start, rows_start, bitmap_start}
+use Rattle.lis_model.specs.Image.{axioms_start, files_start, rows_start}
 use Rattle.lis_kept.specs.Kept.{Kept, property_at, axiom_at, record_at}
 use Rattle.lis_kept.specs.Rows.{row_bytes}
 use Rattle.lis_kept.specs.Areas.Area.{Properties, Axioms, Files, Rows, Bitmap}

@@ -1,36 +1,28 @@
 -- A new word comes under others, axiom by axiom.
-use Rattle.std.proofs.Common.{◌≡◌, ℕ, zero, suc, ◌+◌, ◌*◌, ◌/◌, ◌<◌, ◌≤◌, ◌==◌, if◌then◌else◌, ◌&&◌, ◌||◌, not, Bool, true, false, cond, Option, Some, None, is_some, IsSome, List, [], ◌∷◌, length, get_or, set, take, count_by, slice_get, refl, sym, ap, ap₂, ◌∙◌, subst, inl, inr, arith, eq-eqb}
-use Rattle.std.proofs.lemmas.Bool.{and_from, or_left, or_right, and_parts, both_ways, false_from_ne_true, not-true, ne_eqb}
-use Rattle.std.proofs.lemmas.List.{length-take-le, take_more}
-use Rattle.std.proofs.lemmas.List.Elements.{Contains-get_or}
+use Rattle.std.proofs.Common.{◌≡◌, ℕ, zero, suc, ◌+◌, ◌*◌, ◌/◌, ◌<◌, ◌≤◌, ◌==◌, if◌then◌else◌, ◌&&◌, ◌||◌, not, Bool, true, false, cond, Option, Some, None, List, [], ◌∷◌, length, get_or, set, take, count_by, slice_get, refl, sym, ap, ap₂, ◌∙◌, subst, inl, inr, arith, eq-eqb}
+use Rattle.lis_kept.proofs.Common.{and_parts, not-true, ne_eqb, Contains-get_or, slice_get_within, get_or_from_slice_get, Among, among_from_contains, are_distinct, Dict, number_of, word_of, AxiomSlot, FreeAxiom, Pair, same_word, has_word, is_plain_word, is_test, head_bytes, Limits, is_declarable, up, declarable_not_valued, all_among, same_word_decides}
+use Rattle.std.proofs.lemmas.Bool.{and_from, or_left, or_right, both_ways, false_from_ne_true}
+use Rattle.std.proofs.lemmas.List.{length-take-le}
 use Rattle.std.proofs.lemmas.List.Sums.{sum_by-set}
-use Rattle.std.proofs.lemmas.Option.{slice_get_within, get_or_from_slice_get}
-use Rattle.lis_graph.proofs.Members.{Among, among_from_contains, any_from_among}
-use Rattle.lis_content.specs.Content.{has_number, are_distinct}
+use Rattle.lis_graph.proofs.Members.{any_from_among}
+use Rattle.lis_content.specs.Content.{has_number}
 use Rattle.lis_content.proofs.Numbers.{neither}
-use Rattle.lis_dict.specs.Dict.{Dict, number_of, word_of}
 use Rattle.lis_dict.proofs.Laws.{word_of-with_entry, number_of-with_entry}
-use Rattle.lis_fields.specs.declared.slots.AxiomSlot.{AxiomSlot}
-use Rattle.lis_fields.specs.declared.slots.AxiomSlot.TheVariants.{Free as FreeAxiom, Pair}
-use Rattle.lis_words.specs.Words.{same_word, has_word, is_plain_word, is_valued, is_test, head_bytes}
-use Rattle.lis_model.specs.declared.limits.Limits.{Limits}
-use Rattle.lis_model.specs.State.{is_declarable, up}
-use Rattle.lis_laws.proofs.Apart.{declarable_not_valued}
-use Rattle.lis_laws.proofs.Counts.{all_among}
-use Rattle.lis_laws.proofs.Members.{same_word_decides}
 use Rattle.lis_kept.specs.Kept.{Kept}
 use Rattle.lis_kept.specs.Sound.{AreSound}
 use Rattle.lis_kept.specs.Changes.{Declares}
 use Rattle.lis_kept.specs.Telling.{declared_of, axioms_of, is_head_by}
 use Rattle.lis_kept.specs.Links.{is_pair, has_pair, is_own_link, is_linked}
-use Rattle.lis_kept.specs.Linking.{is_filled, MayLink, Links}
+use Rattle.lis_kept.specs.Linking.{is_filled, MayLink}
 use Rattle.lis_kept.specs.Under.{LinksEach, is_plain_by, MayStandUnder}
 use Rattle.lis_kept.proofs.Filing.{among_from_number, number_from_among}
 use Rattle.lis_kept.proofs.OwnLinks.{among_slot, own_to, unnamed_to, unnamed_from}
+use Rattle.lis_catalog.proofs.Slots.{swapped}
+use Rattle.lis_kept.proofs.OneWord.{new_no_head}
 use Rattle.lis_kept.proofs.AxiomSlots.{InSlot}
-use Rattle.lis_kept.proofs.AxiomDescribed.{apart_linked}
+use Rattle.lis_kept.proofs.AxiomsApart.{apart_linked}
 use Rattle.lis_kept.proofs.AxiomsTold.{slot_free}
-use Rattle.lis_kept.proofs.UnderOthers.{each_dict, each_more, not_entailed, plain_no_test}
+use Rattle.lis_kept.proofs.UnderOthers.{each_parts, each_dict, not_entailed, plain_no_test}
 
 -- ---- lists
 among_take : (i : ℕ) (ns : List ℕ) (n : ℕ) → Among (take i ns) n → Among ns n
@@ -46,42 +38,30 @@ among_at ns i lt = among_from_contains ns (get_or ns i 0) (Contains-get_or ns i 
 not_before : (ns : List ℕ) (i : ℕ) → are_distinct ns ≡ true → i < length ns → has_number (take i ns) (get_or ns i 0) ≡ false
 not_before [] i distinct lt = absurd (omega (arith, lt))
 not_before (n ∷ ns) zero distinct lt = refl
-not_before (n ∷ ns) (suc i) distinct lt = by (not_before ns i parts.1 inside)
-  where
-    parts : (not (has_number ns n) ≡ true) × (are_distinct ns ≡ true)
-    parts = and_parts (not (has_number ns n)) (are_distinct ns) distinct
-
-    inside : i < length ns
-    inside = omega (arith, lt)
-
-    differ : n ≡ get_or ns i 0 → ⊥
-    differ same = both_ways (has_number ns n) (not-true (has_number ns n) parts.0) (number_from_among ns n (subst (λ m. Among ns m) (sym same) (among_at ns i inside)))
-
-    by : has_number (take i ns) (get_or ns i 0) ≡ false → ((n == get_or ns i 0) || has_number (take i ns) (get_or ns i 0)) ≡ false
-    by rest = ap₂ (λ a b. a || b) (ne_eqb n (get_or ns i 0) differ) rest
+not_before (n ∷ ns) (suc i) distinct lt =
+    let parts = and_parts (not (has_number ns n)) (are_distinct ns) distinct in
+    let inside : i < length ns = omega (arith, lt) in
+    ap₂ (λ a b. a || b)
+    (ne_eqb n (get_or ns i 0) (λ same. both_ways (has_number ns n) (not-true (has_number ns n) parts.0) (number_from_among ns n (subst (λ m. Among ns m) (sym same) (among_at ns i inside)))))
+    (not_before ns i parts.1 inside)
 
 plain_word : (o : Option (List ℕ)) → is_plain_by o ≡ true → (w : List ℕ) × (o ≡ Some w) × (is_plain_word w ≡ true)
 plain_word None plain = absurd (both_ways false refl plain)
 plain_word (Some w) plain = (w, refl, plain)
 
 -- ---- axioms one after another
-pub each_limits : (left : ℕ) (rights : List ℕ) (p q : Kept) → LinksEach left rights p q → q.limits ≡ p.limits
-each_limits left [] p q is = ap (λ (k : Kept). k.limits) is
-each_limits left (right ∷ rights) p q each = each_limits left rights each.0 q each.2 ∙ ap (λ (k : Kept). k.limits) each.1.parts
+none_in : (b c : Bool) → c ≡ ((b && false) || c)
+none_in b c = grind arith
+
+in_none : (b : Bool) → ((b && false) || false) ≡ false
+in_none b = grind arith
 
 -- x: the left side is the same; a: the first right side is; b: one of the others is; c: it was there
 pairs_in_order : (x a b c : Bool) → ((x && b) || ((x && a) || c)) ≡ ((x && (a || b)) || c)
-pairs_in_order true true true c = refl
-pairs_in_order true true false c = refl
-pairs_in_order true false b c = refl
-pairs_in_order false a b c = refl
+pairs_in_order x a b c = grind arith
 
 pub each_pairs : (left : ℕ) (rights : List ℕ) (p q : Kept) → LinksEach left rights p q → (x y : ℕ) → has_pair q.axioms x y ≡ (((left == x) && has_number rights y) || has_pair p.axioms x y)
-each_pairs left [] p q is x y = ap (λ (k : Kept). has_pair k.axioms x y) is ∙ none (left == x)
-  where
-    none : (b : Bool) → has_pair p.axioms x y ≡ ((b && false) || has_pair p.axioms x y)
-    none true = refl
-    none false = refl
+each_pairs left [] p q is x y = ap (λ (k : Kept). has_pair k.axioms x y) is ∙ none_in (left == x) (has_pair p.axioms x y)
 each_pairs left (right ∷ rights) p q each x y =
     each_pairs left rights each.0 q each.2 x y
     ∙ (ap (λ b. ((left == x) && has_number rights y) || b) (each.1.pairs x y)
@@ -89,15 +69,12 @@ each_pairs left (right ∷ rights) p q each x y =
 
 -- and so are the links
 pub each_linked : (left : ℕ) (rights : List ℕ) (p q : Kept) → LinksEach left rights p q → (x y : ℕ) → is_linked q x y ≡ (((left == x) && has_number rights y) || is_linked p x y)
-each_linked left [] p q is x y = ap (λ (k : Kept). is_linked k x y) is ∙ none (left == x)
+each_linked left rights p q each x y =
+    ap (λ (k : Kept). is_own_link (declared_of k) (word_of k.dict x) (word_of k.dict y) || has_pair q.axioms x y) (each_parts left rights p q each)
+    ∙ (ap (λ b. own || b) (each_pairs left rights p q each x y) ∙ swapped own ((left == x) && has_number rights y) (has_pair p.axioms x y))
   where
-    none : (b : Bool) → is_linked p x y ≡ ((b && false) || is_linked p x y)
-    none true = refl
-    none false = refl
-each_linked left (right ∷ rights) p q each x y =
-    each_linked left rights each.0 q each.2 x y
-    ∙ (ap (λ b. ((left == x) && has_number rights y) || b) (each.1.linked x y)
-    ∙ pairs_in_order (left == x) (right == y) (has_number rights y) (is_linked p x y))
+    own : Bool
+    own = is_own_link (declared_of p) (word_of p.dict x) (word_of p.dict y)
 
 pub each_count : (left : ℕ) (rights : List ℕ) (p q : Kept) → LinksEach left rights p q → count_by is_filled q.axioms ≡ count_by is_filled p.axioms + length rights
 each_count left [] p q is = omega (arith, ap (λ (k : Kept). count_by is_filled k.axioms) is)
@@ -163,11 +140,7 @@ module _ (p mid now : Kept) (sound : AreSound p) (after : AreSound now) (word : 
         each_pairs number before mid now each number right
         ∙ (ap₂ (λ a b. ((number == number) && a) || b) (not_before rights i may.apart lt)
         (ap (λ (k : Kept). has_pair k.axioms number right) declares.parts ∙ (neither _ (has_pair p.axioms number right) (unnamed_from p sound number declares.free right)).1)
-        ∙ none (number == number))
-      where
-        none : (b : Bool) → ((b && false) || false) ≡ false
-        none true = refl
-        none false = refl
+        ∙ in_none (number == number))
 
     -- ---- nothing leads to the new word
     not_one : has_number before number ≡ false
@@ -178,26 +151,14 @@ module _ (p mid now : Kept) (sound : AreSound p) (after : AreSound now) (word : 
         each_pairs number before mid now each x number
         ∙ (ap₂ (λ a b. ((number == x) && a) || b) not_one
         (ap (λ (k : Kept). has_pair k.axioms x number) declares.parts ∙ (neither _ (has_pair p.axioms x number) (unnamed_to p sound number declares.free x)).1)
-        ∙ none (number == x))
-      where
-        none : (b : Bool) → ((b && false) || false) ≡ false
-        none true = refl
-        none false = refl
+        ∙ in_none (number == x))
 
     no_head : (x : ℕ) → is_head_by (word_of now.dict x) (word_of now.dict number) ≡ false
     no_head x = ap₂ is_head_by (word_now x) named ∙ by (number == x)
       where
-        old : (o : Option (List ℕ)) → word_of p.dict x ≡ o → is_head_by o (Some word) ≡ false
-        old None is = refl
-        old (Some v) is =
-            false_from_ne_true (is_valued v && same_word (head_bytes v) word) (λ both.
-            let parts = and_parts (is_valued v) (same_word (head_bytes v) word) both in
-            let some = subst (λ u. IsSome (number_of p.dict u)) ((same_word_decides (head_bytes v) word).0 parts.1) (sound.heads x v is parts.0) in
-            both_ways (is_some (number_of p.dict word)) (ap is_some new) some)
-
         by : (b : Bool) → is_head_by (if b then Some word else word_of p.dict x) (Some word) ≡ false
         by true = ap (λ b. b && same_word (head_bytes word) word) (declarable_not_valued word form)
-        by false = old (word_of p.dict x) refl
+        by false = new_no_head p sound word new x
 
     -- where it is no test
     nothing : is_test word ≡ false → (x : ℕ) → is_linked now x number ≡ false
@@ -216,7 +177,7 @@ module _ (p mid now : Kept) (sound : AreSound p) (after : AreSound now) (word : 
     enough =
         let counted = each_count number before mid now each in
         let started = ap (λ (k : Kept). count_by is_filled k.axioms) declares.parts in
-        let limit = ap (λ (l : Limits). l.props) (each_limits number before mid now each ∙ ap (λ (k : Kept). k.limits) declares.parts) in
+        let limit = ap (λ (l : Limits). l.props) (ap (λ (k : Kept). k.limits) (each_parts number before mid now each) ∙ ap (λ (k : Kept). k.limits) declares.parts) in
         room (count_by is_filled now.axioms) (count_by is_filled mid.axioms) (count_by is_filled p.axioms) (length before) (length rights) p.limits.props now.limits.props
         counted started (length-take-le i rights (omega (arith, lt))) may.room limit lt
       where
@@ -245,9 +206,6 @@ module _ (p mid now : Kept) (sound : AreSound p) (after : AreSound now) (word : 
           free = slot.2;
         }
 
-    pub linked_next : (next : Kept) → Links number right now next → LinksEach number (take (i + 1) rights) mid next
-    linked_next next link = subst (λ ns. LinksEach number ns mid next) (sym (take_more rights i 0 lt)) (each_more number before right mid now next each link)
-
 -- ---- no two slots have the same axiom
 abbrev pub AreApart : List AxiomSlot → Type 0
 AreApart axioms = (slot other x y : ℕ) → slice_get axioms slot ≡ Some (Pair x y) → slice_get axioms other ≡ Some (Pair x y) → slot ≡ other
@@ -273,11 +231,7 @@ each_apart left (right ∷ rights) p q each distinct none apart =
         ∙ (ap₂ (λ a b. ((left == left) && a) || b)
         (ne_eqb right y (λ same. both_ways (has_number rights right) (not-true (has_number rights right) parts.0) (subst (λ n. has_number rights n ≡ true) (sym same) has)))
         (none y (or_right (right == y) (has_number rights y) has))
-        ∙ last (left == left))
-      where
-        last : (b : Bool) → ((b && false) || false) ≡ false
-        last true = refl
-        last false = refl
+        ∙ in_none (left == left))
 
 pub under_apart : (p mid q : Kept) → AreSound p → (word : List ℕ) (declares : Declares word p mid) (rights : List ℕ) → are_distinct rights ≡ true → LinksEach declares.number rights mid q
     → AreApart p.axioms → AreApart q.axioms

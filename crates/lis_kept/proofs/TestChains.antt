@@ -1,16 +1,11 @@
 -- Edges between tests close no circle.
-use Rattle.std.proofs.Common.{◌≡◌, ◌⊎◌, ℕ, zero, suc, ◌+◌, ◌<◌, ◌≤◌, ◌==◌, ◌&&◌, ◌||◌, nat_lt, not, Bool, true, false, Option, Some, None, is_some, List, [], ◌↔◌, Result, Ok, Err, OnOk, OnErr, IsTrue, refl, sym, ap, ap₂, ◌∙◌, subst, inl, inr, arith, eq-eqb}
-use Rattle.std.specs.List.{Contains}
+use Rattle.std.proofs.Common.{◌≡◌, ◌⊎◌, ℕ, zero, suc, ◌+◌, ◌<◌, ◌≤◌, ◌==◌, ◌&&◌, ◌||◌, nat_lt, not, Bool, true, false, Option, Some, None, is_some, List, [], ◌↔◌, Result, Ok, Err, OnOk, OnErr, IsTrue, refl, sym, ap, ap₂, ◌∙◌, subst, inl, inr, arith}
+use Rattle.lis_kept.proofs.Common.{Contains, and_parts, or_cases, cases_eq, ne_eqb, eqb-true, lt-ltb, Chain, among_from_contains, Dict, IsDict, word_of, number_from_word, number_below, EdgeFault, Present, Cycle, Absent, Taxonomy, no_links, has_edge, with_edge, without_edge, are_weaker}
 use Rattle.std.specs.FinSet as set
-use Rattle.std.proofs.lemmas.Bool.{and_parts, or_cases, both_ways, cases_eq, ne_eqb, false_from_ne_true, eqb-true, lt-ltb, ltb-true}
-use Rattle.lis_graph.specs.Graph.{Chain}
-use Rattle.lis_graph.proofs.Members.{among_from_contains}
-use Rattle.lis_dict.specs.Dict.{Dict, IsDict, word_of}
-use Rattle.lis_dict.proofs.Laws.{number_from_word, number_below}
-use Rattle.lis_taxonomy.specs.declared.taxonomy.EdgeFault.{EdgeFault}
-use Rattle.lis_taxonomy.specs.declared.taxonomy.EdgeFault.TheVariants.{Present, Cycle, Absent}
-use Rattle.lis_taxonomy.specs.Taxonomy.{Taxonomy, no_links, has_edge, with_edge, without_edge, Entails}
-use Rattle.lis_model.specs.Tests.{are_weaker}
+use Rattle.std.proofs.Math.Bool.{and-true}
+use Rattle.std.proofs.lemmas.Bool.Decides.{nat_tests}
+use Rattle.std.proofs.lemmas.Bool.{both_ways, le-ltb}
+use Rattle.lis_taxonomy.specs.Taxonomy.{Entails}
 use Rattle.lis_laws.proofs.Chains.{weaker_trans, weaker_apart}
 use Rattle.lis_kept.specs.TestEdges.{test_by, declared_test, is_test_link, TestsAreOrdered, LinksWhere, LinksSome, LinksWeaker, LinksStronger, UnlinksAll}
 use Rattle.lis_kept.proofs.HeadEdges.{has_edge-with_edge, has_edge-without_edge, edge_there}
@@ -57,12 +52,26 @@ not_refused dict t declared p q Present r ordered is present cycle absent link n
 not_refused dict t declared p q Cycle r ordered is present cycle absent link none = no_way_back dict t ordered p q (test_link dict declared p q link).weaker (cycle.0 is)
 not_refused dict t declared p q Absent r ordered is present cycle absent link none = absent is
 
--- so that it comes, or was there
+-- the edge is there then, with those that were
+pub record AddsEdge (x y : ℕ) (t u : Taxonomy) : Type 0 where
+  pub props : u.props ≡ t.props
+  pub edges : (p q : ℕ) → has_edge u p q ≡ (((p == x) && (q == y)) || has_edge t p q)
+
+pub edge_comes : (t u : Taxonomy) (x y : ℕ) → u ≡ with_edge t x y → AddsEdge x y t u
+edge_comes t u x y is = subst (AddsEdge x y t) (sym is) (record { props = refl; edges = has_edge-with_edge t x y })
+
+edge_was : (t : Taxonomy) (x y : ℕ) → has_edge t x y ≡ true → AddsEdge x y t t
+edge_was t x y there = record { props = refl; edges = λ p q. as_before ((p == x) && (q == y)) (has_edge t p q) (λ e. let both = and_parts (p == x) (q == y) e in ap₂ (has_edge t) (eqb-true p x both.0) (eqb-true q y both.1) ∙ there) }
+  where
+    as_before : (a h : Bool) → (a ≡ true → h ≡ true) → h ≡ (a || h)
+    as_before a h is = grind arith
+
+-- so that a new edge between tests comes, or was there
 pub comes_or_was : {T : Type 0} (dict : Dict) (t u : Taxonomy) (declared : List Bool) (p q : ℕ) (r : Result T EdgeFault) → TestsAreOrdered dict t
     → ((r ≡ Err Present) ↔ IsTrue (has_edge t p q)) → ((r ≡ Err Cycle) ↔ Entails t q p) → (r ≡ Err Absent → ⊥) → OnOk r (u ≡ with_edge t p q) → OnErr r (u ≡ t)
-    → is_test_link dict declared p q ≡ true → (u ≡ with_edge t p q) ⊎ ((u ≡ t) × (has_edge t p q ≡ true))
-comes_or_was dict t u declared p q (Ok done) ordered present cycle absent ok err link = inl ok
-comes_or_was dict t u declared p q (Err Present) ordered present cycle absent ok err link = inr (err, present.0 refl)
+    → is_test_link dict declared p q ≡ true → AddsEdge p q t u
+comes_or_was dict t u declared p q (Ok done) ordered present cycle absent ok err link = edge_comes t u p q ok
+comes_or_was dict t u declared p q (Err Present) ordered present cycle absent ok err link = subst (AddsEdge p q t) (sym err) (edge_was t p q (present.0 refl))
 comes_or_was dict t u declared p q (Err Cycle) ordered present cycle absent ok err link = absurd (no_way_back dict t ordered p q (test_link dict declared p q link).weaker (cycle.0 refl))
 comes_or_was dict t u declared p q (Err Absent) ordered present cycle absent ok err link = absurd (absent refl)
 
@@ -83,32 +92,25 @@ pub where_same : (test other : ℕ → ℕ → Bool) (dict : Dict) (declared : L
     → LinksWhere test dict declared t u → LinksWhere other dict declared t u
 where_same test other dict declared t u same links = record {
   props = links.props;
-  edges = λ p q. links.edges p q ∙ ap (λ b. b || has_edge t p q) (by p q (is_test_link dict declared p q) refl);
+  edges = λ p q. links.edges p q ∙ ap (λ b. b || has_edge t p q) (by (test p q) (other p q) (is_test_link dict declared p q) (same p q));
 }
   where
-    none : (b : Bool) → (b && false) ≡ false
-    none true = refl
-    none false = refl
-
-    by : (p q : ℕ) (link : Bool) → is_test_link dict declared p q ≡ link → (test p q && link) ≡ (other p q && link)
-    by p q true e = ap (λ b. b && true) (same p q e)
-    by p q false e = none (test p q) ∙ sym (none (other p q))
+    by : (a b link : Bool) → (link ≡ true → a ≡ b) → (a && link) ≡ (b && link)
+    by a b link is = grind arith
 
 -- one more, which is a link
-pub where_more : (test : ℕ → ℕ → Bool) (dict : Dict) (declared : List Bool) (t u : Taxonomy) (x y : ℕ) → LinksWhere test dict declared t u → is_test_link dict declared x y ≡ true
-    → LinksWhere (λ p q. ((p == x) && (q == y)) || test p q) dict declared t (with_edge u x y)
-where_more test dict declared t u x y links link = record {
-  props = links.props;
-  edges = λ p q. has_edge-with_edge u x y p q ∙ (ap (λ b. ((p == x) && (q == y)) || b) (links.edges p q) ∙ by p q ((p == x) && (q == y)) refl);
+new_link : (new test link h : Bool) → (new ≡ true → link ≡ true) → (new || ((test && link) || h)) ≡ (((new || test) && link) || h)
+new_link new test link h is = grind arith
+
+pub where_more : (test : ℕ → ℕ → Bool) (dict : Dict) (declared : List Bool) (t u next : Taxonomy) (x y : ℕ) → LinksWhere test dict declared t u → is_test_link dict declared x y ≡ true → AddsEdge x y u next
+    → LinksWhere (λ p q. ((p == x) && (q == y)) || test p q) dict declared t next
+where_more test dict declared t u next x y links link adds = record {
+  props = adds.props ∙ links.props;
+  edges = λ p q.
+      adds.edges p q ∙ (ap (λ b. ((p == x) && (q == y)) || b) (links.edges p q)
+      ∙ new_link ((p == x) && (q == y)) (test p q) (is_test_link dict declared p q) (has_edge t p q)
+      (λ e. let both = and_parts (p == x) (q == y) e in ap₂ (is_test_link dict declared) (eqb-true p x both.0) (eqb-true q y both.1) ∙ link));
 }
-  where
-    by : (p q : ℕ) (new : Bool) → ((p == x) && (q == y)) ≡ new
-        → (new || ((test p q && is_test_link dict declared p q) || has_edge t p q)) ≡ (((new || test p q) && is_test_link dict declared p q) || has_edge t p q)
-    by p q false e = refl
-    by p q true e =
-        let both = and_parts (p == x) (q == y) e in
-        let here : is_test_link dict declared p q ≡ true = ap₂ (is_test_link dict declared) (eqb-true p x both.0) (eqb-true q y both.1) ∙ link in
-        sym (ap (λ b. b || has_edge t p q) here)
 
 -- some edges
 pub some_none : (dict : Dict) (declared : List Bool) (t : Taxonomy) → LinksSome dict declared t t
@@ -117,24 +119,8 @@ some_none dict declared t = (λ p q. false, where_none dict declared t)
 pub some_added : {T : Type 0} (dict : Dict) (declared : List Bool) (t u : Taxonomy) (x y : ℕ) (r : Result T EdgeFault) → OnOk r (u ≡ with_edge t x y) → OnErr r (u ≡ t)
     → is_test_link dict declared x y ≡ true → LinksSome dict declared t u
 some_added dict declared t u x y (Ok done) ok err link =
-    (λ p q. ((p == x) && (q == y)) || false, subst (λ v. LinksWhere (λ p q. ((p == x) && (q == y)) || false) dict declared t v) (sym ok) (where_more (λ p q. false) dict declared t t x y (where_none dict declared t) link))
+    (λ p q. ((p == x) && (q == y)) || false, where_more (λ p q. false) dict declared t t u x y (where_none dict declared t) link (edge_comes t u x y ok))
 some_added dict declared t u x y (Err fault) ok err link = subst (LinksSome dict declared t) (sym err) (some_none dict declared t)
-
--- one that was there
-pub where_there : (test : ℕ → ℕ → Bool) (dict : Dict) (declared : List Bool) (t u : Taxonomy) (x y : ℕ) → LinksWhere test dict declared t u → is_test_link dict declared x y ≡ true
-    → has_edge u x y ≡ true → LinksWhere (λ p q. ((p == x) && (q == y)) || test p q) dict declared t u
-where_there test dict declared t u x y links link there = record {
-  props = links.props;
-  edges = λ p q. by p q ((p == x) && (q == y)) refl;
-}
-  where
-    by : (p q : ℕ) (new : Bool) → ((p == x) && (q == y)) ≡ new → has_edge u p q ≡ (((new || test p q) && is_test_link dict declared p q) || has_edge t p q)
-    by p q false e = links.edges p q
-    by p q true e =
-        let both = and_parts (p == x) (q == y) e in
-        let px = eqb-true p x both.0 in
-        let qy = eqb-true q y both.1 in
-        ap₂ (has_edge u) px qy ∙ (there ∙ sym (ap (λ b. b || has_edge t p q) (ap₂ (is_test_link dict declared) px qy ∙ link)))
 
 -- a number with a declared test is below the limit
 pub test_below : (dict : Dict) (declared : List Bool) (n : ℕ) → IsDict dict → is_some {T = Bool × ℕ} (declared_test dict declared n) ≡ true → n < dict.props
@@ -150,141 +136,117 @@ link_below dict declared p q kept link = (
   test_below dict declared q kept (some_front (declared_test dict declared q) (declared_test dict declared p) link),
 )
 
--- ---- from a number, in the order of the others
+-- ---- from and to a number, in the order of the others
+-- `this` is the number, of the two that a link joins, and `other` the other one
+abbrev pub LinksUpTo : (ℕ → ℕ → ℕ) → (ℕ → ℕ → ℕ) → ℕ → ℕ → Dict → List Bool → Taxonomy → Taxonomy → Type 0
+LinksUpTo this other number end dict declared t u = LinksWhere (λ p q. (this p q == number) && nat_lt (other p q) end) dict declared t u
+
 abbrev pub WeakerTo : ℕ → ℕ → Dict → List Bool → Taxonomy → Taxonomy → Type 0
-WeakerTo number end dict declared t u = LinksWhere (λ p q. (p == number) && nat_lt q end) dict declared t u
+WeakerTo = LinksUpTo (λ p q. p) (λ p q. q)
 
 abbrev pub StrongerTo : ℕ → ℕ → Dict → List Bool → Taxonomy → Taxonomy → Type 0
-StrongerTo number end dict declared t u = LinksWhere (λ p q. (q == number) && nat_lt p end) dict declared t u
+StrongerTo = LinksUpTo (λ p q. q) (λ p q. p)
 
 lt_suc : (n end : ℕ) → nat_lt n (end + 1) ≡ ((n == end) || nat_lt n end)
-lt_suc n end = by (cases_eq n end)
-  where
-    below : (n ≡ end → ⊥) → (b : Bool) → nat_lt n end ≡ b → nat_lt n (end + 1) ≡ b
-    below differ true e = lt-ltb n (end + 1) (let lt = ltb-true n end e in omega (arith, lt))
-    below differ false e = false_from_ne_true (nat_lt n (end + 1)) (λ h. let lt = ltb-true n (end + 1) h in both_ways (nat_lt n end) e (lt-ltb n end (omega (arith, lt, differ))))
+lt_suc n end = grind (arith, nat_tests)
 
-    by : (n ≡ end) ⊎ (n ≡ end → ⊥) → nat_lt n (end + 1) ≡ ((n == end) || nat_lt n end)
-    by (inl same) = lt-ltb n (end + 1) (omega (arith, same)) ∙ sym (ap (λ b. b || nat_lt n end) (eq-eqb n end same))
-    by (inr differ) = below differ (nat_lt n end) refl ∙ sym (ap (λ b. b || nat_lt n end) (ne_eqb n end differ))
+none_below : (b : Bool) (q : ℕ) → (b && nat_lt q 0) ≡ false
+none_below b q = grind (arith, nat_tests)
 
-spread : (a b c : Bool) → (a && (b || c)) ≡ ((a && b) || (a && c))
-spread true b c = refl
-spread false b c = refl
+-- no link that the test lets through
+pub where_nothing : (test : ℕ → ℕ → Bool) (dict : Dict) (declared : List Bool) (t : Taxonomy) → ((p q : ℕ) → (test p q && is_test_link dict declared p q) ≡ false) → LinksWhere test dict declared t t
+where_nothing test dict declared t none = record { props = refl; edges = λ p q. sym (ap (λ b. b || has_edge t p q) (none p q)) }
 
-swap : (a b : Bool) → (a && b) ≡ (b && a)
-swap true true = refl
-swap true false = refl
-swap false true = refl
-swap false false = refl
+module _ (this other : ℕ → ℕ → ℕ) (number end : ℕ) (dict : Dict) (declared : List Bool) (t u : Taxonomy) where
+  pub upto_none : LinksUpTo this other number 0 dict declared t t
+  upto_none = where_nothing (λ p q. (this p q == number) && nat_lt (other p q) 0) dict declared t
+      (λ p q. ap (λ b. b && is_test_link dict declared p q) (none_below (this p q == number) (other p q)))
+
+  -- one more
+  pub upto_more : (here : ℕ → ℕ → Bool) → ((p q : ℕ) → here p q ≡ ((this p q == number) && (other p q == end)))
+      → LinksWhere (λ p q. here p q || ((this p q == number) && nat_lt (other p q) end)) dict declared t u → LinksUpTo this other number (end + 1) dict declared t u
+  upto_more here is =
+      where_same (λ p q. here p q || ((this p q == number) && nat_lt (other p q) end)) (λ p q. (this p q == number) && nat_lt (other p q) (end + 1)) dict declared t u
+      (λ p q _. spread (this p q == number) (other p q == end) (nat_lt (other p q) end) (here p q) (nat_lt (other p q) (end + 1)) (is p q) (lt_suc (other p q) end))
+    where
+      spread : (a b c h l : Bool) → h ≡ (a && b) → l ≡ (b || c) → (h || (a && c)) ≡ (a && l)
+      spread a b c h l is_h is_l = grind arith
+
+  -- one that is no link
+  pub upto_passed : ((p q : ℕ) → this p q ≡ number → other p q ≡ end → is_test_link dict declared p q ≡ false) → LinksUpTo this other number end dict declared t u
+      → LinksUpTo this other number (end + 1) dict declared t u
+  upto_passed none =
+      where_same (λ p q. (this p q == number) && nat_lt (other p q) end) (λ p q. (this p q == number) && nat_lt (other p q) (end + 1)) dict declared t u
+      (λ p q link. by p q link (cases_eq (this p q) number) (cases_eq (other p q) end))
+    where
+      by : (p q : ℕ) → is_test_link dict declared p q ≡ true → (this p q ≡ number) ⊎ (this p q ≡ number → ⊥) → (other p q ≡ end) ⊎ (other p q ≡ end → ⊥)
+          → ((this p q == number) && nat_lt (other p q) end) ≡ ((this p q == number) && nat_lt (other p q) (end + 1))
+      by p q link (inl here) (inl same) = absurd (both_ways (is_test_link dict declared p q) (none p q here same) link)
+      by p q link (inl here) (inr differ) = ap (λ b. (this p q == number) && b) (sym (lt_suc (other p q) end ∙ ap (λ b. b || nat_lt (other p q) end) (ne_eqb (other p q) end differ)))
+      by p q link (inr far) e = ap (λ b. b && nat_lt (other p q) end) (ne_eqb (this p q) number far) ∙ sym (ap (λ b. b && nat_lt (other p q) (end + 1)) (ne_eqb (this p q) number far))
+
+  -- all
+  pub upto_all : ((p q : ℕ) → is_test_link dict declared p q ≡ true → other p q < end) → LinksUpTo this other number end dict declared t u → LinksWhere (λ p q. this p q == number) dict declared t u
+  upto_all below =
+      where_same (λ p q. (this p q == number) && nat_lt (other p q) end) (λ p q. this p q == number) dict declared t u
+      (λ p q link. ap (λ b. (this p q == number) && b) (lt-ltb (other p q) end (below p q link)) ∙ and-true (this p q == number))
 
 module _ (number end : ℕ) (dict : Dict) (declared : List Bool) (t u : Taxonomy) where
-  pub weaker_none : WeakerTo number 0 dict declared t t
-  weaker_none = where_same (λ p q. false) (λ p q. (p == number) && nat_lt q 0) dict declared t t (λ p q link. sym (nothing (p == number) q)) (where_none dict declared t)
-    where
-      nothing : (b : Bool) (q : ℕ) → (b && nat_lt q 0) ≡ false
-      nothing true q = false_from_ne_true (nat_lt q 0) (λ h. let lt = ltb-true q 0 h in omega (arith, lt))
-      nothing false q = refl
-
-  pub weaker_more : WeakerTo number end dict declared t u → is_test_link dict declared number end ≡ true → (next : Taxonomy)
-      → (next ≡ with_edge u number end) ⊎ ((next ≡ u) × (has_edge u number end ≡ true)) → WeakerTo number (end + 1) dict declared t next
-  weaker_more links link next which =
-      where_same (λ p q. ((p == number) && (q == end)) || ((p == number) && nat_lt q end)) (λ p q. (p == number) && nat_lt q (end + 1)) dict declared t next
-      (λ p q _. sym (ap (λ b. (p == number) && b) (lt_suc q end) ∙ spread (p == number) (q == end) (nat_lt q end)))
-      (by which)
-    where
-      so_far : ℕ → ℕ → Bool
-      so_far p q = (p == number) && nat_lt q end
-
-      by : (next ≡ with_edge u number end) ⊎ ((next ≡ u) × (has_edge u number end ≡ true)) → LinksWhere (λ p q. ((p == number) && (q == end)) || so_far p q) dict declared t next
-      by (inl comes) = subst (λ v. LinksWhere (λ p q. ((p == number) && (q == end)) || so_far p q) dict declared t v) (sym comes) (where_more so_far dict declared t u number end links link)
-      by (inr was) = subst (λ v. LinksWhere (λ p q. ((p == number) && (q == end)) || so_far p q) dict declared t v) (sym was.0) (where_there so_far dict declared t u number end links link was.1)
+  pub weaker_more : WeakerTo number end dict declared t u → is_test_link dict declared number end ≡ true → (next : Taxonomy) → AddsEdge number end u next → WeakerTo number (end + 1) dict declared t next
+  weaker_more links link next adds =
+      upto_more (λ p q. p) (λ p q. q) number end dict declared t next (λ p q. (p == number) && (q == end)) (λ p q. refl)
+      (where_more (λ p q. (p == number) && nat_lt q end) dict declared t u next number end links link adds)
 
   pub weaker_passed : WeakerTo number end dict declared t u → is_test_link dict declared number end ≡ false → WeakerTo number (end + 1) dict declared t u
-  weaker_passed links none =
-      where_same (λ p q. (p == number) && nat_lt q end) (λ p q. (p == number) && nat_lt q (end + 1)) dict declared t u (λ p q link. by p q link (cases_eq p number) (cases_eq q end)) links
-    where
-      by : (p q : ℕ) → is_test_link dict declared p q ≡ true → (p ≡ number) ⊎ (p ≡ number → ⊥) → (q ≡ end) ⊎ (q ≡ end → ⊥) → ((p == number) && nat_lt q end) ≡ ((p == number) && nat_lt q (end + 1))
-      by p q link (inl here) (inl same) = absurd (both_ways (is_test_link dict declared number end) none (ap₂ (is_test_link dict declared) (sym here) (sym same) ∙ link))
-      by p q link (inl here) (inr differ) = ap (λ b. (p == number) && b) (sym (lt_suc q end ∙ ap (λ b. b || nat_lt q end) (ne_eqb q end differ)))
-      by p q link (inr other) e = ap (λ b. b && nat_lt q end) (ne_eqb p number other) ∙ sym (ap (λ b. b && nat_lt q (end + 1)) (ne_eqb p number other))
+  weaker_passed links none = upto_passed (λ p q. p) (λ p q. q) number end dict declared t u (λ p q here same. ap₂ (is_test_link dict declared) here same ∙ none) links
 
   pub weaker_all : IsDict dict → dict.props ≤ end → WeakerTo number end dict declared t u → LinksWeaker dict declared number t u
   weaker_all kept all links =
-      let done = where_same (λ p q. (p == number) && nat_lt q end) (λ p q. p == number) dict declared t u
-      (λ p q link. ap (λ b. (p == number) && b) (lt-ltb q end (let below = link_below dict declared p q kept link in omega (arith, below.1, all))) ∙ last (p == number)) links in
+      let done = upto_all (λ p q. p) (λ p q. q) number end dict declared t u (λ p q link. omega (arith, all, (link_below dict declared p q kept link).1)) links in
       record { props = done.props; edges = done.edges }
-    where
-      last : (b : Bool) → (b && true) ≡ b
-      last true = refl
-      last false = refl
-
-  pub stronger_none : StrongerTo number 0 dict declared t t
-  stronger_none = where_same (λ p q. false) (λ p q. (q == number) && nat_lt p 0) dict declared t t (λ p q link. sym (nothing (q == number) p)) (where_none dict declared t)
-    where
-      nothing : (b : Bool) (q : ℕ) → (b && nat_lt q 0) ≡ false
-      nothing true q = false_from_ne_true (nat_lt q 0) (λ h. let lt = ltb-true q 0 h in omega (arith, lt))
-      nothing false q = refl
 
   pub stronger_more : StrongerTo number end dict declared t u → is_test_link dict declared end number ≡ true → StrongerTo number (end + 1) dict declared t (with_edge u end number)
   stronger_more links link =
-      where_same (λ p q. ((p == end) && (q == number)) || ((q == number) && nat_lt p end)) (λ p q. (q == number) && nat_lt p (end + 1)) dict declared t (with_edge u end number)
-      (λ p q _. sym (ap (λ b. (q == number) && b) (lt_suc p end) ∙ (spread (q == number) (p == end) (nat_lt p end) ∙ ap (λ b. b || ((q == number) && nat_lt p end)) (swap (q == number) (p == end)))))
-      (where_more (λ p q. (q == number) && nat_lt p end) dict declared t u end number links link)
+      upto_more (λ p q. q) (λ p q. p) number end dict declared t (with_edge u end number) (λ p q. (p == end) && (q == number)) (λ p q. swap (p == end) (q == number))
+      (where_more (λ p q. (q == number) && nat_lt p end) dict declared t u (with_edge u end number) end number links link (edge_comes u (with_edge u end number) end number refl))
+    where
+      swap : (a b : Bool) → (a && b) ≡ (b && a)
+      swap a b = grind arith
 
   pub stronger_passed : StrongerTo number end dict declared t u → is_test_link dict declared end number ≡ false → StrongerTo number (end + 1) dict declared t u
-  stronger_passed links none =
-      where_same (λ p q. (q == number) && nat_lt p end) (λ p q. (q == number) && nat_lt p (end + 1)) dict declared t u (λ p q link. by p q link (cases_eq q number) (cases_eq p end)) links
-    where
-      by : (p q : ℕ) → is_test_link dict declared p q ≡ true → (q ≡ number) ⊎ (q ≡ number → ⊥) → (p ≡ end) ⊎ (p ≡ end → ⊥) → ((q == number) && nat_lt p end) ≡ ((q == number) && nat_lt p (end + 1))
-      by p q link (inl here) (inl same) = absurd (both_ways (is_test_link dict declared end number) none (ap₂ (is_test_link dict declared) (sym same) (sym here) ∙ link))
-      by p q link (inl here) (inr differ) = ap (λ b. (q == number) && b) (sym (lt_suc p end ∙ ap (λ b. b || nat_lt p end) (ne_eqb p end differ)))
-      by p q link (inr other) e = ap (λ b. b && nat_lt p end) (ne_eqb q number other) ∙ sym (ap (λ b. b && nat_lt p (end + 1)) (ne_eqb q number other))
+  stronger_passed links none = upto_passed (λ p q. q) (λ p q. p) number end dict declared t u (λ p q here same. ap₂ (is_test_link dict declared) same here ∙ none) links
 
   -- the next edge is not there yet
   pub stronger_new : StrongerTo number end dict declared t u → has_edge t end number ≡ false → has_edge u end number ≡ false
-  stronger_new links none =
-      links.edges end number
-      ∙ ap₂ (λ a b. (((number == number) && a) && is_test_link dict declared end number) || b) (false_from_ne_true (nat_lt end end) (λ h. let lt = ltb-true end end h in omega (arith, lt))) none
-      ∙ nothing (number == number)
+  stronger_new links none = links.edges end number ∙ apart (number == number) (nat_lt end end) (is_test_link dict declared end number) (has_edge t end number) (le-ltb end end (omega arith)) none
     where
-      nothing : (b : Bool) → (((b && false) && is_test_link dict declared end number) || false) ≡ false
-      nothing true = refl
-      nothing false = refl
+      apart : (a l b h : Bool) → l ≡ false → h ≡ false → (((a && l) && b) || h) ≡ false
+      apart a l b h is_l is_h = grind arith
 
   pub stronger_all : IsDict dict → dict.props ≤ end → StrongerTo number end dict declared t u → LinksStronger dict declared number t u
   stronger_all kept all links =
-      let done = where_same (λ p q. (q == number) && nat_lt p end) (λ p q. q == number) dict declared t u
-      (λ p q link. ap (λ b. (q == number) && b) (lt-ltb p end (let below = link_below dict declared p q kept link in omega (arith, below.0, all))) ∙ last (q == number)) links in
+      let done = upto_all (λ p q. q) (λ p q. p) number end dict declared t u (λ p q link. omega (arith, all, (link_below dict declared p q kept link).0)) links in
       record { props = done.props; edges = done.edges }
-    where
-      last : (b : Bool) → (b && true) ≡ b
-      last true = refl
-      last false = refl
 
 -- where a number has no declared test there is nothing to link
-pub weaker_without : (number : ℕ) (dict : Dict) (declared : List Bool) (t : Taxonomy) → declared_test dict declared number ≡ None → LinksWeaker dict declared number t t
-weaker_without number dict declared t none = record { props = refl; edges = λ p q. sym (ap (λ b. b || has_edge t p q) (by p q (cases_eq p number))) }
-  where
-    by : (p q : ℕ) → (p ≡ number) ⊎ (p ≡ number → ⊥) → ((p == number) && is_test_link dict declared p q) ≡ false
-    by p q (inl same) =
-        ap (λ b. (p == number) && b) (ap (are_weaker (declared_test dict declared q)) (ap (declared_test dict declared) same ∙ none) ∙ none_weaker (declared_test dict declared q)) ∙ last (p == number)
-      where
-        last : (b : Bool) → (b && false) ≡ false
-        last true = refl
-        last false = refl
-    by p q (inr differ) = ap (λ b. b && is_test_link dict declared p q) (ne_eqb p number differ)
+module _ (number : ℕ) (dict : Dict) (declared : List Bool) (t : Taxonomy) (none : declared_test dict declared number ≡ None) where
+  nothing : (b c : Bool) → (b ≡ true → c ≡ false) → (b && c) ≡ false
+  nothing b c is = grind arith
 
-pub stronger_without : (number : ℕ) (dict : Dict) (declared : List Bool) (t : Taxonomy) → declared_test dict declared number ≡ None → LinksStronger dict declared number t t
-stronger_without number dict declared t none = record { props = refl; edges = λ p q. sym (ap (λ b. b || has_edge t p q) (by p q (cases_eq q number))) }
-  where
-    by : (p q : ℕ) → (q ≡ number) ⊎ (q ≡ number → ⊥) → ((q == number) && is_test_link dict declared p q) ≡ false
-    by p q (inl same) = ap (λ b. (q == number) && b) (ap (λ t. are_weaker t (declared_test dict declared p)) (ap (declared_test dict declared) same ∙ none)) ∙ last (q == number)
-      where
-        last : (b : Bool) → (b && false) ≡ false
-        last true = refl
-        last false = refl
-    by p q (inr differ) = ap (λ b. b && is_test_link dict declared p q) (ne_eqb q number differ)
+  no_test_at : (n : ℕ) → (n == number) ≡ true → declared_test dict declared n ≡ None
+  no_test_at n same = ap (declared_test dict declared) (eqb-true n number same) ∙ none
+
+  pub weaker_without : LinksWeaker dict declared number t t
+  weaker_without =
+      let done = where_nothing (λ p q. p == number) dict declared t
+      (λ p q. nothing (p == number) (is_test_link dict declared p q) (λ same. ap (are_weaker (declared_test dict declared q)) (no_test_at p same) ∙ none_weaker (declared_test dict declared q))) in
+      record { props = done.props; edges = done.edges }
+
+  pub stronger_without : LinksStronger dict declared number t t
+  stronger_without =
+      let done = where_nothing (λ p q. q == number) dict declared t
+      (λ p q. nothing (q == number) (is_test_link dict declared p q) (λ same. ap (λ o. are_weaker o (declared_test dict declared p)) (no_test_at q same))) in
+      record { props = done.props; edges = done.edges }
 
 -- ---- edges that go one after another
 pub record UnlinkedTo (number end : ℕ) (t u : Taxonomy) : Type 0 where
@@ -308,11 +270,7 @@ without_props t u x y (Ok done) gone same = ap (λ (k : Taxonomy). k.props) gone
 without_props t u x y (Err fault) gone same = ap (λ (k : Taxonomy). k.props) same
 
 pub unlinked_none : (number : ℕ) (t : Taxonomy) → UnlinkedTo number 0 t t
-unlinked_none number t = record { props = refl; edges = λ p q. sym (ap₂ (λ a b. not (a || b) && has_edge t p q) (nothing (p == number) q) (nothing (q == number) p)) }
-  where
-    nothing : (b : Bool) (q : ℕ) → (b && nat_lt q 0) ≡ false
-    nothing true q = false_from_ne_true (nat_lt q 0) (λ h. let lt = ltb-true q 0 h in omega (arith, lt))
-    nothing false q = refl
+unlinked_none number t = record { props = refl; edges = λ p q. sym (ap₂ (λ a b. not (a || b) && has_edge t p q) (none_below (p == number) q) (none_below (q == number) p)) }
 
 pub unlinked_more : (number end : ℕ) (t u mid next : Taxonomy) → UnlinkedTo number end t u → mid.props ≡ u.props → next.props ≡ mid.props
     → ((p q : ℕ) → has_edge mid p q ≡ (not ((p == number) && (q == end)) && has_edge u p q))
@@ -327,36 +285,13 @@ unlinked_more number end t u mid next links first second from to = record {
 }
   where
     gathered : (pn qn qe ql pe pl h : Bool) → (not (pe && qn) && (not (pn && qe) && (not ((pn && ql) || (qn && pl)) && h))) ≡ (not ((pn && (qe || ql)) || (qn && (pe || pl))) && h)
-    gathered true true true ql true pl h = refl
-    gathered true true true ql false pl h = refl
-    gathered true true false true true pl h = refl
-    gathered true true false true false pl h = refl
-    gathered true true false false true pl h = refl
-    gathered true true false false false pl h = refl
-    gathered true false true ql true pl h = refl
-    gathered true false true ql false pl h = refl
-    gathered true false false ql true pl h = refl
-    gathered true false false ql false pl h = refl
-    gathered false true qe ql true pl h = refl
-    gathered false true qe ql false pl h = refl
-    gathered false false qe ql true pl h = refl
-    gathered false false qe ql false pl h = refl
+    gathered pn qn qe ql pe pl h = grind arith
 
 pub unlinked_all : (number end : ℕ) (t u : Taxonomy) → ((p q : ℕ) → IsTrue (has_edge t p q) → (p < end) × (q < end)) → UnlinkedTo number end t u → UnlinksAll number t u
-unlinked_all number end t u range links = record { props = links.props; edges = λ p q. links.edges p q ∙ by p q (has_edge t p q) refl }
+unlinked_all number end t u range links = record {
+  props = links.props;
+  edges = λ p q. links.edges p q ∙ by (p == number) (q == number) (nat_lt q end) (nat_lt p end) (has_edge t p q) (λ is. let within = range p q is in (lt-ltb q end within.1, lt-ltb p end within.0));
+}
   where
-    none : (b : Bool) → (b && false) ≡ false
-    none true = refl
-    none false = refl
-
-    parted : (a b : Bool) → (not ((a && true) || (b && true)) && true) ≡ ((not a && not b) && true)
-    parted true true = refl
-    parted true false = refl
-    parted false true = refl
-    parted false false = refl
-
-    by : (p q : ℕ) (h : Bool) → has_edge t p q ≡ h → (not (((p == number) && nat_lt q end) || ((q == number) && nat_lt p end)) && h) ≡ ((not (p == number) && not (q == number)) && h)
-    by p q false e = none (not (((p == number) && nat_lt q end) || ((q == number) && nat_lt p end))) ∙ sym (none (not (p == number) && not (q == number)))
-    by p q true e =
-        let within = range p q e in
-        ap₂ (λ a b. not (((p == number) && a) || ((q == number) && b)) && true) (lt-ltb q end within.1) (lt-ltb p end within.0) ∙ parted (p == number) (q == number)
+    by : (a b l k h : Bool) → (h ≡ true → (l ≡ true) × (k ≡ true)) → (not ((a && l) || (b && k)) && h) ≡ ((not a && not b) && h)
+    by a b l k h within = grind arith

@@ -1,27 +1,20 @@
 -- The links between declared tests, by their numbers.
-use Rattle.std.proofs.Common.{◌≡◌, ◌⊎◌, ℕ, ◌==◌, if◌then◌else◌, ◌||◌, Bool, true, false, Option, Some, None, is_some, List, refl, sym, ap, ap₂, ◌∙◌, subst, inl, inr}
-use Rattle.std.proofs.lemmas.Bool.{and_parts, and_from, or_cases, or_left, or_right, both_ways, false_from_ne_true, eqb-true}
-use Rattle.lis_graph.proofs.Members.{Among, among_from_any}
+use Rattle.std.proofs.Common.{◌≡◌, ◌⊎◌, ℕ, if◌then◌else◌, ◌||◌, Bool, true, false, Option, Some, None, is_some, List, refl, sym, ap, ap₂, ◌∙◌, subst, inl, inr, arith}
+use Rattle.lis_kept.proofs.Common.{and_parts, or_cases, Dict, IsDict, word_of, number_from_word, Taxonomy, same_word, has_word, is_valued, head_bytes, is_test, are_weaker, same_word_decides, among_from_has_word, OwnLink, own_link, Head, Weaker}
+use Rattle.std.proofs.lemmas.Bool.{and_from, or_left, or_right, both_ways, false_from_ne_true}
 use Rattle.lis_blockmap.specs.Bitmap.{is_taken}
-use Rattle.lis_dict.specs.Dict.{Dict, IsDict, word_of}
-use Rattle.lis_dict.proofs.Laws.{number_from_word}
-use Rattle.lis_fields.specs.declared.slots.AxiomSlot.{AxiomSlot}
-use Rattle.lis_fields.specs.declared.slots.AxiomSlot.TheVariants.{Free as FreeAxiom, Pair}
-use Rattle.lis_taxonomy.specs.Taxonomy.{Taxonomy}
-use Rattle.lis_words.specs.Words.{same_word, has_word, is_valued, head_bytes, is_test, test_of}
+use Rattle.lis_words.specs.Words.{test_of}
 use Rattle.lis_words.proofs.Tests.{plain_not_test}
 use Rattle.lis_model.specs.State.{links}
-use Rattle.lis_model.specs.Tests.{are_weaker}
-use Rattle.lis_laws.proofs.Members.{same_word_decides, among_from_has_word, has_word_from_among}
-use Rattle.lis_laws.proofs.Chains.{OwnLink, own_link, links_weaker, head_no_test, weaker_apart}
-use Rattle.lis_laws.proofs.Chains.OwnLink.{Head, Weaker}
+use Rattle.lis_laws.proofs.Members.{has_word_from_among}
+use Rattle.lis_laws.proofs.Chains.{links_weaker, head_no_test, weaker_apart}
 use Rattle.lis_laws.proofs.Locals.{same_tests}
 use Rattle.lis_kept.specs.Kept.{Kept}
 use Rattle.lis_kept.specs.Telling.{bit_of, is_declared, declared_of, is_head_by}
-use Rattle.lis_kept.specs.Links.{is_own_link, is_linked, is_pair, has_pair, AreHeld}
+use Rattle.lis_kept.specs.Links.{is_own_link, is_linked, has_pair, AreHeld}
 use Rattle.lis_kept.specs.TestEdges.{test_by, declared_test, is_test_link, TestsAreOrdered}
 use Rattle.lis_kept.proofs.Formed.{some_word}
-use Rattle.lis_kept.proofs.OwnLinks.{own_head, slot_at}
+use Rattle.lis_kept.proofs.OwnLinks.{pair_slot, own_head}
 use Rattle.lis_kept.proofs.WordMore.{declared_there, there_declared}
 
 -- ---- tests of numbers
@@ -34,8 +27,7 @@ pub no_test : (dict : Dict) (declared : List Bool) (n : ℕ) → word_of dict n 
 no_test dict declared n none = ap (λ o. if is_taken declared n then test_by o else None) none ∙ by (is_taken declared n)
   where
     by : (b : Bool) → ◌≡◌ {A = Option (Bool × ℕ)} (if b then None else None) None
-    by true = refl
-    by false = refl
+    by b = grind arith
 
 -- a link between tests is one between the words
 pub record TestLink (dict : Dict) (declared : List Bool) (p q : ℕ) : Type 0 where
@@ -117,16 +109,6 @@ tests_ordered k t held p q edge test =
         let both = and_parts (is_valued w) (same_word (head_bytes w) v) h in
         head_no_test w (subst (λ u. is_test u ≡ true) (sym ((same_word_decides (head_bytes w) v).0 both.1)) tested)
 
-    not_right : (a : AxiomSlot) → Among k.axioms a → is_pair p q a ≡ true → ⊥
-    not_right FreeAxiom m is = both_ways false refl is
-    not_right (Pair left right) m is =
-        let place = slot_at k.axioms (Pair left right) m in
-        let one = held.sound.axioms place.0 left right place.1 in
-        let same = eqb-true right q (and_parts (left == p) (right == q) is).1 in
-        let word = some_word (word_of k.dict right) one.right in
-        both_ways (is_test word.0) (plain_not_test word.0 (one.plain word.0 word.1))
-        (subst (λ o. is_some {T = Bool × ℕ} (test_by o) ≡ true) (ap (word_of k.dict) (sym same) ∙ word.1) test)
-
     own : (is_head_by (word_of k.dict p) (word_of k.dict q) ≡ true) ⊎ (is_test_link k.dict k.declared p q ≡ true) → are_weaker (test_by (word_of k.dict q)) (test_by (word_of k.dict p)) ≡ true
     own (inl head) = absurd (not_head (word_of k.dict p) (word_of k.dict q) head test)
     own (inr linked) = (test_link k.dict k.declared p q linked).weaker
@@ -134,4 +116,8 @@ tests_ordered k t held p q edge test =
     by : ((is_head_by (word_of k.dict p) (word_of k.dict q) || is_test_link k.dict k.declared p q) ≡ true) ⊎ (has_pair k.axioms p q ≡ true)
         → are_weaker (test_by (word_of k.dict q)) (test_by (word_of k.dict p)) ≡ true
     by (inl h) = own (or_cases (is_head_by (word_of k.dict p) (word_of k.dict q)) (is_test_link k.dict k.declared p q) h)
-    by (inr pair) = let found = among_from_any (is_pair p q) k.axioms pair in absurd (not_right found.0 found.1 found.2)
+    by (inr pair) =
+        let at = pair_slot k.axioms p q pair in
+        let one = held.sound.axioms at.0 p q at.1 in
+        let word = some_word (word_of k.dict q) one.right in
+        absurd (both_ways (is_test word.0) (plain_not_test word.0 (one.plain word.0 word.1)) (subst (λ o. is_some {T = Bool × ℕ} (test_by o) ≡ true) word.1 test))

@@ -1,18 +1,12 @@
 -- A word that is declared under others.
 use Rattle.std.proofs.Common.{◌≡◌, ℕ, zero, suc, ◌+◌, ◌==◌, ◌||◌, true, false, List, [], ◌∷◌, ◌++◌, length, Some, is_some, refl, sym, ap, ◌∙◌, subst, arith, append-nil, append_assoc}
-use Rattle.std.specs.List.{fold}
+use Rattle.lis_kept.proofs.Common.{fold, Chain, Among, Dict, word_of, has_word, is_plain_word, is_test, up, with_word, with_axiom, among_from_has_word}
 use Rattle.std.proofs.lemmas.Bool.{both_ways, false_from_ne_true, or_right}
-use Rattle.lis_graph.specs.Graph.{Chain}
-use Rattle.lis_graph.proofs.Members.{Among}
-use Rattle.lis_dict.specs.Dict.{Dict, word_of}
-use Rattle.lis_words.specs.Words.{has_word, is_plain_word, is_test}
 use Rattle.lis_words.proofs.Tests.{test_not_plain}
-use Rattle.lis_model.specs.State.{State, links, up}
-use Rattle.lis_model.specs.Sets.{with_word}
-use Rattle.lis_model.specs.Changes.{with_axiom, declared_under, axiom_added}
+use Rattle.lis_model.specs.State.{State, links}
+use Rattle.lis_model.specs.Changes.{declared_under, axiom_added}
 use Rattle.lis_laws.proofs.Chains.{entails_from_up}
 use Rattle.lis_laws.proofs.Leads.{chain_last, right_leads}
-use Rattle.lis_laws.proofs.Members.{among_from_has_word}
 use Rattle.lis_kept.specs.Kept.{Kept}
 use Rattle.lis_kept.specs.Areas.{IsSaved, marked_count}
 use Rattle.lis_kept.specs.Sound.{AreSound}
@@ -39,9 +33,13 @@ pub each_more : (left : ℕ) (rights : List ℕ) (right : ℕ) (p q r : Kept) �
 each_more left [] right p q r is last = (r, subst (λ (k : Kept). Links left right k r) is last, refl)
 each_more left (first ∷ rights) right p q r each last = (each.0, each.1, each_more left rights right each.0 q r each.2 last)
 
+-- all but the axioms and the marks
+pub each_parts : (left : ℕ) (rights : List ℕ) (p q : Kept) → LinksEach left rights p q → q ≡ record p { axioms = q.axioms; marks = q.marks }
+each_parts left [] p q is = subst (λ (k : Kept). k ≡ record p { axioms = k.axioms; marks = k.marks }) (sym is) refl
+each_parts left (right ∷ rights) p q each = each_parts left rights each.0 q each.2 ∙ ap (λ (k : Kept). record k { axioms = q.axioms; marks = q.marks }) each.1.parts
+
 pub each_dict : (left : ℕ) (rights : List ℕ) (p q : Kept) → LinksEach left rights p q → q.dict ≡ p.dict
-each_dict left [] p q is = ap (λ (k : Kept). k.dict) is
-each_dict left (right ∷ rights) p q each = each_dict left rights each.0 q each.2 ∙ ap (λ (k : Kept). k.dict) each.1.parts
+each_dict left rights p q each = ap (λ (k : Kept). k.dict) (each_parts left rights p q each)
 
 pub each_marks : (left : ℕ) (rights : List ℕ) (p q : Kept) → LinksEach left rights p q → Marks (length rights) p q
 each_marks left [] p q is = record { saved = λ at saved. subst (λ (k : Kept). IsSaved k at) (sym is) saved; few = omega (arith, ap marked_count is) }
@@ -105,11 +103,6 @@ plain_no_test k sound p word plain test =
     rights e m = let found = among_axiom k sound e m in (sound.axioms found.0 found.1 found.2 found.3).plain e.1 found.5
 
 -- ---- what stays
--- all but the axioms and the marks
-pub each_parts : (left : ℕ) (rights : List ℕ) (p q : Kept) → LinksEach left rights p q → q ≡ record p { axioms = q.axioms; marks = q.marks }
-each_parts left [] p q is = subst (λ (k : Kept). k ≡ record p { axioms = k.axioms; marks = k.marks }) (sym is) refl
-each_parts left (right ∷ rights) p q each = each_parts left rights each.0 q each.2 ∙ ap (λ (k : Kept). record k { axioms = q.axioms; marks = q.marks }) each.1.parts
-
 -- what is in use
 pub each_used : (left : ℕ) (rights : List ℕ) (p q : Kept) → LinksEach left rights p q → (n : ℕ) → is_used p n ≡ true → is_used q n ≡ true
 each_used left [] p q is n used = ap (λ (k : Kept). is_used k n) is ∙ used

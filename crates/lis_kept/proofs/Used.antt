@@ -1,21 +1,17 @@
 -- What the tests tell by which numbers in use are found.
-use Rattle.std.proofs.Common.{◌≡◌, refl, sym, ap, ap₂, ◌∙◌, ℕ, ◌<◌, ◌==◌, if◌then◌else◌, ◌&&◌, ◌||◌, Bool, true, false, List, [], ◌∷◌, length, Option, Some, None, is_some, IsSome, IfSome, IfNone, arith}
-use Rattle.std.specs.List.{list_any}
-use Rattle.std.proofs.lemmas.Bool.{and_parts, and_from, both_ways, eq-eqb, ne_eqb, eqb-true, false_from_ne_true, or_left, or_right}
+use Rattle.std.proofs.Common.{◌≡◌, ◌⊎◌, inl, inr, slice_get, refl, sym, ap, ap₂, ◌∙◌, ℕ, ◌<◌, ◌==◌, if◌then◌else◌, ◌&&◌, ◌||◌, Bool, true, false, List, [], ◌∷◌, length, Option, Some, None, is_some, IsSome, IfSome, IfNone, arith}
+use Rattle.lis_kept.proofs.Common.{list_any, and_parts, ne_eqb, eqb-true, or_cases, Among, among_from_any, contains_from_among, NoneTrue, get, Dict, IsDict, number_of, word_of, number_from_word, word_from_number, Ext, has, AxiomSlot, FreeAxiom, Pair, same_word, is_valued, head_bytes, same_word_decides, head_not_valued}
+use Rattle.std.proofs.lemmas.Bool.{and_from, both_ways, eq-eqb, false_from_ne_true, or_left, or_right}
 use Rattle.std.proofs.lemmas.List.{get_or_default}
-use Rattle.lis_graph.proofs.Members.{among_from_any, contains_from_among}
-use Rattle.lis_bits.specs.Rows.{Rows, HasShape, NoneTrue, get}
+use Rattle.lis_graph.proofs.Members.{any_from_among}
+use Rattle.lis_bits.specs.Rows.{Rows, HasShape}
 use Rattle.lis_blockmap.specs.Bitmap.{is_taken}
 use Rattle.lis_content.specs.Content.{has_number}
-use Rattle.lis_dict.specs.Dict.{Dict, IsDict, number_of, word_of}
-use Rattle.lis_dict.proofs.Laws.{number_from_word, word_from_number}
-use Rattle.lis_ext.specs.Ext.{Ext, has}
-use Rattle.lis_words.specs.Words.{same_word, is_valued, head_bytes}
-use Rattle.lis_laws.proofs.Members.{same_word_decides}
 use Rattle.lis_laws.proofs.Locals.{same_tests}
 use Rattle.lis_kept.specs.Kept.{Kept}
-use Rattle.lis_kept.specs.Telling.{is_head_by, is_had, is_named_left, is_used}
+use Rattle.lis_kept.specs.Telling.{is_left_of, is_head_by, is_left_head_of, is_had, is_named_left, is_used}
 use Rattle.lis_kept.specs.Edges.{head_number}
+use Rattle.lis_kept.proofs.OwnLinks.{slot_at, among_slot}
 use Rattle.lis_kept.proofs.WordLess.{had_from}
 
 -- ---- by rows
@@ -46,6 +42,60 @@ module _ (k : Kept) where
 
   pub used_left : (n : ℕ) → is_named_left k n ≡ true → is_used k n ≡ true
   used_left n left = or_right (is_taken k.declared n || is_had k.ext n) (is_named_left k n) left
+
+-- which reason it is
+pub data WhyUsed (k : Kept) (n : ℕ) : Type 0 where
+  Flagged : is_taken k.declared n ≡ true → WhyUsed k n
+  Had : (slot : ℕ) → has k.ext n slot ≡ true → WhyUsed k n
+  OnLeft : (slot right : ℕ) → slice_get k.axioms slot ≡ Some (Pair n right) → WhyUsed k n
+  HeadOfLeft : (slot left right : ℕ) → slice_get k.axioms slot ≡ Some (Pair left right) → is_head_by (word_of k.dict left) (word_of k.dict n) ≡ true → WhyUsed k n
+
+module _ (k : Kept) (n : ℕ) where
+  pub named_head : (slot left right : ℕ) → slice_get k.axioms slot ≡ Some (Pair left right) → is_head_by (word_of k.dict left) (word_of k.dict n) ≡ true → is_named_left k n ≡ true
+  named_head slot left right is head =
+      or_right (list_any (is_left_of n) k.axioms) (list_any (is_left_head_of k.dict n) k.axioms)
+      (any_from_among (is_left_head_of k.dict n) k.axioms (Pair left right) (among_slot k.axioms slot (Pair left right) is) head)
+
+  pub used_why : WhyUsed k n → is_used k n ≡ true
+  used_why (Flagged bit) = used_flagged k n bit
+  used_why (Had slot h) = used_had k n slot h
+  used_why (OnLeft slot right is) =
+      used_left k n (or_left (list_any (is_left_of n) k.axioms) (list_any (is_left_head_of k.dict n) k.axioms)
+      (any_from_among (is_left_of n) k.axioms (Pair n right) (among_slot k.axioms slot (Pair n right) is) (eq-eqb n n refl)))
+  used_why (HeadOfLeft slot left right is head) = used_left k n (named_head slot left right is head)
+
+  on_left : (a : AxiomSlot) → Among k.axioms a → (is_left_of n a ≡ true) ⊎ (is_left_head_of k.dict n a ≡ true) → WhyUsed k n
+  on_left FreeAxiom m (inl is) = absurd (both_ways false refl is)
+  on_left FreeAxiom m (inr is) = absurd (both_ways false refl is)
+  on_left (Pair left right) m (inl is) = let at = slot_at k.axioms (Pair left right) m in OnLeft at.0 right (at.1 ∙ ap (λ i. Some (Pair i right)) (eqb-true left n is))
+  on_left (Pair left right) m (inr is) = let at = slot_at k.axioms (Pair left right) m in HeadOfLeft at.0 left right at.1 is
+
+  pub why_used : is_used k n ≡ true → WhyUsed k n
+  why_used used = elim (or_cases (is_taken k.declared n || is_had k.ext n) (is_named_left k n) used) [
+    | inl front ↦ elim (or_cases (is_taken k.declared n) (is_had k.ext n) front) [
+      | inl bit ↦ Flagged bit
+      | inr had ↦ let at = had_at k.ext n had in Had at.0 at.2
+    ]
+    | inr named ↦ elim (or_cases (list_any (is_left_of n) k.axioms) (list_any (is_left_head_of k.dict n) k.axioms) named) [
+      | inl left ↦ let found = among_from_any (is_left_of n) k.axioms left in on_left found.0 found.1 (inl found.2)
+      | inr head ↦ let found = among_from_any (is_left_head_of k.dict n) k.axioms head in on_left found.0 found.1 (inr found.2)
+    ]
+  ]
+
+-- a head is not valued, so it is no word that has one
+pub no_head_twice : (o w v : Option (List ℕ)) → is_head_by o w ≡ true → is_head_by w v ≡ true → ⊥
+no_head_twice None w v first second = both_ways false refl first
+no_head_twice (Some a) None v first second = both_ways false refl first
+no_head_twice (Some a) (Some b) None first second = both_ways false refl second
+no_head_twice (Some a) (Some b) (Some c) first second =
+    both_ways (is_valued b) (ap is_valued (sym ((same_word_decides (head_bytes a) b).0 (and_parts (is_valued a) (same_word (head_bytes a) b) first).1)) ∙ head_not_valued a)
+    (and_parts (is_valued b) (same_word (head_bytes b) c) second).0
+
+-- the word that has a head is known, and valued
+pub headed : (o w : Option (List ℕ)) → is_head_by o w ≡ true → (v : List ℕ) × (o ≡ Some v) × (is_valued v ≡ true)
+headed None w is = absurd (both_ways false refl is)
+headed (Some v) None is = absurd (both_ways false refl is)
+headed (Some v) (Some h) is = (v, refl, (and_parts (is_valued v) (same_word (head_bytes v) h) is).0)
 
 -- ---- by the number of a head
 abbrev pub is_at : Option ℕ → ℕ → Bool
@@ -80,10 +130,7 @@ head_by_number d dict word head = by (is_valued word) refl
 
 -- ---- by the axioms
 or_swap : (a b x y : Bool) → ((a || b) || (x || y)) ≡ ((a || x) || (b || y))
-or_swap true b x y = refl
-or_swap false true true y = refl
-or_swap false true false y = refl
-or_swap false false x y = refl
+or_swap a b x y = grind arith
 
 pub any_or : {X : Type 0} (f g : X → Bool) (xs : List X) → list_any (λ x. f x || g x) xs ≡ (list_any f xs || list_any g xs)
 any_or f g [] = refl

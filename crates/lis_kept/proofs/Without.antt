@@ -1,10 +1,10 @@
 -- Whether a description has a number where that in a slot is left out, told by rows.
 use Rattle.std.proofs.Common.{◌≡◌, ◌⊎◌, sym, ap, ◌∙◌, subst, inl, inr, ℕ, ◌+◌, ◌<◌, ◌≤◌, true, false, Option, Some, None, is_some, IfSome, IfNone, [], length, set, arith, get_or-set_same, get_or-set_other, length-set}
 use Rattle.std.proofs.lemmas.List.{get_or_past}
-use Rattle.std.proofs.lemmas.Bool.{both_ways, cases_eq, cases_lt, false_from_ne_true}
-use Rattle.lis_bits.specs.Rows.{Rows, HasShape, NoneTrue, get}
+use Rattle.lis_kept.proofs.Common.{cases_eq, cases_lt, NoneTrue, get, Ext, has}
+use Rattle.std.proofs.lemmas.Bool.{both_ways, false_from_ne_true}
+use Rattle.lis_bits.specs.Rows.{Rows, HasShape}
 use Rattle.lis_content.specs.Content.{has_number}
-use Rattle.lis_ext.specs.Ext.{Ext, has}
 use Rattle.lis_kept.specs.Telling.{is_had}
 use Rattle.lis_kept.proofs.Used.{had_at}
 use Rattle.lis_kept.proofs.WordLess.{had_from}

@@ -1,127 +1,104 @@
 -- A word that is known, and not declared.
-use Rattle.std.proofs.Common.{rules, ◌≡◌, ◌⊎◌, refl, sym, ap, ◌∙◌, subst, inl, inr, ℕ, ◌<◌, if◌then◌else◌, ◌&&◌, ◌||◌, ◌==◌, Bool, true, false, List, length, set, Option, Some, None, is_some, IsSome, IfSome, arith}
-use Rattle.std.proofs.lemmas.Bool.{cases_eq, both_ways, false_from_ne_true}
-use Rattle.std.proofs.lemmas.Option.{same_Some}
-use Rattle.lis_graph.proofs.Members.{Among, among_insert_key, insert_key_old, map_among}
-use Rattle.lis_graph.proofs.Sets.{sorted_insert_key, sorted_from_rising}
+use Rattle.std.proofs.Common.{rules, ◌≡◌, ◌⊎◌, refl, sym, ap, ap₂, ◌∙◌, subst, inl, inr, ℕ, ◌<◌, if◌then◌else◌, Bool, true, false, List, set, Option, Some, None, is_some, IsSome, IfSome, arith}
+use Rattle.lis_kept.proofs.Common.{cases_eq, same_Some, Among, among_insert_key, insert_key_old, sorted_insert_key, sorted_from_rising, Dict, number_of, word_of, word_from_number, number_below, is_undeclared, is_prop, Taxonomy, word_cmp, same_word, is_valued, head_bytes, with_word, word_order, same_word_decides, head_not_valued}
+use Rattle.std.proofs.lemmas.Bool.{both_ways, false_from_ne_true}
+use Rattle.lis_graph.proofs.Members.{map_among}
 use Rattle.lis_blockmap.specs.Bitmap.{is_taken}
-use Rattle.lis_dict.specs.Dict.{Dict, words, number_of, word_of, entry_cmp, with_entry}
-use Rattle.lis_dict.proofs.Laws.{among_from_number, word_from_number, number_below}
-use Rattle.lis_fields.specs.Layouts.{is_undeclared}
+use Rattle.lis_dict.specs.Dict.{words, entry_cmp}
+use Rattle.lis_dict.proofs.Laws.{among_from_number}
 use Rattle.lis_fields.proofs.Parts.{undeclared_word}
-use Rattle.lis_taxonomy.specs.Taxonomy.{Taxonomy, has_edge}
-use Rattle.lis_words.specs.Words.{word_cmp, same_word, is_valued, head_bytes, is_test}
-use Rattle.lis_model.specs.Sets.{with_word}
-use Rattle.lis_laws.proofs.Members.{word_order, same_word_decides, same_words}
-use Rattle.lis_kept.specs.Kept.{Kept}
+use Rattle.lis_laws.proofs.Members.{same_words}
+use Rattle.lis_kept.specs.Kept.{Kept, property_by}
 use Rattle.lis_kept.specs.Areas.{block_of}
 use Rattle.lis_kept.specs.Areas.Area.{Properties}
 use Rattle.lis_kept.specs.Edges.{head_number, with_edge_to}
-use Rattle.lis_kept.specs.Telling.{bit_of, declared_of, is_declared, state_of}
+use Rattle.lis_kept.specs.Telling.{declared_of, is_head_by}
 use Rattle.lis_kept.specs.Sound.{AreSound}
-use Rattle.lis_kept.specs.Links.{AreHeld, is_own_link, is_linked}
+use Rattle.lis_kept.specs.Links.{AreHeld, is_linked}
 use Rattle.lis_kept.specs.Changes.{Learns}
-use Rattle.lis_kept.proofs.OwnLinks.{undeclared_not_test, unnamed_to, unnamed_from}
+use Rattle.lis_kept.proofs.OwnLinks.{no_some, none_to, none_from}
 use Rattle.lis_kept.proofs.Filing.{map_insert_key}
-use Rattle.lis_kept.proofs.HeadEdges.{has_edge-with_edge}
-use Rattle.lis_kept.proofs.WordMore.{NewWord, learnt, sound_then, marks_then, declared_then, state_then, no_new_link, head_linked, word_here, word_other, word_stays, declared_there, there_declared, sorted_declared, dict_kept}
+use Rattle.lis_kept.proofs.HeadEdges.{same_props_with, other_edges_with, first_edge}
+use Rattle.lis_kept.proofs.Used.{is_at, head_by_number}
+use Rattle.lis_kept.proofs.OneWord.{OneWord, after, same_word_there, marks_then, state_then, declared_same, linked_undeclared, held_then, Comes, word_here, number_then, no_bit, no_head, comes}
 
-module _ (p : Kept) (t : Taxonomy) (held : AreHeld p t) {word : List ℕ} {number : ℕ} (w : NewWord p word number p.declared false) where
+-- ---- the number of a head
+number_is : (d : Dict) (word : List ℕ) (h : ℕ) → head_number d word ≡ Some h → number_of d (head_bytes word) ≡ Some h
+number_is d word h is = by (is_valued word) is
+  where
+    by : (b : Bool) → (if b then number_of d (head_bytes word) else None) ≡ Some h → number_of d (head_bytes word) ≡ Some h
+    by true at = at
+    by false at = absurd cc
+
+pub head_below : (p : Kept) (t : Taxonomy) → AreHeld p t → (word : List ℕ) (o : Option ℕ) → o ≡ head_number p.dict word → IfSome o (λ h. h < t.props)
+head_below p t held word None is = search rules
+head_below p t held word (Some h) is = omega (arith, number_below p.dict held.sound.dict (head_bytes word) h (number_is p.dict word h (sym is)), held.sound.numbers, held.links.props)
+
+pub head_apart : (p : Kept) → AreSound p → (word : List ℕ) (number : ℕ) (o : Option ℕ) → o ≡ head_number p.dict word → word_of p.dict number ≡ None → o ≡ Some number → ⊥
+head_apart p sound word number o is free same =
+    let both : ◌≡◌ {A = Option (List ℕ)} None (Some (head_bytes word)) = sym free ∙ word_from_number p.dict sound.dict (head_bytes word) number (number_is p.dict word number (sym is ∙ same)) in
+    cc
+
+-- ---- a new word
+module _ (p : Kept) (t : Taxonomy) (held : AreHeld p t) {word : List ℕ} {number : ℕ} {d : Dict} (come : Comes p word number d) (form : is_undeclared word ≡ true)
+    (headed : is_valued word ≡ true → IsSome (number_of p.dict (head_bytes word))) (marks : List Bool) (marked : marks ≡ set p.marks (block_of p.limits Properties number) true) where
+  bit : is_taken p.declared number ≡ false
+  bit = no_bit p held.sound come
+
+  pub one : OneWord p number d p.declared marks
+  one =
+      comes p held.sound come p.declared marks (undeclared_word word form) headed refl (λ n differ. refl) (ap (λ b. is_prop (property_by (Some word) b)) bit ∙ form) marked
+
   abbrev q : Kept
-  q = learnt p t held w
+  q = after p held.sound one
 
   abbrev linked : Taxonomy
   linked = with_edge_to t number (head_number p.dict word)
 
-  same_props : (o : Option ℕ) → (with_edge_to t number o).props ≡ t.props
-  same_props None = refl
-  same_props (Some h) = refl
-
-  declared_same : declared_of q ≡ declared_of p
-  declared_same =
-      same_words (declared_of q) (declared_of p) (sorted_declared q (dict_kept p t held w)) (sorted_declared p held.sound.dict)
-      (λ v m. declared_there p v (to v (same_word word v) (sym (declared_then p t held w v) ∙ there_declared q v m)))
-      (λ v m. declared_there q v (declared_then p t held w v ∙ from v (same_word word v) refl (there_declared p v m)))
+  -- ---- links
+  -- its head has the number that it had
+  head_is : head_number d word ≡ head_number p.dict word
+  head_is = by (is_valued word) refl
     where
-      to : (v : List ℕ) (b : Bool) → (if b then false else is_declared p v) ≡ true → is_declared p v ≡ true
-      to v true is = absurd cc
-      to v false is = is
+      by : (b : Bool) → is_valued word ≡ b → (if b then number_of d (head_bytes word) else None) ≡ (if b then number_of p.dict (head_bytes word) else None)
+      by false e = refl
+      by true e = number_then p held.sound come (head_bytes word) ∙ ap (λ b. if b then Some number else number_of p.dict (head_bytes word))
+          (false_from_ne_true (same_word word (head_bytes word)) (λ same. both_ways (is_valued word) (ap is_valued ((same_word_decides word (head_bytes word)).0 same) ∙ head_not_valued word) e))
 
-      from : (v : List ℕ) (b : Bool) → same_word word v ≡ b → is_declared p v ≡ true → (if b then false else is_declared p v) ≡ true
-      from v false e is = is
-      from v true e is =
-          let same = (same_word_decides word v).0 e in
-          let none : is_declared p v ≡ false = ap (bit_of p.declared) (ap (number_of p.dict) (sym same) ∙ w.new) in
-          absurd (both_ways (is_declared p v) none is)
+  linked_here : (x y : ℕ) → (x ≡ number) ⊎ (y ≡ number) → is_linked q x y ≡ is_head_by (word_of d x) (word_of d y)
+  linked_here = linked_undeclared q one.dict number one.unnamed.sides bit
 
-  -- it is no test, and the same words are declared
-  tested : is_test word ≡ false
-  tested = undeclared_not_test word w.fits
+  held_learnt : AreHeld q linked
+  held_learnt =
+      held_then p held.sound one t linked held.links (same_props_with t number (head_number p.dict word))
+      (λ y. first_edge t number (head_number p.dict word) y (none_from p t held number come.free y) ∙ (ap (λ o. is_at o y) (sym head_is) ∙ (head_by_number d one.dict word y
+      ∙ sym (linked_here number y (inl refl) ∙ ap (λ o. is_head_by o (word_of d y)) (word_here p held.sound come)))))
+      (λ x differ. other_edges_with t number (head_number p.dict word) x number differ ∙ (none_to p t held number come.free x
+      ∙ sym (linked_here x number (inr refl) ∙ (ap₂ is_head_by (same_word_there p held.sound one x differ) (word_here p held.sound come) ∙ no_head p held.sound come x))))
+      (λ x y differ apart. other_edges_with t number (head_number p.dict word) x y differ)
 
-  stays : (o r : Option (List ℕ)) → is_own_link (declared_of q) o r ≡ is_own_link (declared_of p) o r
-  stays o r = ap (λ ds. is_own_link ds o r) declared_same
-
-  links_then : (x y : ℕ) → has_edge linked x y ≡ is_linked q x y
-  links_then x y = by (is_valued word) refl (number_of p.dict (head_bytes word)) refl
-    where
-      by : (b : Bool) → is_valued word ≡ b → (o : Option ℕ) → number_of p.dict (head_bytes word) ≡ o → has_edge (with_edge_to t number (if b then o else None)) x y ≡ is_linked q x y
-      by false plain o e = held.links.edges x y ∙ sym (no_new_link p t held w tested stays plain x y)
-      by true valued None e = let some = w.headed valued in absurd (both_ways (is_some (number_of p.dict (head_bytes word))) (ap is_some e) some)
-      by true valued (Some h) e =
-          has_edge-with_edge t number h x y
-          ∙ (ap (λ b. ((x == number) && (y == h)) || b) (held.links.edges x y) ∙ sym (head_linked p t held w tested stays h valued e x y))
-
-  only_then : (n : ℕ) (v : List ℕ) → word_of q.dict n ≡ Some v → (word_of p.dict n ≡ Some v) ⊎ ((n ≡ number) × (v ≡ word))
+  only_then : (n : ℕ) (v : List ℕ) → word_of d n ≡ Some v → (word_of p.dict n ≡ Some v) ⊎ ((n ≡ number) × (v ≡ word))
   only_then n v is = by (cases_eq n number)
     where
       by : (n ≡ number) ⊎ (n ≡ number → ⊥) → (word_of p.dict n ≡ Some v) ⊎ ((n ≡ number) × (v ≡ word))
-      by (inl same) = inr (same, same_Some v word (sym is ∙ (ap (word_of q.dict) same ∙ word_here p t held w)))
-      by (inr differ) = inl (sym (word_other p t held w n differ) ∙ is)
+      by (inl same) = inr (same, same_Some v word (sym is ∙ (ap (word_of d) same ∙ word_here p held.sound come)))
+      by (inr differ) = inl (sym (same_word_there p held.sound one n differ) ∙ is)
 
-  pub learnt_made : AreHeld q linked × Learns word number p q
-  learnt_made = (
-    record {
-      sound = sound_then p t held w;
-      links = record { props = same_props (head_number p.dict word) ∙ held.links.props; edges = links_then };
-    },
-    record {
-      below = w.below;
-      parts = inr (w.new, w.free, refl);
-      marks = marks_then p t held w;
-      words = map_insert_key (λ (e : List ℕ × ℕ). e.0) entry_cmp word_cmp (λ x y. refl) p.dict.entries (word, number);
-      named = word_here p t held w;
-      keeps = word_stays p t held w;
+  -- a new word, over what memory kept
+  pub learns_new : (k : Kept) (u : Taxonomy) → p ≡ k → u ≡ linked → AreHeld q u × Learns word number k q
+  learns_new k u is linked_is = (
+    subst (AreHeld q) (sym linked_is) held_learnt,
+    subst (λ (x : Kept). Learns word number x q) is (record {
+      below = omega (arith, come.below, held.sound.numbers);
+      parts = inr (come.new, come.free, cc (come.dict_is, marked));
+      marks = marks_then p held.sound one;
+      words = ap words come.dict_is ∙ map_insert_key (λ (e : List ℕ × ℕ). e.0) entry_cmp word_cmp (λ x y. refl) p.dict.entries (word, number);
+      named = word_here p held.sound come;
+      keeps = λ n v there. same_word_there p held.sound one n (no_some p held.sound number come.free n (ap is_some there)) ∙ there;
       only = only_then;
-      state = λ at. state_then p t held w at ∙ ap (λ (ds : List (List ℕ)). record (state_of p at) { declared = ds }) declared_same;
-    },
+      state = state_then p held.sound one (declared_of p) (declared_same p held.sound one bit bit);
+    }),
   )
-
--- a new word, over what memory kept
-pub learns_new : (k p : Kept) (t u : Taxonomy) (word : List ℕ) (number : ℕ) (dict : Dict) (marks : List Bool) → p ≡ k → AreHeld p t
-    → is_undeclared word ≡ true → (is_valued word ≡ true → IsSome (number_of p.dict (head_bytes word))) → number_of p.dict word ≡ None → length p.dict.entries < p.limits.props
-    → number < p.dict.props → word_of p.dict number ≡ None → dict ≡ with_entry p.dict word number
-    → u ≡ with_edge_to t number (head_number p.dict word) → marks ≡ set p.marks (block_of p.limits Properties number) true
-    → AreHeld (record p { dict = dict; marks = marks }) u × Learns word number k (record p { dict = dict; marks = marks })
-learns_new k p t u word number dict marks is held undeclared headed new room below free dict_is linked_is marks_are =
-    let w : NewWord p word number p.declared false = record {
-      new = new;
-      below = omega (arith, below, held.sound.numbers);
-      free = free;
-      room = room;
-      form = undeclared_word word undeclared;
-      fits = undeclared;
-      headed = headed;
-      long = refl;
-      here = false_from_ne_true (is_taken p.declared number) (λ bit. both_ways (is_some (word_of p.dict number)) (ap is_some free) (held.sound.flagged number bit));
-      others = λ n differ. refl;
-    } in
-    let P : Kept → Type 0 = λ q. AreHeld q u × Learns word number k q in
-    let R : Taxonomy → Type 0 = λ v. AreHeld (learnt p t held w) v × Learns word number k (learnt p t held w) in
-    let Q : Kept → Type 0 = λ q. AreHeld (learnt p t held w) (with_edge_to t number (head_number p.dict word)) × Learns word number q (learnt p t held w) in
-    let same : learnt p t held w ≡ record p { dict = dict; marks = marks } =
-    ap (λ (d : Dict). record p { dict = d; marks = set p.marks (block_of p.limits Properties number) true }) (sym dict_is)
-    ∙ ap (λ (ms : List Bool). record p { dict = dict; marks = ms }) (sym marks_are) in
-    subst P same (subst R (sym linked_is) (subst Q is (learnt_made p t held w)))
 
 -- a word that has a number
 pub learns_there : (k p : Kept) (t : Taxonomy) (word : List ℕ) (number : ℕ) → p ≡ k → AreHeld p t → number_of p.dict word ≡ Some number → Learns word number k k
@@ -141,34 +118,8 @@ learns_there k p t word number is held there =
     m : Among (words p.dict) word
     m = map_among (λ (e : List ℕ × ℕ). e.0) p.dict.entries (word, number) (among_from_number p.dict word number there)
 
-    either : (v : List ℕ) → (word ≡ v) ⊎ Among (words p.dict) v → Among (words p.dict) v
-    either v (inl same) = subst (λ u. Among (words p.dict) u) same m
-    either v (inr n) = n
-
     again : with_word (words p.dict) word ≡ words p.dict
     again =
         let sorted = sorted_from_rising word_cmp word_order (words p.dict) held.sound.dict.rising in
         same_words (with_word (words p.dict) word) (words p.dict) (sorted_insert_key word_cmp word_order (words p.dict) word sorted) sorted
-        (λ v n. either v (among_insert_key word_cmp (words p.dict) word v n)) (insert_key_old word_cmp (words p.dict) word)
-
--- ---- the number of a head, and a number that has no word
-pub head_below : (p : Kept) (t : Taxonomy) → AreHeld p t → (word : List ℕ) (o : Option ℕ) → o ≡ head_number p.dict word → IfSome o (λ h. h < t.props)
-head_below p t held word None is = search rules
-head_below p t held word (Some h) is = by (is_valued word) is
-  where
-    by : (b : Bool) → ◌≡◌ {A = Option ℕ} (Some h) (if b then number_of p.dict (head_bytes word) else None) → h < t.props
-    by true at = omega (arith, number_below p.dict held.sound.dict (head_bytes word) h (sym at), held.sound.numbers, held.links.props)
-    by false at = absurd cc
-
-pub head_apart : (p : Kept) → AreSound p → (word : List ℕ) (number : ℕ) (o : Option ℕ) → o ≡ head_number p.dict word → word_of p.dict number ≡ None → o ≡ Some number → ⊥
-head_apart p sound word number o is free same = by (is_valued word) (sym is ∙ same)
-  where
-    by : (b : Bool) → (if b then number_of p.dict (head_bytes word) else None) ≡ Some number → ⊥
-    by true at = let both : ◌≡◌ {A = Option (List ℕ)} None (Some (head_bytes word)) = sym free ∙ word_from_number p.dict sound.dict (head_bytes word) number at in cc
-    by false at = cc
-
-pub none_to : (p : Kept) (t : Taxonomy) → AreHeld p t → (number : ℕ) → word_of p.dict number ≡ None → (x : ℕ) → has_edge t x number ≡ false
-none_to p t held number free x = held.links.edges x number ∙ unnamed_to p held.sound number free x
-
-pub none_from : (p : Kept) (t : Taxonomy) → AreHeld p t → (number : ℕ) → word_of p.dict number ≡ None → (x : ℕ) → has_edge t number x ≡ false
-none_from p t held number free x = held.links.edges number x ∙ unnamed_from p held.sound number free x
+        (λ v n. elim (among_insert_key word_cmp (words p.dict) word v n) [ inl same ↦ subst (λ u. Among (words p.dict) u) same m | inr old ↦ old ]) (insert_key_old word_cmp (words p.dict) word)

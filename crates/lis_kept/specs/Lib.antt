@@ -13,6 +13,5 @@ pub mod Passes
 pub mod Linking
 pub mod Undeclaring
 pub mod TestEdges
-pub mod Widening
 pub mod Under
 pub mod Behind

@@ -11,11 +11,10 @@ ghost use Rattle.lis_model.specs.Image.{data_start};
 ghost use Rattle.lis_model.specs.Ranges.{are_in_range};
 ghost use Rattle.lis_kept.specs.Areas.{block_of};
 ghost use Rattle.lis_kept.specs.Areas.Area.{Files as FileArea, Rows};
-ghost use Rattle.lis_kept.specs.Sound.{AreSound, is_sound_record, FreeSlotsAreEmpty};
+ghost use Rattle.lis_kept.specs.Sound.{AreSound, is_sound_record};
 ghost use Rattle.lis_kept.specs.Changes.{Describes, Drops, Files};
 
 mod blocks;
-mod widening;
 
 use crate::parts::Parts;
 use crate::places::{files_start, rows_start};
@@ -85,24 +84,7 @@ impl Parts {
         rec
     }
 
-    /// Files a record under a new name in a free slot, and answers the slot. Its blocks are taken already, and its numbers are to be
-    /// described yet.
-    pub fn add_record(&mut self, rec: FileRec) -> u16
-        requires new { slot_of self.old.catalog rec.name ≡ None }
-        requires room { length self.old.catalog.entries < self.old.limits.files }
-        requires sound { IsTrue (is_sound_record self.old.limits.version self.old.dict self.old.limits.blocks rec) }
-        requires empty { FreeSlotsAreEmpty self.old }
-        ensures files { Files result rec self.old self.new }
-        ensures sound { AreSound self.new }
-    {
-        let Ok(slot) = self.catalog.add(rec) else {
-            unreachable!()
-        };
-        mark_file(&mut self.marks, &self.limits, slot);
-        slot
-    }
-
-    /// Files a record under a new name in this free slot, as `add_record` does in any.
+    /// Files a record under a new name in this free slot. Its blocks are taken already, and the slot has its numbers.
     pub fn place_record(&mut self, slot: u16, rec: FileRec)
         requires below { slot < self.old.limits.files }
         requires free { rec_at self.old.catalog slot ≡ None }

@@ -13,7 +13,7 @@ ghost use Rattle.lis_kept.specs.Areas.{block_of};
 ghost use Rattle.lis_kept.specs.Edges.{head_number, with_edge_to, without_edge_to};
 ghost use Rattle.lis_kept.specs.Forgetting.{MayGo, MayForget};
 ghost use Rattle.lis_kept.specs.Inside.{IsShort};
-ghost use Rattle.lis_kept.specs.Passes.{is_of_pass, is_due, ForgetsWhere, ForgetsDue};
+ghost use Rattle.lis_kept.specs.Passes.{ext_beside, beside, is_of_pass, is_due, ForgetsWhere, ForgetsDue};
 ghost use Rattle.lis_kept.specs.Areas.Area.{Properties};
 ghost use Rattle.lis_kept.specs.Changes.{Declares, Learns, Forgets};
 ghost use Rattle.lis_kept.specs.Sound.{AreSound};
@@ -26,6 +26,7 @@ use crate::parts::Parts;
 use crate::places::PROPERTIES_START;
 use crate::spelling::PROPERTIES_PER_BLOCK;
 use crate::test_edges::{link_stronger, link_weaker};
+use crate::words::without::is_had_without;
 use lis_bits::Flags;
 use lis_dict::Dict;
 use lis_ext::Ext;
@@ -95,6 +96,17 @@ fn is_had(ext: &Ext, number: u16) -> bool
     ensures { result ≡ is_had ext.now number }
 {
     ext.rows().next(u32::from(number), 0).is_some()
+}
+
+// Whether some file's description has a number, but that in a slot, if one is given.
+fn is_had_beside(ext: &Ext, slot: Option<u16>, number: u16) -> bool
+    requires { number < ext.now.props }
+    ensures { result ≡ is_had (ext_beside slot ext.now) number }
+{
+    match slot {
+        None => is_had(ext, number),
+        Some(slot) => is_had_without(ext, slot, number),
+    }
 }
 
 // Whether the word of a number is valued, and another number is that of its head.
@@ -251,19 +263,16 @@ impl Parts {
         if !is_of_pass(&word, valued) {
             return false;
         }
-        match slot {
-            None => !self.is_used(number),
-            Some(slot) => !self.is_used_without(slot, number),
-        }
+        !self.is_used_beside(slot, number)
     }
 
-    // Whether a number is in use.
-    fn is_used(&self, number: u16) -> bool
+    // Whether a number is in use, but for the description in a slot, if one is given.
+    pub(crate) fn is_used_beside(&self, slot: Option<u16>, number: u16) -> bool
         requires { IsSome (word_of self.now.dict number) }
-        ensures { result ≡ is_used self.now number }
+        ensures { result ≡ is_used (beside slot self.now) number }
     {
         self.declared.get(u32::from(number))
-            || is_had(&self.ext, number)
+            || is_had_beside(&self.ext, slot, number)
             || is_named_left(&self.dict, self.axioms.as_slice(), number)
     }
 }

@@ -8,11 +8,10 @@ ghost use Rattle.lis_kept.specs.Sound.{AreSound};
 ghost use Rattle.lis_kept.specs.Telling.{is_had, is_used};
 
 use crate::parts::Parts;
-use crate::words::is_named_left;
 use lis_ext::Ext;
 
 // Whether the description of a file in another slot has a number.
-fn is_had_without(ext: &Ext, slot: u16, number: u16) -> bool
+pub(crate) fn is_had_without(ext: &Ext, slot: u16, number: u16) -> bool
     requires { number < ext.now.props }
     ensures { result ≡ is_had (record ext.now { sets = slice_set ext.now.sets slot [] }) number }
 {
@@ -32,9 +31,7 @@ impl Parts {
         requires { IsSome (word_of self.now.dict number) }
         ensures { result ≡ is_used (emptied self.now slot) number }
     {
-        self.declared.get(u32::from(number))
-            || is_had_without(&self.ext, slot, number)
-            || is_named_left(&self.dict, self.axioms.as_slice(), number)
+        self.is_used_beside(Some(slot), number)
     }
 
     /// Forgets the words of those numbers that nothing uses but the description in a slot without a file.

@@ -1,6 +1,6 @@
 use Rattle.std.proofs.Common.{◌+◌, ◌/◌, sym, ap, ◌∙◌, length, set, map, take, true, arith}
 use Rattle.lis_content.specs.Content.{marked}
-use Rattle.lis_content.proofs.Numbers.{length-marked}
+use Rattle.lis_kept.proofs.Common.{length-marked}
 use Rattle.lis_kept.specs.Areas.{block_of}
 use Rattle.lis_kept.specs.Areas.Area.{Rows}
 use Rattle.lis_kept.proofs.Marking.{marked_next, row_home}

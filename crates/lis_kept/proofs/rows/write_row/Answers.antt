@@ -1,8 +1,7 @@
 use Rattle.std.proofs.Common.{rules, ◌≡◌, ◌/◌, ◌<◌, length, replicate, ap, ◌∙◌, arith}
-use Rattle.lis_bits.specs.Rows.{get}
+use Rattle.lis_kept.proofs.Common.{get, has}
 use Rattle.lis_bits.specs.Bytes.{bits_bytes}
 use Rattle.lis_bits.proofs.Numbers.{bytes_same}
-use Rattle.lis_ext.specs.Ext.{has}
 use Rattle.lis_kept.proofs.Formed.{none_past}
 use Rattle.lis_kept.proofs.RowBytes.{row_bytes_none}
 use Rattle.lis_kept.proofs.rows.write_row.Goals as goal

@@ -1,5 +1,5 @@
 use Rattle.std.proofs.Common.{◌≡◌, ℕ, ◌+◌, ◌*◌, ◌<◌}
-use Rattle.lis_ports.specs.Bytes.{part}
+use Rattle.lis_kept.proofs.Common.{part}
 use Rattle.lis_kept.specs.Rows.{row_bytes}
 use Rattle.lis_kept.proofs.rows.write_rows.Given as goal
 

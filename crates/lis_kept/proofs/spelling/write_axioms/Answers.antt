@@ -1,5 +1,5 @@
 use Rattle.std.proofs.Common.{◌∙◌, ap, ◌+◌, arith}
-use Rattle.lis_fields.specs.Layouts.{axiom_bytes}
+use Rattle.lis_kept.proofs.Common.{axiom_bytes}
 use Rattle.lis_kept.specs.Kept.{axiom_at}
 use Rattle.lis_kept.proofs.Blocks.{one_slot_more}
 use Rattle.lis_kept.proofs.spelling.write_axioms.Goals as goal

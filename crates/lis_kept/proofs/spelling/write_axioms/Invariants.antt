@@ -1,6 +1,5 @@
 use Rattle.std.proofs.Common.{◌≡◌, ℕ, ◌+◌, ◌*◌, ◌<◌}
-use Rattle.lis_ports.specs.Bytes.{part}
-use Rattle.lis_fields.specs.Layouts.{axiom_bytes}
+use Rattle.lis_kept.proofs.Common.{part, axiom_bytes}
 use Rattle.lis_kept.specs.Kept.{axiom_at}
 use Rattle.lis_kept.proofs.spelling.write_axioms.Given as goal
 

@@ -1,6 +1,5 @@
 use Rattle.std.proofs.Common.{◌≡◌, ℕ, ◌+◌, ◌*◌, ◌<◌}
-use Rattle.lis_ports.specs.Bytes.{part}
-use Rattle.lis_fields.specs.Layouts.{prop_bytes}
+use Rattle.lis_kept.proofs.Common.{part, prop_bytes}
 use Rattle.lis_kept.specs.Kept.{property_at}
 use Rattle.lis_kept.proofs.spelling.write_properties.Given as goal
 

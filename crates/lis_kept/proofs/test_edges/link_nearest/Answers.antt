@@ -1,5 +1,5 @@
 use Rattle.std.proofs.Common.{sym, ap, ◌∙◌}
-use Rattle.lis_model.specs.Tests.{are_weaker}
+use Rattle.lis_kept.proofs.Common.{are_weaker}
 use Rattle.lis_kept.specs.TestEdges.{declared_test}
 use Rattle.lis_kept.proofs.TestChains.{some_none, some_added}
 use Rattle.lis_kept.proofs.test_edges.link_nearest.Goals as goal

@@ -1,5 +1,5 @@
 use Rattle.std.proofs.Common.{◌∙◌, sym, ap}
-use Rattle.lis_dict.specs.Dict.{word_of}
+use Rattle.lis_kept.proofs.Common.{word_of}
 use Rattle.lis_kept.specs.Telling.{is_head_by}
 use Rattle.lis_kept.proofs.Used.{is_at, head_by_number}
 use Rattle.lis_kept.proofs.words.has_head.Goals as goal

@@ -1,5 +1,5 @@
 use Rattle.std.proofs.Common.{◌≡◌, ◌∙◌, ℕ, true, Option, IfSome, subst}
-use Rattle.lis_taxonomy.specs.Taxonomy.{has_edge}
+use Rattle.lis_kept.proofs.Common.{has_edge}
 use Rattle.lis_kept.proofs.HeadEdges.{not_absent}
 use Rattle.lis_kept.proofs.words.unlink_head.Goals as goal
 

@@ -1,9 +1,6 @@
 use Rattle.std.proofs.Common.{List, [], sym, ap, ◌∙◌}
-use Rattle.std.specs.BTreeSet.{insert_key}
-use Rattle.std.specs.List.{find, fold}
+use Rattle.lis_kept.proofs.Common.{insert_key, find, fold, word_from_number, AxiomSlot}
 use Rattle.std.specs.Option.{option_map}
-use Rattle.lis_dict.proofs.Laws.{word_from_number}
-use Rattle.lis_fields.specs.declared.slots.AxiomSlot.{AxiomSlot}
 use Rattle.lis_model.specs.State.{pair_cmp}
 use Rattle.lis_kept.specs.Kept.{Kept}
 use Rattle.lis_kept.specs.Behind.{rights_of, is_behind}

@@ -1,5 +1,5 @@
 use Rattle.std.proofs.Common.{◌∙◌, map, set, ap, arith}
-use Rattle.lis_ext.specs.Ext.{Ext}
+use Rattle.lis_kept.proofs.Common.{Ext}
 use Rattle.lis_ext.specs.Numbers.{differs}
 use Rattle.lis_content.specs.Content.{marked}
 use Rattle.lis_kept.specs.Areas.{block_of}

@@ -1,8 +1,5 @@
 use Rattle.std.proofs.Common.{◌∙◌, ◌≤◌, ap, sym, subst, ◌≡◌, length}
-use Rattle.std.proofs.lemmas.Option.{same_Some}
-use Rattle.lis_catalog.specs.Catalog.{rec_at}
-use Rattle.lis_content.specs.Large.{slot_count}
-use Rattle.lis_fields.specs.Records.{FileRecord}
+use Rattle.lis_kept.proofs.Common.{same_Some, rec_at, slot_count, FileRecord}
 use Rattle.lis_fields.proofs.Parts.{size_fits}
 use Rattle.lis_model.specs.Image.{image_blocks}
 use Rattle.lis_kept.specs.Kept.{Kept}

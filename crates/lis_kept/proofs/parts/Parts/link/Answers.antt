@@ -1,12 +1,14 @@
-use Rattle.std.proofs.Common.{◌∙◌, ◌<◌, ℕ, refl, sym, ap, ap₂, subst, set, is_some, arith}
+use Rattle.std.proofs.Common.{◌≡◌, Some, ◌∙◌, ◌<◌, ℕ, refl, sym, ap, ap₂, subst, set, is_some, arith}
 use Rattle.std.specs.List.{position}
-use Rattle.lis_taxonomy.specs.Taxonomy.{with_edge}
-use Rattle.lis_fields.specs.declared.slots.AxiomSlot.TheVariants.{Free as FreeAxiom, Pair}
-use Rattle.lis_kept.specs.Linking.{is_free, MayLink}
+use Rattle.lis_kept.proofs.Common.{with_edge, FreeAxiom, Pair}
+use Rattle.lis_kept.specs.Linking.{is_free, MayLink, Links}
+use Rattle.lis_kept.specs.Kept.{Kept}
+use Rattle.lis_kept.specs.Links.{AreHeld}
 use Rattle.lis_kept.proofs.Formed.{named_below}
 use Rattle.lis_kept.proofs.AxiomSlots.{first_is_some, first_no_later, free_place}
 use Rattle.lis_kept.proofs.AxiomMore.{link_refused, links}
 use Rattle.lis_kept.specs.contracts.parts.Parts.{the_view}
+use Rattle.lis_kept.proofs.parts.Parts.link.Goals.{In-Some}
 use Rattle.lis_kept.proofs.parts.Parts.link.Goals as goal
 
 pub unreachable-requires : goal.unreachable-requires
@@ -15,48 +17,47 @@ unreachable-requires c =
     let may = subst (MayLink c.args.left c.args.right) (sym c.self.view_is) c.requires in
     first_is_some is_free v.axioms may.slot FreeAxiom may.free refl (ap (position is_free) (sym c.as_slice.ensures.value) ∙ (sym c.free_slot.ensures ∙ c.in_default.is))
 
+may : (c : In-Some) → MayLink c.args.left c.args.right (the_view c.self.inside)
+may c = subst (MayLink c.args.left c.args.right) (sym c.self.view_is) c.requires
+
+place : (c : In-Some) → position is_free (the_view c.self.inside).axioms ≡ Some c.in-Some.slot
+place c = ap (position is_free) (sym c.as_slice.ensures.value) ∙ (sym c.free_slot.ensures ∙ c.in-Some.is)
+
+below : (c : In-Some) → c.in-Some.slot < (the_view c.self.inside).limits.props
+below c = omega (arith, first_no_later is_free (the_view c.self.inside).axioms (may c).slot c.in-Some.slot FreeAxiom (may c).free refl (place c), (may c).below)
+
 pub add-requires-clause-p : goal.add-requires-clause-p
 add-requires-clause-p c =
-    let may = subst (MayLink c.args.left c.args.right) (sym c.self.view_is) c.requires in
-    omega (arith, named_below (the_view c.self.inside) c.self.invariant.sound c.args.left (ap is_some may.is_left), c.from-left.ensures, c.self.invariant.links.props)
+    let side = ap is_some (may (goal.at.add-requires-clause-p c).In-Some).is_left in
+    omega (arith, named_below (the_view c.self.inside) c.self.invariant.sound c.args.left side, c.from-left.ensures, c.self.invariant.links.props)
 
 pub add-requires-clause-q : goal.add-requires-clause-q
 add-requires-clause-q c =
-    let may = subst (MayLink c.args.left c.args.right) (sym c.self.view_is) c.requires in
-    omega (arith, named_below (the_view c.self.inside) c.self.invariant.sound c.args.right (ap is_some may.is_right), c.from-right.ensures, c.self.invariant.links.props)
+    let side = ap is_some (may (goal.at.add-requires-clause-q c).In-Some).is_right in
+    omega (arith, named_below (the_view c.self.inside) c.self.invariant.sound c.args.right side, c.from-right.ensures, c.self.invariant.links.props)
 
 pub unreachable-requires-in_default-add : goal.unreachable-requires-in_default-add
 unreachable-requires-in_default-add c =
-    let may = subst (MayLink c.args.left c.args.right) (sym c.self.view_is) c.requires in
-    link_refused (the_view c.self.inside) c.self.inside.taxonomy c.self.invariant c.args.left c.args.right may c.from-left.result c.from-right.result _ c.add.result
+    link_refused (the_view c.self.inside) c.self.inside.taxonomy c.self.invariant c.args.left c.args.right (may (goal.at.unreachable-requires-in_default-add c).In-Some) c.from-left.result c.from-right.result _ c.add.result
     c.in_default-add.is c.add.ensures.present c.add.ensures.cycle c.add.ensures.not_absent c.from-left.ensures c.from-right.ensures
 
 pub mark_axiom-requires-clause-slot : goal.mark_axiom-requires-clause-slot
-mark_axiom-requires-clause-slot c =
+mark_axiom-requires-clause-slot c = below (goal.at.mark_axiom-requires-clause-slot c).In-Some
+
+abbrev now : goal.After-mark_axiom → Kept
+now c = record (the_view c.self.inside) { axioms = set (the_view c.self.inside).axioms c.in-Some.slot (Pair c.from-left.result c.from-right.result); marks = c.mark_axiom.new.marks }
+
+made : (c : goal.After-mark_axiom) → AreHeld (now c) c.add.new.self × Links c.args.left c.args.right c.args.self.now (now c)
+made c =
+    let at = (goal.at.returns c).In-Some in
     let v = the_view c.self.inside in
-    let may = subst (MayLink c.args.left c.args.right) (sym c.self.view_is) c.requires in
-    let place = ap (position is_free) (sym c.as_slice.ensures.value) ∙ (sym c.free_slot.ensures ∙ c.in-Some.is) in
-    omega (arith, first_no_later is_free v.axioms may.slot c.in-Some.slot FreeAxiom may.free refl place, may.below)
+    links c.args.self.now v c.self.inside.taxonomy c.add.new.self c.args.left c.args.right c.in-Some.slot (set v.axioms c.in-Some.slot (Pair c.from-left.result c.from-right.result)) c.mark_axiom.new.marks
+    c.self.view_is c.self.invariant (may at) (below at) (free_place v.axioms c.in-Some.slot (place at))
+    (ap₂ (λ (x y : ℕ). set v.axioms c.in-Some.slot (Pair x y)) c.from-left.ensures c.from-right.ensures)
+    (c.in-Ok.ensures.ok ∙ ap₂ (λ (x y : ℕ). with_edge c.self.inside.taxonomy x y) c.from-left.ensures c.from-right.ensures) c.mark_axiom.ensures
 
 pub invariant_of-self : goal.invariant_of-self
-invariant_of-self c =
-    let v = the_view c.self.inside in
-    let may = subst (MayLink c.args.left c.args.right) (sym c.self.view_is) c.requires in
-    let place = ap (position is_free) (sym c.as_slice.ensures.value) ∙ (sym c.free_slot.ensures ∙ c.in-Some.is) in
-    let below : c.in-Some.slot < v.limits.props = omega (arith, first_no_later is_free v.axioms may.slot c.in-Some.slot FreeAxiom may.free refl place, may.below) in
-    (links c.args.self.now v c.self.inside.taxonomy c.add.new.self c.args.left c.args.right c.in-Some.slot (set v.axioms c.in-Some.slot (Pair c.from-left.result c.from-right.result)) c.mark_axiom.new.marks
-    c.self.view_is c.self.invariant may below (free_place v.axioms c.in-Some.slot place)
-    (ap₂ (λ (x y : ℕ). set v.axioms c.in-Some.slot (Pair x y)) c.from-left.ensures c.from-right.ensures)
-    (c.in-Ok.ensures.ok ∙ ap₂ (λ (x y : ℕ). with_edge c.self.inside.taxonomy x y) c.from-left.ensures c.from-right.ensures) c.mark_axiom.ensures).0
+invariant_of-self c = (made c).0
 
 pub returns : goal.returns
-returns c =
-    let v = the_view c.self.inside in
-    let may = subst (MayLink c.args.left c.args.right) (sym c.self.view_is) c.requires in
-    let place = ap (position is_free) (sym c.as_slice.ensures.value) ∙ (sym c.free_slot.ensures ∙ c.in-Some.is) in
-    let below : c.in-Some.slot < v.limits.props = omega (arith, first_no_later is_free v.axioms may.slot c.in-Some.slot FreeAxiom may.free refl place, may.below) in
-    let both = links c.args.self.now v c.self.inside.taxonomy c.add.new.self c.args.left c.args.right c.in-Some.slot (set v.axioms c.in-Some.slot (Pair c.from-left.result c.from-right.result)) c.mark_axiom.new.marks
-    c.self.view_is c.self.invariant may below (free_place v.axioms c.in-Some.slot place)
-    (ap₂ (λ (x y : ℕ). set v.axioms c.in-Some.slot (Pair x y)) c.from-left.ensures c.from-right.ensures)
-    (c.in-Ok.ensures.ok ∙ ap₂ (λ (x y : ℕ). with_edge c.self.inside.taxonomy x y) c.from-left.ensures c.from-right.ensures) c.mark_axiom.ensures in
-    record { links = both.1; sound = both.0.sound }
+returns c = record { links = (made c).1; sound = (made c).0.sound }

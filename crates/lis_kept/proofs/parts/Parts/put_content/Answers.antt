@@ -23,13 +23,13 @@ ends g c =
       | then-is_large w ↦
           let r = w.place_file-put in
           rw (w.journal-is, w.disk-is, w.put-is, w.self-inside-is)
-          (placed_ends items k v t c.self.view_is c.self.invariant c.args.bytes.now old r.new.journal may r.new.map c.mark_bitmap.new.marks c.mark_bitmap.ensures c.data_start-base.result c.data_start-base.ensures.start
-          before (g.D.Disk.meaning r.new.disk) (sym c.is_large.ensures ∙ w.if-is_large.true) r.result r.ensures.ended)
+          (placed_ends items k v t c.self.view_is c.self.invariant c.args.bytes.now old r.new.journal may r.new.map c.mark_bitmap.new.marks c.mark_bitmap.ensures
+          before (g.D.Disk.meaning r.new.disk) (sym c.is_large.ensures ∙ w.if-is_large.true) r.result (rw c.data_start-base.ensures.start at r.ensures.ended))
       | else-is_large w ↦
           let r = w.put-put in
           rw (w.journal-is, w.disk-is, w.put-is, w.self-inside-is, r.ensures.disk)
-          (staged_ends items k v t c.self.view_is c.self.invariant c.args.bytes.now old r.new.journal may r.new.map c.mark_bitmap.new.marks c.mark_bitmap.ensures c.data_start-base.result c.data_start-base.ensures.start
-          before (sym c.is_large.ensures ∙ w.if-is_large.false) r.result r.ensures.ended)
+          (staged_ends items k v t c.self.view_is c.self.invariant c.args.bytes.now old r.new.journal may r.new.map c.mark_bitmap.new.marks c.mark_bitmap.ensures
+          before (sym c.is_large.ensures ∙ w.if-is_large.false) r.result (rw c.data_start-base.ensures.start at r.ensures.ended))
     ]
 
 pub invariant_of-self : goal.invariant_of-self

@@ -1,6 +1,5 @@
 use Rattle.std.proofs.Common.{◌+◌, ◌<◌, length, sym, ap, ◌∙◌, subst, arith}
-use Rattle.lis_journal.specs.Journal.{Held}
-use Rattle.lis_model.specs.Image.{data_start}
+use Rattle.lis_kept.proofs.Common.{Held, data_start}
 use Rattle.lis_kept.specs.Inside.{StagedBelow}
 use Rattle.lis_kept.proofs.Staged.{staged_none, staged_past, staged_more, staged_all}
 use Rattle.lis_kept.proofs.parts.Parts.stage.Goals as goal

@@ -1,11 +1,14 @@
-use Rattle.std.proofs.Common.{◌∙◌, ℕ, refl, sym, ap₂, subst, set, arith}
-use Rattle.lis_taxonomy.specs.Taxonomy.{without_edge}
-use Rattle.lis_fields.specs.declared.slots.AxiomSlot.TheVariants.{Free as FreeAxiom}
-use Rattle.lis_kept.specs.Linking.{MayUnlink}
+use Rattle.std.proofs.Common.{◌≡◌, Some, slice_get, ◌∙◌, ℕ, refl, sym, ap₂, subst, set, arith}
+use Rattle.lis_kept.proofs.Common.{without_edge, FreeAxiom, Pair}
+use Rattle.lis_kept.specs.Linking.{MayUnlink, Unlinks}
+use Rattle.lis_kept.specs.Kept.{Kept}
+use Rattle.lis_kept.specs.Links.{AreHeld}
+use Rattle.lis_kept.specs.Sound.{IsSoundAxiom}
 use Rattle.lis_kept.proofs.Formed.{named_below}
 use Rattle.lis_kept.proofs.AxiomSlots.{pair_found, pair_placed}
 use Rattle.lis_kept.proofs.AxiomLess.{unlink_missed, unlinks}
 use Rattle.lis_kept.specs.contracts.parts.Parts.{the_view}
+use Rattle.lis_kept.proofs.parts.Parts.unlink.Goals.{In-Some}
 use Rattle.lis_kept.proofs.parts.Parts.unlink.Goals as goal
 
 pub unreachable-requires : goal.unreachable-requires
@@ -14,45 +17,46 @@ unreachable-requires c =
     let may = subst (MayUnlink c.args.left c.args.right) (sym c.self.view_is) c.requires in
     pair_found v.axioms _ c.args.left c.args.right c.from-left.result c.from-right.result c.as_slice.ensures.value c.from-left.ensures c.from-right.ensures may.there (sym c.slot_of_pair.ensures ∙ c.in_default.is)
 
+may : (c : In-Some) → MayUnlink c.args.left c.args.right (the_view c.self.inside)
+may c = subst (MayUnlink c.args.left c.args.right) (sym c.self.view_is) c.requires
+
+at : (c : In-Some) → slice_get (the_view c.self.inside).axioms c.in-Some.slot ≡ Some (Pair c.args.left c.args.right)
+at c =
+    pair_placed (the_view c.self.inside).axioms _ c.args.left c.args.right c.from-left.result c.from-right.result c.in-Some.slot c.as_slice.ensures.value c.from-left.ensures c.from-right.ensures
+    (sym c.slot_of_pair.ensures ∙ c.in-Some.is)
+
+sides : (c : In-Some) → IsSoundAxiom (the_view c.self.inside) c.in-Some.slot c.args.left c.args.right
+sides c = c.self.invariant.sound.axioms c.in-Some.slot c.args.left c.args.right (at c)
+
 pub remove-requires-clause-p : goal.remove-requires-clause-p
 remove-requires-clause-p c =
-    let v = the_view c.self.inside in
-    let at = pair_placed v.axioms _ c.args.left c.args.right c.from-left.result c.from-right.result c.in-Some.slot c.as_slice.ensures.value c.from-left.ensures c.from-right.ensures (sym c.slot_of_pair.ensures ∙ c.in-Some.is) in
-    omega (arith, named_below v c.self.invariant.sound c.args.left (c.self.invariant.sound.axioms c.in-Some.slot c.args.left c.args.right at).left, c.from-left.ensures, c.self.invariant.links.props)
+    omega (arith, named_below (the_view c.self.inside) c.self.invariant.sound c.args.left (sides (goal.at.remove-requires-clause-p c).In-Some).left, c.from-left.ensures, c.self.invariant.links.props)
 
 pub remove-requires-clause-q : goal.remove-requires-clause-q
 remove-requires-clause-q c =
-    let v = the_view c.self.inside in
-    let at = pair_placed v.axioms _ c.args.left c.args.right c.from-left.result c.from-right.result c.in-Some.slot c.as_slice.ensures.value c.from-left.ensures c.from-right.ensures (sym c.slot_of_pair.ensures ∙ c.in-Some.is) in
-    omega (arith, named_below v c.self.invariant.sound c.args.right (c.self.invariant.sound.axioms c.in-Some.slot c.args.left c.args.right at).right, c.from-right.ensures, c.self.invariant.links.props)
+    omega (arith, named_below (the_view c.self.inside) c.self.invariant.sound c.args.right (sides (goal.at.remove-requires-clause-q c).In-Some).right, c.from-right.ensures, c.self.invariant.links.props)
 
 pub unreachable-requires-in_default-remove : goal.unreachable-requires-in_default-remove
 unreachable-requires-in_default-remove c =
-    let may = subst (MayUnlink c.args.left c.args.right) (sym c.self.view_is) c.requires in
-    unlink_missed (the_view c.self.inside) c.self.inside.taxonomy c.self.invariant c.args.left c.args.right may c.from-left.result c.from-right.result _ c.remove.result
+    unlink_missed (the_view c.self.inside) c.self.inside.taxonomy c.self.invariant c.args.left c.args.right (may (goal.at.unreachable-requires-in_default-remove c).In-Some) c.from-left.result c.from-right.result _ c.remove.result
     c.in_default-remove.is c.remove.ensures.absent (c.in_default-remove.is ∙ c.in_default-remove.ensures.only) c.from-left.ensures c.from-right.ensures
 
 pub mark_axiom-requires-clause-slot : goal.mark_axiom-requires-clause-slot
-mark_axiom-requires-clause-slot c =
+mark_axiom-requires-clause-slot c = (sides (goal.at.mark_axiom-requires-clause-slot c).In-Some).below
+
+abbrev now : goal.After-mark_axiom → Kept
+now c = record (the_view c.self.inside) { axioms = set (the_view c.self.inside).axioms c.in-Some.slot FreeAxiom; marks = c.mark_axiom.new.marks }
+
+made : (c : goal.After-mark_axiom) → AreHeld (now c) c.remove.new.self × Unlinks c.args.left c.args.right c.args.self.now (now c)
+made c =
+    let there = (goal.at.returns c).In-Some in
     let v = the_view c.self.inside in
-    let at = pair_placed v.axioms _ c.args.left c.args.right c.from-left.result c.from-right.result c.in-Some.slot c.as_slice.ensures.value c.from-left.ensures c.from-right.ensures (sym c.slot_of_pair.ensures ∙ c.in-Some.is) in
-    (c.self.invariant.sound.axioms c.in-Some.slot c.args.left c.args.right at).below
+    unlinks c.args.self.now v c.self.inside.taxonomy c.remove.new.self c.args.left c.args.right c.in-Some.slot (set v.axioms c.in-Some.slot FreeAxiom) c.mark_axiom.new.marks
+    c.self.view_is c.self.invariant (may there) (at there) refl
+    (c.in-Ok.ensures.ok ∙ ap₂ (λ (x y : ℕ). without_edge c.self.inside.taxonomy x y) c.from-left.ensures c.from-right.ensures) c.mark_axiom.ensures
 
 pub invariant_of-self : goal.invariant_of-self
-invariant_of-self c =
-    let v = the_view c.self.inside in
-    let may = subst (MayUnlink c.args.left c.args.right) (sym c.self.view_is) c.requires in
-    let at = pair_placed v.axioms _ c.args.left c.args.right c.from-left.result c.from-right.result c.in-Some.slot c.as_slice.ensures.value c.from-left.ensures c.from-right.ensures (sym c.slot_of_pair.ensures ∙ c.in-Some.is) in
-    (unlinks c.args.self.now v c.self.inside.taxonomy c.remove.new.self c.args.left c.args.right c.in-Some.slot (set v.axioms c.in-Some.slot FreeAxiom) c.mark_axiom.new.marks
-    c.self.view_is c.self.invariant may at refl
-    (c.in-Ok.ensures.ok ∙ ap₂ (λ (x y : ℕ). without_edge c.self.inside.taxonomy x y) c.from-left.ensures c.from-right.ensures) c.mark_axiom.ensures).0
+invariant_of-self c = (made c).0
 
 pub returns : goal.returns
-returns c =
-    let v = the_view c.self.inside in
-    let may = subst (MayUnlink c.args.left c.args.right) (sym c.self.view_is) c.requires in
-    let at = pair_placed v.axioms _ c.args.left c.args.right c.from-left.result c.from-right.result c.in-Some.slot c.as_slice.ensures.value c.from-left.ensures c.from-right.ensures (sym c.slot_of_pair.ensures ∙ c.in-Some.is) in
-    let both = unlinks c.args.self.now v c.self.inside.taxonomy c.remove.new.self c.args.left c.args.right c.in-Some.slot (set v.axioms c.in-Some.slot FreeAxiom) c.mark_axiom.new.marks
-    c.self.view_is c.self.invariant may at refl
-    (c.in-Ok.ensures.ok ∙ ap₂ (λ (x y : ℕ). without_edge c.self.inside.taxonomy x y) c.from-left.ensures c.from-right.ensures) c.mark_axiom.ensures in
-    record { unlinks = both.1; sound = both.0.sound }
+returns c = record { unlinks = (made c).1; sound = (made c).0.sound }

@@ -1,7 +1,6 @@
 use Rattle.std.proofs.Common.{◌≡◌, ◌<◌, ℕ, true, List, sym, subst, arith}
-use Rattle.lis_model.specs.Image.{bitmap_start}
+use Rattle.lis_kept.proofs.Common.{bitmap_start, AxiomSlot}
 use Rattle.lis_fields.specs.Layouts.{is_axiom}
-use Rattle.lis_fields.specs.declared.slots.AxiomSlot.{AxiomSlot}
 use Rattle.lis_kept.specs.Kept.{Kept, axiom_at}
 use Rattle.lis_kept.specs.Inside.{IsBlock}
 use Rattle.lis_kept.specs.contracts.parts.Parts.{the_view}

@@ -1,5 +1,5 @@
 use Rattle.std.proofs.Common.{◌<◌, ◌∙◌, sym, ap, subst, arith}
-use Rattle.lis_bits.specs.Rows.{NoneTrue}
+use Rattle.lis_kept.proofs.Common.{NoneTrue}
 use Rattle.lis_kept.specs.Telling.{is_had}
 use Rattle.lis_kept.proofs.Without.{left_out, none_had, first_had, next_had}
 use Rattle.lis_kept.proofs.words.without.is_had_without.Goals as goal
