@@ -1,22 +1,10 @@
 -- A call that adds a file.
-use Rattle.std.proofs.Common.{◌≡◌, ◌⊎◌, refl, sym, ap, ◌∙◌, subst, inl, inr, ℕ, ◌+◌, ◌<◌, ◌≤◌, true, false, Bool, List, length, set, [], Result, Err, arith, get_or-set_same}
-use Rattle.std.proofs.lemmas.Bool.{both_ways, cases_lt}
-use Rattle.lis_ports.specs.Meaning.{Meaning}
-use Rattle.lis_journal.specs.Journal.{Held}
-use Rattle.lis_journal.specs.Phases.{looked}
-use Rattle.lis_blockmap.specs.Bitmap.{free_count}
-use Rattle.lis_content.specs.Content.{has_home, marked}
-use Rattle.lis_content.specs.Large.{is_large}
-use Rattle.lis_ext.specs.Ext.{Ext}
-use Rattle.lis_model.specs.declared.limits.Limits.{Limits}
-use Rattle.lis_model.specs.Image.{bitmap_start, data_start, image_blocks}
-use Rattle.lis_model.specs.State.{State, blocks_taken, used_blocks}
-use Rattle.lis_model.specs.Changes.{new_file, file_added}
-use Rattle.lis_model.specs.Step.{Situation, Outcome, changed}
-use Rattle.lis_kept.specs.Kept.{Kept}
-use Rattle.lis_kept.specs.Areas.{IsSaved, is_marked, marked_count}
-use Rattle.lis_kept.specs.Sound.{AreSound}
-use Rattle.lis_kept.specs.Changes.{Puts, Lands}
+use Rattle.std.proofs.Common.{◌≡◌, ◌⊎◌, refl, sym, ap, ◌∙◌, subst, inl, inr, ℕ, ◌+◌, ◌<◌, ◌≤◌, true, false, Bool, List, length, set, [], None, Result, Err, arith, get_or-set_same}
+use Rattle.lis_store.proofs.Common.{cases_lt, Meaning, Held, looked, free_count, has_home, is_large, Ext, Limits, bitmap_start, data_start, image_blocks, State, blocks_taken, used_blocks, new_file, file_added, Situation, Outcome, Kept, IsSaved, is_marked, marked_count, AreSound, Puts, Tells}
+use Rattle.std.proofs.lemmas.Bool.{both_ways}
+use Rattle.lis_content.specs.Content.{has_number, marked}
+use Rattle.lis_model.specs.Step.{changed}
+use Rattle.lis_kept.specs.Changes.{Lands}
 use Rattle.lis_store.specs.declared.change.Change.{Change}
 use Rattle.lis_store.specs.declared.change.Change.TheVariants.{Refused, Disk}
 use Rattle.lis_store.specs.Stored.{Stored, IsSound, StoreHolds}
@@ -24,17 +12,15 @@ use Rattle.lis_store.specs.Contents.{ContentTorn, ContentPut, ContentEnded}
 use Rattle.lis_store.specs.Changes.{Holds}
 use Rattle.lis_store.specs.Saving.{settled, ArePlaced, IsReady, Saves}
 use Rattle.lis_store.specs.Admitting.{IsAdmitted}
-use Rattle.lis_store.specs.Adding.{PutsIn}
-use Rattle.lis_store.specs.ReplacingIn.{AreInForm}
-use Rattle.lis_store.proofs.Added.{form_added, same_axioms, same_limits}
+use Rattle.lis_store.specs.ReplacingIn.{AreInForm, RefilesIn}
 use Rattle.lis_store.proofs.Edits.{AreEditsFew}
-use Rattle.lis_store.proofs.AddedMarks.{few_marked, stay_marked, few_edits}
-use Rattle.lis_store.proofs.AddedTells.{ArePut, ready_added}
 use Rattle.lis_store.proofs.Cleaned.{none_marked}
 use Rattle.lis_store.proofs.Elsewhere.{saved_elsewhere, no_home_before}
 use Rattle.lis_store.proofs.Facts.{limits_told}
 use Rattle.lis_store.proofs.FreeBlocks.{used_told}
-use Rattle.lis_store.proofs.Replaced.{in_form, settled_sound}
+use Rattle.lis_store.proofs.Housed.{IsHoused, given_last}
+use Rattle.lis_store.proofs.Refiled.{form_refiled, limits_refiled, axioms_refiled, saved_refiled, marked_refiled, edits_refiled, few_refiled, tells_refiled}
+use Rattle.lis_store.proofs.Retaken.{in_form, settled_sound}
 use Rattle.lis_store.proofs.Steps.{form_taken, pairs_same, holds_behind, puts_stand, puts_past, put_stands}
 use Rattle.lis_store.proofs.Torn.{torn_sound, torn_holds, ended_broken}
 use Rattle.lis_store.proofs.ToldBy.{told_held}
@@ -64,7 +50,7 @@ home_behind base n blocks has = by (cases_lt n base)
 
 -- ---- its bytes are put into blocks
 module _ (old : Stored) (mid : Kept) (j : Held) (bytes numbers : List ℕ) (before placed : Meaning) (put : Puts bytes numbers old.parts mid old.journal j before placed) (sound : IsSound old) where
-  form_put : AreInForm mid
+  pub form_put : AreInForm mid
   form_put = form_taken old.parts mid (marked old.parts.taken put.blocks) put.takes (in_form old sound)
 
   pub limits_put : mid.limits ≡ old.parts.limits
@@ -80,34 +66,26 @@ module _ (old : Stored) (mid : Kept) (j : Held) (bytes numbers : List ℕ) (befo
       ∙ get_or-set_same old.parts.marks (bitmap_start old.parts.limits) true false (omega (arith, sound.parts.marks))
 
   -- ---- and it is put in
-  module _ (q : Kept) (name : List ℕ) (assigned : List (List ℕ)) (unbroken : old.is_broken ≡ false) (admitted : IsAdmitted old.parts (new_file name assigned bytes)) (puts : PutsIn (new_file name assigned bytes) numbers mid q) where
-    abbrev admitted_mid : IsAdmitted mid (new_file name assigned bytes)
-    admitted_mid = admitted_put name assigned admitted
-
+  module _ (q : Kept) (name : List ℕ) (assigned : List (List ℕ)) (unbroken : old.is_broken ≡ false) (puts : RefilesIn None (new_file name assigned bytes) numbers mid q) where
     limits_then : q.limits ≡ old.parts.limits
-    limits_then = same_limits mid q name assigned bytes numbers form_put admitted_mid puts ∙ limits_put
+    limits_then = limits_refiled puts ∙ limits_put
 
     pub added_sound : AreSound q → IsSound (settled q j)
     added_sound after =
-        settled_sound q j (form_added mid q name assigned bytes numbers form_put admitted_mid puts after)
-        (pairs_same old.parts q (same_axioms mid q name assigned bytes numbers form_put admitted_mid puts ∙ ap (λ (k : Kept). k.axioms) put.takes.parts) sound.pairs)
+        settled_sound q j (form_refiled puts) (pairs_same old.parts q (axioms_refiled puts ∙ ap (λ (k : Kept). k.axioms) put.takes.parts) sound.pairs)
         (put.image ∙ (sound.image ∙ ap image_blocks (sym limits_then))) (put.broken ∙ sound.journal unbroken)
 
     pub added_placed : ArePlaced q j
     added_placed n among = (
       subst (λ (l : Limits). data_start l ≤ n) (sym limits_then) (home_behind (data_start old.parts.limits) n put.blocks (put.placed n among)),
-      ap (λ (l : Limits). is_marked q (bitmap_start l)) limits_then
-          ∙ stay_marked mid q name assigned bytes numbers form_put.sound admitted_mid puts form_put.free (bitmap_start old.parts.limits) bitmap_marked,
+      ap (λ (l : Limits). is_marked q (bitmap_start l)) limits_then ∙ marked_refiled puts (bitmap_start old.parts.limits) bitmap_marked,
     )
 
     pub added_marks : length j.staged + marked_count q ≤ 575
-    added_marks =
-        let few = few_marked mid q name assigned bytes numbers form_put.sound admitted_mid puts form_put.free in
-        omega (arith, few, put.takes.marks.few, none_marked old.parts (sound.clean unbroken), put.few_staged, sound.few unbroken)
+    added_marks = omega (arith, few_refiled None form_put puts, put.takes.marks.few, none_marked old.parts (sound.clean unbroken), put.few_staged, sound.few unbroken)
 
     pub added_edits : AreEditsFew old.parts.ext q.ext
-    added_edits =
-        subst (λ (e : Ext). AreEditsFew e q.ext) (ap (λ (k : Kept). k.ext) put.takes.parts) (few_edits mid q name assigned bytes numbers form_put.sound admitted_mid puts form_put.free)
+    added_edits = subst (λ (e : Ext). AreEditsFew e q.ext) (ap (λ (k : Kept). k.ext) put.takes.parts) (edits_refiled puts)
 
     module _ (base : State) (now : Situation) (holds : StoreHolds old before base now.state) (enough : blocks_taken old.parts.limits.version (length bytes) ≤ free_count old.parts.taken) where
       abbrev made : State
@@ -122,8 +100,11 @@ module _ (old : Stored) (mid : Kept) (j : Held) (bytes numbers : List ℕ) (befo
       abbrev there : ℕ → List ℕ
       there = looked j.staged lands.kept
 
-      are_put : ArePut old.parts (marked old.parts.taken put.blocks) bytes numbers put.blocks at there
-      are_put = record { were_free = put.fills.were_free; distinct = put.fills.distinct; marks = refl; same = lands.same; holds = lands.holds }
+      housed : IsHoused old.parts.limits old.parts.taken (marked old.parts.taken put.blocks) [] put.blocks bytes numbers at there
+      housed =
+          let taken = old.parts.taken in
+          given_last old.parts.limits taken (marked taken put.blocks) (marked taken put.blocks) [] put.blocks bytes numbers at there sound.parts.blocks put.fills.distinct lands.holds lands.same put.fills.were_free
+          (λ n none. absurd (both_ways (has_number [] n) refl none)) refl refl
 
       room : used_blocks now.state + blocks_taken now.state.limits.version (length bytes) ≤ now.state.limits.blocks
       room =
@@ -136,21 +117,22 @@ module _ (old : Stored) (mid : Kept) (j : Held) (bytes numbers : List ℕ) (befo
           put.takes.marks.saved there
           (saved_elsewhere old.parts put.blocks at there sound.parts put.fills.were_free (λ n out none. lands.same n none) (λ area n lt unmarked. holds.written area n lt))
 
-      ready : AreSound q → IsReady q there made
-      ready after =
-          let R : Kept → Type 0 = λ k.
-          AreSound k → IsAdmitted k (new_file name assigned bytes) → PutsIn (new_file name assigned bytes) numbers k q → IsSaved k there → IsReady q there made in
-          subst R (sym put.takes.parts)
-          (λ sound_then admitted_then puts_then saved_then.
-          ready_added old.parts (marked old.parts.taken put.blocks) (set old.parts.marks (bitmap_start old.parts.limits) true) q name assigned bytes numbers sound.parts sound_then admitted_then puts_then after at there now.state sound.free holds.tells put.blocks are_put room saved_then)
-          form_put.sound admitted_mid puts saved
+      ready : IsReady q there made
+      ready =
+          let file = new_file name assigned bytes in
+          let T : Kept → Type 0 = λ k. AreInForm k → RefilesIn None file numbers k q → Tells q there made in
+          record {
+            tells = subst T (sym put.takes.parts)
+                (λ form refiles. tells_refiled old.parts (marked old.parts.taken put.blocks) (set old.parts.marks (bitmap_start old.parts.limits) true) form refiles sound.parts holds.tells housed room) form_put puts;
+            saved = saved_refiled puts there saved;
+          }
 
       pub added_holds : {T : Type 0} (new : Stored) (after : Meaning) (result : Result T Change) → (is_large (length bytes) ≡ true → old.journal.staged ≡ []) → Saves q j new placed after result
           → Holds base now (changed now made) new before after result
       added_holds new after result alone saves =
           holds_behind base now (changed now made) new before placed after result (puts_stand old base now.state before sound holds bytes numbers mid j placed put alone)
           (puts_past old base now.state before sound holds put.blocks placed put.fills)
-          (saves base now (changed now made) made lands.kept lands.fits (limits_then ∙ holds.limits) (put_stands old base now.state before sound holds bytes numbers mid j placed put alone) ready refl)
+          (saves base now (changed now made) made lands.kept lands.fits (limits_then ∙ holds.limits) (put_stands old base now.state before sound holds bytes numbers mid j placed put alone) (λ _. ready) refl)
 
 -- ---- the disk fails while they are put
 put_err : (bytes : List ℕ) (p q : Kept) (old new : Held) (before after : Meaning) (change : Change) → ContentPut bytes p q old new before after (Err change) → (change ≡ Disk) × ContentTorn bytes p q old new before after

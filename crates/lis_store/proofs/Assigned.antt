@@ -1,37 +1,23 @@
 -- The words that a new file is given: which they are, and how they are put into a set.
-use Rattle.std.proofs.Common.{◌≡◌, ◌⊎◌, refl, sym, ap, ap₂, ◌∙◌, subst, inl, inr, ℕ, suc, ◌+◌, ◌<◌, ◌≤◌, ◌==◌, nat_le, Bool, true, false, cond, ◌&&◌, ◌||◌, is_some, IsSome, Option, Some, None, List, [], ◌∷◌, ◌++◌, length, take, drop, get_or, filter, slice_get, arith}
-use Rattle.std.specs.Prelude.{unwrap_or, option_map}
-use Rattle.std.specs.List.{flat_map, list_all, prefix_len, insert}
-use Rattle.std.specs.List.Sorted.{IsStrictlySortedBy}
-use Rattle.std.specs.declared.cmp.Ordering.{Ordering}
-use Rattle.std.specs.declared.cmp.Ordering.TheVariants.{Less, Equal, Greater}
-use Rattle.std.specs.Ordering.{is_gt, match_ordering}
-use Rattle.std.specs.Cmp.{tied_itself}
-use Rattle.std.proofs.lemmas.Bool.{and_parts, and_from, both_ways, eqb-false, leb-true, leb-false, le-leb, false_from_ne_true}
-use Rattle.std.proofs.lemmas.List.{take_more, take-append-drop}
-use Rattle.std.proofs.lemmas.List.Edits.{length-insert}
+use Rattle.std.proofs.Common.{◌≡◌, ◌⊎◌, refl, sym, ap, ap₂, ◌∙◌, subst, inl, inr, ℕ, suc, ◌+◌, ◌<◌, nat_le, Bool, true, false, cond, ◌&&◌, ◌||◌, is_some, IsSome, Option, Some, None, List, [], ◌∷◌, ◌++◌, length, take, drop, get_or, filter, slice_get, append-nil, arith}
+use Rattle.lis_store.proofs.Common.{unwrap_or, flat_map, list_all, IsStrictlySortedBy, Ordering, Less, Equal, Greater, match_ordering, tied_itself, and-true, and-false, or-false, and_parts, or_cases, leb-true, take_more, IsStrictlySortedBy-filter, Among, among_filter, filter_among, among_flat_map, sorted_nil, word_cmp, same_word, has_word, is_plain_word, is_valued, head_bytes, Formula, Node, nodes_of, node_words, with_word, with_words, place_words, is_assignable, assigned_at, word_exact, word_order, same_word_decides, among_from_has_word, among_with_words, with_words_new, among_set_of, sorted_with_words, sorted_set_of, plain_not_valued, Kept, is_declared, declared_of}
+use Rattle.std.specs.Prelude.{option_map}
+use Rattle.std.specs.List.{prefix_len, insert}
+use Rattle.std.specs.Ordering.{is_gt}
+use Rattle.std.proofs.lemmas.Bool.{and_from, or_left, or_right, both_ways, leb-false, le-leb, false_from_ne_true}
+use Rattle.std.proofs.lemmas.List.{take-append-drop}
 use Rattle.std.proofs.lemmas.List.Folds.{list_all-append}
-use Rattle.std.proofs.lemmas.List.Kept.{IsStrictlySortedBy-filter}
-use Rattle.std.proofs.lemmas.List.Sums.{prefix_len-le-length}
 use Rattle.std.proofs.lemmas.Grind.{flat_map-append}
-use Rattle.lis_graph.proofs.Members.{Among, among_filter, filter_among, among_flat_map, flat_map_among}
-use Rattle.lis_graph.proofs.Sets.{sorted_nil}
-use Rattle.lis_words.specs.Words.{word_cmp, same_word, has_word, is_plain_word, is_valued, head_bytes}
-use Rattle.lis_grammar.specs.Formula.{Formula}
+use Rattle.lis_graph.proofs.Members.{flat_map_among}
 use Rattle.lis_grammar.specs.Formula.Formula.{Has, SizeAtLeast, SizeBelow, Negation, Both, Either}
-use Rattle.lis_place.specs.declared.node.Node.{Node}
-use Rattle.lis_place.specs.declared.node.Node.TheVariants.{Word, AtLeast, Below, Not, And, Or}
-use Rattle.lis_place.specs.Nodes.{tree_node_list, nodes_of, node_words}
-use Rattle.lis_model.specs.Sets.{with_word, with_words, set_of}
-use Rattle.lis_model.specs.Places.{both_lists, conjuncts, all_conjuncts, place_words, is_tag}
-use Rattle.lis_model.specs.State.{is_assignable}
-use Rattle.lis_model.specs.Step.{tags_at, assigned_at}
-use Rattle.lis_laws.proofs.Members.{word_exact, word_order, same_word_decides, among_from_has_word, has_word_from_among, among_with_words, with_words_old, with_words_new, among_set_of, set_of_among, sorted_with_words, sorted_set_of, same_words}
+use Rattle.lis_place.specs.declared.node.Node.TheVariants.{Not, And, Or}
+use Rattle.lis_place.specs.Nodes.{tree_node_list}
+use Rattle.lis_model.specs.Sets.{set_of}
+use Rattle.lis_model.specs.Places.{both_lists, conjuncts, all_conjuncts, is_tag}
+use Rattle.lis_model.specs.Step.{tags_at}
+use Rattle.lis_laws.proofs.Members.{has_word_from_among, with_words_old, set_of_among, same_words}
 use Rattle.lis_laws.proofs.Counts.{all_among, all_from}
-use Rattle.lis_laws.proofs.Apart.{plain_not_valued}
 use Rattle.lis_laws.proofs.Locals.{same_tests}
-use Rattle.lis_kept.specs.Kept.{Kept}
-use Rattle.lis_kept.specs.Telling.{is_declared, declared_of}
 use Rattle.lis_kept.proofs.WordMore.{declared_there, there_declared}
 use Rattle.lis_store.proofs.Told.{words_grow}
 use Rattle.lis_store.specs.Assigning.{is_conjunct, node_tags, is_held, Takes}
@@ -56,27 +42,15 @@ parts_joined x y =
     both_if (are_conjuncts x) (are_conjuncts y) (words_in x) (words_in y)
     ∙ ap₂ words_if (sym (list_all-append is_conjunct x y)) (sym (flat_map-append node_words x y))
 
-and_last : (b : Bool) → (b && true) ≡ b
-and_last true = refl
-and_last false = refl
-
-none_last : (b : Bool) → (b && false) ≡ false
-none_last true = refl
-none_last false = refl
-
-no_more : (words : List (List ℕ)) → words ++ [] ≡ words
-no_more [] = refl
-no_more (w ∷ words) = ap (λ ws. w ∷ ws) (no_more words)
-
 with_and : (x : List Node) → words_if (are_conjuncts x) (words_in x) ≡ words_if (are_conjuncts (x ++ And ∷ [])) (words_in (x ++ And ∷ []))
 with_and x =
-    ap₂ words_if (sym (list_all-append is_conjunct x (And ∷ []) ∙ and_last (are_conjuncts x)))
-    (sym (flat_map-append node_words x (And ∷ []) ∙ no_more (words_in x)))
+    ap₂ words_if (sym (list_all-append is_conjunct x (And ∷ []) ∙ and-true (are_conjuncts x)))
+    (sym (flat_map-append node_words x (And ∷ []) ∙ append-nil (words_in x)))
 
 with_other : (x : List Node) (node : Node) → is_conjunct node ≡ false → None ≡ words_if (are_conjuncts (x ++ node ∷ [])) (words_in (x ++ node ∷ []))
 with_other x node is =
     ap (λ b. words_if b (words_in (x ++ node ∷ [])))
-    (sym (list_all-append is_conjunct x (node ∷ []) ∙ (ap (λ b. are_conjuncts x && (b && true)) is ∙ none_last (are_conjuncts x))))
+    (sym (list_all-append is_conjunct x (node ∷ []) ∙ (ap (λ b. are_conjuncts x && (b && true)) is ∙ and-false (are_conjuncts x))))
 
 tree_words : (f : Formula) → conjuncts f ≡ words_if (are_conjuncts (tree_node_list f)) (words_in (tree_node_list f))
 tree_words (Has word) = refl
@@ -137,35 +111,44 @@ sorted_assigned place words = sorted_with_words (tags_at place) words (by (all_c
     by None = sorted_nil word_cmp word_order
     by (Some found) = IsStrictlySortedBy-filter word_cmp is_tag (set_of found) (sorted_set_of found)
 
+-- ---- sets with more words
+pub has_both : (some more : List (List ℕ)) (w : List ℕ) → has_word (with_words some more) w ≡ (has_word some w || has_word more w)
+has_both some more w =
+    same_tests (has_word (with_words some more) w) (has_word some w || has_word more w)
+    (λ h. to (among_with_words some more w (among_from_has_word (with_words some more) w h)))
+    (λ h. has_word_from_among (with_words some more) w (from (or_cases (has_word some w) (has_word more w) h)))
+  where
+    to : Among some w ⊎ Among more w → (has_word some w || has_word more w) ≡ true
+    to (inl m) = or_left (has_word some w) (has_word more w) (has_word_from_among some w m)
+    to (inr m) = or_right (has_word some w) (has_word more w) (has_word_from_among more w m)
+
+    from : (has_word some w ≡ true) ⊎ (has_word more w ≡ true) → Among (with_words some more) w
+    from (inl h) = with_words_old some more w (among_from_has_word some w h)
+    from (inr h) = with_words_new some more w (among_from_has_word more w h)
+
 -- ---- a test of all of them
-module _ (test : List ℕ → Bool) (place : List Formula) (words : List (List ℕ)) (some : IsSome (place_words place)) where
-  abbrev tags : List (List ℕ)
-  tags = flat_map node_tags (nodes_of place)
+pub all_with : (test : List ℕ → Bool) (some more : List (List ℕ)) → list_all test (with_words some more) ≡ (list_all test some && list_all test more)
+all_with test some more =
+    same_tests (list_all test (with_words some more)) (list_all test some && list_all test more)
+    (λ h.
+    and_from (list_all test some) (list_all test more) (all_from test some (λ w m. all_among test (with_words some more) w h (with_words_old some more w m)))
+    (all_from test more (λ w m. all_among test (with_words some more) w h (with_words_new some more w m))))
+    (λ h. all_from test (with_words some more) (λ w m. by w (and_parts (list_all test some) (list_all test more) h) (among_with_words some more w m)))
+  where
+    by : (w : List ℕ) → (list_all test some ≡ true) × (list_all test more ≡ true) → Among some w ⊎ Among more w → test w ≡ true
+    by w all (inl m) = all_among test some w all.0 m
+    by w all (inr m) = all_among test more w all.1 m
 
-  abbrev all : List (List ℕ)
-  all = with_words (set_of tags) words
+all_flat : (test : List ℕ → Bool) (nodes : List Node) → list_all test (flat_map node_tags nodes) ≡ list_all (λ node. list_all test (node_tags node)) nodes
+all_flat test [] = refl
+all_flat test (node ∷ nodes) = list_all-append test (node_tags node) (flat_map node_tags nodes) ∙ ap (λ b. list_all test (node_tags node) && b) (all_flat test nodes)
 
-  abbrev pub nodes_pass : Bool
-  nodes_pass = list_all (λ node. list_all test (node_tags node)) (nodes_of place)
-
-  to_parts : list_all test all ≡ true → (nodes_pass && list_all test words) ≡ true
-  to_parts h =
-      and_from nodes_pass (list_all test words)
-      (all_from (λ node. list_all test (node_tags node)) (nodes_of place) (λ node m. all_from test (node_tags node) (λ w of.
-      all_among test all w h (with_words_old (set_of tags) words w (set_of_among tags w (flat_map_among node_tags (nodes_of place) node w m of))))))
-      (all_from test words (λ w m. all_among test all w h (with_words_new (set_of tags) words w m)))
-
-  from_parts : (nodes_pass && list_all test words) ≡ true → list_all test all ≡ true
-  from_parts h = all_from test all (λ w m. by w (among_with_words (set_of tags) words w m))
-    where
-      by : (w : List ℕ) → Among (set_of tags) w ⊎ Among words w → test w ≡ true
-      by w (inl tag) =
-          let found = among_flat_map node_tags (nodes_of place) w (among_set_of tags w tag) in
-          all_among test (node_tags found.0) w (all_among (λ node. list_all test (node_tags node)) (nodes_of place) found.0 (and_parts nodes_pass (list_all test words) h).0 found.1) found.2
-      by w (inr named) = all_among test words w (and_parts nodes_pass (list_all test words) h).1 named
-
-  pub all_assigned : list_all test (assigned_at place words) ≡ (nodes_pass && list_all test words)
-  all_assigned = ap (list_all test) (assigned_is place words some) ∙ same_tests (list_all test all) (nodes_pass && list_all test words) to_parts from_parts
+pub all_assigned : (test : List ℕ → Bool) (place : List Formula) (words : List (List ℕ)) → IsSome (place_words place)
+    → list_all test (assigned_at place words) ≡ (list_all (λ node. list_all test (node_tags node)) (nodes_of place) && list_all test words)
+all_assigned test place words some =
+    let tags = flat_map node_tags (nodes_of place) in
+    ap (list_all test) (assigned_is place words some)
+    ∙ (all_with test (set_of tags) words ∙ ap (λ b. b && list_all test words) (all_with test [] tags ∙ all_flat test (nodes_of place)))
 
 -- ---- a word at its place in a set
 one_more : (n : ℕ) → 1 + n ≡ suc n
@@ -201,9 +184,6 @@ module _ (word : List ℕ) where
       by Greater e h more = let h' = rw (one_more (place_in words)) at h in rw (one_more (place_in words)) (ap (λ ws. w ∷ ws) (more h'))
 
 -- ---- a set takes words one after another
-pub takes_none : (words : List (List ℕ)) → length words ≤ 16 → Takes [] words words true
-takes_none words few = record { room = sym (le-leb (length words) 16 few); words = λ fits. refl }
-
 pub with_words-append : (words more others : List (List ℕ)) → with_words words (more ++ others) ≡ with_words (with_words words more) others
 with_words-append words [] others = refl
 with_words-append words (w ∷ more) others = with_words-append (with_word words w) more others
@@ -226,61 +206,11 @@ takes_not more others old mid takes = record {
   words = λ h. absurd cc;
 }
 
-pub not_full : (n : ℕ) → n ≤ 16 → n == 16 ≡ false → n < 16
-not_full n few is = omega (arith, few, eqb-false n 16 is)
-
-module _ (word : List ℕ) (words counted looked : List (List ℕ)) (place : ℕ) (at : place ≡ place_in word counted) (counts : counted ≡ words) (looks : looked ≡ words) where
-  here : (b : Bool) → is_held (slice_get looked place) word ≡ b → is_held (slice_get words (place_in word words)) word ≡ b
-  here b is = ap₂ (λ ws n. is_held (slice_get ws n) word) (sym looks) (sym (at ∙ ap (place_in word) counts)) ∙ is
-
-  pub place_inside : place ≤ length words
-  place_inside = omega (arith, at ∙ ap (place_in word) counts, prefix_len-le-length (λ held. is_gt (word_cmp word held)) words)
-
-  new_is : is_held (slice_get looked place) word ≡ false → insert words place word ≡ with_word words word
-  new_is is = ap (λ n. insert words n word) (at ∙ ap (place_in word) counts) ∙ put_new word words (here false is)
-
-  pub takes_there : length words ≤ 16 → is_held (slice_get looked place) word ≡ true → Takes (word ∷ []) words words true
-  takes_there few is = let same = put_there word words (here true is) in record {
-    room = sym (le-leb (length (with_word words word)) 16 (omega (arith, few, ap length same)));
-    words = λ fits. sym same;
-  }
-
-  one_longer : is_held (slice_get looked place) word ≡ false → length (with_word words word) ≡ length words + 1
-  one_longer is = omega (arith, ap length (new_is is), length-insert words place word place_inside)
-
-  pub takes_full : length words ≡ 16 → is_held (slice_get looked place) word ≡ false → Takes (word ∷ []) words words false
-  takes_full full is = record {
-    room = sym (false_from_ne_true (nat_le (length (with_word words word)) 16) (λ fits.
-        omega (arith, leb-true (length (with_word words word)) 16 fits, one_longer is, full)));
-    words = λ fits. absurd cc;
-  }
-
-  pub takes_new : length words < 16 → is_held (slice_get looked place) word ≡ false → (new : List (List ℕ)) → new ≡ insert words place word → Takes (word ∷ []) words new true
-  takes_new room is new put = record {
-    room = sym (le-leb (length (with_word words word)) 16 (omega (arith, room, one_longer is)));
-    words = λ fits. put ∙ new_is is;
-  }
-
--- ---- the word of a node
-pub no_tag : (node : Node) → ((word : List ℕ) → node ≡ Word word → ⊥) → node_tags node ≡ []
-no_tag (Word word) none = absurd (none word refl)
-no_tag (AtLeast n) none = refl
-no_tag (Below n) none = refl
-no_tag Not none = refl
-no_tag And none = refl
-no_tag Or none = refl
-
-pub other_tag : (node : Node) (word : List ℕ) → node ≡ Word word → is_tag word ≡ false → node_tags node ≡ []
-other_tag node word is other = ap node_tags is ∙ ap (λ b. cond b (word ∷ []) []) other
-
-pub one_tag : (node : Node) (word : List ℕ) → node ≡ Word word → is_tag word ≡ true → node_tags node ≡ word ∷ []
-one_tag node word is tag = ap node_tags is ∙ ap (λ b. cond b (word ∷ []) []) tag
-
 -- ---- a loop that puts words into a set
 pub flat_next : {X : Type 0} (f : X → List (List ℕ)) (xs : List X) (i : ℕ) (x : X) → i < length xs → x ≡ get_or xs i x → flat_map f (take (i + 1) xs) ≡ flat_map f (take i xs) ++ f x
 flat_next {X} f xs i x lt is =
     ap (flat_map f) (take_more xs i x lt ∙ ap (λ (y : X). take i xs ++ y ∷ []) (sym is))
-    ∙ (flat_map-append f (take i xs) (x ∷ []) ∙ ap (λ ws. flat_map f (take i xs) ++ ws) (no_more (f x)))
+    ∙ (flat_map-append f (take i xs) (x ∷ []) ∙ ap (λ ws. flat_map f (take i xs) ++ ws) (append-nil (f x)))
 
 module _ {X : Type 0} (f : X → List (List ℕ)) (xs : List X) (i : ℕ) (x : X) (lt : i < length xs) (is : x ≡ get_or xs i x) (old mid new : List (List ℕ)) where
   pub takes_stop : Takes (flat_map f (take i xs)) old mid true → Takes (f x) mid new false → Takes (flat_map f xs) old new false
@@ -321,11 +251,7 @@ has_declared k word =
 
 pub plain_assignable : (k : Kept) (word : List ℕ) → is_plain_word word ≡ true → is_declared k word ≡ is_assignable (declared_of k) word
 plain_assignable k word plain =
-    sym (ap₂ (λ p v. (p && has_word (declared_of k) word) || (v && has_word (declared_of k) (head_bytes word))) plain (plain_not_valued word plain) ∙ (or_last (has_word (declared_of k) word) ∙ has_declared k word))
-  where
-    or_last : (b : Bool) → (b || false) ≡ b
-    or_last true = refl
-    or_last false = refl
+    sym (ap₂ (λ p v. (p && has_word (declared_of k) word) || (v && has_word (declared_of k) (head_bytes word))) plain (plain_not_valued word plain) ∙ (or-false (has_word (declared_of k) word) ∙ has_declared k word))
 
 pub valued_assignable : (k : Kept) (word : List ℕ) → is_plain_word word ≡ false → is_valued word ≡ true → is_declared k (head_bytes word) ≡ is_assignable (declared_of k) word
 valued_assignable k word plain valued =

@@ -1,12 +1,7 @@
 -- What memory keeps without its marks.
 use Rattle.std.proofs.Common.{◌≡◌, refl, sym, ap, ◌∙◌, ℕ, zero, suc, Bool, false, cond, length, replicate, arith, count_by}
-use Rattle.std.proofs.lemmas.List.{length-replicate}
+use Rattle.lis_store.proofs.Common.{length-replicate, is_taken, Kept, marked_count, AreSound, KeepsInUse}
 use Rattle.std.proofs.lemmas.List.Folds.{sum_by-replicate}
-use Rattle.lis_blockmap.specs.Bitmap.{is_taken}
-use Rattle.lis_kept.specs.Kept.{Kept}
-use Rattle.lis_kept.specs.Areas.{marked_count}
-use Rattle.lis_kept.specs.Sound.{AreSound}
-use Rattle.lis_kept.specs.Forgetting.{KeepsInUse}
 use Rattle.lis_store.specs.Stored.{TestsAreMet}
 use Rattle.lis_store.specs.Saving.{clean}
 

@@ -1,14 +1,9 @@
 -- A commit of what is held back.
 use Rattle.std.proofs.Common.{◌≡◌, ◌⊎◌, refl, sym, ap, ◌∙◌, subst, inl, inr, ℕ, ◌<◌, true, false, Bool, List, [], ◌∷◌, length, Result, Ok, Err, arith}
-use Rattle.lis_ports.specs.Meaning.{Meaning}
+use Rattle.lis_store.proofs.Common.{Meaning, Held, KeepsPast, looked, are_whole, image_blocks, State}
 use Rattle.lis_ports.proofs.Moments.{leaves_weaken}
-use Rattle.lis_journal.specs.Journal.{Held}
 use Rattle.lis_journal.specs.Record.{Entry}
-use Rattle.lis_journal.specs.Images.{StandsForAllOrNone, KeepsPast}
-use Rattle.lis_journal.specs.Phases.{looked}
-use Rattle.lis_journal.specs.Staging.{are_whole}
-use Rattle.lis_model.specs.Image.{image_blocks}
-use Rattle.lis_model.specs.State.{State}
+use Rattle.lis_journal.specs.Images.{StandsForAllOrNone}
 use Rattle.lis_store.specs.declared.change.Change.{Change}
 use Rattle.lis_store.specs.declared.change.Change.TheVariants.{Refused, Disk}
 use Rattle.lis_store.specs.Stands.{Stands}

@@ -1,19 +1,11 @@
 -- What a store tells of one file of the state.
 use Rattle.std.proofs.Common.{◌≡◌, ℕ, Option, Some, IsSomeAnd, List, sym, ap, ◌∙◌, subst}
-use Rattle.std.specs.List.{find}
-use Rattle.lis_graph.proofs.Members.{Among, contains_from_among, among_filter, among_map}
-use Rattle.lis_catalog.specs.Catalog.{Filed, slot_of, rec_at}
-use Rattle.lis_catalog.proofs.Laws.{rec_at-slot_of}
-use Rattle.lis_ext.specs.Ext.{set_of as numbers_at}
-use Rattle.lis_fields.specs.Records.{FileRecord}
-use Rattle.lis_words.specs.Words.{same_word}
-use Rattle.lis_grammar.specs.Formula.{Formula}
-use Rattle.lis_model.specs.State.{State, File, description}
+use Rattle.lis_store.proofs.Common.{find, Among, contains_from_among, among_filter, Filed, slot_of, rec_at, rec_at-slot_of, numbers_at, FileRecord, same_word, Formula, State, File, description, same_word_decides}
+use Rattle.lis_graph.proofs.Members.{among_map}
 use Rattle.lis_model.specs.Changes.{file_of}
 use Rattle.lis_model.specs.Table.{Entry, entry_of, table}
 use Rattle.lis_model.specs.Listing.{holds_all, extension}
 use Rattle.lis_model.specs.Step.{entry_at}
-use Rattle.lis_laws.proofs.Members.{same_word_decides}
 use Rattle.lis_kept.specs.Telling.{words_told}
 use Rattle.lis_kept.proofs.Filing.{find_among}
 use Rattle.lis_store.specs.Stored.{Stored, IsSound}

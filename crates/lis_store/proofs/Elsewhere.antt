@@ -1,26 +1,16 @@
 -- Blocks that no file has may hold anything: what memory tells of a state and what it has written stay as they are.
 use Rattle.std.proofs.Common.{◌≡◌, refl, sym, ap, ◌∙◌, subst, inl, inr, ℕ, ◌+◌, ◌<◌, ◌≤◌, ◌==◌, ◌&&◌, not, nat_lt, true, false, List, length, IsTrue, arith}
-use Rattle.std.specs.List.{Contains}
-use Rattle.std.proofs.lemmas.Bool.{and_parts, both_ways, eqb-true, false_from_ne_true, not-true}
-use Rattle.lis_graph.proofs.Members.{Among, among_from_contains, contains_from_among, among_from_any}
+use Rattle.lis_store.proofs.Common.{Contains, and_parts, eqb-true, not-true, Among, among_from_contains, contains_from_among, is_taken, has_home, are_free, slot_count, Filed, SpellsSuper, are_in_range, data_start, State, File, description, Kept, block_of, IsWritten, IsSaved, AreSound, bytes_told, blocks_told, state_of, HasIndex, Tells, map_all, filed_rec, among_slots}
+use Rattle.std.proofs.lemmas.Bool.{both_ways, false_from_ne_true}
+use Rattle.lis_graph.proofs.Members.{among_from_any}
 use Rattle.lis_journal.specs.Images.{IsOutside}
-use Rattle.lis_blockmap.specs.Bitmap.{is_taken}
-use Rattle.lis_content.specs.Content.{has_number, has_home, are_free, are_distinct}
-use Rattle.lis_content.specs.Large.{slot_count}
-use Rattle.lis_catalog.specs.Catalog.{Filed}
-use Rattle.lis_fields.specs.Layouts.{SpellsSuper}
-use Rattle.lis_model.specs.Ranges.{are_in_range}
-use Rattle.lis_model.specs.Image.{data_start}
-use Rattle.lis_model.specs.State.{State, File, description}
+use Rattle.lis_content.specs.Content.{has_number, are_distinct}
 use Rattle.lis_laws.proofs.Counts.{all_among}
-use Rattle.lis_kept.specs.Kept.{Kept}
-use Rattle.lis_kept.specs.Areas.{block_of, IsWritten, IsSaved}
 use Rattle.lis_kept.specs.Inside.{bytes_in}
-use Rattle.lis_kept.specs.Sound.{AreSound}
-use Rattle.lis_kept.specs.Telling.{bytes_told, blocks_told, file_told, state_of, HasIndex, Tells}
+use Rattle.lis_kept.specs.Telling.{file_told}
 use Rattle.lis_kept.proofs.Contents.{same_file, slot_counted}
-use Rattle.lis_kept.proofs.Filing.{map_all, filed_rec, number_from_among}
-use Rattle.lis_kept.proofs.InArea.{held_by, among_slots}
+use Rattle.lis_kept.proofs.Filing.{number_from_among}
+use Rattle.lis_kept.proofs.InArea.{held_by}
 
 -- a record of memory has as many numbers of blocks as its size asks for
 pub numbers_counted : (k : Kept) → AreSound k → (f : Filed) → Among k.catalog.entries f → length f.rec.blocks ≡ slot_count f.rec.size

@@ -1,33 +1,21 @@
 -- A blank image tells of no words and no files: it stands for the empty state.
 use Rattle.std.proofs.Common.{◌≡◌, refl, sym, ap, ap₂, ◌∙◌, ℕ, zero, suc, ◌+◌, ◌-◌, ◌*◌, ◌/◌, ◌%◌, ◌<◌, ◌≤◌, ◌≢◌, false, List, [], ◌∷◌, length, get_or, map, take, drop, replicate, slice_get, slice_index, Some, IsTrue, arith}
-use Rattle.std.specs.BTreeSet.{insert_key}
-use Rattle.std.specs.List.{fold, range_with_len, Contains}
+use Rattle.lis_store.proofs.Common.{insert_key, range_with_len, Contains, length-replicate, get_or-replicate, slice_get_within, get_or_from_slice_get, among_from_contains, part, block, is_taken, Dict, IsDict, has, SpellsSuper, AxiomSlot, FreeAxiom, Pair, Limits, are_in_range, bitmap_start, data_start, State, pair_cmp, Kept, IsWritten, axiom_slots, Properties, Axioms, Bitmap, AreSound, Tells, among_slots}
+use Rattle.std.specs.List.{fold}
 use Rattle.std.proofs.lemmas.Bool.{both_ways}
-use Rattle.std.proofs.lemmas.List.{length-replicate, drop-replicate, take-replicate, get_or-replicate, take-take}
-use Rattle.std.proofs.lemmas.Option.{slice_get_within, get_or_from_slice_get}
-use Rattle.lis_graph.proofs.Members.{among_from_contains}
-use Rattle.lis_ports.specs.Bytes.{part}
-use Rattle.lis_journal.specs.Record.{block}
+use Rattle.std.proofs.lemmas.List.{drop-replicate, take-replicate, take-take}
 use Rattle.lis_slots.specs.Slots.{Slots, home, place, slot}
-use Rattle.lis_blockmap.specs.Bitmap.{is_taken, bits_number, bitmap_bytes}
-use Rattle.lis_dict.specs.Dict.{Dict, IsDict}
+use Rattle.lis_blockmap.specs.Bitmap.{bits_number, bitmap_bytes}
 use Rattle.lis_catalog.specs.Catalog.{IsCatalog}
-use Rattle.lis_ext.specs.Ext.{has, set_of}
+use Rattle.lis_ext.specs.Ext.{set_of}
 use Rattle.lis_ext.specs.Numbers.{has_number as has_in}
-use Rattle.lis_fields.specs.Layouts.{zeros, SpellsSuper, super_with, prop_bytes, axiom_bytes, file_bytes}
-use Rattle.lis_fields.specs.declared.slots.AxiomSlot.{AxiomSlot}
-use Rattle.lis_fields.specs.declared.slots.AxiomSlot.TheVariants.{Free as FreeAxiom, Pair}
-use Rattle.lis_model.specs.declared.limits.Limits.{Limits}
-use Rattle.lis_model.specs.Ranges.{are_in_range}
-use Rattle.lis_model.specs.Image.{bitmap_start, data_start}
-use Rattle.lis_model.specs.State.{State, empty_state, pair_cmp}
+use Rattle.lis_fields.specs.Layouts.{zeros, super_with, prop_bytes, axiom_bytes, file_bytes}
+use Rattle.lis_model.specs.State.{empty_state}
 use Rattle.lis_laws.proofs.Steps.{empty_formed}
-use Rattle.lis_kept.specs.Kept.{Kept}
-use Rattle.lis_kept.specs.Areas.{Area, IsWritten, slots_of, axiom_slots, row_slots}
-use Rattle.lis_kept.specs.Areas.Area.{Properties, Axioms, Files, Rows, Bitmap}
-use Rattle.lis_kept.specs.Sound.{AreSound}
-use Rattle.lis_kept.specs.Telling.{pairs_told, Tells}
-use Rattle.lis_kept.proofs.InArea.{among_slots, whole_files, files_range, each_files_limit}
+use Rattle.lis_kept.specs.Areas.{Area, slots_of, row_slots}
+use Rattle.lis_kept.specs.Areas.Area.{Files, Rows}
+use Rattle.lis_kept.specs.Telling.{pairs_told}
+use Rattle.lis_kept.proofs.InArea.{whole_files, files_range, each_files_limit}
 use Rattle.lis_kept.proofs.RowBytes.{row_bytes_none}
 use Rattle.lis_store.specs.Blank.{IsBlank}
 use Rattle.lis_store.specs.Stands.{Stands}

@@ -1,15 +1,8 @@
 -- A store without words and files fits a blank image.
 use Rattle.std.proofs.Common.{refl, ap, ℕ, ◌≤◌, ◌==◌, List, IsTrue, arith}
-use Rattle.std.specs.List.{list_any}
-use Rattle.lis_ports.specs.Meaning.{Meaning}
-use Rattle.lis_ports.specs.Bytes.{part}
+use Rattle.lis_store.proofs.Common.{list_any, Meaning, part, block, SpellsSuper, Limits, are_in_range, data_start}
 use Rattle.lis_ports.specs.Runs.{IsSettled}
-use Rattle.lis_journal.specs.Record.{block}
 use Rattle.lis_journal.proofs.Fitting.{settled_fits}
-use Rattle.lis_fields.specs.Layouts.{SpellsSuper}
-use Rattle.lis_model.specs.declared.limits.Limits.{Limits}
-use Rattle.lis_model.specs.Ranges.{are_in_range}
-use Rattle.lis_model.specs.Image.{data_start}
 use Rattle.lis_model.specs.State.{empty_state}
 use Rattle.lis_store.specs.Blank.{IsBlank}
 use Rattle.lis_store.specs.Stored.{StoreFits, empty_stored}

@@ -1,21 +1,12 @@
 -- The numbers of all that words entail, left out of a row.
 use Rattle.std.proofs.Common.{◌≡◌, refl, sym, ap, ap₂, ◌∙◌, ℕ, ◌<◌, ◌≤◌, not, ◌&&◌, ◌||◌, Bool, true, false, List, [], ◌∷◌, ◌++◌, length, Option, Some, append-nil, arith}
-use Rattle.std.specs.List.{flat_map}
+use Rattle.lis_store.proofs.Common.{flat_map, HasShape, get, with_row, number_of, word_of, word_from_number, number_below, Taxonomy, entails_decides, up, all_up, up_from_entails, among_set_of, Kept, TellsLinks, AreSound, declared_of, axioms_of}
 use Rattle.std.proofs.lemmas.Grind.{flat_map-append}
-use Rattle.lis_bits.specs.Rows.{Rows, HasShape, get, with_row}
-use Rattle.lis_dict.specs.Dict.{number_of, word_of}
-use Rattle.lis_dict.proofs.Laws.{word_from_number, number_below}
-use Rattle.lis_taxonomy.specs.Taxonomy.{Taxonomy, entails}
-use Rattle.lis_taxonomy.proofs.Laws.{entails_decides}
+use Rattle.lis_bits.specs.Rows.{Rows}
+use Rattle.lis_taxonomy.specs.Taxonomy.{entails}
 use Rattle.lis_model.specs.Sets.{set_of}
-use Rattle.lis_model.specs.State.{up, all_up}
-use Rattle.lis_laws.proofs.Chains.{up_from_entails}
-use Rattle.lis_laws.proofs.Members.{among_set_of, set_of_among}
+use Rattle.lis_laws.proofs.Members.{set_of_among}
 use Rattle.lis_laws.proofs.Locals.{same_tests}
-use Rattle.lis_kept.specs.Kept.{Kept}
-use Rattle.lis_kept.specs.Links.{TellsLinks}
-use Rattle.lis_kept.specs.Sound.{AreSound}
-use Rattle.lis_kept.specs.Telling.{declared_of, axioms_of}
 use Rattle.lis_ext.specs.Numbers.{numbers_where}
 use Rattle.lis_store.specs.Adding.{is_one_of, numbers_named}
 use Rattle.lis_kept.proofs.Entailed.{chain_named, leads_from_up}
@@ -111,7 +102,7 @@ module _ (k : Kept) (sound : AreSound k) (some more met : List (List ℕ)) (star
   abbrev entailed_by : List (List ℕ) → ℕ → Bool
   entailed_by words n = is_one_of (all_up (declared_of k) (axioms_of k) words) (word_of k.dict n)
 
-  bits_then : (n : ℕ) → n < k.limits.props → get done 0 n ≡ entailed_by (some ++ more ++ met) n
+  pub bits_then : (n : ℕ) → n < k.limits.props → get done 0 n ≡ entailed_by (some ++ more ++ met) n
   bits_then n lt =
       let whole = value_at start full k.limits.props n (λ _. true) shape is_full lt in
       let two = second n lt ∙ ap (λ b. b && not (entailed_by more n)) (first n lt ∙ ap (λ b. b && not (entailed_by some n)) whole) in

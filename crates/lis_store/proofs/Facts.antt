@@ -1,32 +1,17 @@
 -- What a store says of the state that it tells, in other words.
 use Rattle.std.proofs.Common.{◌≡◌, refl, sym, ap, ap₂, ◌∙◌, subst, inl, inr, ℕ, ◌+◌, ◌*◌, ◌<◌, ◌||◌, nat_lt, Bool, true, false, cond, is_some, Option, Some, None, option_map, List, [], ◌∷◌, length, map, IsSomeAnd, arith, length-append}
-use Rattle.std.specs.List.{find, flat_map, list_any, Contains}
-use Rattle.std.proofs.lemmas.Bool.{ltb-true}
-use Rattle.std.proofs.lemmas.List.{length-map, length-take-le}
-use Rattle.std.proofs.lemmas.Option.{same_Some}
-use Rattle.lis_graph.proofs.Members.{Among, contains_from_among, among_map, map_among}
-use Rattle.lis_words.specs.Words.{same_word, has_word}
-use Rattle.lis_grammar.specs.Formula.{Formula}
-use Rattle.lis_fields.specs.Records.{FileRecord}
-use Rattle.lis_dict.specs.Dict.{Dict, words, number_of}
-use Rattle.lis_dict.proofs.Laws.{number_from_word}
-use Rattle.lis_catalog.specs.Catalog.{Filed, slot_of, rec_at}
-use Rattle.lis_catalog.proofs.Laws.{rec_at-slot_of}
-use Rattle.lis_ext.specs.Ext.{set_of as numbers_at}
-use Rattle.lis_model.specs.Image.{data_start}
-use Rattle.lis_model.specs.State.{State, File, known, description, up}
-use Rattle.lis_model.specs.Changes.{file_of, has_name}
+use Rattle.lis_store.proofs.Common.{find, flat_map, list_any, Contains, ltb-true, length-map, length-take-le, same_Some, Among, contains_from_among, same_word, has_word, Formula, FileRecord, Dict, number_of, number_from_word, Filed, slot_of, rec_at, rec_at-slot_of, numbers_at, data_start, State, File, description, up, has_name, file_of_name, Placed, Kept, AreSound, FreeSlotsAreEmpty, declared_of, axioms_of, bytes_told, blocks_told, state_of, Tells, filed_rec, filed_slot, filed_at_slot, map_all, known_word, words_known}
+use Rattle.lis_graph.proofs.Members.{among_map, map_among}
+use Rattle.lis_dict.specs.Dict.{words}
+use Rattle.lis_catalog.proofs.Slots.{any_map}
+use Rattle.lis_model.specs.State.{known}
+use Rattle.lis_model.specs.Changes.{file_of}
 use Rattle.lis_model.specs.Table.{Entry, Table, entry_of, table}
 use Rattle.lis_model.specs.Listing.{extension}
 use Rattle.lis_model.specs.Step.{is_here}
 use Rattle.lis_laws.proofs.Counts.{all_among}
-use Rattle.lis_laws.proofs.Named.{file_of_name}
-use Rattle.lis_eval.specs.View.{Placed}
-use Rattle.lis_kept.specs.Kept.{Kept}
-use Rattle.lis_kept.specs.Sound.{AreSound, FreeSlotsAreEmpty}
-use Rattle.lis_kept.specs.Telling.{words_told, declared_of, axioms_of, bytes_told, blocks_told, file_told, state_of, Tells}
-use Rattle.lis_kept.proofs.Filing.{number_from_among, find_among, found_has, filed_rec, filed_slot, filed_at_slot, map_all}
-use Rattle.lis_kept.proofs.Known.{known_word, words_known}
+use Rattle.lis_kept.specs.Telling.{words_told, file_told}
+use Rattle.lis_kept.proofs.Filing.{number_from_among, find_among, found_has}
 use Rattle.lis_store.specs.Stored.{Stored, IsSound}
 use Rattle.lis_store.specs.Seen.{placed, table_of}
 use Rattle.lis_store.specs.Judging.{is_among}
@@ -37,10 +22,6 @@ use Rattle.lis_store.proofs.FileBlocks.{content_told, content_among, content_cou
 map_map : {X Y Z : Type 0} (f : Y → Z) (g : X → Y) (xs : List X) → map f (map g xs) ≡ map (λ x. f (g x)) xs
 map_map f g [] = refl
 map_map f g (x ∷ xs) = ap (λ ys. f (g x) ∷ ys) (map_map f g xs)
-
-any_map : {X Y : Type 0} (test : X → Bool) (v : Y → X) (ys : List Y) → list_any test (map v ys) ≡ list_any (λ y. test (v y)) ys
-any_map test v [] = refl
-any_map test v (y ∷ ys) = ap (λ b. test (v y) || b) (any_map test v ys)
 
 pub any_is_found : {X : Type 0} (test : X → Bool) (xs : List X) → list_any test xs ≡ is_some (find test xs)
 any_is_found test [] = refl

@@ -1,18 +1,10 @@
 -- The blocks of a file: how many they are, and which of them have its content.
 use Rattle.std.proofs.Common.{◌≡◌, refl, sym, ap, ◌∙◌, subst, ℕ, ◌+◌, ◌≤◌, ◌==◌, ◌&&◌, if◌then◌else◌, Bool, true, false, List, length}
-use Rattle.std.proofs.lemmas.Bool.{cond-false}
-use Rattle.lis_graph.proofs.Members.{Among, among_left}
-use Rattle.lis_content.specs.Large.{is_large, index_home, content_blocks}
+use Rattle.lis_store.proofs.Common.{cond-false, Among, among_left, is_large, content_blocks, small_size, Filed, FileRecord, Limits, data_start, file_limit, blocks_taken, Kept, AreSound, blocks_told}
+use Rattle.lis_content.specs.Large.{index_home}
 use Rattle.lis_content.proofs.Files.{length-file_blocks}
-use Rattle.lis_content.proofs.Indexes.{length-numbers_in, large_numbers, large_blocks, small_numbers, small_blocks, small_size}
-use Rattle.lis_catalog.specs.Catalog.{Filed}
-use Rattle.lis_fields.specs.Records.{FileRecord}
-use Rattle.lis_model.specs.declared.limits.Limits.{Limits}
-use Rattle.lis_model.specs.Image.{data_start}
-use Rattle.lis_model.specs.State.{file_limit, blocks_needed, blocks_taken}
-use Rattle.lis_kept.specs.Kept.{Kept}
-use Rattle.lis_kept.specs.Sound.{AreSound}
-use Rattle.lis_kept.specs.Telling.{blocks_told}
+use Rattle.lis_content.proofs.Indexes.{length-numbers_in, large_numbers, large_blocks, small_numbers, small_blocks}
+use Rattle.lis_model.specs.State.{blocks_needed}
 use Rattle.lis_store.proofs.Elsewhere.{numbers_counted}
 use Rattle.lis_store.proofs.Spelled.{sound_parts}
 

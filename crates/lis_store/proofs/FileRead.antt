@@ -1,28 +1,14 @@
 -- Calls that read a file's bytes before they judge.
 use Rattle.std.proofs.Common.{◌≡◌, sym, ap, ap₂, ◌∙◌, subst, ℕ, nat_lt, true, false, List, length, cond, is_some, Some, None, Result, Ok, Err, IsSomeAnd, arith}
 use Rattle.std.specs.Result.{result_ok}
-use Rattle.std.proofs.lemmas.Bool.{lt-ltb}
-use Rattle.std.proofs.lemmas.Option.{same_Some}
-use Rattle.lis_journal.specs.Phases.{looked}
-use Rattle.lis_catalog.specs.Catalog.{Filed, slot_of, rec_at}
-use Rattle.lis_content.specs.Placing.{Asks}
-use Rattle.lis_fields.specs.Records.{FileRecord}
-use Rattle.lis_grammar.specs.Formula.{Formula}
-use Rattle.lis_grammar.specs.Places.{Resolution, resolved, text_words}
+use Rattle.lis_store.proofs.Common.{lt-ltb, same_Some, looked, Filed, slot_of, rec_at, Asks, FileRecord, Formula, resolved, text_words, is_file_name, new_file, file_replaced, State, File, Kept, bytes_told, blocks_told, filed_at_slot, Meaning, Fits, Refusal, NameTaken, NoFileHere, Situation, Outcome, refused, rename, mv, retagged}
+use Rattle.lis_grammar.specs.Places.{Resolution}
 use Rattle.lis_grammar.specs.Places.Resolution.{NewPlace, BeyondLimits, Unreadable}
-use Rattle.lis_words.specs.Words.{is_file_name}
-use Rattle.lis_model.specs.Changes.{file_of, new_file, file_replaced}
-use Rattle.lis_model.specs.State.{State, File}
-use Rattle.lis_kept.specs.Kept.{Kept}
+use Rattle.lis_model.specs.Changes.{file_of}
 use Rattle.lis_laws.proofs.Counts.{all_from}
-use Rattle.lis_kept.specs.Telling.{words_told, bytes_told, blocks_told}
-use Rattle.lis_kept.proofs.Filing.{filed_at_slot}
+use Rattle.lis_kept.specs.Telling.{words_told}
 use Rattle.lis_kept.proofs.Filed.{record_named}
-use Rattle.lis_ports.specs.Meaning.{Meaning}
-use Rattle.lis_journal.specs.Images.{Fits}
-use Rattle.lis_model.specs.declared.refusal.Refusal.{Refusal}
-use Rattle.lis_model.specs.declared.refusal.Refusal.TheVariants.{NameTaken, NoFileHere}
-use Rattle.lis_model.specs.Step.{Situation, Outcome, refused, changed, rename, mv, tags_at, retagged}
+use Rattle.lis_model.specs.Step.{changed, tags_at}
 use Rattle.lis_store.specs.declared.change.Change.{Change}
 use Rattle.lis_store.specs.declared.change.Change.TheVariants.{Refused, Disk}
 use Rattle.lis_store.specs.Stored.{Stored, IsSound, StoreHolds}
@@ -145,15 +131,14 @@ module _ (old : Stored) (place : List Formula) (name : List ℕ) (slot : ℕ) (r
           (rest_of_rename p place name slot (given_before p rec other (file_of s.files name).bytes) here ∙ row)) ends
 
       pub renaming_holds : {T : Type 0} (q : Kept) (other : List ℕ) (assigned : List (List ℕ)) (unbroken : old.is_broken ≡ false) → assigned ≡ words_told p.dict rec.tags
-          → (first : IsSomeAnd (rec_at p.catalog slot) (λ (x : FileRecord). MayReplace p slot x (new_file other assigned bytes))) → RefilesIn slot (new_file other assigned bytes) rec.blocks p q
+          → RefilesIn (Some rec) (new_file other assigned bytes) rec.blocks p q
           → first_refusal (renaming_checks p slot (given_before p rec other bytes)) ≡ None → (new : Stored) (end : Meaning) (result : Result T Change)
           → Saves q old.journal new mid end result → Holds base now (rename now name other) new m end result
-      renaming_holds q other assigned unbroken words first again none new end result saves =
-          let may = subst (λ o. IsSomeAnd o (λ (x : FileRecord). MayReplace p slot x (new_file other assigned bytes))) there first in
+      renaming_holds q other assigned unbroken words again none new end result saves =
           after_read old base m mid now sound holds asks (rename now name other) new end result
-          (refiled_holds old q slot other assigned bytes rec sound unbroken there first again base now new mid end result (rename now name other) after
+          (refiled_holds old q slot (new_file other assigned bytes) rec sound unbroken there again base now new mid end result (rename now name other) after
           (renamed_done old s sound by_memory name slot rec named there place here assigned words other bytes told none)
-          told may.assignable saves)
+          told saves)
 
       -- ---- in another place
       pub retagging_refused : {T : Type 0} (text : List ℕ) (next : List Formula) (refusal : Refusal) (result : Result T Change) → resolved place text ≡ NewPlace next
@@ -166,12 +151,10 @@ module _ (old : Stored) (place : List Formula) (name : List ℕ) (slot : ℕ) (r
           (refused_then (moving_checks p place next (text_words text) rec) (instead_checks p slot (moved_from p rec place next name (file_of s.files name).bytes)) moving ∙ row)) ends
 
       pub retagging_holds : {T : Type 0} (q : Kept) (text : List ℕ) (next : List Formula) (assigned : List (List ℕ)) (unbroken : old.is_broken ≡ false) → assigned ≡ words_moved p rec place next
-          → resolved place text ≡ NewPlace next → (first : IsSomeAnd (rec_at p.catalog slot) (λ (x : FileRecord). MayReplace p slot x (new_file name assigned bytes)))
-          → RefilesIn slot (new_file name assigned bytes) rec.blocks p q → first_refusal (moving_checks p place next (text_words text) rec) ≡ None
+          → resolved place text ≡ NewPlace next → RefilesIn (Some rec) (new_file name assigned bytes) rec.blocks p q → first_refusal (moving_checks p place next (text_words text) rec) ≡ None
           → first_refusal (instead_checks p slot (moved_from p rec place next name bytes)) ≡ None → (new : Stored) (end : Meaning) (result : Result T Change)
           → Saves q old.journal new mid end result → Holds base now (mv now name text) new m end result
-      retagging_holds q text next assigned unbroken words leads first again moving none new end result saves =
-          let may = subst (λ o. IsSomeAnd o (λ (x : FileRecord). MayReplace p slot x (new_file name assigned bytes))) there first in
+      retagging_holds q text next assigned unbroken words leads again moving none new end result saves =
           let was = file_of s.files name in
           let row = subst (λ bs. first_refusal (instead_checks p slot (moved_from p rec place next name bs)) ≡ None) bytes_are none in
           let done = mv_here_done old s sound by_memory place name slot rec (λ _. (named, there)) text next leads here
@@ -179,11 +162,11 @@ module _ (old : Stored) (place : List Formula) (name : List ℕ) (slot : ℕ) (r
           let given : retagged was.assigned (tags_at place) (tags_at next) ≡ assigned =
           ap (λ (f : File). retagged f.assigned (tags_at place) (tags_at next)) (old_is old s sound by_memory name slot rec named there) ∙ sym words in
           after_read old base m mid now sound holds asks (mv now name text) new end result
-          (refiled_holds old q slot name assigned bytes rec sound unbroken there first again base now new mid end result (mv now name text) after
+          (refiled_holds old q slot (new_file name assigned bytes) rec sound unbroken there again base now new mid end result (mv now name text) after
           (done
           ∙ (ap₂ (λ ws bs. changed now (file_replaced s name (new_file name ws bs))) given (sym bytes_are)
           ∙ ap (λ n. changed now (file_replaced s n (new_file name assigned bytes))) (sym same_name)))
-          told may.assignable saves)
+          told saves)
 
 -- ---- what is asked of memory in which the file is to have another name or another place, and the bytes that were read
 module _ {old now : Stored} (same : old ≡ now) (sound : IsSound old) (place : List Formula) (name : List ℕ) {slot : ℕ} (named_now : slot_of now.parts.catalog name ≡ Some slot)

@@ -1,35 +1,18 @@
 -- Tests in the descriptions of files: a file has those that its size meets, and no others.
 use Rattle.std.proofs.Common.{◌≡◌, ◌⊎◌, ℕ, Bool, true, false, Option, Some, None, is_some, List, length, refl, sym, ap, subst, ◌∙◌, inl, inr}
-use Rattle.std.specs.List.{list_all}
+use Rattle.lis_store.proofs.Common.{list_all, Among, is_taken, rec_at, Dict, word_of, has, is_prop, FileRecord, has_word, is_plain_word, is_test, test_of, plain_not_test, File, up, own_words, is_assignable, is_met, up_self, entails_from_up, entailing, derived_built_in, among_from_has_word, OwnWord, own_word, own_from, met_weaker, Assigned, Derived, Met, Kept, property_by, AreSound, declared_of, axioms_of, test_by, some_word, declared_word, among_axiom}
 use Rattle.std.proofs.lemmas.Bool.{both_ways, false_from_ne_true}
-use Rattle.lis_graph.proofs.Members.{Among}
-use Rattle.lis_blockmap.specs.Bitmap.{is_taken}
-use Rattle.lis_catalog.specs.Catalog.{rec_at}
-use Rattle.lis_dict.specs.Dict.{Dict, word_of}
-use Rattle.lis_ext.specs.Ext.{has}
-use Rattle.lis_fields.specs.Layouts.{is_prop, is_undeclared}
-use Rattle.lis_fields.specs.Records.{FileRecord}
-use Rattle.lis_words.specs.Words.{has_word, is_plain_word, is_test, test_of}
-use Rattle.lis_words.proofs.Tests.{plain_not_test, valued_not_test}
-use Rattle.lis_model.specs.State.{File, up, own_words, is_assignable}
-use Rattle.lis_model.specs.Tests.{is_met}
+use Rattle.lis_fields.specs.Layouts.{is_undeclared}
+use Rattle.lis_words.proofs.Tests.{valued_not_test}
 use Rattle.lis_laws.proofs.Apart.{built_in_not_test}
-use Rattle.lis_laws.proofs.Chains.{IsWeakerIn, weaker_tests_are, up_self, entails_from_up}
-use Rattle.lis_laws.proofs.Closures.{entailing, entailed_in}
+use Rattle.lis_laws.proofs.Chains.{IsWeakerIn, weaker_tests_are}
+use Rattle.lis_laws.proofs.Closures.{entailed_in}
 use Rattle.lis_laws.proofs.Counts.{all_among}
-use Rattle.lis_laws.proofs.Derived.{derived_built_in}
 use Rattle.lis_laws.proofs.Leads.{right_leads, test_leads}
-use Rattle.lis_laws.proofs.Members.{among_from_has_word, has_word_from_among}
-use Rattle.lis_laws.proofs.Sources.{OwnWord, own_word, own_from, Assignable, assignable_cases, met_weaker}
-use Rattle.lis_laws.proofs.Sources.OwnWord.{Assigned, Derived, Met}
+use Rattle.lis_laws.proofs.Members.{has_word_from_among}
+use Rattle.lis_laws.proofs.Sources.{Assignable, assignable_cases}
 use Rattle.lis_laws.proofs.Sources.Assignable.{Plain, Valued}
 use Rattle.lis_laws.proofs.Locals.{same_tests}
-use Rattle.lis_kept.specs.Kept.{Kept, property_by}
-use Rattle.lis_kept.specs.Sound.{AreSound}
-use Rattle.lis_kept.specs.Telling.{declared_of, axioms_of}
-use Rattle.lis_kept.specs.TestEdges.{test_by}
-use Rattle.lis_kept.proofs.Formed.{some_word}
-use Rattle.lis_kept.proofs.Known.{declared_word, among_axiom}
 use Rattle.lis_kept.proofs.OwnLinks.{undeclared_not_test}
 use Rattle.lis_store.specs.Admitting.{described_by}
 use Rattle.lis_store.specs.Stored.{TestsAreMet}

@@ -1,17 +1,9 @@
--- What memory comes to when words are forgotten that nothing uses but what a slot is described by.
-use Rattle.std.proofs.Common.{◌≡◌, ◌⊎◌, refl, sym, ap, ap₂, ◌∙◌, subst, inl, inr, ℕ, not, ◌&&◌, Bool, true, false, if◌then◌else◌, List, [], Option, Some, None, is_some}
-use Rattle.std.proofs.lemmas.Bool.{both_ways, or_cases, or_left, or_right}
+-- What words are known when those are forgotten that are not in use.
+use Rattle.std.proofs.Common.{◌≡◌, ◌⊎◌, refl, sym, ap, ap₂, ◌∙◌, inl, inr, ℕ, not, ◌&&◌, Bool, true, false, if◌then◌else◌, List, Option, Some, None, is_some}
+use Rattle.std.proofs.lemmas.Bool.{both_ways}
 use Rattle.lis_content.specs.Content.{has_number}
-use Rattle.lis_dict.specs.Dict.{Dict, word_of}
-use Rattle.lis_kept.specs.Kept.{Kept}
-use Rattle.lis_model.specs.State.{State}
-use Rattle.lis_kept.specs.Links.{is_linked, is_own_link, has_pair}
-use Rattle.lis_kept.specs.Telling.{declared_of, is_used}
-use Rattle.lis_kept.specs.Forgetting.{emptied, ForgetsWithout}
-use Rattle.lis_store.specs.Stored.{AreClosed}
-use Rattle.lis_store.proofs.OwnStay.{own_before}
+use Rattle.lis_store.proofs.Common.{Dict, word_of}
 
--- ---- of these numbers the words are forgotten that are not in use
 module _ (d e : Dict) (numbers : List ℕ) (in_use : ℕ → Bool) (words : (n : ℕ) → word_of e n ≡ (if has_number numbers n && not (in_use n) then None else word_of d n)) where
   pub word_before : (n : ℕ) (w : List ℕ) → word_of e n ≡ Some w → word_of d n ≡ Some w
   word_before n w is = by (has_number numbers n && not (in_use n)) (sym (words n) ∙ is)
@@ -48,26 +40,3 @@ module _ (d e : Dict) (numbers : List ℕ) (in_use : ℕ → Bool) (words : (n :
       by : (b : Bool) → in_use n ≡ b → in_use n ≡ true
       by true used = used
       by false unused = side unused (either n known)
-
--- ---- those of a slot
-module _ (slot : ℕ) (numbers : List ℕ) (k q : Kept) (went : ForgetsWithout slot numbers k q) where
-  -- what is kept then
-  abbrev pub rest : Kept
-  rest = record k { dict = q.dict; marks = q.marks }
-
-  declared_same : declared_of rest ≡ declared_of k
-  declared_same = ap declared_of (sym went.parts) ∙ ap (λ (s : State). s.declared) (went.state (λ n. []))
-
-  link_before : (a b : ℕ) → is_linked rest a b ≡ true → is_linked k a b ≡ true
-  link_before a b linked = by (or_cases (is_own_link (declared_of rest) (word_of q.dict a) (word_of q.dict b)) (has_pair k.axioms a b) linked)
-    where
-      by : (is_own_link (declared_of rest) (word_of q.dict a) (word_of q.dict b) ≡ true) ⊎ (has_pair k.axioms a b ≡ true) → is_linked k a b ≡ true
-      by (inl own) =
-          let before = word_before k.dict q.dict numbers (is_used (emptied k slot)) went.words in
-          or_left (is_own_link (declared_of k) (word_of k.dict a) (word_of k.dict b)) (has_pair k.axioms a b)
-          (own_before (declared_of k) (word_of q.dict a) (word_of q.dict b) (word_of k.dict a) (word_of k.dict b) (before a) (before b)
-          (subst (λ ws. is_own_link ws (word_of q.dict a) (word_of q.dict b) ≡ true) declared_same own))
-      by (inr pair) = or_right (is_own_link (declared_of k) (word_of k.dict a) (word_of k.dict b)) (has_pair k.axioms a b) pair
-
-  pub closed_still : AreClosed k → AreClosed rest
-  closed_still closed at a b h linked = closed at a b h (link_before a b linked)

@@ -1,25 +1,13 @@
 -- How many blocks are free where some are given back.
 use Rattle.std.proofs.Common.{◌≡◌, ◌⊎◌, refl, ap, ◌∙◌, subst, inl, inr, ℕ, ◌+◌, ◌<◌, ◌≤◌, ◌==◌, ◌&&◌, not, Bool, true, false, cond, List, [], ◌∷◌, length, filter, set, Option, Some, None, IsSome, arith, get_or-set_other}
-use Rattle.std.proofs.lemmas.Bool.{and_parts, both_ways, cases_lt, cond-false, eqb-true, ne_eqb, not-true, or_cases}
+use Rattle.lis_store.proofs.Common.{and_parts, cases_lt, cond-false, eqb-true, ne_eqb, not-true, or_cases, sum_by-set, Among, Meaning, Held, is_taken, free_count, is_large, small_size, rec_at, FileRecord, Limits, are_in_range, file_limit, blocks_taken, Kept, AreSound, record_in_form}
+use Rattle.std.proofs.lemmas.Bool.{both_ways}
 use Rattle.std.proofs.lemmas.List.{set_past}
-use Rattle.std.proofs.lemmas.List.Sums.{sum_by-set}
-use Rattle.lis_graph.proofs.Members.{Among}
-use Rattle.lis_ports.specs.Meaning.{Meaning}
-use Rattle.lis_journal.specs.Journal.{Held}
-use Rattle.lis_blockmap.specs.Bitmap.{is_taken, free_count}
 use Rattle.lis_content.specs.Content.{given, has_number, are_distinct}
-use Rattle.lis_content.specs.Large.{is_large}
-use Rattle.lis_content.proofs.Indexes.{small_size}
 use Rattle.lis_content.proofs.Numbers.{below_if_taken}
-use Rattle.lis_catalog.specs.Catalog.{rec_at}
-use Rattle.lis_fields.specs.Records.{FileRecord}
-use Rattle.lis_model.specs.declared.limits.Limits.{Limits}
-use Rattle.lis_model.specs.Ranges.{is_files_limit, is_props_limit, is_blocks_limit, is_version, are_in_range}
-use Rattle.lis_model.specs.State.{file_limit, blocks_taken}
-use Rattle.lis_kept.specs.Kept.{Kept}
-use Rattle.lis_kept.specs.Sound.{AreSound}
+use Rattle.lis_model.specs.Ranges.{is_files_limit, is_props_limit, is_blocks_limit, is_version}
 use Rattle.lis_kept.specs.Changes.{Gives}
-use Rattle.lis_kept.proofs.Dropped.{record_in_form, blocks_apart}
+use Rattle.lis_kept.proofs.Dropped.{blocks_apart}
 use Rattle.lis_laws.proofs.Locals.{filter_same}
 use Rattle.lis_kept.proofs.Filing.{number_from_among}
 use Rattle.lis_store.specs.Instead.{free_instead}

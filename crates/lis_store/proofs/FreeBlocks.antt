@@ -1,19 +1,14 @@
 -- The blocks that no file takes are those that are free.
 use Rattle.std.proofs.Common.{◌≡◌, refl, sym, ap, ◌∙◌, subst, inl, inr, ℕ, ◌+◌, ◌<◌, nat_lt, not, ◌&&◌, Bool, true, false, cond, List, [], ◌∷◌, length, map, sum, set, replicate, arith, length-append, length-set, get_or-set_other}
-use Rattle.std.specs.List.{flat_map, list_all}
-use Rattle.std.proofs.lemmas.Bool.{and_parts, and_from, both_ways, lt-ltb, ltb-true, not-true, not_from_false}
-use Rattle.std.proofs.lemmas.List.{length-replicate, get_or-replicate}
-use Rattle.std.proofs.lemmas.List.Sums.{sum_by-cons, sum_by-set}
-use Rattle.lis_graph.proofs.Members.{Among, among_from_contains, contains_from_among, among_flat_map, flat_map_among}
-use Rattle.lis_blockmap.specs.Bitmap.{is_taken, free_count}
+use Rattle.lis_store.proofs.Common.{flat_map, list_all, and_parts, lt-ltb, ltb-true, not-true, not_from_false, length-replicate, get_or-replicate, sum_by-set, Among, among_from_contains, contains_from_among, among_flat_map, is_taken, free_count, are_free, Filed, Limits, State, File, blocks_taken, used_blocks, blocks_told, state_of, Tells}
+use Rattle.std.proofs.lemmas.Bool.{and_from, both_ways}
+use Rattle.std.proofs.lemmas.List.Sums.{sum_by-cons}
+use Rattle.lis_graph.proofs.Members.{flat_map_among}
 use Rattle.lis_blockmap.proofs.Taken.{all_free}
-use Rattle.lis_content.specs.Content.{marked, has_number, are_distinct, are_free}
-use Rattle.lis_catalog.specs.Catalog.{Filed}
-use Rattle.lis_model.specs.declared.limits.Limits.{Limits}
-use Rattle.lis_model.specs.State.{State, File, blocks_taken, used_blocks}
+use Rattle.lis_content.specs.Content.{marked, has_number, are_distinct}
 use Rattle.lis_laws.proofs.Counts.{all_among, all_from}
 use Rattle.lis_laws.proofs.Locals.{same_tests}
-use Rattle.lis_kept.specs.Telling.{blocks_told, file_told, state_of, Tells}
+use Rattle.lis_kept.specs.Telling.{file_told}
 use Rattle.lis_kept.proofs.Filing.{among_from_number, number_from_among}
 use Rattle.lis_store.specs.Stored.{Stored, IsSound}
 use Rattle.lis_store.proofs.ToldBy.{ToldBy}

@@ -1,198 +1,120 @@
 -- Words that are gathered one after another: the numbers of what those with numbers entail, and those without.
-use Rattle.std.proofs.Common.{◌≡◌, ◌⊎◌, refl, sym, ap, ap₂, ◌∙◌, subst, inl, inr, ℕ, ◌+◌, ◌*◌, ◌<◌, ◌≤◌, Bool, true, false, not, ◌&&◌, ◌||◌, cond, is_none, Option, Some, None, List, [], ◌∷◌, ◌++◌, length, take, get_or, arith, append_assoc, append-nil, length-append}
-use Rattle.std.proofs.lemmas.Bool.{or_cases, both_ways, false_from_ne_true}
-use Rattle.std.proofs.lemmas.Option.{none-some}
-use Rattle.std.proofs.lemmas.List.Folds.{list_any-append}
-use Rattle.lis_bits.specs.Rows.{Rows, HasShape, get, with_row}
-use Rattle.lis_bits.proofs.Laws.{bits_set}
-use Rattle.lis_dict.specs.Dict.{number_of, word_of}
-use Rattle.lis_dict.proofs.Laws.{number_from_word, word_from_number, number_below}
-use Rattle.lis_taxonomy.specs.Taxonomy.{Taxonomy, entails}
-use Rattle.lis_taxonomy.proofs.Laws.{entails_decides}
-use Rattle.lis_words.specs.Words.{same_word, has_word, is_valued, head_bytes}
+use Rattle.std.proofs.Common.{◌≡◌, refl, sym, ap, ◌∙◌, subst, ℕ, ◌+◌, ◌*◌, ◌<◌, ◌≤◌, Bool, true, false, not, ◌&&◌, ◌||◌, cond, is_some, is_none, Option, Some, None, List, [], ◌∷◌, ◌++◌, length, take, get_or, arith, length-append}
+use Rattle.lis_store.proofs.Common.{or-false, list_any-append, HasShape, get, with_row, number_of, word_of, number_from_word, number_below, Taxonomy, same_word, has_word, is_valued, head_bytes, same_word_decides, heads, all_up, Kept, AreSound, TellsLinks, declared_of, axioms_of}
+use Rattle.std.proofs.lemmas.Bool.{false_from_ne_true}
+use Rattle.std.proofs.lemmas.List.Elements.{filter-append}
+use Rattle.lis_bits.specs.Rows.{Rows}
+use Rattle.lis_taxonomy.specs.Taxonomy.{entails}
 use Rattle.lis_model.proofs.NotedLemmas.{are_distinct-push}
-use Rattle.lis_laws.proofs.Members.{same_word_decides, among_from_has_word, has_word_from_among}
-use Rattle.lis_laws.proofs.Chains.{up_from_entails}
 use Rattle.lis_laws.proofs.Few.{heads_le}
-use Rattle.lis_model.specs.State.{heads, up}
-use Rattle.lis_kept.specs.Kept.{Kept}
-use Rattle.lis_kept.specs.Sound.{AreSound}
-use Rattle.lis_kept.specs.Links.{TellsLinks}
-use Rattle.lis_kept.specs.Telling.{declared_of, axioms_of}
-use Rattle.lis_store.specs.Describing.{with_heads, leads, IsEntailed, AreGathered, Gathers}
+use Rattle.lis_store.specs.Adding.{is_one_of}
+use Rattle.lis_store.specs.Describing.{with_heads, with_numbers, Gathers}
 use Rattle.lis_store.proofs.Assigned.{flat_next}
-use Rattle.lis_kept.proofs.Entailed.{leads_from_up, chain_named}
+use Rattle.lis_store.proofs.Entailed.{LeavesOut, leaves_none, leaves_one, ups_both, out_more}
 
-pub or_nothing : (b : Bool) → (b || false) ≡ b
-or_nothing true = refl
-or_nothing false = refl
+module _ (k : Kept) where
+  pub numbered_below : AreSound k → (word : List ℕ) (n : ℕ) → word_of k.dict n ≡ Some word → n < k.limits.props
+  numbered_below sound word n is = omega (arith, number_below k.dict sound.dict word n (number_from_word k.dict sound.dict word n is), sound.numbers)
 
-has_last : (words : List (List ℕ)) (word w : List ℕ) → has_word (words ++ word ∷ []) w ≡ (has_word words w || same_word word w)
-has_last words word w = list_any-append (λ v. same_word v w) words (word ∷ []) ∙ ap (λ b. has_word words w || b) (or_nothing (same_word word w))
+  -- the words entail that of the number
+  abbrev entailed_by : List (List ℕ) → ℕ → Bool
+  entailed_by words n = is_one_of (all_up (declared_of k) (axioms_of k) words) (word_of k.dict n)
 
-has_first : (words more : List (List ℕ)) (w : List ℕ) → has_word words w ≡ true → has_word (words ++ more) w ≡ true
-has_first words more w has = list_any-append (λ v. same_word v w) words more ∙ ap (λ b. b || has_word more w) has
+  -- ---- no word, and more words
+  pub gathers_none : (row : Rows) (fresh : List (List ℕ)) → HasShape row 1 k.limits.props → Gathers k [] row row fresh fresh
+  gathers_none row fresh shape = record {
+    shape = shape;
+    bits = (leaves_none k row shape).bits;
+    few = omega arith;
+    once = λ h. h;
+    noted = λ w. sym (or-false (has_word fresh w));
+  }
 
-pub wider : (k : Kept) (words more : List (List ℕ)) (n : ℕ) → IsEntailed k words n → IsEntailed k (words ++ more) n
-wider k words more n e = record {
-  given = e.given;
-  among = has_first words more e.given e.among;
-  number = e.number;
-  named = e.named;
-  word = e.word;
-  worded = e.worded;
-  entailed = e.entailed;
-}
+  noted_both : (a b c d : Bool) → ((a || (b && d)) || (c && d)) ≡ (a || ((b || c) && d))
+  noted_both true b c d = refl
+  noted_both false false c d = refl
+  noted_both false true c true = refl
+  noted_both false true true false = refl
+  noted_both false true false false = refl
 
--- ---- no word, and more words
-pub gathers_none : (k : Kept) (row : Rows) (fresh : List (List ℕ)) → HasShape row 1 k.limits.props → Gathers k [] row row fresh fresh
-gathers_none k row fresh shape = record {
-  shape = shape;
-  few = omega arith;
-  gathered = λ words are. subst (λ ws. AreGathered k ws row fresh) (sym (append-nil words)) are;
-}
+  pub gathers_more : (more others : List (List ℕ)) (p q r : Rows) (f g h : List (List ℕ)) → Gathers k more p q f g → Gathers k others q r g h → Gathers k (more ++ others) p r f h
+  gathers_more more others p q r f g h first next = record {
+    shape = next.shape;
+    bits = λ n lt.
+        let some = with_numbers k more in
+        let rest = with_numbers k others in
+        let all = ap (λ ws. entailed_by ws n) (filter-append (λ w. is_some (number_of k.dict w)) more others) ∙ ups_both (declared_of k) (axioms_of k) (word_of k.dict n) some rest in
+        next.bits n lt
+        ∙ (ap (λ b. b && not (entailed_by rest n)) (first.bits n lt)
+        ∙ (out_more (get p 0 n) (entailed_by some n) (entailed_by rest n) ∙ ap (λ b. get p 0 n && not b) (sym all)));
+    few = omega (arith, first.few, next.few, length-append more others);
+    once = λ apart. next.once (first.once apart);
+    noted = λ w.
+        let none = is_none (number_of k.dict w) in
+        next.noted w
+        ∙ (ap (λ b. b || (has_word others w && none)) (first.noted w)
+        ∙ (noted_both (has_word f w) (has_word more w) (has_word others w) none
+        ∙ ap (λ b. has_word f w || (b && none)) (sym (list_any-append (λ v. same_word v w) more others))));
+  }
 
-pub gathers_more : (k : Kept) (more others : List (List ℕ)) (p q r : Rows) (f g h : List (List ℕ)) → Gathers k more p q f g → Gathers k others q r g h → Gathers k (more ++ others) p r f h
-gathers_more k more others p q r f g h first next = record {
-  shape = next.shape;
-  few = omega (arith, first.few, next.few, length-append more others);
-  gathered = λ words are. subst (λ ws. AreGathered k ws r h) (append_assoc words more others) (next.gathered (words ++ more) (first.gathered words are));
-}
+  module _ (word : List ℕ) where
+    -- its number stands for the other word, if they are one
+    same_number : (w : List ℕ) (o : Option ℕ) → same_word word w ≡ true → number_of k.dict word ≡ o → number_of k.dict w ≡ o
+    same_number w o same is = ap (number_of k.dict) (sym ((same_word_decides word w).0 same)) ∙ is
 
-module _ (k : Kept) (sound : AreSound k) where
-  has_no_number : (word : List ℕ) (n : ℕ) → number_of k.dict word ≡ None → word_of k.dict n ≡ Some word → ⊥
-  has_no_number word n none is = none-some n (sym none ∙ number_from_word k.dict sound.dict word n is)
-
-  pub numbered_below : (word : List ℕ) (n : ℕ) → word_of k.dict n ≡ Some word → n < k.limits.props
-  numbered_below word n is = omega (arith, number_below k.dict sound.dict word n (number_from_word k.dict sound.dict word n is), sound.numbers)
-
-  -- ---- a word that has a number
-  module _ (t : Taxonomy) (tells : TellsLinks k t) (word : List ℕ) (number : ℕ) (numbered : number_of k.dict word ≡ Some number) (reached old new : Rows)
-      (values : (p q : ℕ) → p < t.props → q < t.props → get reached p q ≡ entails t p q) (shape : HasShape old 1 k.limits.props)
-      (is : new ≡ with_row old 0 (λ bit. get old 0 bit && not (get reached number bit))) where
-    named : word_of k.dict number ≡ Some word
-    named = word_from_number k.dict sound.dict word number numbered
-
-    number_inside : number < k.limits.props
-    number_inside = numbered_below word number named
-
-    bit_is : (n : ℕ) → n < k.limits.props → get new 0 n ≡ (get old 0 n && not (entails t number n))
-    bit_is n lt =
-        ap (λ (r : Rows). get r 0 n) is
-        ∙ ((bits_set old 1 k.limits.props 0 (λ bit. get old 0 bit && not (get reached number bit)) shape (omega arith)).at n lt
-        ∙ ap (λ b. get old 0 n && not b) (values number n (omega (arith, number_inside, tells.props)) (omega (arith, lt, tells.props))))
-
-    -- what it entails has a number too
-    by_word : (words : List (List ℕ)) (n : ℕ) → entails t number n ≡ true → IsEntailed k (words ++ word ∷ []) n
-    by_word words n leads_to =
-        let chain = (entails_decides t number n).0 leads_to in
-        let found = chain_named k sound t tells chain.0 number n word named chain.1 in
-        record {
-          given = word;
-          among = has_last words word word ∙ or_self (has_word words word);
-          number = number;
-          named = named;
-          word = found.0;
-          worded = found.1;
-          entailed = has_word_from_among (up (declared_of k) (axioms_of k) word) found.0 (up_from_entails (declared_of k) (axioms_of k) word found.0 (chain.0, found.2));
-        }
-      where
-        or_self : (b : Bool) → (b || same_word word word) ≡ true
-        or_self true = refl
-        or_self false = (same_word_decides word word).1 refl
-
-    pub gathers_known : (fresh : List (List ℕ)) → Gathers k (word ∷ []) old new fresh fresh
-    gathers_known fresh = record {
-      shape = subst (λ (r : Rows). HasShape r 1 k.limits.props) (sym is) (bits_set old 1 k.limits.props 0 (λ bit. get old 0 bit && not (get reached number bit)) shape (omega arith)).shape;
+    -- ---- a word that has a number
+    pub gathers_known : (sound : AreSound k) (t : Taxonomy) → TellsLinks k t → (number : ℕ) → number_of k.dict word ≡ Some number → (reached old new : Rows)
+        → ((p q : ℕ) → p < t.props → q < t.props → get reached p q ≡ entails t p q) → HasShape old 1 k.limits.props
+        → new ≡ with_row old 0 (λ bit. get old 0 bit && not (get reached number bit)) → (fresh : List (List ℕ)) → Gathers k (word ∷ []) old new fresh fresh
+    gathers_known sound t tells number numbered reached old new values shape is fresh = record {
+      shape = leaves.shape;
+      bits = λ n lt. leaves.bits n lt ∙ ap (λ (o : Option ℕ). get old 0 n && not (entailed_by (cond (is_some o) (word ∷ []) []) n)) (sym numbered);
       few = omega arith;
-      gathered = λ words are. record {
-        entailed = λ n lt lacks. by words are n lt (get old 0 n) refl (entails t number n) refl (sym (bit_is n lt) ∙ lacks);
-        all = λ given w m n has is_m is_n leads_to. reached_all words are given w m n is_m is_n leads_to (or_cases (has_word words given) (same_word word given) (sym (has_last words word given) ∙ has));
-        once = are.once;
-        new = λ w. are.new w ∙ (only w (has_word words w) (same_word word w) refl ∙ ap (λ b. b && is_none (number_of k.dict w)) (sym (has_last words word w)));
-      };
+      once = λ apart. apart;
+      noted = λ w. by w (has_word fresh w) (same_word word w) refl;
     }
       where
-        by : (words : List (List ℕ)) → AreGathered k words old fresh → (n : ℕ) → n < k.limits.props → (a : Bool) → get old 0 n ≡ a → (b : Bool) → entails t number n ≡ b → (get old 0 n && not (entails t number n)) ≡ false
-            → IsEntailed k (words ++ word ∷ []) n
-        by words are n lt false before b leads_to lacks = wider k words (word ∷ []) n (are.entailed n lt before)
-        by words are n lt true before true leads_to lacks = by_word words n leads_to
-        by words are n lt true before false leads_to lacks =
-            let is_true = ap₂ (λ a b. a && not b) before leads_to in
-            absurd (both_ways (get old 0 n && not (entails t number n)) lacks is_true)
+        leaves : LeavesOut k (word ∷ []) old new
+        leaves = leaves_one k sound t tells reached values [] word old old new number (leaves_none k old shape) numbered is
 
-        reached_all : (words : List (List ℕ)) → AreGathered k words old fresh → (given w : List ℕ) (m n : ℕ) → word_of k.dict m ≡ Some given → word_of k.dict n ≡ Some w → leads k given w
-            → (has_word words given ≡ true) ⊎ (same_word word given ≡ true) → get new 0 n ≡ false
-        reached_all words are given w m n is_m is_n leads_to (inl before) =
-            bit_is n (numbered_below w n is_n) ∙ ap (λ b. b && not (entails t number n)) (are.all given w m n before is_m is_n leads_to)
-        reached_all words are given w m n is_m is_n leads_to (inr same) =
-            let one = (same_word_decides word given).0 same in
-            let here = subst (λ v. leads k v w) (sym one) leads_to in
-            let reaches = (entails_decides t number n).1 (leads_from_up k sound t tells number n word w named is_n (among_from_has_word (up (declared_of k) (axioms_of k) word) w here)) in
-            bit_is n (numbered_below w n is_n) ∙ (ap (λ b. get old 0 n && not b) reaches ∙ and_false (get old 0 n))
-          where
-            and_false : (b : Bool) → (b && false) ≡ false
-            and_false true = refl
-            and_false false = refl
+        by : (w : List ℕ) (a b : Bool) → same_word word w ≡ b → a ≡ (a || ((b || false) && is_none (number_of k.dict w)))
+        by w true b e = refl
+        by w false true e = sym (ap (λ (o : Option ℕ). is_none o) (same_number w (Some number) e numbered))
+        by w false false e = refl
 
-        only : (w : List ℕ) (a b : Bool) → same_word word w ≡ b → (a && is_none (number_of k.dict w)) ≡ ((a || b) && is_none (number_of k.dict w))
-        only w true b e = refl
-        only w false true e = sym (ap (λ v. is_none (number_of k.dict v)) (sym ((same_word_decides word w).0 e)) ∙ ap (λ (o : Option ℕ). is_none o) numbered)
-        only w false false e = refl
+    -- ---- a word that has none
+    module _ (none : number_of k.dict word ≡ None) (row : Rows) (shape : HasShape row 1 k.limits.props) (fresh : List (List ℕ)) where
+      bits_stay : (n : ℕ) → n < k.limits.props → get row 0 n ≡ (get row 0 n && not (entailed_by (with_numbers k (word ∷ [])) n))
+      bits_stay n lt = (leaves_none k row shape).bits n lt ∙ ap (λ (o : Option ℕ). get row 0 n && not (entailed_by (cond (is_some o) (word ∷ []) []) n)) (sym none)
 
-  -- ---- a word that has none
-  module _ (word : List ℕ) (none : number_of k.dict word ≡ None) (row : Rows) (shape : HasShape row 1 k.limits.props) where
-    all_before : (words fresh : List (List ℕ)) → AreGathered k words row fresh → (given w : List ℕ) (m n : ℕ) → has_word (words ++ word ∷ []) given ≡ true → word_of k.dict m ≡ Some given
-        → word_of k.dict n ≡ Some w → leads k given w → get row 0 n ≡ false
-    all_before words fresh are given w m n has is_m is_n leads_to = by (or_cases (has_word words given) (same_word word given) (sym (has_last words word given) ∙ has))
-      where
-        by : (has_word words given ≡ true) ⊎ (same_word word given ≡ true) → get row 0 n ≡ false
-        by (inl before) = are.all given w m n before is_m is_n leads_to
-        by (inr same) = absurd (has_no_number word m none (is_m ∙ ap Some (sym ((same_word_decides word given).0 same))))
+      its_own : (w : List ℕ) → (same_word word w || false) ≡ ((same_word word w || false) && is_none (number_of k.dict w))
+      its_own w = by (same_word word w) refl
+        where
+          by : (b : Bool) → same_word word w ≡ b → (b || false) ≡ ((b || false) && is_none (number_of k.dict w))
+          by true e = sym (ap (λ (o : Option ℕ). is_none o) (same_number w None e none))
+          by false e = refl
 
-    none_is : (w : List ℕ) → same_word word w ≡ true → is_none (number_of k.dict w) ≡ true
-    none_is w same = ap (λ v. is_none (number_of k.dict v)) (sym ((same_word_decides word w).0 same)) ∙ ap (λ (o : Option ℕ). is_none o) none
+      pub gathers_new : has_word fresh word ≡ false → Gathers k (word ∷ []) row row fresh (fresh ++ word ∷ [])
+      gathers_new lacks = record {
+        shape = shape;
+        bits = bits_stay;
+        few = omega (arith, length-append fresh (word ∷ []));
+        once = λ apart. are_distinct-push fresh word apart lacks;
+        noted = λ w. list_any-append (λ v. same_word v w) fresh (word ∷ []) ∙ ap (λ b. has_word fresh w || b) (its_own w);
+      }
 
-    pub gathers_new : (fresh : List (List ℕ)) → has_word fresh word ≡ false → Gathers k (word ∷ []) row row fresh (fresh ++ word ∷ [])
-    gathers_new fresh lacks = record {
-      shape = shape;
-      few = omega (arith, length-append fresh (word ∷ []));
-      gathered = λ words are. record {
-        entailed = λ n lt off. wider k words (word ∷ []) n (are.entailed n lt off);
-        all = all_before words fresh are;
-        once = are_distinct-push fresh word are.once lacks;
-        new = λ w. has_last fresh word w ∙ (ap (λ b. b || same_word word w) (are.new w) ∙ (both w (has_word words w) (same_word word w) refl
-            ∙ ap (λ b. b && is_none (number_of k.dict w)) (sym (has_last words word w))));
-      };
-    }
-      where
-        both : (w : List ℕ) (a b : Bool) → same_word word w ≡ b → ((a && is_none (number_of k.dict w)) || b) ≡ ((a || b) && is_none (number_of k.dict w))
-        both w a false e = or_nothing (a && is_none (number_of k.dict w)) ∙ ap (λ c. c && is_none (number_of k.dict w)) (sym (or_nothing a))
-        both w true true e = ap (λ b. (b || true)) (none_is w e) ∙ sym (none_is w e)
-        both w false true e = sym (none_is w e)
-
-    pub gathers_there : (fresh : List (List ℕ)) → has_word fresh word ≡ true → Gathers k (word ∷ []) row row fresh fresh
-    gathers_there fresh has = record {
-      shape = shape;
-      few = omega arith;
-      gathered = λ words are. record {
-        entailed = λ n lt off. wider k words (word ∷ []) n (are.entailed n lt off);
-        all = all_before words fresh are;
-        once = are.once;
-        new = λ w. by words are w (same_word word w) refl;
-      };
-    }
-      where
-        by : (words : List (List ℕ)) → AreGathered k words row fresh → (w : List ℕ) (b : Bool) → same_word word w ≡ b → has_word fresh w ≡ (has_word (words ++ word ∷ []) w && is_none (number_of k.dict w))
-        by words are w true e =
-            let there = ap (has_word fresh) (sym ((same_word_decides word w).0 e)) ∙ has in
-            let last = has_last words word w ∙ (ap (λ b. has_word words w || b) e ∙ or_true (has_word words w)) in
-            there ∙ sym (ap₂ (λ a b. a && b) last (none_is w e))
-          where
-            or_true : (b : Bool) → (b || true) ≡ true
-            or_true true = refl
-            or_true false = refl
-        by words are w false e = are.new w ∙ ap (λ b. b && is_none (number_of k.dict w)) (sym (has_last words word w ∙ (ap (λ b. has_word words w || b) e ∙ or_nothing (has_word words w))))
+      pub gathers_there : has_word fresh word ≡ true → Gathers k (word ∷ []) row row fresh fresh
+      gathers_there has = record {
+        shape = shape;
+        bits = bits_stay;
+        few = omega arith;
+        once = λ apart. apart;
+        noted = λ w. by w (same_word word w) refl ∙ ap (λ b. has_word fresh w || b) (its_own w);
+      }
+        where
+          by : (w : List ℕ) (b : Bool) → same_word word w ≡ b → has_word fresh w ≡ (has_word fresh w || (b || false))
+          by w true e = let there = ap (has_word fresh) (sym ((same_word_decides word w).0 e)) ∙ has in there ∙ sym (ap (λ b. b || true) there)
+          by w false e = sym (or-false (has_word fresh w))
 
 -- ---- words with their heads
 pub headed : (word : List ℕ) → is_valued word ≡ true → heads word ≡ head_bytes word ∷ []
@@ -206,8 +128,8 @@ with_heads_few [] = omega arith
 with_heads_few (w ∷ words) = omega (arith, heads_le w, length-append (w ∷ heads w) (with_heads words), with_heads_few words)
 
 -- a loop that gathers words
-module _ (k : Kept) (words : List (List ℕ)) (i : ℕ) (word : List ℕ) (lt : i < length words) (is : word ≡ get_or words i word) (p q r : Rows) (f g h : List (List ℕ)) where
-  pub gathers_next : Gathers k (with_heads (take i words)) p q f g → Gathers k (word ∷ heads word) q r g h → Gathers k (with_heads (take (i + 1) words)) p r f h
-  gathers_next before next =
-      subst (λ ws. Gathers k ws p r f h) (sym (flat_next (λ (w : List ℕ). w ∷ heads w) words i word lt is))
-      (gathers_more k (with_heads (take i words)) (word ∷ heads word) p q r f g h before next)
+pub gathers_next : (k : Kept) (words : List (List ℕ)) (i : ℕ) (word : List ℕ) → i < length words → word ≡ get_or words i word → (p q r : Rows) (f g h : List (List ℕ))
+    → Gathers k (with_heads (take i words)) p q f g → Gathers k (word ∷ heads word) q r g h → Gathers k (with_heads (take (i + 1) words)) p r f h
+gathers_next k words i word lt is p q r f g h before next =
+    subst (λ ws. Gathers k ws p r f h) (sym (flat_next (λ (w : List ℕ). w ∷ heads w) words i word lt is))
+    (gathers_more k (with_heads (take i words)) (word ∷ heads word) p q r f g h before next)

@@ -1,8 +1,8 @@
 -- Blocks that are given back.
 use Rattle.std.proofs.Common.{◌≡◌, ◌⊎◌, refl, sym, ap, ◌∙◌, subst, inl, inr, ℕ, ◌<◌, ◌≤◌, ◌==◌, not, ◌&&◌, ◌||◌, Bool, true, false, List, [], ◌∷◌, length, get_or, set, get_or-set_same, get_or-set_other}
-use Rattle.std.proofs.lemmas.Bool.{and_right, cases_eq, cases_lt, eq-eqb, ne_eqb}
-use Rattle.std.proofs.lemmas.List.{get_or_past, set_past}
-use Rattle.lis_blockmap.specs.Bitmap.{is_taken}
+use Rattle.lis_store.proofs.Common.{cases_eq, cases_lt, ne_eqb, get_or_past, is_taken}
+use Rattle.std.proofs.lemmas.Bool.{and_right, eq-eqb}
+use Rattle.std.proofs.lemmas.List.{set_past}
 use Rattle.lis_content.specs.Content.{given, has_number}
 
 unset : (taken : List Bool) (n : ℕ) → get_or (set taken n false) n false ≡ false

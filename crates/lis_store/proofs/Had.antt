@@ -1,11 +1,9 @@
 -- Numbers that pass a test, found one by one.
 use Rattle.std.proofs.Common.{◌≡◌, refl, sym, ap, ◌∙◌, ◌⊎◌, inl, inr, ℕ, zero, suc, ◌+◌, ◌<◌, ◌≤◌, Bool, true, false, cond, List, [], ◌∷◌, ◌++◌, length, map, filter, append-nil, length-append, arith}
 use Rattle.std.specs.Prelude.{All}
-use Rattle.std.specs.List.{range_with_len}
-use Rattle.std.specs.List.Sorted.{IsStrictlyIncreasing}
-use Rattle.std.proofs.lemmas.Bool.{cases_lt}
+use Rattle.lis_store.proofs.Common.{range_with_len, IsStrictlyIncreasing, cases_lt, Ext, has}
 use Rattle.std.proofs.lemmas.List.FromFn.{filter_of_map_range_with_len_more}
-use Rattle.lis_ext.specs.Ext.{Ext, set_of, has}
+use Rattle.lis_ext.specs.Ext.{set_of}
 use Rattle.lis_ext.specs.Numbers.{numbers_where}
 use Rattle.lis_ext.proofs.Numbers.{numbers_of}
 use Rattle.lis_ext.proofs.Seen.{each_below}

@@ -1,22 +1,10 @@
 -- The head of a word in use is in use.
 use Rattle.std.proofs.Common.{◌≡◌, ◌⊎◌, refl, sym, ap, ◌∙◌, inl, inr, ℕ, ◌||◌, true, false, List, Option, Some, None}
-use Rattle.std.specs.List.{list_any}
-use Rattle.std.proofs.lemmas.Bool.{and_parts, both_ways, eqb-true, or_cases, or_left, or_right}
-use Rattle.lis_graph.proofs.Members.{Among, among_from_any, any_from_among}
-use Rattle.lis_blockmap.specs.Bitmap.{is_taken}
-use Rattle.lis_dict.specs.Dict.{word_of}
-use Rattle.lis_ext.specs.Ext.{has}
-use Rattle.lis_fields.specs.declared.slots.AxiomSlot.{AxiomSlot}
-use Rattle.lis_fields.specs.declared.slots.AxiomSlot.TheVariants.{Free as FreeAxiom, Pair}
-use Rattle.lis_words.specs.Words.{same_word, is_valued, head_bytes}
-use Rattle.lis_laws.proofs.Members.{same_word_decides}
-use Rattle.lis_laws.proofs.Chains.{head_not_valued}
-use Rattle.lis_kept.specs.Kept.{Kept}
-use Rattle.lis_kept.specs.Sound.{AreSound}
-use Rattle.lis_kept.specs.Links.{has_pair, is_own_link}
-use Rattle.lis_kept.specs.Telling.{declared_of, is_left_of, is_head_by, is_left_head_of, is_had, is_named_left, is_used}
+use Rattle.lis_store.proofs.Common.{list_any, and_parts, eqb-true, or_cases, Among, is_taken, word_of, has, AxiomSlot, FreeAxiom, Pair, same_word, is_valued, head_bytes, same_word_decides, head_not_valued, Kept, AreSound, has_pair, is_own_link, declared_of, is_left_of, is_head_by, is_left_head_of, is_had, is_named_left, is_used, had_at, used_had}
+use Rattle.std.proofs.lemmas.Bool.{both_ways, or_left, or_right}
+use Rattle.lis_graph.proofs.Members.{among_from_any, any_from_among}
 use Rattle.lis_kept.proofs.OwnLinks.{own_head}
-use Rattle.lis_kept.proofs.Used.{had_at, used_had, used_left}
+use Rattle.lis_kept.proofs.Used.{used_left}
 use Rattle.lis_kept.proofs.Emptied.{flagged_not_valued}
 use Rattle.lis_store.specs.Stored.{AreClosed}
 

@@ -1,23 +1,13 @@
 -- Which files a place has.
 use Rattle.std.proofs.Common.{◌≡◌, refl, sym, ap, ap₂, ◌∙◌, ℕ, ◌<◌, ◌==◌, Bool, true, false, cond, IsSome, IsSomeAnd, List, [], ◌∷◌, map, filter, Option, Some, None}
 use Rattle.std.specs.Prelude.{option_map}
-use Rattle.std.specs.List.{find}
+use Rattle.lis_store.proofs.Common.{find, same_Some, Among, contains_from_among, among_filter, filter_among, same_word, Formula, FileRecord, Filed, slot_of, rec_at, rec_at-slot_of, same_word_decides, Placed, Kept, AreSound, filed_rec, filed_slot}
 use Rattle.std.proofs.lemmas.Bool.{false_from_ne_true}
-use Rattle.std.proofs.lemmas.Option.{same_Some}
-use Rattle.lis_graph.proofs.Members.{Among, contains_from_among, among_from_any, any_from_among, among_filter, filter_among, among_map, map_among}
-use Rattle.lis_words.specs.Words.{same_word}
-use Rattle.lis_grammar.specs.Formula.{Formula}
-use Rattle.lis_fields.specs.Records.{FileRecord}
-use Rattle.lis_catalog.specs.Catalog.{Filed, slot_of, rec_at}
-use Rattle.lis_catalog.proofs.Laws.{rec_at-slot_of}
+use Rattle.lis_graph.proofs.Members.{among_from_any, any_from_among, among_map, map_among}
 use Rattle.lis_model.specs.Table.{Entry}
 use Rattle.lis_model.specs.Listing.{holds_all}
-use Rattle.lis_laws.proofs.Members.{same_word_decides}
-use Rattle.lis_eval.specs.View.{Placed, TellsTest}
-use Rattle.lis_kept.specs.Kept.{Kept}
-use Rattle.lis_kept.specs.Sound.{AreSound}
+use Rattle.lis_eval.specs.View.{TellsTest}
 use Rattle.lis_kept.proofs.Dropped.{file_slot_below}
-use Rattle.lis_kept.proofs.Filing.{filed_rec, filed_slot}
 use Rattle.lis_store.specs.Seen.{placed, seen_of, table_of}
 use Rattle.lis_store.specs.Judging.{is_among}
 use Rattle.lis_store.proofs.Facts.{filed_named}

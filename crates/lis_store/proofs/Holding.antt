@@ -1,16 +1,8 @@
 -- A store at which nothing is held back, and one at which changes are; and a change that is held back and then committed.
 use Rattle.std.proofs.Common.{◌≡◌, ◌⊎◌, refl, sym, ap, ◌∙◌, subst, inl, inr, ℕ, true, false, List, [], Result, Ok, Err}
-use Rattle.lis_ports.specs.Meaning.{Meaning}
-use Rattle.lis_ports.specs.Runs.{Leaves}
+use Rattle.lis_store.proofs.Common.{Meaning, Leaves, looked, KeepsPast, image_blocks, State, Situation, Outcome, IsWritten, Tells}
 use Rattle.lis_ports.proofs.Moments.{leaves_weaken, leaves_then}
 use Rattle.lis_journal.specs.Record.{Entry}
-use Rattle.lis_journal.specs.Phases.{looked}
-use Rattle.lis_journal.specs.Images.{KeepsPast}
-use Rattle.lis_model.specs.Image.{image_blocks}
-use Rattle.lis_model.specs.State.{State}
-use Rattle.lis_model.specs.Step.{Situation, Outcome}
-use Rattle.lis_kept.specs.Areas.{IsWritten}
-use Rattle.lis_kept.specs.Telling.{Tells}
 use Rattle.lis_store.specs.declared.change.Change.{Change}
 use Rattle.lis_store.specs.declared.change.Change.TheVariants.{Refused, Disk}
 use Rattle.lis_store.specs.Stands.{Stands}

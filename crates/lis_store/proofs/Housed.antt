@@ -1,21 +1,13 @@
 -- The blocks of a file that comes into the place of another.
-use Rattle.std.proofs.Common.{◌≡◌, refl, sym, ap, ◌∙◌, subst, ℕ, ◌+◌, ◌<◌, nat_lt, not, ◌&&◌, ◌||◌, Bool, true, false, List, length, IsTrue, arith}
-use Rattle.std.proofs.lemmas.Bool.{and_parts, both_ways, false_from_ne_true, ltb-true, not-true}
-use Rattle.lis_graph.proofs.Members.{Among, contains_from_among}
-use Rattle.lis_blockmap.specs.Bitmap.{is_taken}
-use Rattle.lis_content.specs.Content.{given, marked, are_free, are_distinct, has_number, has_home}
+use Rattle.std.proofs.Common.{◌≡◌, refl, sym, ap, ◌∙◌, subst, ℕ, ◌+◌, ◌<◌, nat_lt, not, ◌&&◌, ◌||◌, Bool, true, false, List, [], length, IsTrue, arith}
+use Rattle.lis_store.proofs.Common.{and_parts, ltb-true, not-true, Among, contains_from_among, is_taken, are_free, has_home, Filed, Limits, data_start, State, Kept, AreSound, bytes_told, blocks_told, Tells}
+use Rattle.std.proofs.lemmas.Bool.{both_ways, false_from_ne_true}
+use Rattle.lis_content.specs.Content.{given, marked, are_distinct, has_number}
 use Rattle.lis_content.specs.Large.{file_content, file_blocks, IsIndexed}
 use Rattle.lis_content.specs.Placing.{HasFile}
 use Rattle.lis_content.proofs.Laying.{home_new}
 use Rattle.lis_content.proofs.Numbers.{length-given}
-use Rattle.lis_catalog.specs.Catalog.{Filed}
-use Rattle.lis_model.specs.declared.limits.Limits.{Limits}
-use Rattle.lis_model.specs.Image.{data_start}
-use Rattle.lis_model.specs.State.{State}
 use Rattle.lis_laws.proofs.Counts.{all_among}
-use Rattle.lis_kept.specs.Kept.{Kept}
-use Rattle.lis_kept.specs.Sound.{AreSound}
-use Rattle.lis_kept.specs.Telling.{bytes_told, blocks_told, Tells}
 use Rattle.lis_kept.proofs.Contents.{same_file}
 use Rattle.lis_kept.proofs.Filing.{among_from_number, number_from_among}
 use Rattle.lis_store.specs.Contents.{Trades}
@@ -40,6 +32,24 @@ free_number taken blocks n free has =
     let one = and_parts (nat_lt n (length taken)) (not (is_taken taken n))
     (all_among (λ i. nat_lt i (length taken) && not (is_taken taken i)) blocks n free (among_from_number blocks n has)) in
     (ltb-true n (length taken) one.0, not-true (is_taken taken n) one.1)
+
+-- the same once those of the other file are given back
+pub housed_given : {limits : Limits} {taken now : List Bool} {old blocks bytes numbers : List ℕ} {at there : ℕ → List ℕ} → IsHoused limits taken now old blocks bytes numbers at there
+    → IsHoused limits (given taken old) now [] blocks bytes numbers at there
+housed_given {limits} {taken} {now} {old} {blocks} housed = record {
+  below = housed.below;
+  vacant = λ n new is.
+      let both = and_parts (is_taken taken n) (not (has_number old n)) (sym (given_taken taken old n) ∙ is) in
+      absurd (both_ways (not (has_number old n)) (ap not (housed.vacant n new both.0)) both.1);
+  distinct = housed.distinct;
+  holds = housed.holds;
+  same = housed.same;
+  marks = λ n lt. housed.marks n lt ∙ ap (λ b. has_number blocks n || b) (sym (given_taken taken old n) ∙ whole (is_taken (given taken old) n));
+}
+  where
+    whole : (b : Bool) → b ≡ (b && true)
+    whole true = refl
+    whole false = refl
 
 -- ---- bytes that come into other blocks
 module _ (limits : Limits) (taken mid now : List Bool) (old blocks bytes numbers : List ℕ) (at there : ℕ → List ℕ) (len : length taken ≡ limits.blocks) (distinct : are_distinct blocks ≡ true)

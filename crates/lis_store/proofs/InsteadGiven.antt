@@ -1,12 +1,8 @@
 -- The words of numbers, put into a set one after another.
 use Rattle.std.proofs.Common.{◌≡◌, ◌∙◌, subst, ℕ, ◌+◌, ◌<◌, ◌≤◌, Bool, true, Option, Some, None, option_to_list, List, [], length, take, get_or, sym, ap, arith}
-use Rattle.std.specs.List.{flat_map}
+use Rattle.lis_store.proofs.Common.{flat_map, Dict, word_of, word_cmp, with_words, insert_key_le}
 use Rattle.std.proofs.lemmas.Bool.{le-leb}
 use Rattle.std.proofs.lemmas.List.{get_or_default}
-use Rattle.lis_dict.specs.Dict.{Dict, word_of}
-use Rattle.lis_words.specs.Words.{word_cmp}
-use Rattle.lis_model.specs.Sets.{with_words}
-use Rattle.lis_laws.proofs.Counts.{insert_key_le}
 use Rattle.lis_store.specs.Assigning.{Takes}
 use Rattle.lis_store.proofs.Assigned.{takes_more, flat_next}
 

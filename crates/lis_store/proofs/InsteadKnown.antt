@@ -1,41 +1,19 @@
 -- The words in use without a file are those that are known where it is gone; so those known with another in its place are told by memory.
 use Rattle.std.proofs.Common.{◌≡◌, ◌⊎◌, refl, sym, ap, ap₂, ◌∙◌, subst, inl, inr, ℕ, ◌||◌, ◌&&◌, not, Bool, true, false, cond, Option, Some, None, List, [], ◌∷◌, map, filter, eq-eqb}
-use Rattle.std.specs.List.{list_any}
-use Rattle.std.specs.List.Sorted.{IsStrictlySortedBy}
-use Rattle.std.proofs.lemmas.Bool.{and_parts, and_from, or_cases, or_left, or_right, both_ways, not-true, not_from_false, false_from_ne_true, eqb-true}
-use Rattle.std.proofs.lemmas.List.Kept.{IsStrictlySortedBy-filter}
-use Rattle.std.proofs.lemmas.Option.{same_Some}
-use Rattle.lis_graph.proofs.Members.{Among, contains_from_among, among_from_any, any_from_among, among_filter, filter_among, among_map, map_among}
-use Rattle.lis_graph.specs.Graph.{is_rising}
-use Rattle.lis_graph.proofs.Sets.{sorted_from_rising}
-use Rattle.lis_blockmap.specs.Bitmap.{is_taken}
-use Rattle.lis_dict.specs.Dict.{words, number_of, word_of}
-use Rattle.lis_dict.proofs.Laws.{among_from_word, number_from_word, word_from_number, number_from_among}
-use Rattle.lis_catalog.specs.Catalog.{Filed, slot_of, rec_at}
-use Rattle.lis_ext.specs.Ext.{has, set_of as numbers_at}
-use Rattle.lis_fields.specs.Records.{FileRecord}
-use Rattle.lis_fields.specs.declared.slots.AxiomSlot.{AxiomSlot}
-use Rattle.lis_fields.specs.declared.slots.AxiomSlot.TheVariants.{Free as FreeAxiom, Pair}
-use Rattle.lis_words.specs.Words.{word_cmp, same_word, is_valued, head_bytes}
-use Rattle.lis_model.specs.Sets.{with_words}
-use Rattle.lis_model.specs.State.{State, File, file_words, known, description, heads}
-use Rattle.lis_model.specs.Changes.{has_name, file_removed, file_replaced}
-use Rattle.lis_laws.proofs.Members.{word_order, same_word_decides, same_words}
-use Rattle.lis_laws.proofs.Chains.{among_heads, heads_of_valued}
-use Rattle.lis_laws.proofs.Growth.{known_adds_file}
-use Rattle.lis_laws.proofs.Known.{sorted_known}
-use Rattle.lis_laws.proofs.Sources.{Source, source_of, known_from}
+use Rattle.lis_store.proofs.Common.{list_any, IsStrictlySortedBy, and_parts, or_cases, not-true, not_from_false, eqb-true, IsStrictlySortedBy-filter, same_Some, Among, contains_from_among, among_filter, filter_among, is_rising, sorted_from_rising, is_taken, number_of, word_of, number_from_word, word_from_number, Filed, slot_of, rec_at, has, numbers_at, FileRecord, AxiomSlot, FreeAxiom, Pair, word_cmp, same_word, is_valued, head_bytes, State, File, description, heads, file_removed, word_order, same_word_decides, among_heads, sorted_known, known_from, Kept, AreSound, FreeSlotsAreEmpty, bit_of, is_declared, state_of, is_left_of, is_head_by, is_left_head_of, is_had, is_named_left, is_used, Tells, filed_rec, filed_slot, filed_at_slot, some_word, among_place, some_number, word_among, among_word, known_word, declared_word, among_axiom, left_out, emptied}
+use Rattle.std.proofs.lemmas.Bool.{and_from, or_left, or_right, both_ways, false_from_ne_true}
+use Rattle.lis_graph.proofs.Members.{among_from_any, any_from_among, among_map, map_among}
+use Rattle.lis_dict.specs.Dict.{words}
+use Rattle.lis_dict.proofs.Laws.{among_from_word, number_from_among}
+use Rattle.lis_model.specs.State.{known}
+use Rattle.lis_laws.proofs.Members.{same_words}
+use Rattle.lis_laws.proofs.Chains.{heads_of_valued}
+use Rattle.lis_laws.proofs.Sources.{Source, source_of}
 use Rattle.lis_laws.proofs.Sources.Source.{Declared, Left, LeftHead, Described}
-use Rattle.lis_kept.specs.Kept.{Kept}
-use Rattle.lis_kept.specs.Sound.{AreSound, FreeSlotsAreEmpty}
-use Rattle.lis_kept.specs.Telling.{bit_of, is_declared, file_told, state_of, is_left_of, is_head_by, is_left_head_of, is_had, is_named_left, is_used, Tells}
-use Rattle.lis_kept.proofs.Filing.{filed_rec, filed_slot, filed_at_slot}
-use Rattle.lis_kept.proofs.Formed.{some_word}
-use Rattle.lis_kept.proofs.Known.{placed_at, among_place, some_number, word_among, among_word, known_word, declared_word, axiom_among, among_axiom}
-use Rattle.lis_kept.proofs.Without.{left_out, had_elsewhere, elsewhere_had}
-use Rattle.lis_store.specs.Admitting.{described_by}
-use Rattle.lis_kept.specs.Forgetting.{emptied}
-use Rattle.lis_store.specs.Replacing.{words_without, known_instead}
+use Rattle.lis_kept.specs.Telling.{file_told}
+use Rattle.lis_kept.proofs.Known.{placed_at, axiom_among}
+use Rattle.lis_kept.proofs.Without.{had_elsewhere, elsewhere_had}
+use Rattle.lis_store.specs.Replacing.{words_without}
 use Rattle.lis_store.proofs.Facts.{described_told, filed_named}
 
 -- ---- numbers and their words
@@ -68,7 +46,7 @@ module _ (k : Kept) (sound : AreSound k) (slot : ℕ) where
       subst (λ ws. IsStrictlySortedBy word_cmp ws) (sym without_is)
       (IsStrictlySortedBy-filter word_cmp stays (words k.dict) (sorted_from_rising word_cmp word_order (words k.dict) sound.dict.rising))
 
-  without_word : (w : List ℕ) → Among (words_without k slot) w → (n : ℕ) × (word_of k.dict n ≡ Some w) × (is_used (emptied k slot) n ≡ true)
+  pub without_word : (w : List ℕ) → Among (words_without k slot) w → (n : ℕ) × (word_of k.dict n ≡ Some w) × (is_used (emptied k slot) n ≡ true)
   without_word w m =
       let both = among_filter stays (words k.dict) w (subst (λ ws. Among ws w) without_is m) in
       let found = known_word k sound w both.0 in
@@ -212,11 +190,3 @@ module _ (k : Kept) (at : ℕ → List ℕ) (s : State) (sound : AreSound k) (fr
     where
       declared_set : is_rising word_cmp told.declared ≡ true
       declared_set = subst (λ (t : State). is_rising word_cmp t.declared ≡ true) (sym tells.state) tells.formed.declared_set
-
-  pub described_are : (file : File) → described_by k file ≡ description s file
-  described_are file = ap₂ (λ declared axioms. file_words declared axioms file) (ap (λ (t : State). t.declared) tells.state) (ap (λ (t : State). t.axioms) tells.state)
-
-  -- the words that are known with a file in its place
-  pub known_replaced : (file : File) → has_name (file_removed s name).files file.name ≡ false → known_instead k slot file ≡ known (file_replaced s name file)
-  known_replaced file new =
-      ap₂ with_words rest_known (described_are file) ∙ sym (known_adds_file (file_removed s name) tells.formed.declared_set file new)

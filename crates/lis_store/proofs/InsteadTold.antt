@@ -1,43 +1,27 @@
 -- The rows of `write` and `rename`, told by what a store keeps, are the rows of the state.
-use Rattle.std.proofs.Common.{◌≡◌, ◌⊎◌, refl, sym, ap, ap₂, ◌∙◌, inl, inr, ℕ, ◌+◌, ◌==◌, nat_lt, nat_le, Bool, true, false, not, cond, Some, None, List, [], ◌∷◌, ◌++◌, length, filter, arith}
-use Rattle.std.specs.List.{list_any}
-use Rattle.std.proofs.lemmas.Bool.{cond-false, leb-true, ltb-true, not-false}
-use Rattle.lis_blockmap.specs.Bitmap.{free_count, is_taken}
-use Rattle.lis_content.proofs.Indexes.{small_blocks, small_size}
-use Rattle.lis_catalog.specs.Catalog.{Filed, slot_of, rec_at}
-use Rattle.lis_fields.specs.Records.{FileRecord}
-use Rattle.lis_graph.proofs.Members.{Among, contains_from_among, among_from_any, any_from_among, among_insert_key, among_filter}
-use Rattle.lis_grammar.specs.Formula.{Formula}
-use Rattle.lis_words.specs.Words.{same_word}
-use Rattle.lis_model.specs.declared.limits.Limits.{Limits}
-use Rattle.lis_model.specs.declared.refusal.Refusal.{Refusal}
-use Rattle.lis_model.specs.declared.refusal.Refusal.TheVariants.{UnknownProperty, NameTaken, NoFileHere, LargeFile, NoSpace}
-use Rattle.lis_model.specs.Image.{data_start}
-use Rattle.lis_model.specs.State.{State, File, description, known, file_cmp, file_limit, blocks_taken}
-use Rattle.lis_model.specs.Changes.{has_name, file_of, new_file, file_removed, file_replaced}
-use Rattle.lis_model.specs.Step.{Situation, Payload, refused, changed, exceeds_words, exceeds_known, free_blocks, blocks_for, is_here, is_large, room_checks, write_checks, write, rename_checks, rename}
-use Rattle.lis_laws.proofs.Counts.{all_among}
-use Rattle.lis_laws.proofs.Named.{file_there, file_of_name, gone_free, still_free}
-use Rattle.lis_laws.proofs.Locals.{same_tests}
-use Rattle.lis_kept.specs.Kept.{Kept}
-use Rattle.lis_kept.specs.Telling.{words_told, bytes_told, blocks_told}
+use Rattle.std.proofs.Common.{◌≡◌, refl, sym, ap, ap₂, ◌∙◌, ℕ, ◌+◌, ◌==◌, nat_lt, Bool, true, false, not, cond, is_some, Some, None, List, [], ◌∷◌, ◌++◌, length, filter, arith}
+use Rattle.lis_store.proofs.Common.{list_all, cond-false, not-false, free_count, is_taken, small_size, Filed, slot_of, rec_at, FileRecord, Among, contains_from_among, among_filter, Formula, same_word, Limits, Refusal, UnknownProperty, NameTaken, NoFileHere, LargeFile, NoSpace, data_start, State, File, is_assignable, file_limit, blocks_taken, has_name, new_file, file_removed, file_replaced, Situation, Payload, refused, free_blocks, write, rename, file_of_name, Kept, declared_of, bytes_told, blocks_told, record_in_form, filed_at_slot}
+use Rattle.lis_content.proofs.Indexes.{small_blocks}
+use Rattle.lis_model.specs.Changes.{file_of}
+use Rattle.lis_model.specs.Step.{changed, blocks_for, is_here, room_checks, write_checks, rename_checks}
+use Rattle.lis_laws.proofs.Named.{gone_free, still_free}
+use Rattle.lis_kept.specs.Telling.{words_told}
 use Rattle.lis_kept.proofs.Contents.{slot_blocks_told}
-use Rattle.lis_kept.proofs.Dropped.{record_in_form}
-use Rattle.lis_kept.proofs.Filing.{filed_at_slot, number_from_among}
+use Rattle.lis_kept.proofs.Filing.{number_from_among}
 use Rattle.lis_store.specs.Stored.{Stored, IsSound}
 use Rattle.lis_store.proofs.ToldBy.{ToldBy}
-use Rattle.lis_store.specs.Admitting.{described_by}
+use Rattle.lis_store.specs.Beside.{words_checks}
 use Rattle.lis_store.specs.Changes.{first_refusal}
 use Rattle.lis_store.specs.Judging.{is_among}
-use Rattle.lis_store.specs.Replacing.{known_instead}
-use Rattle.lis_store.specs.Instead.{given_before, free_instead, write_checks_of, rename_checks_of}
-use Rattle.lis_store.proofs.Facts.{limits_told, name_filed, file_in_slot, size_of_filed, among_told}
+use Rattle.lis_store.specs.Instead.{given_before, free_instead, instead_checks, overwriting_checks, renaming_checks, write_checks_of, rename_checks_of}
+use Rattle.lis_store.proofs.Facts.{name_filed, file_in_slot, size_of_filed, among_told}
 use Rattle.lis_store.proofs.FileBlocks.{told_counted}
 use Rattle.lis_store.proofs.FreeAgain.{all_pass_filter}
-use Rattle.lis_store.proofs.FreeBlocks.{used_told, version_told}
+use Rattle.lis_store.proofs.FreeBlocks.{version_told}
 use Rattle.lis_store.proofs.InsteadMay.{given_assignable}
-use Rattle.lis_store.proofs.InsteadKnown.{described_are, known_replaced}
-use Rattle.lis_store.proofs.Judged.{same_first, judged_refused, judged_done}
+use Rattle.lis_store.proofs.InsteadKnown.{rest_known}
+use Rattle.lis_store.proofs.Admitted.{limits_are, free_are, words_row}
+use Rattle.lis_store.proofs.Judged.{same_behind, judged_refused, judged_done}
 
 -- ---- a file in the place of another
 module _ (k : Stored) (s : State) (sound : IsSound k) (fits : ToldBy k s) (name : List ℕ) (slot : ℕ) (rec : FileRecord)
@@ -51,39 +35,6 @@ module _ (k : Stored) (s : State) (sound : IsSound k) (fits : ToldBy k s) (name 
 
   pub old_given : (file_of s.files name).assigned ≡ words_told p.dict rec.tags
   old_given = ap (λ (f : File). f.assigned) old_is
-
-  -- Other files have few words, so the new one alone may have too many.
-  pub large_told : (file : File) → has_name (file_removed s name).files file.name ≡ false → nat_lt 128 (length (described_by p file)) ≡ exceeds_words (file_replaced s name file)
-  large_told file new =
-      ap (λ ws. nat_lt 128 (length ws)) (described_are p fits.kept s sound.parts sound.free fits.tells name slot rec is_slot is_rec file)
-      ∙ same_tests (large file) (list_any large made.files) to from
-    where
-      made : State
-      made = file_replaced s name file
-
-      large : File → Bool
-      large f = nat_lt 128 (length (description s f))
-
-      to : large file ≡ true → list_any large made.files ≡ true
-      to h = any_from_among large made.files file (file_there (file_removed s name) file new) h
-
-      from : list_any large made.files ≡ true → large file ≡ true
-      from h = let found = among_from_any large made.files h in by found.0 (among_insert_key file_cmp (file_removed s name).files file found.0 found.1) found.2
-        where
-          by : (f : File) → (file ≡ f) ⊎ Among (file_removed s name).files f → large f ≡ true → large file ≡ true
-          by f (inl same) too = ap large same ∙ too
-          by f (inr old) too =
-              let there = (among_filter (λ (g : File). not (same_word g.name name)) s.files f old).0 in
-              let few = leb-true (length (description s f)) 128 (all_among (λ (g : File). nat_le (length (description s g)) 128) s.files f fits.tells.formed.files.few_words there) in
-              absurd (omega (arith, few, ltb-true 128 (length (description s f)) too))
-
-  props_told : p.limits.props ≡ s.limits.props
-  props_told = ap (λ (l : Limits). l.props) (limits_told p fits.kept s sound.parts sound.free fits.tells)
-
-  pub room_told : (file : File) → has_name (file_removed s name).files file.name ≡ false
-      → nat_lt p.limits.props (length (known_instead p slot file)) ≡ nat_lt s.limits.props (length (known (file_replaced s name file)))
-  room_told file new =
-      ap₂ (λ props ws. nat_lt props (length ws)) props_told (known_replaced p fits.kept s sound.parts sound.free fits.tells name slot rec is_slot is_rec file new)
 
   -- how many blocks are free for other bytes
   pub free_told : free_instead p rec ≡ blocks_for s (file_of s.files name)
@@ -101,9 +52,6 @@ module _ (k : Stored) (s : State) (sound : IsSound k) (fits : ToldBy k s) (name 
       version : s.limits.version ≡ p.limits.version
       version = version_told k s sound fits
 
-      free : free_count p.taken ≡ free_blocks s
-      free = omega (arith, used_told k s sound fits)
-
       size : length old.bytes ≡ rec.size
       size = ap (λ (x : File). length x.bytes) old_is ∙ size_of_filed k s sound fits f there
 
@@ -120,8 +68,8 @@ module _ (k : Stored) (s : State) (sound : IsSound k) (fits : ToldBy k s) (name 
       by : (two : Bool) → (p.limits.version == 2) ≡ two
           → cond two (free_count p.taken) (free_count p.taken + length (filter (is_taken p.taken) rec.blocks))
           ≡ cond two (free_blocks s) (free_blocks s + blocks_taken p.limits.version (length old.bytes))
-      by true is = free
-      by false is = omega (arith, free, taken is)
+      by true is = free_are k s sound fits
+      by false is = omega (arith, free_are k s sound fits, taken is)
 
 -- ---- the rows
 module _ (k : Stored) (s : State) (sound : IsSound k) (fits : ToldBy k s) (place : List Formula) (name : List ℕ) (slot : ℕ) (rec : FileRecord)
@@ -135,87 +83,56 @@ module _ (k : Stored) (s : State) (sound : IsSound k) (fits : ToldBy k s) (place
   abbrev kept : Kept
   kept = k.parts
 
-  version_is : kept.limits.version ≡ s.limits.version
-  version_is = ap (λ (l : Limits). l.version) (limits_told kept fits.kept s sound.parts sound.free fits.tells)
+  abbrev There : Type 0
+  There = (slot_of kept.catalog name ≡ Some slot) × (rec_at kept.catalog slot ≡ Some rec)
 
-  -- what the model makes of the file is what memory makes of it
-  made_is : (other bytes : List ℕ) → old.assigned ≡ words_told kept.dict rec.tags → file_replaced s name (given_before kept rec other bytes) ≡ file_replaced s old.name (new_file other old.assigned bytes)
-  made_is other bytes given = ap₂ (λ n ws. file_replaced s n (new_file other ws bytes)) (sym (file_of_name s.files name)) (sym given)
+  -- what stands behind the question whether the file is here
+  pub here_row : (checks others : List (Bool × Refusal)) → (There → first_refusal checks ≡ first_refusal others)
+      → first_refusal ((not (is_among kept place name), NoFileHere) ∷ checks) ≡ first_refusal ((not (is_here now old.name), NoFileHere) ∷ others)
+  here_row checks others same =
+      same_behind ((not (is_among kept place name), NoFileHere) ∷ []) checks others (λ here. same (there (not-false (is_among kept place name) here.0)))
+      ∙ ap (λ b. cond (not b) (Some NoFileHere) (first_refusal others)) (among_told k s sound fits place name)
+
+  -- The words of a told file may be given, so the check of memory refuses nothing.
+  pub instead_row : There → (file : File) (made : State) → file_replaced s name file ≡ made → has_name (file_removed s name).files file.name ≡ false
+      → list_all (is_assignable (declared_of kept)) file.assigned ≡ true → (checks others : List (Bool × Refusal)) → first_refusal checks ≡ first_refusal others
+      → first_refusal (instead_checks kept slot file ++ checks) ≡ first_refusal (room_checks made ++ others)
+  instead_row at file made is new given checks others same =
+      ap (λ b. cond (not b) (Some UnknownProperty) (first_refusal (words_checks kept (Some slot) file ++ checks))) given
+      ∙ (words_row k s sound fits (Some slot) (file_removed s name).files (λ f m. (among_filter (λ (g : File). not (same_word g.name name)) s.files f m).0)
+      (rest_known kept fits.kept s sound.parts sound.free fits.tells name slot rec at.0 at.1) file new checks others same
+      ∙ ap (λ (t : State). first_refusal (room_checks t ++ others)) is)
+
+  given : There → old.assigned ≡ words_told kept.dict rec.tags
+  given at = old_given k s sound fits name slot rec at.0 at.1
 
   write_row : (bytes : List ℕ) (size : ℕ)
       → first_refusal (write_checks_of kept place name slot rec (given_before kept rec name bytes) size)
       ≡ first_refusal (write_checks now old (file_replaced s old.name (new_file old.name old.assigned bytes)) size)
   write_row bytes size =
-      same_first (write_checks_of kept place name slot rec (given_before kept rec name bytes) size) (
-      (is_large s size, LargeFile)
-      ∷ (not (is_here now old.name), NoFileHere)
-      ∷ (false, UnknownProperty)
-      ∷ room_checks (file_replaced s old.name (new_file old.name old.assigned bytes))
-      ++ (nat_lt (blocks_for s old) (blocks_taken s.limits.version size), NoSpace) ∷ []
-      ) (
-        refl,
-        ap (λ v. nat_lt (file_limit v) size) version_is,
-        λ small. (
-          refl,
-          ap not (among_told k s sound fits place name),
-          λ here. let at = there (not-false (is_among kept place name) here) in (
-            refl,
-            ap not (given_assignable k sound slot rec at.1 fits.kept s fits.tells),
-            λ words. (
-              refl,
-              large_told k s sound fits name slot rec at.0 at.1 (given_before kept rec name bytes) (gone_free s name) ∙ ap exceeds_words (made at),
-              λ short. (
-                refl,
-                room_told k s sound fits name slot rec at.0 at.1 (given_before kept rec name bytes) (gone_free s name) ∙ ap exceeds_known (made at),
-                λ room. (
-                  refl,
-                  ap₂ nat_lt (free_told k s sound fits name slot rec at.0 at.1) (ap (λ v. blocks_taken v size) version_is),
-                  λ blocks. tt,
-                ),
-              ),
-            ),
-          ),
-        ),
-      )
-    where
-      made : (slot_of kept.catalog name ≡ Some slot) × (rec_at kept.catalog slot ≡ Some rec)
-          → file_replaced s name (given_before kept rec name bytes) ≡ file_replaced s old.name (new_file old.name old.assigned bytes)
-      made at =
-          made_is name bytes (old_given k s sound fits name slot rec at.0 at.1)
-          ∙ ap (λ n. file_replaced s old.name (new_file n old.assigned bytes)) (sym (file_of_name s.files name))
+      let file = given_before kept rec name bytes in
+      let made = file_replaced s old.name (new_file old.name old.assigned bytes) in
+      let version = ap (λ (l : Limits). l.version) (limits_are k s sound fits) in
+      let full : Bool × Refusal = (nat_lt (free_instead kept rec) (blocks_taken kept.limits.version size), NoSpace) in
+      let full_told : Bool × Refusal = (nat_lt (blocks_for s old) (blocks_taken s.limits.version size), NoSpace) in
+      ap₂ (λ v r. cond (nat_lt (file_limit v) size) (Some LargeFile) r) version
+      (here_row (overwriting_checks kept slot rec file size) (room_checks made ++ full_told ∷ []) (λ at.
+      instead_row at file made (ap₂ (λ n ws. file_replaced s n (new_file n ws bytes)) (sym (file_of_name s.files name)) (sym (given at))) (gone_free s name)
+      (given_assignable k sound slot rec at.1 fits.kept s fits.tells) (full ∷ []) (full_told ∷ [])
+      (ap₂ (λ free v. cond (nat_lt free (blocks_taken v size)) (Some NoSpace) None) (free_told k s sound fits name slot rec at.0 at.1) version)))
 
   rename_row : (other : List ℕ)
       → first_refusal (rename_checks_of kept place name slot (given_before kept rec other old.bytes))
       ≡ first_refusal (rename_checks now old.name (new_file other old.assigned old.bytes) (file_replaced s old.name (new_file other old.assigned old.bytes)))
   rename_row other =
+      let file = given_before kept rec other old.bytes in
+      let made = file_replaced s old.name (new_file other old.assigned old.bytes) in
       let named = name_filed kept fits.kept s sound.parts sound.free fits.tells other in
-      same_first (rename_checks_of kept place name slot (given_before kept rec other old.bytes)) (
-      (not (is_here now old.name), NoFileHere)
-      ∷ (has_name s.files other, NameTaken)
-      ∷ (false, UnknownProperty)
-      ∷ room_checks (file_replaced s old.name (new_file other old.assigned old.bytes))
-      ) (
-        refl,
-        ap not (among_told k s sound fits place name),
-        λ here. let at = there (not-false (is_among kept place name) here) in
-            let made = made_is other old.bytes (old_given k s sound fits name slot rec at.0 at.1) in (
-              refl,
-              sym named,
-              λ new. let free = still_free s name other (named ∙ new) in (
-                refl,
-                ap not (given_assignable k sound slot rec at.1 fits.kept s fits.tells),
-                λ words. (
-                  refl,
-                  large_told k s sound fits name slot rec at.0 at.1 (given_before kept rec other old.bytes) free ∙ ap exceeds_words made,
-                  λ short. (
-                    refl,
-                    room_told k s sound fits name slot rec at.0 at.1 (given_before kept rec other old.bytes) free ∙ ap exceeds_known made,
-                    λ room. tt,
-                  ),
-                ),
-              ),
-            ),
-      )
+      here_row (renaming_checks kept slot file) ((has_name s.files other, NameTaken) ∷ room_checks made) (λ at.
+      same_behind ((is_some (slot_of kept.catalog other), NameTaken) ∷ []) (instead_checks kept slot file) (room_checks made) (λ new.
+      instead_row at file made (ap₂ (λ n ws. file_replaced s n (new_file other ws old.bytes)) (sym (file_of_name s.files name)) (sym (given at))) (still_free s name other (named ∙ new.0))
+      (given_assignable k sound slot rec at.1 fits.kept s fits.tells) [] [] refl)
+      ∙ ap (λ taken. cond taken (Some NameTaken) (first_refusal (room_checks made))) (sym named))
 
   -- what `write` comes to
   pub write_refused : (payload : Payload) (refusal : Refusal)

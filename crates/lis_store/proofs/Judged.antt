@@ -1,13 +1,10 @@
 -- Rows of refusals that are judged, and commands that are refused.
 use Rattle.std.proofs.Common.{◌≡◌, refl, sym, ap, ap₂, ◌∙◌, subst, Bool, true, false, cond, List, [], ◌∷◌, ◌++◌, Option, Some, None, Result, Ok, Err}
-use Rattle.std.proofs.lemmas.Option.{same_Some}
-use Rattle.lis_ports.specs.Meaning.{Meaning}
+use Rattle.lis_store.proofs.Common.{same_Some, Meaning, Refusal, Situation, Outcome, refused, State}
 use Rattle.lis_ports.proofs.Moments.{leaves_none}
-use Rattle.lis_model.specs.declared.refusal.Refusal.{Refusal}
-use Rattle.lis_model.specs.Step.{Situation, Outcome, refused, judged}
+use Rattle.lis_model.specs.Step.{judged}
 use Rattle.lis_store.specs.declared.change.Change.{Change}
 use Rattle.lis_store.specs.declared.change.Change.TheVariants.{Refused}
-use Rattle.lis_model.specs.State.{State}
 use Rattle.lis_store.specs.Stored.{Stored, StoreHolds}
 use Rattle.lis_store.specs.Changes.{Holds, first_refusal, Judges}
 
@@ -88,6 +85,15 @@ same_first (check ∷ checks) (other ∷ others) alike =
         → cond b (Some check.1) (first_refusal checks) ≡ cond b (Some check.1) (first_refusal others)
     by true e more = refl
     by false e more = more e
+
+-- rows with the same checks first
+pub same_behind : (front checks others : List (Bool × Refusal)) → (AllPass front → first_refusal checks ≡ first_refusal others) → first_refusal (front ++ checks) ≡ first_refusal (front ++ others)
+same_behind [] checks others same = same tt
+same_behind (check ∷ front) checks others same = by check.0 (λ passes. same_behind front checks others (λ rest. same (passes, rest)))
+  where
+    by : (b : Bool) → (b ≡ false → first_refusal (front ++ checks) ≡ first_refusal (front ++ others)) → cond b (Some check.1) (first_refusal (front ++ checks)) ≡ cond b (Some check.1) (first_refusal (front ++ others))
+    by true more = refl
+    by false more = more refl
 
 -- nothing was changed
 pub change_refused : {T : Type 0} (k : Stored) (m : Meaning) (base : State) (now : Situation) (outcome : Outcome) (refusal : Refusal) (result : Result T Change) → StoreHolds k m base now.state

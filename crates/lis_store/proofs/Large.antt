@@ -1,14 +1,8 @@
 -- A change with a large content: all that is held back is committed before it.
 use Rattle.std.proofs.Common.{◌≡◌, ◌⊎◌, refl, sym, ap, ◌∙◌, subst, inl, inr, ℕ, ◌<◌, ◌≤◌, true, false, List, [], ◌∷◌, length, Result, Ok, Err, OnOk, arith}
 use Rattle.std.proofs.lemmas.Bool.{both_ways}
-use Rattle.lis_ports.specs.Meaning.{Meaning}
+use Rattle.lis_store.proofs.Common.{Meaning, KeepsPast, looked, is_large, image_blocks, State, Situation, Outcome}
 use Rattle.lis_ports.proofs.Moments.{leaves_weaken, leaves_then}
-use Rattle.lis_journal.specs.Images.{KeepsPast}
-use Rattle.lis_journal.specs.Phases.{looked}
-use Rattle.lis_content.specs.Large.{is_large}
-use Rattle.lis_model.specs.Image.{image_blocks}
-use Rattle.lis_model.specs.State.{State}
-use Rattle.lis_model.specs.Step.{Situation, Outcome}
 use Rattle.lis_store.specs.declared.change.Change.{Change}
 use Rattle.lis_store.specs.declared.change.Change.TheVariants.{Refused, Disk}
 use Rattle.lis_store.specs.Stands.{Stands}

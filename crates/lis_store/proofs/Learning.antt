@@ -1,26 +1,16 @@
 -- Words that are learnt, one behind the other.
 use Rattle.std.proofs.Common.{◌≡◌, ◌⊎◌, refl, sym, ap, ◌∙◌, subst, inl, inr, ℕ, ◌+◌, ◌<◌, ◌≤◌, ◌&&◌, ◌||◌, Bool, true, false, cond, List, [], ◌∷◌, ◌++◌, length, take, drop, get_or, None, is_some, IsSome, append-nil, length-append, take-append-drop, arith}
-use Rattle.std.specs.List.{list_all}
-use Rattle.std.proofs.lemmas.Bool.{and_from, or_cases, or_left, or_right, both_ways}
-use Rattle.std.proofs.lemmas.List.{length-map, take_more}
+use Rattle.lis_store.proofs.Common.{list_all, or_cases, length-map, take_more, Contains-get_or, Among, among_from_contains, Dict, number_of, word_cmp, is_valued, is_plain_word, is_head, is_built_in, head_bytes, with_word, with_words, heads, head_not_valued, word_exact, among_from_has_word, Kept, stays_marked, block_of, is_marked, Properties}
+use Rattle.std.proofs.lemmas.Bool.{and_from, or_left, or_right, both_ways}
 use Rattle.std.proofs.lemmas.List.Sums.{fold-append}
 use Rattle.std.proofs.lemmas.Grind.{flat_map-append}
-use Rattle.std.proofs.lemmas.List.Elements.{Contains-get_or}
-use Rattle.lis_graph.proofs.Members.{Among, among_from_contains, with_more_old, with_more_new}
-use Rattle.lis_dict.specs.Dict.{Dict, words, number_of}
-use Rattle.lis_words.specs.Words.{word_cmp, is_valued, is_plain_word, is_head, is_built_in, head_bytes}
+use Rattle.lis_graph.proofs.Members.{with_more_old, with_more_new}
+use Rattle.lis_dict.specs.Dict.{words}
 use Rattle.lis_words.proofs.Head.{head_is_word}
 use Rattle.lis_fields.specs.Layouts.{is_undeclared}
-use Rattle.lis_model.specs.Sets.{with_word, with_words}
-use Rattle.lis_model.specs.State.{heads}
 use Rattle.lis_laws.proofs.Apart.{built_in_not_plain}
-use Rattle.lis_laws.proofs.Chains.{head_not_valued}
 use Rattle.lis_laws.proofs.Counts.{all_among}
-use Rattle.lis_laws.proofs.Members.{word_exact, among_from_has_word, has_word_from_among}
-use Rattle.lis_kept.specs.Kept.{Kept}
-use Rattle.lis_content.proofs.Numbers.{stays_marked}
-use Rattle.lis_kept.specs.Areas.{block_of, is_marked}
-use Rattle.lis_kept.specs.Areas.Area.{Properties}
+use Rattle.lis_laws.proofs.Members.{has_word_from_among}
 use Rattle.lis_kept.specs.Changes.{Learns}
 use Rattle.lis_store.specs.Adding.{behind_head, with_heads, may_learn, HasWordRoom, LearnsAll}
 use Rattle.lis_store.proofs.Facts.{numbered}

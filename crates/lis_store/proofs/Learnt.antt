@@ -1,27 +1,17 @@
 -- What is kept once words are learnt.
 use Rattle.std.proofs.Common.{◌≡◌, ◌⊎◌, refl, sym, ap, ap₂, ◌∙◌, subst, inl, inr, ℕ, ◌||◌, true, List, [], Option, Some, None, is_some, IsSome}
-use Rattle.std.specs.List.{list_any, Contains}
-use Rattle.std.proofs.lemmas.Bool.{or_cases, or_left, or_right}
-use Rattle.lis_graph.proofs.Members.{Among, among_from_contains, among_from_any, any_from_among}
-use Rattle.lis_blockmap.specs.Bitmap.{is_taken}
-use Rattle.lis_dict.specs.Dict.{words, word_of}
-use Rattle.lis_catalog.specs.Catalog.{Filed}
-use Rattle.lis_ext.specs.Ext.{has as number_has, set_of as numbers_at}
-use Rattle.lis_fields.specs.declared.slots.AxiomSlot.{AxiomSlot}
-use Rattle.lis_fields.specs.declared.slots.AxiomSlot.TheVariants.{Free as FreeAxiom, Pair}
-use Rattle.lis_model.specs.State.{State, description}
-use Rattle.lis_laws.proofs.Members.{among_with_words}
-use Rattle.lis_kept.specs.Kept.{Kept}
-use Rattle.lis_kept.specs.Links.{is_linked, is_own_link, has_pair}
-use Rattle.lis_kept.specs.Sound.{AreSound, FreeSlotsAreEmpty}
-use Rattle.lis_kept.specs.Telling.{declared_of, words_told, file_told, state_of, is_left_of, is_left_head_of, is_head_by, is_had, is_named_left, is_used}
-use Rattle.lis_kept.proofs.Filing.{number_from_among, filed_rec}
-use Rattle.lis_kept.proofs.Formed.{some_word, named_all}
-use Rattle.lis_kept.proofs.Known.{one_number, word_known, known_word}
+use Rattle.lis_store.proofs.Common.{list_any, Contains, or_cases, Among, among_from_contains, is_taken, word_of, Filed, numbers_at, AxiomSlot, FreeAxiom, Pair, State, description, among_with_words, Kept, is_own_link, has_pair, AreSound, FreeSlotsAreEmpty, declared_of, state_of, is_left_of, is_left_head_of, is_head_by, is_had, is_named_left, is_used, filed_rec, some_word, named_all, known_word}
+use Rattle.std.proofs.lemmas.Bool.{or_left, or_right}
+use Rattle.lis_graph.proofs.Members.{among_from_any, any_from_among}
+use Rattle.lis_dict.specs.Dict.{words}
+use Rattle.lis_ext.specs.Ext.{has as number_has}
+use Rattle.lis_kept.specs.Links.{is_linked}
+use Rattle.lis_kept.specs.Telling.{words_told, file_told}
+use Rattle.lis_kept.proofs.Filing.{number_from_among}
+use Rattle.lis_kept.proofs.Known.{one_number, word_known}
 use Rattle.lis_store.specs.Stored.{AreClosed}
 use Rattle.lis_store.specs.Adding.{LearnsAll}
-use Rattle.lis_store.proofs.Removed.{same_map}
-use Rattle.lis_store.proofs.Told.{words_same}
+use Rattle.lis_store.proofs.Told.{same_map, words_same}
 use Rattle.lis_store.proofs.OwnStay.{own_back}
 
 module _ (p q : Kept) (more : List (List ℕ)) (learns : LearnsAll more p q) (sound : AreSound p) where
@@ -40,7 +30,7 @@ module _ (p q : Kept) (more : List (List ℕ)) (learns : LearnsAll more p q) (so
       by (Some w) None is_x is_y head = absurd cc
       by (Some w) (Some v) is_x is_y head = ap₂ is_head_by (learns.keeps a w is_x) (learns.keeps b v is_y) ∙ head
 
-  left_stays : (n : ℕ) → is_named_left p n ≡ true → is_named_left made n ≡ true
+  pub left_stays : (n : ℕ) → is_named_left p n ≡ true → is_named_left made n ≡ true
   left_stays n left = by (or_cases (list_any (is_left_of n) p.axioms) (list_any (is_left_head_of p.dict n) p.axioms) left)
     where
       head : (a : AxiomSlot) → is_left_head_of p.dict n a ≡ true → is_left_head_of q.dict n a ≡ true
@@ -96,7 +86,7 @@ module _ (p q : Kept) (more : List (List ℕ)) (learns : LearnsAll more p q) (so
     declared_same : declared_of q ≡ declared_of p
     declared_same = ap (λ (s : State). s.declared) (learns.state (λ n. []))
 
-    link_before : (a b : ℕ) → IsSome (word_of p.dict a) → is_linked q a b ≡ true → is_linked p a b ≡ true
+    pub link_before : (a b : ℕ) → IsSome (word_of p.dict a) → is_linked q a b ≡ true → is_linked p a b ≡ true
     link_before a b some linked = by (or_cases (is_own_link (declared_of q) (word_of q.dict a) (word_of q.dict b)) (has_pair q.axioms a b) linked)
       where
         by : (is_own_link (declared_of q) (word_of q.dict a) (word_of q.dict b) ≡ true) ⊎ (has_pair q.axioms a b ≡ true) → is_linked p a b ≡ true

@@ -1,10 +1,9 @@
 -- Rows of truth values that tell a list of numbers, and lists of numbers of which none stands twice.
 use Rattle.std.proofs.Common.{◌≡◌, ◌⊎◌, refl, sym, ap, ◌∙◌, subst, inl, inr, ℕ, ◌<◌, ◌||◌, not, eqb, Bool, true, false, List, [], ◌∷◌, ◌++◌, length, get_or, map, set, replicate, arith, length-set, get_or-set_same, get_or-set_other}
-use Rattle.std.specs.List.{flat_map}
-use Rattle.std.proofs.lemmas.Bool.{and_parts, and_from, both_ways, eq-eqb, ne_eqb, cases_eq, not-true, not_from_false, false_from_ne_true}
-use Rattle.std.proofs.lemmas.List.{get_or_default, length-replicate, get_or-replicate, same_lists}
-use Rattle.lis_graph.proofs.Members.{Among, among_append, among_flat_map, map_among}
-use Rattle.lis_blockmap.specs.Bitmap.{is_taken}
+use Rattle.lis_store.proofs.Common.{flat_map, and_parts, ne_eqb, cases_eq, not-true, not_from_false, length-replicate, get_or-replicate, Among, among_append, among_flat_map, is_taken}
+use Rattle.std.proofs.lemmas.Bool.{and_from, both_ways, eq-eqb, false_from_ne_true}
+use Rattle.std.proofs.lemmas.List.{get_or_default, same_lists}
+use Rattle.lis_graph.proofs.Members.{map_among}
 use Rattle.lis_content.specs.Content.{marked, has_number, are_distinct}
 use Rattle.lis_content.proofs.Numbers.{length-marked}
 use Rattle.lis_kept.proofs.Filing.{among_from_number, number_from_among}

@@ -1,29 +1,19 @@
 -- The numbers of words.
 use Rattle.std.proofs.Common.{◌≡◌, ◌⊎◌, refl, sym, ap, ap₂, ◌∙◌, subst, inl, inr, ℕ, ◌<◌, ◌≤◌, ◌==◌, not, ◌||◌, if◌then◌else◌, Bool, true, false, List, [], ◌∷◌, ◌++◌, length, filter, Option, Some, None, is_some, option_to_list, arith}
-use Rattle.std.specs.declared.cmp.Ordering.TheVariants.{Less}
-use Rattle.std.specs.Ordering.{nat_cmp}
-use Rattle.std.specs.Cmp.{nat_cmp_total, tied_itself}
-use Rattle.std.specs.List.{AllByRecursion, flat_map}
-use Rattle.std.specs.List.Sorted.{IsStrictlySortedBy}
-use Rattle.std.proofs.lemmas.Bool.{both_ways, cases_eq, eq-eqb, ne_eqb, false_from_ne_true, not_from_true, not_from_false}
-use Rattle.std.proofs.lemmas.List.Folds.{list_any-append}
-use Rattle.std.proofs.lemmas.Option.{same_Some}
-use Rattle.lis_graph.proofs.Members.{Among, among_flat_map, flat_map_among, filter_among}
-use Rattle.lis_graph.proofs.Sets.{below_tail, sorted_tail}
-use Rattle.lis_bits.specs.Rows.{Rows, HasShape, get, with_row}
+use Rattle.lis_store.proofs.Common.{Less, nat_cmp, nat_cmp_total, tied_itself, AllByRecursion, flat_map, IsStrictlySortedBy, or-false, cases_eq, ne_eqb, not_from_false, list_any-append, same_Some, Among, among_flat_map, filter_among, below_tail, sorted_tail, HasShape, get, with_row, Dict, IsDict, number_of, word_of, word_from_number, number_from_word, number_below, word_cmp, same_word, same_word_decides, among_from_has_word, among_set_of, sorted_set_of, among_where, where_among, numbers_same, sorted_where, some_number}
+use Rattle.std.proofs.Math.Bool.{or-true}
+use Rattle.std.proofs.lemmas.Bool.{both_ways, eq-eqb, false_from_ne_true, not_from_true}
+use Rattle.lis_graph.proofs.Members.{flat_map_among}
+use Rattle.lis_bits.specs.Rows.{Rows}
 use Rattle.lis_bits.proofs.Laws.{get-with_row_same, length-with_row}
 use Rattle.lis_content.specs.Content.{has_number}
-use Rattle.lis_dict.specs.Dict.{Dict, IsDict, number_of, word_of}
-use Rattle.lis_dict.proofs.Laws.{word_from_number, number_from_word, number_below}
 use Rattle.lis_ext.specs.Numbers.{numbers_where}
-use Rattle.lis_words.specs.Words.{word_cmp, same_word}
 use Rattle.lis_laws.proofs.Counts.{filter_drops}
-use Rattle.lis_laws.proofs.Members.{same_word_decides, among_from_has_word, has_word_from_among, among_set_of, set_of_among, sorted_set_of, same_words}
+use Rattle.lis_laws.proofs.Members.{has_word_from_among, set_of_among, same_words}
 use Rattle.lis_laws.proofs.Locals.{same_tests}
 use Rattle.lis_kept.specs.Telling.{words_told}
-use Rattle.lis_ext.proofs.Numbers.{among_where, where_among, numbers_same, sorted_where}
 use Rattle.lis_kept.proofs.Filing.{among_from_number, number_from_among}
-use Rattle.lis_kept.proofs.Known.{only_word, some_number}
+use Rattle.lis_kept.proofs.Known.{only_word}
 use Rattle.lis_store.specs.Adding.{is_one_of, numbers_named, AreNumbered}
 
 -- ---- one of these words
@@ -118,14 +108,8 @@ pub value_at : (row new : Rows) (bits bit : ℕ) (value : ℕ → Bool) → HasS
 value_at row new bits bit value shape is lt = ap (λ (r : Rows). get r 0 bit) is ∙ get-with_row_same row 0 bit value (omega (arith, shape.tall)) (omega (arith, lt, shape.wide))
 
 or_comes : (a b : Bool) → (if b then true else a) ≡ (a || b)
-or_comes true true = refl
-or_comes true false = refl
-or_comes false true = refl
-or_comes false false = refl
-
-or_none : (a : Bool) → a ≡ (a || false)
-or_none true = refl
-or_none false = refl
+or_comes a true = sym (or-true a)
+or_comes a false = sym (or-false a)
 
 module _ (d : Dict) (dict : IsDict d) (words : List (List ℕ)) (word : List ℕ) (n : ℕ) (before : Bool) (was : before ≡ is_one_of words (word_of d n)) where
   -- with a word that has a number
@@ -147,7 +131,7 @@ module _ (d : Dict) (dict : IsDict d) (words : List (List ℕ)) (word : List ℕ
   -- and with one that has none
   pub none_more : number_of d word ≡ None → before ≡ is_one_of (words ++ word ∷ []) (word_of d n)
   none_more none =
-      or_none before
+      sym (or-false before)
       ∙ (ap₂ (λ a b. a || b) was (sym (false_from_ne_true (is_one_of (word ∷ []) (word_of d n)) (λ h. this (one_of (word ∷ []) (word_of d n) h)))) ∙ sym (one_of_both words (word ∷ []) (word_of d n)))
     where
       this : (other : List ℕ) × (word_of d n ≡ Some other) × Among (word ∷ []) other → ⊥

@@ -1,157 +1,123 @@
 -- Descriptions that an axiom would make too large, by their numbers and by their words.
-use Rattle.std.proofs.Common.{◌≡◌, ◌⊎◌, refl, sym, ap, ◌∙◌, subst, inl, inr, ℕ, ◌<◌, ◌≤◌, ◌&&◌, ◌||◌, nat_lt, nat_le, Bool, true, false, is_some, Option, Some, None, IsSome, List, [], length, arith}
-use Rattle.std.proofs.lemmas.Bool.{and_parts, and_from, or_cases, both_ways, cases_lt, false_from_ne_true, leb-true, ltb-true}
-use Rattle.std.proofs.lemmas.List.{get_or_default, get_or_past}
-use Rattle.std.proofs.lemmas.List.Elements.{Contains-get_or}
-use Rattle.std.proofs.lemmas.Option.{same_Some}
-use Rattle.lis_graph.proofs.Members.{Among, among_from_contains, contains_from_among, among_from_any, any_from_among}
-use Rattle.lis_catalog.specs.Catalog.{Filed, rec_at}
-use Rattle.lis_dict.specs.Dict.{number_of, word_of}
-use Rattle.lis_dict.proofs.Laws.{number_from_word, word_from_number}
-use Rattle.lis_ext.specs.Ext.{has, set_of as numbers_at}
-use Rattle.lis_ext.specs.Numbers.{has_number}
-use Rattle.lis_fields.specs.Records.{FileRecord}
-use Rattle.lis_words.specs.Words.{has_word}
-use Rattle.lis_model.specs.State.{State, File, up, description}
-use Rattle.lis_model.specs.Changes.{axiom_added}
-use Rattle.lis_model.specs.Step.{exceeds_words}
+use Rattle.std.proofs.Common.{◌≡◌, ◌⊎◌, refl, sym, ap, ap₂, ◌∙◌, subst, inl, inr, ℕ, ◌<◌, ◌≤◌, ◌&&◌, ◌||◌, nat_lt, nat_le, Bool, true, false, cond, Option, Some, None, IsSome, List, [], ◌∷◌, length, arith, option_to_list, ◌++◌}
+use Rattle.lis_store.proofs.Common.{fun_ext, list_all, and_parts, cases_lt, leb-true, ltb-true, get_or_past, none-some, Among, contains_from_among, Filed, rec_at, number_of, word_of, number_from_word, word_from_number, has, numbers_at, has_word, with_words, State, File, up, all_up, own_words, description, axiom_added, exceeds_words, entailing, sorted_all_up, all_up_closed, among_from_has_word, among_with_words, with_words_new, sorted_with_words, Kept, AreSound, FreeSlotsAreEmpty, is_declared, Tells, bit_of, among_word, number_told}
+use Rattle.std.proofs.lemmas.Bool.{both_ways, false_from_ne_true}
+use Rattle.lis_content.specs.Content.{has_number}
+use Rattle.lis_model.specs.Sets.{set_of}
+use Rattle.lis_laws.proofs.Closures.{entailed_in, with_one_axiom, all_up_has}
 use Rattle.lis_laws.proofs.Counts.{all_among}
-use Rattle.lis_laws.proofs.Members.{among_from_has_word}
-use Rattle.lis_laws.proofs.Locals.{same_tests}
-use Rattle.lis_kept.specs.Kept.{Kept}
-use Rattle.lis_kept.specs.Sound.{AreSound, FreeSlotsAreEmpty}
-use Rattle.lis_kept.specs.Telling.{declared_of, axioms_of, file_told, Tells}
+use Rattle.lis_laws.proofs.Members.{with_words_old, same_words}
+use Rattle.lis_kept.specs.Telling.{words_told, file_told}
 use Rattle.lis_kept.proofs.AxiomTaken.{one_unfelt}
-use Rattle.lis_ext.proofs.Numbers.{among_where, where_among}
-use Rattle.lis_kept.proofs.Filing.{among_from_number, number_from_among, filed_rec, filed_at_slot}
-use Rattle.lis_kept.proofs.Formed.{named_below}
-use Rattle.lis_kept.proofs.Known.{among_word}
-use Rattle.lis_kept.proofs.Numbered.{Numbers, widened_told}
-use Rattle.lis_store.specs.Relating.{entails_number, widened_numbers, is_number_of, is_overfull, has_overfull}
-use Rattle.lis_store.proofs.Entailment.{up_has_number}
-use Rattle.lis_store.proofs.Facts.{file_of_filed, filed_of_file}
-use Rattle.lis_store.proofs.Measured.{numbers_apart, told_counted}
-use Rattle.lis_store.proofs.Naming.{one_of, of_one}
+use Rattle.lis_store.specs.Closing.{entails_by, is_gained, is_gained_by, wider}
+use Rattle.lis_store.specs.Relating.{is_number_of, is_overfull, has_overfull}
+use Rattle.lis_store.proofs.Crowded.{wider_counted}
+use Rattle.lis_store.proofs.Facts.{file_of_filed}
+use Rattle.lis_store.proofs.Full.{full_nowhere, full_told}
+use Rattle.lis_store.proofs.Rebuilt.{had_filed}
+use Rattle.lis_store.specs.Stored.{AreClosed}
 
--- ---- slots, one by one
-slot_among : (k : Kept) (slot : ℕ) → slot < length k.ext.sets → Among k.ext.sets (numbers_at k.ext slot)
-slot_among k slot lt = among_from_contains k.ext.sets (numbers_at k.ext slot) (Contains-get_or k.ext.sets slot [] lt)
-
-pub set_among : (k : Kept) (n slot : ℕ) → has k.ext n slot ≡ true → Among k.ext.sets (numbers_at k.ext slot)
-set_among k n slot has_it = by (cases_lt slot (length k.ext.sets))
+-- a slot that has a number is one of those that there are
+pub had_below : (k : Kept) (n slot : ℕ) → has k.ext n slot ≡ true → slot < length k.ext.sets
+had_below k n slot had = by (cases_lt slot (length k.ext.sets))
   where
-    by : (slot < length k.ext.sets) ⊎ (length k.ext.sets ≤ slot) → Among k.ext.sets (numbers_at k.ext slot)
-    by (inl lt) = slot_among k slot lt
-    by (inr past) = let none : has k.ext n slot ≡ false = ap (λ ns. has_number ns n) (get_or_past k.ext.sets slot [] past) in absurd (both_ways (has k.ext n slot) none has_it)
+    by : (slot < length k.ext.sets) ⊎ (length k.ext.sets ≤ slot) → slot < length k.ext.sets
+    by (inl lt) = lt
+    by (inr past) = let none : has k.ext n slot ≡ false = ap (λ ns. has_number ns n) (get_or_past k.ext.sets slot [] past) in absurd (both_ways (has k.ext n slot) none had)
 
-module _ (k : Kept) (left right : List ℕ) where
-  -- a description that is too large stands in some slot
-  at_slot : has_overfull k left right ≡ true → (slot : ℕ) × (slot < length k.ext.sets) × (is_overfull k left right (numbers_at k.ext slot) ≡ true)
-  at_slot h =
-      let found = among_from_any (is_overfull k left right) k.ext.sets h in
-      let place = contains_from_among k.ext.sets found.0 found.1 in
-      (place.0, place.1, ap (is_overfull k left right) (get_or_default k.ext.sets place.0 [] found.0 place.1 ∙ place.2) ∙ found.2)
+-- what the right word entails, by its number
+gains_of : (k : Kept) (right : List ℕ) (number : ℕ) → word_of k.dict number ≡ Some right → is_gained k (number ∷ []) ≡ is_gained_by k (right ∷ [])
+gains_of k right number is = fun_ext (λ n. ap (λ o. entails_by k o (word_of k.dict n) || false) is)
 
-  pub overfull_nowhere : ((slot : ℕ) → slot < length k.ext.sets → is_overfull k left right (numbers_at k.ext slot) ≡ false) → has_overfull k left right ≡ false
-  overfull_nowhere none = false_from_ne_true (has_overfull k left right) (λ h. let found = at_slot h in both_ways (is_overfull k left right (numbers_at k.ext found.0)) (none found.0 found.1) found.2)
+-- one slot, by the numbers of the two words
+pub overfull_here : (k : Kept) (left right : List ℕ) (from number : ℕ) → number_of k.dict left ≡ Some from → word_of k.dict number ≡ Some right → (slot : ℕ)
+    → is_overfull k left right slot ≡ (has k.ext from slot && nat_lt 128 (length (wider k (is_gained k (number ∷ [])) slot)))
+overfull_here k left right from number is_left is_right slot =
+    ap₂ (λ o gains. is_number_of (numbers_at k.ext slot) o && nat_lt 128 (length (wider k gains slot))) is_left (sym (gains_of k right number is_right))
 
-  -- none has a word that has no number
-  pub overfull_unnumbered : number_of k.dict left ≡ None → has_overfull k left right ≡ false
-  overfull_unnumbered none = overfull_nowhere (λ slot lt. ap (λ o. is_number_of (numbers_at k.ext slot) o && nat_lt 128 (length (widened_numbers k right (numbers_at k.ext slot)))) none)
+-- none has a word that has no number
+pub overfull_unnumbered : (k : Kept) (left right : List ℕ) → number_of k.dict left ≡ None → has_overfull k left right ≡ false
+overfull_unnumbered k left right none =
+    full_nowhere (is_overfull k left right) k.limits.files (λ slot lt. ap (λ o. is_number_of (numbers_at k.ext slot) o && nat_lt 128 (length (wider k (is_gained_by k (right ∷ [])) slot))) none)
 
-module _ (k : Kept) (sound : AreSound k) (right : List ℕ) (number : ℕ) (is_right : word_of k.dict number ≡ Some right) where
-  abbrev ups : List (List ℕ)
-  ups = up (declared_of k) (axioms_of k) right
+module _ (k : Kept) (sound : AreSound k) (at : ℕ → List ℕ) (s : State) (free : FreeSlotsAreEmpty k) (closed : AreClosed k) (tells : Tells k at s) (left right : List ℕ) (declared : list_all (is_declared k) (right ∷ []) ≡ true) where
+  abbrev made : State
+  made = axiom_added s (left, right)
 
-  abbrev wide : List ℕ → List ℕ
-  wide ns = widened_numbers k right ns
+  abbrev D : List (List ℕ)
+  D = s.declared
 
-  -- the numbers of all that the right word entails
-  ups_numbers : Numbers k.dict (entails_number k right) ups
-  ups_numbers = record {
-    numbered = λ w m. let found = up_has_number k sound number right w is_right m in (found.0, found.1, of_one ups (word_of k.dict found.0) w found.1 m);
-    worded = λ n w is passes. let found = one_of ups (word_of k.dict n) passes in subst (λ v. Among ups v) (same_Some found.0 w (sym found.1 ∙ is)) found.2;
-  }
+  abbrev A : List (List ℕ × List ℕ)
+  A = s.axioms
 
-  wide_has : (ns : List ℕ) (n : ℕ) (w : List ℕ) → word_of k.dict n ≡ Some w → has_number (wide ns) n ≡ (has_number ns n || entails_number k right n)
-  wide_has ns n w is =
-      let below : n < k.ext.props = omega (arith, named_below k sound n (ap is_some is), sound.rows) in
-      same_tests (has_number (wide ns) n) (has_number ns n || entails_number k right n)
-      (λ h. (among_where k.ext.props (λ i. has_number ns i || entails_number k right i) n (among_from_number (wide ns) n h)).1)
-      (λ h. number_from_among (wide ns) n (where_among k.ext.props (λ i. has_number ns i || entails_number k right i) n below h))
-
-  wide_named : (slot : ℕ) → IsSome (rec_at k.catalog slot) → (n : ℕ) → Among (wide (numbers_at k.ext slot)) n → IsSome (word_of k.dict n)
-  wide_named slot file n m = by (or_cases (has k.ext n slot) (entails_number k right n) (among_where k.ext.props (λ i. has k.ext i slot || entails_number k right i) n m).1)
+  -- a description with all that the right word entails
+  joined : (file : File) → with_words (description s file) (up D A right) ≡ all_up D A (right ∷ description s file)
+  joined file =
+      same_words (with_words had (up D A right)) (all_up D A (right ∷ had)) (sorted_with_words had (up D A right) (sorted_all_up D A (own_words D file))) (sorted_all_up D A (right ∷ had))
+      (λ w m. to w (among_with_words had (up D A right) w m)) (λ w m. let source = entailing D A (right ∷ had) w m in from w source.0 source.1 source.2)
     where
-      by : (has k.ext n slot ≡ true) ⊎ (entails_number k right n ≡ true) → IsSome (word_of k.dict n)
-      by (inl had) = sound.named n slot file had
-      by (inr entailed) = let found = one_of ups (word_of k.dict n) entailed in ap is_some found.1
+      had : List (List ℕ)
+      had = description s file
 
-  module _ (at : ℕ → List ℕ) (s : State) (free : FreeSlotsAreEmpty k) (tells : Tells k at s) (left : List ℕ) where
-    abbrev made : State
-    made = axiom_added s (left, right)
+      to : (w : List ℕ) → Among had w ⊎ Among (up D A right) w → Among (all_up D A (right ∷ had)) w
+      to w (inl old) = all_up_has D A (right ∷ had) w (inr old)
+      to w (inr new) = entailed_in D A (right ∷ had) right w (inl refl) new
 
-    abbrev told : Filed → File
-    told = file_told k.limits k.dict at
+      from : (w source : List ℕ) → (right ≡ source) ⊎ Among had source → Among (up D A source) w → Among (with_words had (up D A right)) w
+      from w source (inl same) m = with_words_new had (up D A right) w (subst (λ x. Among (up D A x) w) (sym same) m)
+      from w source (inr old) m = with_words_old had (up D A right) w (all_up_closed D A (own_words D file) source w old m)
 
-    abbrev large : File → Bool
-    large file = nat_lt 128 (length (description made file))
+  right_number : (n : ℕ) × (word_of k.dict n ≡ Some right)
+  right_number = by (number_of k.dict right) refl (and_parts (is_declared k right) true declared).0
+    where
+      by : (o : Option ℕ) → number_of k.dict right ≡ o → is_declared k right ≡ true → (n : ℕ) × (word_of k.dict n ≡ Some right)
+      by None none there = absurd (both_ways (is_declared k right) (ap (bit_of k.declared) none) there)
+      by (Some n) is there = (n, word_from_number k.dict sound.dict right n is)
 
-    state_ups : Numbers k.dict (entails_number k right) (up s.declared s.axioms right)
-    state_ups = subst (λ (t : State). Numbers k.dict (entails_number k right) (up t.declared t.axioms right)) tells.state ups_numbers
+  module _ (f : Filed) (m : Among k.catalog.entries f) where
+    abbrev file : File
+    file = file_told k.limits k.dict at f
 
-    -- a description that has the left word has as many words with the axiom as its numbers are, with those of all that the right word entails
-    wide_told : (f : Filed) → Among k.catalog.entries f → (n : ℕ) → word_of k.dict n ≡ Some left → has k.ext n f.slot ≡ true
-        → length (wide (numbers_at k.ext f.slot)) ≡ length (description made (told f))
-    wide_told f m n is had =
-        let row = numbers_at k.ext f.slot in
-        sym (told_counted k sound (wide row) (numbers_apart k.ext.props (λ i. has_number row i || entails_number k right i)) (wide_named f.slot (ap is_some (filed_rec k.catalog sound.catalog f m))))
-        ∙ ap (λ (ws : List (List ℕ)). length ws)
-        (widened_told k sound s.declared s.axioms (told f) n left right row (wide row) (entails_number k right) is (tells.described f (contains_from_among k.catalog.entries f m)) state_ups
-        (λ i w named. wide_has row i w named ∙ ap (λ b. has_number row i || (b && entails_number k right i)) (sym had)))
-
-    has_left : (f : Filed) → Among k.catalog.entries f → has_word (description s (told f)) left ≡ true → (n : ℕ) × (word_of k.dict n ≡ Some left) × (has k.ext n f.slot ≡ true)
-    has_left f m has_it =
-        among_word k sound (numbers_at k.ext f.slot) left
-        (subst (λ ws. Among ws left) (sym (tells.described f (contains_from_among k.catalog.entries f m))) (among_from_has_word (description s (told f)) left has_it))
-
-    -- ---- from numbers to words
-    by_slot : (slot : ℕ) → (o : Option ℕ) → number_of k.dict left ≡ o → is_number_of (numbers_at k.ext slot) o ≡ true → nat_lt 128 (length (wide (numbers_at k.ext slot))) ≡ true → exceeds_words made ≡ true
-    by_slot slot None is had long = absurd cc
-    by_slot slot (Some n) is had long = by (rec_at k.catalog slot) refl
+    has_left : is_number_of (numbers_at k.ext f.slot) (number_of k.dict left) ≡ has_word (description s file) left
+    has_left = by (number_of k.dict left) refl
       where
-        by : (o : Option FileRecord) → rec_at k.catalog slot ≡ o → exceeds_words made ≡ true
-        by None none = absurd (both_ways (has k.ext n slot) (free slot none n) had)
-        by (Some rec) there =
-            let f : Filed = record { slot = slot; rec = rec } in
-            let m = filed_at_slot k.catalog sound.catalog slot rec there in
-            any_from_among large s.files (told f) (file_of_filed k at s sound free tells f m)
-            (ap (nat_lt 128) (sym (wide_told f m n (word_from_number k.dict sound.dict left n is) had)) ∙ long)
+        told : has_word (description s file) left ≡ has_word (words_told k.dict (numbers_at k.ext f.slot)) left
+        told = ap (λ ws. has_word ws left) (sym (tells.described f (contains_from_among k.catalog.entries f m)))
 
-    to_words : has_overfull k left right ≡ true → exceeds_words made ≡ true
-    to_words h =
-        let found = at_slot k left right h in
-        let both = and_parts (is_number_of (numbers_at k.ext found.0) (number_of k.dict left)) (nat_lt 128 (length (wide (numbers_at k.ext found.0)))) found.2 in
-        by_slot found.0 (number_of k.dict left) refl both.0 both.1
+        by : (o : Option ℕ) → number_of k.dict left ≡ o → is_number_of (numbers_at k.ext f.slot) o ≡ has_word (description s file) left
+        by None none = sym (false_from_ne_true (has_word (description s file) left) (λ h.
+            let found = among_word k sound (numbers_at k.ext f.slot) left (among_from_has_word (words_told k.dict (numbers_at k.ext f.slot)) left (sym told ∙ h)) in
+            none-some found.0 (sym none ∙ number_from_word k.dict sound.dict left found.0 found.1)))
+        by (Some n) is = number_told k sound (numbers_at k.ext f.slot) n left (word_from_number k.dict sound.dict left n is) ∙ sym told
 
-    -- ---- from words to numbers
-    by_file : (f : Filed) → Among k.catalog.entries f → large (told f) ≡ true → (b : Bool) → has_word (description s (told f)) left ≡ b → has_overfull k left right ≡ true
-    by_file f m long true has_it =
-        let found = has_left f m has_it in
-        let row = numbers_at k.ext f.slot in
-        let numbered : is_number_of row (number_of k.dict left) ≡ true = ap (is_number_of row) (number_from_word k.dict sound.dict left found.0 found.1) ∙ found.2 in
-        any_from_among (is_overfull k left right) k.ext.sets row (set_among k found.0 f.slot found.2)
-        (and_from (is_number_of row (number_of k.dict left)) (nat_lt 128 (length (wide row))) numbered (ap (nat_lt 128) (wide_told f m found.0 found.1 found.2) ∙ long))
-    by_file f m long false lacks =
-        let few = leb-true (length (description s (told f))) 128 (all_among (λ (file : File). nat_le (length (description s file)) 128) s.files (told f) tells.formed.files.few_words (file_of_filed k at s sound free tells f m)) in
-        let same = ap (λ (ws : List (List ℕ)). length ws) (one_unfelt s.declared s.axioms (left, right) (told f) lacks) in
-        absurd (omega (arith, few, same, ltb-true 128 (length (description made (told f))) long))
+    counted : length (all_up D A (right ∷ description s file)) ≡ length (wider k (is_gained_by k (right ∷ [])) f.slot)
+    counted =
+        ap₂ (λ (x : State) ws. length (all_up x.declared x.axioms (right ∷ ws))) (sym tells.state) (sym (tells.described f (contains_from_among k.catalog.entries f m)))
+        ∙ (wider_counted k sound free closed (right ∷ []) (right_number.0 ∷ []) (ap (λ o. set_of (option_to_list o ++ [])) right_number.1) f.slot
+        ∙ ap (λ gains. length (wider k gains f.slot)) (gains_of k right right_number.0 right_number.1))
 
-    to_numbers : exceeds_words made ≡ true → has_overfull k left right ≡ true
-    to_numbers h =
-        let found = among_from_any large s.files h in
-        let f = filed_of_file k at s sound free tells found.0 found.1 in
-        by_file f.0 f.1 (ap large f.2 ∙ found.2) (has_word (description s (told f.0)) left) refl
+    full_same : nat_lt 128 (length (description made file)) ≡ is_overfull k left right f.slot
+    full_same = by (has_word (description s file) left) refl
+      where
+        too_many : Bool
+        too_many = nat_lt 128 (length (wider k (is_gained_by k (right ∷ [])) f.slot))
 
-    pub overfull_told : has_overfull k left right ≡ exceeds_words made
-    overfull_told = same_tests (has_overfull k left right) (exceeds_words made) to_words to_numbers
+        by : (b : Bool) → has_word (description s file) left ≡ b → nat_lt 128 (length (description made file)) ≡ is_overfull k left right f.slot
+        by true is =
+            ap (λ (ws : List (List ℕ)). nat_lt 128 (length ws))
+            (with_one_axiom D A (left, right) (own_words D file)
+            ∙ (ap (λ b. cond b (with_words (description s file) (up D A right)) (description s file)) is
+            ∙ joined file))
+            ∙ (ap (nat_lt 128) counted ∙ sym (ap (λ b. b && too_many) (has_left ∙ is)))
+        by false is =
+            let few = leb-true (length (description s file)) 128 (all_among (λ (g : File). nat_le (length (description s g)) 128) s.files file tells.formed.files.few_words (file_of_filed k at s sound free tells f m)) in
+            let same = ap (λ (ws : List (List ℕ)). length ws) (one_unfelt D A (left, right) file is) in
+            false_from_ne_true (nat_lt 128 (length (description made file))) (λ long. omega (arith, few, same, ltb-true 128 (length (description made file)) long))
+            ∙ sym (ap (λ b. b && too_many) (has_left ∙ is))
+
+  pub overfull_told : has_overfull k left right ≡ exceeds_words made
+  overfull_told = full_told k sound at s free tells made (is_overfull k left right) (λ slot is. by slot (number_of k.dict left) (and_parts (is_number_of (numbers_at k.ext slot) (number_of k.dict left)) (nat_lt 128 (length (wider k (is_gained_by k (right ∷ [])) slot))) is).0) full_same
+    where
+      by : (slot : ℕ) (o : Option ℕ) → is_number_of (numbers_at k.ext slot) o ≡ true → IsSome (rec_at k.catalog slot)
+      by slot None none = absurd (both_ways false refl none)
+      by slot (Some n) had = had_filed k free n slot had

@@ -1,20 +1,9 @@
 -- Links of words by themselves, between words that keep their numbers.
 use Rattle.std.proofs.Common.{◌≡◌, refl, sym, ap₂, ◌∙◌, subst, ℕ, true, List, Option, Some, None, IsSome}
 use Rattle.std.proofs.lemmas.Bool.{both_ways}
-use Rattle.std.proofs.lemmas.Option.{same_Some}
-use Rattle.lis_dict.specs.Dict.{Dict, IsDict, number_of, word_of}
-use Rattle.lis_dict.proofs.Laws.{number_from_word, word_from_number}
-use Rattle.lis_words.specs.Words.{has_word, head_bytes}
+use Rattle.lis_store.proofs.Common.{same_Some, Dict, IsDict, number_of, word_of, number_from_word, word_from_number, has_word, head_bytes, Head, Weaker, among_from_has_word, Kept, is_own_link, AreSound, declared_of, some_word, some_number, declared_has_number}
 use Rattle.lis_model.specs.State.{links}
 use Rattle.lis_laws.proofs.Chains.{OwnLink, own_link}
-use Rattle.lis_laws.proofs.Chains.OwnLink.{Head, Weaker}
-use Rattle.lis_laws.proofs.Members.{among_from_has_word}
-use Rattle.lis_kept.specs.Kept.{Kept}
-use Rattle.lis_kept.specs.Links.{is_own_link}
-use Rattle.lis_kept.specs.Sound.{AreSound}
-use Rattle.lis_kept.specs.Telling.{declared_of}
-use Rattle.lis_kept.proofs.Formed.{some_word}
-use Rattle.lis_kept.proofs.Known.{some_number, declared_has_number}
 use Rattle.lis_kept.proofs.OwnLinks.{own_to_none}
 
 -- words that were there before

@@ -1,34 +1,20 @@
 -- The words of a place under which a word is declared: whether they are plain, and their numbers.
 use Rattle.std.proofs.Common.{◌≡◌, ◌⊎◌, refl, sym, ap, ◌∙◌, subst, inl, inr, ℕ, ◌+◌, ◌<◌, ◌≤◌, Bool, true, false, cond, ◌&&◌, is_some, IsSome, Option, Some, None, option_to_list, List, [], ◌∷◌, ◌++◌, length, take, get_or, arith, length-append}
-use Rattle.std.specs.Prelude.{unwrap_or, option_map}
-use Rattle.std.specs.List.{flat_map, list_all}
-use Rattle.std.specs.List.Sorted.{IsStrictlySortedBy}
-use Rattle.std.proofs.lemmas.Bool.{and_parts, and_from, both_ways, false_from_ne_true}
-use Rattle.std.proofs.lemmas.List.{take_all}
-use Rattle.std.proofs.lemmas.List.Elements.{Contains-get_or}
+use Rattle.lis_store.proofs.Common.{unwrap_or, flat_map, list_all, IsStrictlySortedBy, and_parts, take_all, Contains-get_or, Among, among_from_contains, among_flat_map, among_insert_key, insert_key_old, sorted_insert_key, number_of, word_of, word_from_number, word_cmp, is_plain_word, Formula, Node, nodes_of, node_words, with_word, with_words, place_words, words_at, word_order, among_set_of, sorted_set_of, all_weaker, Kept, AreSound, is_declared, word_among}
+use Rattle.std.specs.Prelude.{option_map}
+use Rattle.std.proofs.lemmas.Bool.{and_from, both_ways, false_from_ne_true}
 use Rattle.std.proofs.lemmas.List.Folds.{list_all-append}
 use Rattle.std.proofs.lemmas.Grind.{flat_map-append}
-use Rattle.lis_graph.proofs.Members.{Among, among_from_contains, among_flat_map, flat_map_among, among_insert_key, insert_key_old}
-use Rattle.lis_graph.proofs.Sets.{sorted_insert_key}
+use Rattle.lis_graph.proofs.Members.{flat_map_among}
 use Rattle.lis_content.specs.Content.{has_number}
 use Rattle.lis_content.proofs.Numbers.{distinct_more}
-use Rattle.lis_dict.specs.Dict.{number_of, word_of}
-use Rattle.lis_dict.proofs.Laws.{word_from_number}
-use Rattle.lis_words.specs.Words.{word_cmp, is_plain_word}
-use Rattle.lis_grammar.specs.Formula.{Formula}
-use Rattle.lis_place.specs.declared.node.Node.{Node}
 use Rattle.lis_place.specs.declared.node.Node.TheVariants.{Word, AtLeast, Below, Not, And, Or}
-use Rattle.lis_place.specs.Nodes.{nodes_of, node_words}
-use Rattle.lis_model.specs.Sets.{with_word, with_words, set_of}
-use Rattle.lis_model.specs.Places.{place_words}
-use Rattle.lis_model.specs.Step.{is_plain_place, words_at}
-use Rattle.lis_laws.proofs.Members.{word_order, among_set_of, set_of_among, sorted_set_of, same_words}
-use Rattle.lis_laws.proofs.Counts.{all_among, all_from, all_weaker, all_insert_key}
+use Rattle.lis_model.specs.Sets.{set_of}
+use Rattle.lis_model.specs.Step.{is_plain_place}
+use Rattle.lis_laws.proofs.Members.{set_of_among, same_words}
+use Rattle.lis_laws.proofs.Counts.{all_among, all_from, all_insert_key}
 use Rattle.lis_laws.proofs.Locals.{same_tests}
-use Rattle.lis_kept.specs.Kept.{Kept}
-use Rattle.lis_kept.specs.Sound.{AreSound}
-use Rattle.lis_kept.specs.Telling.{is_declared, words_told}
-use Rattle.lis_kept.proofs.Known.{word_among}
+use Rattle.lis_kept.specs.Telling.{words_told}
 use Rattle.lis_store.specs.Assigning.{is_conjunct}
 use Rattle.lis_store.specs.Placing.{is_plain_conjunct, declared_number, AreNumbersOf, TakesNumbers}
 use Rattle.lis_store.proofs.Assigned.{place_words_are, place_has_words, with_words-append, flat_next}

@@ -1,16 +1,12 @@
 -- Points that are put into a set one after another: which set they make, and how long it is.
 use Rattle.std.proofs.Common.{◌≡◌, ◌⊎◌, refl, sym, ap, ◌∙◌, subst, inl, inr, ◌+◌, List, [], ◌∷◌, length, arith}
-use Rattle.std.specs.declared.cmp.Ordering.{Ordering}
-use Rattle.std.specs.declared.cmp.Ordering.TheVariants.{Less, Equal, Greater}
-use Rattle.std.specs.Ordering.{match_ordering, ordering_reverse}
-use Rattle.std.specs.BTreeSet.{insert_key}
+use Rattle.lis_store.proofs.Common.{Ordering, Less, Equal, Greater, match_ordering, insert_key, AllByRecursion, IsStrictlySortedBy, Among, among_insert_key, below_tail, sorted_tail, sorted_nil}
+use Rattle.std.specs.Ordering.{ordering_reverse}
 use Rattle.std.specs.Cmp.{IsTotalOrder}
-use Rattle.std.specs.List.{AllByRecursion}
-use Rattle.std.specs.List.Sorted.{IsStrictlySortedBy}
 use Rattle.std.proofs.lemmas.Map.Lookups.{CmpEqualImpliesEq}
 use Rattle.lis_graph.specs.Graph.{with_more}
-use Rattle.lis_graph.proofs.Members.{Among, among_insert_key, among_with_more, with_more_old}
-use Rattle.lis_graph.proofs.Sets.{below_tail, sorted_tail, sorted_nil, sorted_with_more, same_sets}
+use Rattle.lis_graph.proofs.Members.{among_with_more, with_more_old}
+use Rattle.lis_graph.proofs.Sets.{sorted_with_more, same_sets}
 
 -- ---- points of which no two tie, put into a set
 module _ {K : Type 0} (cmp : K → K → Ordering) (order : IsTotalOrder cmp) where
@@ -75,7 +71,7 @@ AllApart [] = Unit {0}
 AllApart (x ∷ xs) = (Among xs x → ⊥) × AllApart xs
 
 module _ {K : Type 0} (cmp : K → K → Ordering) (exact : CmpEqualImpliesEq cmp) where
-  length-insert_key : (xs : List K) (k : K) → (Among xs k → ⊥) → length (insert_key cmp xs k) ≡ length xs + 1
+  pub length-insert_key : (xs : List K) (k : K) → (Among xs k → ⊥) → length (insert_key cmp xs k) ≡ length xs + 1
   length-insert_key [] k new = omega arith
   length-insert_key (x ∷ xs) k new = by (cmp k x) refl (length-insert_key xs k (λ m. new (inr m)))
     where

@@ -1,44 +1,24 @@
 -- A file that is admitted: its words may be learnt, and its numbers are in form.
-use Rattle.std.proofs.Common.{◌≡◌, ◌⊎◌, refl, sym, ap, ap₂, ◌∙◌, subst, inl, inr, ℕ, ◌^◌, ◌≤◌, nat_lt, nat_le, ◌&&◌, ◌||◌, cond, Bool, true, false, List, [], ◌∷◌, ◌++◌, length, None, is_some, IsSome, arith}
-use Rattle.std.specs.List.{flat_map, list_all}
-use Rattle.std.specs.List.Sorted.{IsStrictlyIncreasing}
-use Rattle.std.specs.Ordering.{nat_cmp}
-use Rattle.std.specs.Cmp.{nat_cmp_total}
-use Rattle.std.proofs.lemmas.Bool.{and_parts, and_from, or_cases, or_left, or_right, both_ways, le-leb, lt-ltb}
+use Rattle.std.proofs.Common.{◌≡◌, ◌⊎◌, refl, sym, ap, ap₂, ◌∙◌, subst, inl, inr, ℕ, ◌^◌, ◌≤◌, nat_lt, nat_le, ◌&&◌, ◌||◌, cond, Bool, true, false, List, [], ◌∷◌, ◌++◌, length, is_some, IsSome, arith}
+use Rattle.lis_store.proofs.Common.{flat_map, list_all, IsStrictlyIncreasing, nat_cmp, nat_cmp_total, and_parts, or_cases, lt-ltb, is_rising, Among, among_filter, among_append, among_left, among_flat_map, members_le, sorted_from_rising, number_of, word_of, are_blocks, is_record, word_cmp, has_word, is_plain_word, is_valued, is_head, is_built_in, head_bytes, with_word, with_words, derived_words, State, File, heads, up, all_up, own_words, file_words, is_assignable, met_tests, plain_not_valued, among_heads, up_self, all_weaker, rising_from_sorted, derived_built_in, word_order, among_with_words, with_words_new, sorted_with_words, among_from_has_word, Kept, AreSound, is_sound_record, is_declared, declared_of, axioms_of, among_where, sorted_where, few_properties}
+use Rattle.std.proofs.lemmas.Bool.{and_from, or_left, or_right, both_ways, le-leb}
 use Rattle.std.proofs.lemmas.List.Sums.{fold-append}
 use Rattle.std.proofs.lemmas.Grind.{flat_map-append}
 use Rattle.std.proofs.lemmas.Map.Keys.{IsStrictlyIncreasing-from_sorted}
-use Rattle.lis_graph.specs.Graph.{is_rising}
-use Rattle.lis_graph.proofs.Members.{Among, among_filter, among_append, among_left, among_flat_map, flat_map_among}
-use Rattle.lis_graph.proofs.Sets.{members_le, sorted_from_rising}
-use Rattle.lis_catalog.specs.Catalog.{rec_at}
-use Rattle.lis_dict.specs.Dict.{words, number_of, word_of}
-use Rattle.lis_ext.specs.Ext.{Ext, set_of as numbers_at}
+use Rattle.lis_graph.proofs.Members.{flat_map_among}
+use Rattle.lis_dict.specs.Dict.{words}
 use Rattle.lis_content.specs.Content.{has_number}
-use Rattle.lis_fields.specs.Records.{FileRecord}
-use Rattle.lis_fields.specs.Layouts.{are_short, are_tags, are_blocks, is_record}
+use Rattle.lis_fields.specs.Layouts.{are_short, are_tags}
 use Rattle.lis_fields.proofs.Parts.{record_from}
-use Rattle.lis_words.specs.Words.{word_cmp, has_word, is_plain_word, is_valued, is_head, is_built_in, built_in_heads, head_bytes}
-use Rattle.lis_model.specs.Sets.{with_word, with_words}
-use Rattle.lis_model.specs.Derived.{derived_words}
-use Rattle.lis_model.specs.State.{State, File, heads, up, all_up, own_words, file_words, is_assignable}
-use Rattle.lis_model.specs.Tests.{met_tests}
-use Rattle.lis_model.specs.Changes.{new_file}
-use Rattle.lis_laws.proofs.Apart.{plain_not_valued, head_built_in}
-use Rattle.lis_laws.proofs.Chains.{among_heads, up_self, up_own, links_head}
-use Rattle.lis_laws.proofs.Counts.{all_among, all_from, all_weaker, rising_from_sorted}
-use Rattle.lis_laws.proofs.Derived.{derived_built_in}
-use Rattle.lis_laws.proofs.Members.{word_order, among_with_words, with_words_old, with_words_new, sorted_with_words, among_from_has_word, set_of_among}
-use Rattle.lis_kept.specs.Kept.{Kept}
-use Rattle.lis_kept.specs.Changes.{Files}
-use Rattle.lis_kept.specs.Sound.{AreSound, FreeSlotsAreEmpty, is_sound_record}
-use Rattle.lis_kept.specs.Telling.{is_declared, declared_of, axioms_of}
+use Rattle.lis_words.specs.Words.{built_in_heads}
+use Rattle.lis_laws.proofs.Apart.{head_built_in}
+use Rattle.lis_laws.proofs.Chains.{up_own, links_head}
+use Rattle.lis_laws.proofs.Counts.{all_among, all_from}
+use Rattle.lis_laws.proofs.Members.{with_words_old, set_of_among}
 use Rattle.lis_kept.proofs.Filing.{number_from_among}
-use Rattle.lis_ext.proofs.Numbers.{among_where, sorted_where}
-use Rattle.lis_kept.proofs.InArea.{few_properties}
 use Rattle.lis_store.specs.Admitting.{described_by, known_with, IsAdmitted}
 use Rattle.lis_store.specs.Adding.{is_one_of, numbers_named, AreNumbered, behind_head, with_heads, may_learn, HasWordRoom, LearnsAll, learnt_words}
-use Rattle.lis_store.specs.ReplacingIn.{MayComeIn}
+use Rattle.lis_store.specs.ReplacingIn.{MayComeIn, record_of}
 use Rattle.lis_store.proofs.Learning.{number_there, learns_more, number_learnt, room_left}
 use Rattle.lis_store.proofs.Naming.{one_of, named_one, named_few}
 use Rattle.lis_store.proofs.Told.{words_grow}
@@ -104,20 +84,23 @@ behind_itself own word m = flat_map_among behind_head own word word m (by (is_va
 -- a file that is admitted
 pub may_come : (p : Kept) (file : File) → IsAdmitted p file → MayComeIn p file
 may_come p file admitted = record {
+  name = admitted.name;
   new = admitted.new;
+  set = admitted.set;
   assignable = admitted.assignable;
   few = admitted.few;
   short = admitted.short;
   room = admitted.room;
+  small = admitted.small;
 }
 
 -- ---- the file
-module _ (p : Kept) (sound : AreSound p) (name : List ℕ) (assigned : List (List ℕ)) (bytes : List ℕ) (may : MayComeIn p (new_file name assigned bytes)) where
-  abbrev file : File
-  file = new_file name assigned bytes
+module _ {p : Kept} (sound : AreSound p) {file : File} (may : MayComeIn p file) where
+  abbrev derived : List (List ℕ)
+  derived = derived_words file.name file.bytes
 
   abbrev tests : Kept → List (List ℕ)
-  tests k = met_tests (declared_of k) (length bytes)
+  tests k = met_tests (declared_of k) (length file.bytes)
 
   -- its words and their heads are words of its description
   pub heads_described : (word : List ℕ) → Among (with_heads (learnt_words file)) word → Among (described_by p file) word
@@ -125,8 +108,8 @@ module _ (p : Kept) (sound : AreSound p) (name : List ℕ) (assigned : List (Lis
       head_entailed (declared_of p) (axioms_of p) (own_words (declared_of p) file) word
       (subst (λ ws. Among ws word) (sym (flat_map-append behind_head (learnt_words file) (tests p))) (among_left (with_heads (learnt_words file)) (with_heads (tests p)) word m))
 
-  pub assigned_may : list_all (may_learn p) assigned ≡ true
-  assigned_may = learnable_from p assigned may.assignable
+  pub assigned_may : list_all (may_learn p) file.assigned ≡ true
+  assigned_may = learnable_from p file.assigned may.assignable
 
   -- the words and their heads are words of the description
   words_fit : HasWordRoom p (with_heads (learnt_words file))
@@ -141,31 +124,31 @@ module _ (p : Kept) (sound : AreSound p) (name : List ℕ) (assigned : List (Lis
       by word (inl m) = with_words_old (words p.dict) (described_by p file) word m
       by word (inr m) = with_words_new (words p.dict) (described_by p file) word (heads_described word m)
 
-  heads_split : with_heads (learnt_words file) ≡ with_heads assigned ++ with_heads (derived_words name bytes)
-  heads_split = flat_map-append behind_head assigned (derived_words name bytes)
+  heads_split : with_heads (learnt_words file) ≡ with_heads file.assigned ++ with_heads derived
+  heads_split = flat_map-append behind_head file.assigned derived
 
-  pub assigned_room : HasWordRoom p (with_heads assigned)
+  pub assigned_room : HasWordRoom p (with_heads file.assigned)
   assigned_room =
       let whole = ap (λ ws. length (with_words (words p.dict) ws)) heads_split in
-      let parts = ap (λ (ws : List (List ℕ)). length ws) (fold-append with_word (words p.dict) (with_heads assigned) (with_heads (derived_words name bytes))) in
-      omega (arith, whole, parts, words_grow (with_words (words p.dict) (with_heads assigned)) (with_heads (derived_words name bytes)), words_fit)
+      let parts = ap (λ (ws : List (List ℕ)). length ws) (fold-append with_word (words p.dict) (with_heads file.assigned) (with_heads derived)) in
+      omega (arith, whole, parts, words_grow (with_words (words p.dict) (with_heads file.assigned)) (with_heads derived), words_fit)
 
-  pub derived_room : (q : Kept) → LearnsAll (with_heads assigned) p q → HasWordRoom q (with_heads (derived_words name bytes))
-  derived_room q learns = room_left p q (with_heads assigned) learns (with_heads (derived_words name bytes)) (subst (λ ws. HasWordRoom p ws) heads_split words_fit)
+  pub derived_room : {q : Kept} → LearnsAll (with_heads file.assigned) p q → HasWordRoom q (with_heads derived)
+  derived_room {q} learns = room_left p q (with_heads file.assigned) learns (with_heads derived) (subst (λ ws. HasWordRoom p ws) heads_split words_fit)
 
-  pub both_learnt : (q r : Kept) (derived : List (List ℕ)) → LearnsAll (with_heads assigned) p q → derived ≡ derived_words name bytes → LearnsAll (with_heads derived) q r → LearnsAll (with_heads (learnt_words file)) p r
-  both_learnt q r derived first is second =
+  pub both_learnt : {q r : Kept} {ws : List (List ℕ)} → LearnsAll (with_heads file.assigned) p q → ws ≡ derived → LearnsAll (with_heads ws) q r → LearnsAll (with_heads (learnt_words file)) p r
+  both_learnt {q} {r} first is second =
       subst (λ ws. LearnsAll ws p r) (sym heads_split)
-      (learns_more p q r (with_heads assigned) (with_heads (derived_words name bytes)) first (subst (λ ws. LearnsAll (with_heads ws) q r) is second))
+      (learns_more p q r (with_heads file.assigned) (with_heads derived) first (subst (λ ws. LearnsAll (with_heads ws) q r) is second))
 
-  module _ (r : Kept) (learns : LearnsAll (with_heads (learnt_words file)) p r) where
+  module _ {r : Kept} (learns : LearnsAll (with_heads (learnt_words file)) p r) where
     pub own_numbered : AreNumbered r.dict (learnt_words file)
     own_numbered word h = number_learnt p r (with_heads (learnt_words file)) learns word (behind_itself (learnt_words file) word (among_from_has_word (learnt_words file) word h))
 
-    pub declared_same : declared_of r ≡ declared_of p
+    declared_same : declared_of r ≡ declared_of p
     declared_same = ap (λ (s : State). s.declared) (learns.state (λ n. []))
 
-    pub axioms_same : axioms_of r ≡ axioms_of p
+    axioms_same : axioms_of r ≡ axioms_of p
     axioms_same = ap (λ (s : State). s.axioms) (learns.state (λ n. []))
 
     pub entailed_is : all_up (declared_of r) (axioms_of r) (learnt_words file ++ tests r) ≡ described_by p file
@@ -194,27 +177,17 @@ module _ (r : Kept) (sound : AreSound r) (words : List (List ℕ)) where
       ap is_some (one_of words (word_of r.dict n) (named_one r.dict sound.dict words n m)).1)
 
 -- ---- its record
-module _ (p r : Kept) (name : List ℕ) (assigned : List (List ℕ)) (bytes blocks : List ℕ) (admitted : IsAdmitted p (new_file name assigned bytes)) (sound : AreSound r)
-    (learns : LearnsAll (with_heads (learnt_words (new_file name assigned bytes))) p r) (formed : are_blocks p.limits.version (length bytes) blocks ≡ true)
-    (below : list_all (λ n. nat_lt n p.limits.blocks) blocks ≡ true) where
-  abbrev rec : FileRecord
-  rec = record { name = name; size = length bytes; tags = numbers_named r.dict assigned; blocks = blocks }
-
-  pub record_sound : is_sound_record r.limits.version r.dict r.limits.blocks rec ≡ true
-  record_sound =
-      and_from (is_record r.limits.version rec && list_all (λ n. is_some (word_of r.dict n)) rec.tags) (list_all (λ n. nat_lt n r.limits.blocks) blocks)
-      (and_from (is_record r.limits.version rec) (list_all (λ n. is_some (word_of r.dict n)) rec.tags)
-      (ap (λ (k : Kept). is_record k.limits.version rec) learns.parts ∙ record_from p.limits.version rec admitted.name admitted.small (named_tags r sound assigned admitted.few) formed)
-      (named_worded r sound assigned))
-      (ap (λ (k : Kept). list_all (λ n. nat_lt n k.limits.blocks) blocks) learns.parts ∙ below)
+pub record_sound : {p r : Kept} {file : File} → MayComeIn p file → AreSound r → LearnsAll (with_heads (learnt_words file)) p r → (blocks : List ℕ) → are_blocks p.limits.version (length file.bytes) blocks ≡ true
+    → list_all (λ n. nat_lt n p.limits.blocks) blocks ≡ true → is_sound_record r.limits.version r.dict r.limits.blocks (record_of (numbers_named r.dict file.assigned) file blocks) ≡ true
+record_sound {p} {r} {file} may sound learns blocks formed below =
+    let rec = record_of (numbers_named r.dict file.assigned) file blocks in
+    and_from (is_record r.limits.version rec && list_all (λ n. is_some (word_of r.dict n)) rec.tags) (list_all (λ n. nat_lt n r.limits.blocks) blocks)
+    (and_from (is_record r.limits.version rec) (list_all (λ n. is_some (word_of r.dict n)) rec.tags)
+    (ap (λ (k : Kept). is_record k.limits.version rec) learns.parts ∙ record_from p.limits.version rec may.name may.small (named_tags r sound file.assigned may.few) formed)
+    (named_worded r sound file.assigned))
+    (ap (λ (k : Kept). list_all (λ n. nat_lt n k.limits.blocks) blocks) learns.parts ∙ below)
 
 -- a slot without numbers has the empty set
 pub none_has : (ns : List ℕ) → ((n : ℕ) → has_number ns n ≡ false) → ns ≡ []
 none_has [] none = refl
 none_has (n ∷ ns) none = absurd (both_ways (has_number (n ∷ ns) n) (none n) (number_from_among (n ∷ ns) n (inl refl)))
-
-pub slot_was_empty : (p r q : Kept) (more : List (List ℕ)) (slot : ℕ) (filed : FileRecord) → FreeSlotsAreEmpty p → LearnsAll more p r → Files slot filed r q → numbers_at q.ext slot ≡ []
-slot_was_empty p r q more slot filed free learns files =
-    let there : rec_at p.catalog slot ≡ None = ap (λ (k : Kept). rec_at k.catalog slot) (sym learns.parts) ∙ files.free in
-    let same : q.ext ≡ p.ext = ap (λ (k : Kept). k.ext) files.parts ∙ ap (λ (k : Kept). k.ext) learns.parts in
-    ap (λ (e : Ext). numbers_at e slot) same ∙ none_has (numbers_at p.ext slot) (free slot there)

@@ -1,26 +1,16 @@
 -- One block of a file's bytes.
 use Rattle.std.proofs.Common.{◌≡◌, ◌⊎◌, refl, sym, ap, ◌∙◌, subst, inl, inr, ℕ, zero, suc, ◌+◌, ◌-◌, ◌*◌, ◌<◌, ◌≤◌, List, [], ◌∷◌, ◌++◌, length, get_or, take, drop, replicate, slice_index, nat_lt, true, Option, Some, IsSomeAnd, arith}
-use Rattle.std.specs.List.{flat_map}
-use Rattle.std.proofs.lemmas.Bool.{cases_lt, cond-true, lt-ltb}
-use Rattle.std.proofs.lemmas.List.{take_all, take_at, take-take, take-append-le, length-take-le, drop-drop, drop_at, drop-take}
-use Rattle.lis_ports.specs.Meaning.{Meaning}
-use Rattle.lis_ports.specs.Bytes.{part}
-use Rattle.lis_journal.specs.Images.{Fits, held_in}
+use Rattle.lis_store.proofs.Common.{flat_map, cases_lt, lt-ltb, take_all, length-take-le, Meaning, part, Fits, looked, is_large, slot_count, content_blocks, Among, FileRecord, size_fits, Filed, slot_of, rec_at, data_start, State, File, bytes_told, filed_at_slot}
+use Rattle.std.proofs.lemmas.Bool.{cond-true}
+use Rattle.std.proofs.lemmas.List.{take_at, take-take, take-append-le, drop-drop, drop_at, drop-take}
+use Rattle.lis_journal.specs.Images.{held_in}
 use Rattle.lis_journal.proofs.Fitting.{fits_held}
-use Rattle.lis_journal.specs.Phases.{looked}
 use Rattle.lis_journal.specs.Record.{Entry}
 use Rattle.lis_content.specs.Content.{are_within}
-use Rattle.lis_content.specs.Large.{is_large, slot_count, index_home, content_blocks, block_within}
-use Rattle.lis_graph.proofs.Members.{Among}
-use Rattle.lis_fields.specs.Records.{FileRecord}
-use Rattle.lis_fields.proofs.Parts.{size_fits}
-use Rattle.lis_catalog.specs.Catalog.{Filed, slot_of, rec_at}
-use Rattle.lis_model.specs.Image.{data_start}
-use Rattle.lis_model.specs.State.{State, File, blocks_needed}
+use Rattle.lis_content.specs.Large.{index_home, block_within}
+use Rattle.lis_model.specs.State.{blocks_needed}
 use Rattle.lis_model.specs.Changes.{file_of}
-use Rattle.lis_kept.specs.Telling.{bytes_told}
 use Rattle.lis_kept.proofs.BlocksTaken.{slot_within}
-use Rattle.lis_kept.proofs.Filing.{filed_at_slot}
 use Rattle.lis_store.specs.Stored.{Stored, IsSound, StoreFits, IsIndex}
 use Rattle.lis_dict.proofs.Places.{among_at}
 use Rattle.lis_store.proofs.Elsewhere.{numbers_counted}

@@ -1,18 +1,10 @@
 -- Descriptions that become others, slot by slot: one slot more, and how much is edited and marked.
 use Rattle.std.proofs.Common.{◌≡◌, ◌⊎◌, refl, sym, ap, ap₂, ◌∙◌, subst, inl, inr, ℕ, ◌+◌, ◌<◌, ◌≤◌, true, List, [], length, map, sum, get_or, arith, get_or-set_same, get_or-set_other, length-set}
-use Rattle.std.specs.List.{range_with_len}
-use Rattle.std.proofs.lemmas.Bool.{cases_eq, cases_lt}
+use Rattle.lis_store.proofs.Common.{range_with_len, cases_eq, cases_lt, Among, is_taken, numbers_at, differs, Kept, IsSaved, is_marked, block_of, Describes, among_where, map_all}
 use Rattle.std.proofs.lemmas.List.FromFn.{sum_by-map-range_with_len_more}
-use Rattle.lis_graph.proofs.Members.{Among, among_map}
-use Rattle.lis_blockmap.specs.Bitmap.{is_taken}
-use Rattle.lis_ext.specs.Ext.{set_of as numbers_at}
-use Rattle.lis_ext.specs.Numbers.{differs, numbers_where}
-use Rattle.lis_kept.specs.Kept.{Kept}
-use Rattle.lis_kept.specs.Areas.{IsSaved, is_marked, block_of}
+use Rattle.lis_graph.proofs.Members.{among_map}
+use Rattle.lis_ext.specs.Numbers.{numbers_where}
 use Rattle.lis_kept.specs.Areas.Area.{Rows}
-use Rattle.lis_kept.specs.Changes.{Describes}
-use Rattle.lis_ext.proofs.Numbers.{among_where}
-use Rattle.lis_kept.proofs.Filing.{map_all}
 use Rattle.lis_kept.proofs.MarkedWithin.{marked_only}
 use Rattle.lis_store.specs.Changes.{differing_bits}
 use Rattle.lis_store.specs.Redescribing.{Gives, turned_at, IsTurnedRow, Redescribes}

@@ -1,34 +1,23 @@
 -- The row of `axiom`, told by what a store keeps, is the row of the state; and what holds where it refuses nothing.
-use Rattle.std.proofs.Common.{◌≡◌, ◌⊎◌, refl, sym, ap, ap₂, ◌∙◌, subst, inl, inr, ℕ, ◌+◌, ◌&&◌, nat_lt, true, false, not, is_some, Option, Some, None, List, [], ◌∷◌, length, arith}
+use Rattle.std.proofs.Common.{◌≡◌, refl, sym, ap, ap₂, ◌∙◌, subst, inl, inr, ℕ, ◌+◌, ◌&&◌, nat_lt, true, false, not, is_some, Option, Some, None, List, [], ◌∷◌, length, arith}
 use Rattle.std.specs.Prelude.{count_by}
-use Rattle.std.specs.List.Sorted.{IsStrictlySortedBy}
-use Rattle.std.proofs.lemmas.Bool.{and_parts, and_from, both_ways, not-false, ltb-false, false_from_ne_true}
-use Rattle.lis_graph.proofs.Members.{Among, any_from_among, among_append, among_left, among_right}
-use Rattle.lis_dict.specs.Dict.{words, number_of}
-use Rattle.lis_dict.proofs.Laws.{word_from_number}
-use Rattle.lis_ext.specs.Ext.{set_of as numbers_at}
-use Rattle.lis_words.specs.Words.{word_cmp, same_word, has_word, is_plain_word}
-use Rattle.lis_model.specs.declared.limits.Limits.{Limits}
-use Rattle.lis_model.specs.declared.refusal.Refusal.{Refusal}
-use Rattle.lis_model.specs.Sets.{with_words}
-use Rattle.lis_model.specs.State.{State, heads, up, known, pair_cmp, is_nameable}
-use Rattle.lis_model.specs.Changes.{same_pair, has_axiom, axiom_added}
-use Rattle.lis_model.specs.Step.{Situation, refused, changed, exceeds_axioms, exceeds_known, exceeds_words, axiom_checks, add_axiom}
-use Rattle.lis_laws.proofs.Growth.{known_adds_axiom}
-use Rattle.lis_laws.proofs.Known.{sorted_known}
-use Rattle.lis_laws.proofs.Members.{pair_exact, same_word_decides, among_with_words, with_words_old, with_words_new, sorted_with_words, same_words}
-use Rattle.lis_kept.specs.Kept.{Kept}
-use Rattle.lis_kept.specs.Linking.{is_filled}
-use Rattle.lis_kept.specs.Telling.{bit_of, is_declared, declared_of, axioms_of, Tells}
-use Rattle.lis_kept.proofs.AxiomsTold.{axioms_counted}
+use Rattle.lis_store.proofs.Common.{and_parts, not-false, ltb-false, Among, number_of, numbers_at, same_word, has_word, is_plain_word, Limits, Refusal, with_words, State, up, pair_cmp, same_pair, has_axiom, axiom_added, Situation, refused, exceeds_known, exceeds_words, add_axiom, pair_exact, same_word_decides, Kept, AreSound, is_filled, bit_of, is_declared, declared_of, axioms_of, Tells, axioms_counted}
+use Rattle.std.proofs.lemmas.Bool.{and_from, both_ways, false_from_ne_true}
+use Rattle.lis_graph.proofs.Members.{any_from_among}
+use Rattle.lis_dict.specs.Dict.{words}
+use Rattle.lis_model.specs.State.{is_nameable}
+use Rattle.lis_model.specs.Step.{changed, exceeds_axioms, axiom_checks}
 use Rattle.lis_store.specs.Stored.{Stored, IsSound}
 use Rattle.lis_store.specs.Adding.{behind_head}
 use Rattle.lis_store.specs.Changes.{first_refusal}
-use Rattle.lis_store.specs.Relating.{entails_word, widened_numbers, is_number_of, is_overfull, has_overfull, axiom_checks_of, MayRelate}
+use Rattle.lis_store.specs.Closing.{is_gained_by, wider}
+use Rattle.lis_store.specs.Relating.{entails_word, is_number_of, is_overfull, has_overfull, axiom_checks_of, MayRelate}
 use Rattle.lis_store.proofs.Assigned.{has_declared}
-use Rattle.lis_store.proofs.Facts.{limits_told, known_told}
+use Rattle.lis_store.proofs.Facts.{limits_told}
 use Rattle.lis_store.proofs.Judged.{same_first, all_pass, judged_refused, judged_done}
-use Rattle.lis_store.proofs.Overfull.{set_among, overfull_told}
+use Rattle.lis_store.proofs.Full.{full_at}
+use Rattle.lis_store.proofs.Relates.{known_then}
+use Rattle.lis_store.proofs.Overfull.{had_below, overfull_told}
 use Rattle.lis_store.proofs.Points.{length-with_more}
 
 -- a declared word has a number
@@ -40,8 +29,8 @@ declared_numbered k word declared = by (number_of k.dict word) refl
     by (Some n) is = (n, is)
 
 -- ---- what a row that refuses nothing says
-pub related : (k : Kept) (left right : List ℕ) → first_refusal (axiom_checks_of k left right) ≡ None → MayRelate k left right
-related k left right none =
+pub related : (k : Kept) → AreSound k → (left right : List ℕ) → first_refusal (axiom_checks_of k left right) ≡ None → MayRelate k left right
+related k sound left right none =
     let row = all_pass (axiom_checks_of k left right) none in
     let form = row.1 in
     let new = form.1 in
@@ -59,11 +48,13 @@ related k left right none =
       no_circle = acyclic.0;
       slots = omega (arith, ltb-false k.limits.props (count_by is_filled k.axioms + 1) slots.0);
       room = ltb-false k.limits.props (length (with_words (words k.dict) (behind_head left))) room.0;
-      short = λ n slot is had. ltb-false 128 (length (widened_numbers k right (numbers_at k.ext slot))) (false_from_ne_true (nat_lt 128 (length (widened_numbers k right (numbers_at k.ext slot)))) (λ long.
+      short = λ n slot is had.
+          let wide = length (wider k (is_gained_by k (right ∷ [])) slot) in
+          ltb-false 128 wide (false_from_ne_true (nat_lt 128 wide) (λ long.
           let numbered : is_number_of (numbers_at k.ext slot) (number_of k.dict left) ≡ true = ap (is_number_of (numbers_at k.ext slot)) is ∙ had in
           both_ways (has_overfull k left right) short.0
-          (any_from_among (is_overfull k left right) k.ext.sets (numbers_at k.ext slot) (set_among k n slot had)
-          (and_from (is_number_of (numbers_at k.ext slot) (number_of k.dict left)) (nat_lt 128 (length (widened_numbers k right (numbers_at k.ext slot)))) numbered long))));
+          (full_at (is_overfull k left right) k.limits.files slot (omega (arith, had_below k n slot had, sound.files))
+          (and_from (is_number_of (numbers_at k.ext slot) (number_of k.dict left)) (nat_lt 128 wide) numbered long))));
     }
 
 -- ---- the row of the state
@@ -115,37 +106,8 @@ module _ (k : Stored) (at : ℕ → List ℕ) (now : Situation) (sound : IsSound
   slots_told : has_axiom s.axioms pair ≡ false → nat_lt p.limits.props (count_by is_filled p.axioms + 1) ≡ exceeds_axioms made
   slots_told new = ap₂ nat_lt (ap (λ (l : Limits). l.props) limits_are) (sym (axioms_then new))
 
-  -- the left word and its head are all that becomes known
-  known_then : (is_plain_word right && has_word s.declared right) ≡ true → with_words (words p.dict) (behind_head left) ≡ known made
-  known_then form =
-      ap (λ ws. with_words ws (behind_head left)) (known_told p at s sound.parts sound.free tells)
-      ∙ (same_words (with_words (known s) (behind_head left)) (with_words (known s) (left ∷ heads left))
-      (sorted_with_words (known s) (behind_head left) sorted) (sorted_with_words (known s) (left ∷ heads left) sorted)
-      (λ w m. to w (among_with_words (known s) (behind_head left) w m)) (λ w m. from w (among_with_words (known s) (left ∷ heads left) w m))
-      ∙ sym (known_adds_axiom s tells.formed left right form))
-    where
-      sorted : IsStrictlySortedBy word_cmp (known s)
-      sorted = sorted_known s tells.formed.declared_set
-
-      front : (w : List ℕ) → Among (heads left) w ⊎ Among (left ∷ []) w → Among (left ∷ heads left) w
-      front w (inl head) = inr head
-      front w (inr (inl same)) = inl same
-      front w (inr (inr none)) = absurd none
-
-      back : (w : List ℕ) → Among (left ∷ heads left) w → Among (behind_head left) w
-      back w (inl same) = among_right (heads left) (left ∷ []) w (inl same)
-      back w (inr head) = among_left (heads left) (left ∷ []) w head
-
-      to : (w : List ℕ) → Among (known s) w ⊎ Among (behind_head left) w → Among (with_words (known s) (left ∷ heads left)) w
-      to w (inl old) = with_words_old (known s) (left ∷ heads left) w old
-      to w (inr new) = with_words_new (known s) (left ∷ heads left) w (front w (among_append (heads left) (left ∷ []) w new))
-
-      from : (w : List ℕ) → Among (known s) w ⊎ Among (left ∷ heads left) w → Among (with_words (known s) (behind_head left)) w
-      from w (inl old) = with_words_old (known s) (behind_head left) w old
-      from w (inr new) = with_words_new (known s) (behind_head left) w (back w new)
-
   room_told : (is_plain_word right && has_word s.declared right) ≡ true → nat_lt p.limits.props (length (with_words (words p.dict) (behind_head left))) ≡ exceeds_known made
-  room_told form = ap₂ (λ props (ws : List (List ℕ)). nat_lt props (length ws)) (ap (λ (l : Limits). l.props) limits_are) (known_then form)
+  room_told form = ap₂ (λ props (ws : List (List ℕ)). nat_lt props (length ws)) (ap (λ (l : Limits). l.props) limits_are) (known_then p at s sound.parts sound.free tells left right form)
 
   -- ---- the rows
   -- what the first two checks leave
@@ -156,8 +118,7 @@ module _ (k : Stored) (at : ℕ → List ℕ) (now : Situation) (sound : IsSound
 
   words_told : is_declared p right ≡ true → has_overfull p left right ≡ exceeds_words made
   words_told declared =
-      let found = declared_numbered p right declared in
-      overfull_told p sound.parts right found.0 (word_from_number p.dict sound.parts.dict right found.0 found.1) at s sound.free tells left
+      overfull_told p sound.parts at s sound.free sound.closed tells left right (and_from (is_declared p right) true declared refl)
 
   same_row : first_refusal (axiom_checks_of p left right) ≡ first_refusal (axiom_checks s pair made)
   same_row =

@@ -1,26 +1,11 @@
 -- What the judging of an axiom asks of numbers.
 use Rattle.std.proofs.Common.{◌≡◌, ◌⊎◌, ◌↔◌, refl, sym, ap, ap₂, ◌∙◌, subst, inl, inr, ℕ, ◌+◌, Bool, true, false, cond, is_some, Some, None, List, [], ◌∷◌, ◌++◌, length, arith, length-append}
-use Rattle.std.specs.List.Sorted.{IsStrictlySortedBy}
-use Rattle.std.proofs.lemmas.Bool.{and_parts, both_ways, false_from_ne_true}
-use Rattle.std.proofs.lemmas.List.{length-map}
-use Rattle.std.proofs.lemmas.Option.{none-some}
-use Rattle.lis_graph.proofs.Members.{Among, among_from_any, among_insert_key, insert_key_old}
-use Rattle.lis_graph.proofs.Sets.{sorted_from_rising, sorted_insert_key}
-use Rattle.lis_dict.specs.Dict.{words, number_of}
-use Rattle.lis_dict.proofs.Laws.{number_from_word, word_from_number}
-use Rattle.lis_taxonomy.specs.Taxonomy.{Taxonomy, entails as leads, Entails as Leads}
-use Rattle.lis_taxonomy.proofs.Laws.{entails_decides}
-use Rattle.lis_words.specs.Words.{word_cmp, same_word, has_word, is_valued, head_bytes}
-use Rattle.lis_model.specs.Sets.{with_word, with_words}
-use Rattle.lis_model.specs.State.{up}
-use Rattle.lis_model.specs.Changes.{same_pair, has_axiom}
-use Rattle.lis_laws.proofs.Chains.{head_not_valued}
-use Rattle.lis_laws.proofs.Members.{word_exact, word_order, same_word_decides, among_from_has_word, has_word_from_among, same_words}
+use Rattle.lis_store.proofs.Common.{IsStrictlySortedBy, length-map, none-some, Among, among_insert_key, insert_key_old, sorted_from_rising, sorted_insert_key, number_of, number_from_word, word_from_number, Taxonomy, leads, entails_decides, word_cmp, has_word, is_valued, head_bytes, with_word, with_words, up, head_not_valued, word_exact, word_order, among_from_has_word, Kept, AreSound, declared_of, axioms_of}
+use Rattle.std.proofs.lemmas.Bool.{both_ways, false_from_ne_true}
+use Rattle.lis_dict.specs.Dict.{words}
+use Rattle.lis_taxonomy.specs.Taxonomy.{Entails as Leads}
+use Rattle.lis_laws.proofs.Members.{has_word_from_among, same_words}
 use Rattle.lis_laws.proofs.Locals.{same_tests}
-use Rattle.lis_kept.specs.Kept.{Kept}
-use Rattle.lis_kept.specs.Sound.{AreSound}
-use Rattle.lis_kept.specs.Telling.{declared_of, axioms_of}
-use Rattle.lis_kept.proofs.Known.{among_axiom}
 use Rattle.lis_store.specs.Adding.{behind_head}
 use Rattle.lis_store.specs.Relating.{entails_word}
 use Rattle.lis_store.proofs.Entailment.{up_has_number}
@@ -33,22 +18,9 @@ use Rattle.lis_store.proofs.Told.{length-with_word}
 pub decided : (t : Taxonomy) (p q : ℕ) (b : Bool) → ((b ≡ true) ↔ Leads t p q) → b ≡ leads t p q
 decided t p q b both = same_tests b (leads t p q) (λ h. (entails_decides t p q).1 (both.0 h)) (λ h. both.1 ((entails_decides t p q).0 h))
 
--- ---- the axiom between two words
+-- ---- what a word entails
 module _ (k : Kept) (sound : AreSound k) where
-  -- its words have numbers
-  pub axiom_unnumbered : (left right : List ℕ) → (number_of k.dict left ≡ None) ⊎ (number_of k.dict right ≡ None) → has_axiom (axioms_of k) (left, right) ≡ false
-  axiom_unnumbered left right none = false_from_ne_true (has_axiom (axioms_of k) (left, right)) (λ has_it. by (among_from_any (λ e. same_pair e (left, right)) (axioms_of k) has_it) none)
-    where
-      by : (e : List ℕ × List ℕ) × Among (axioms_of k) e × (same_pair e (left, right) ≡ true) → (number_of k.dict left ≡ None) ⊎ (number_of k.dict right ≡ None) → ⊥
-      by found one =
-          let e = found.0 in
-          let same = and_parts (same_word e.0 left) (same_word e.1 right) found.2 in
-          let at = among_axiom k sound e found.1 in
-          let lefts = number_from_word k.dict sound.dict left at.1 (at.4 ∙ ap Some ((same_word_decides e.0 left).0 same.0)) in
-          let rights = number_from_word k.dict sound.dict right at.2 (at.5 ∙ ap Some ((same_word_decides e.1 right).0 same.1)) in
-          elim one [ inl none_left ↦ none-some at.1 (sym none_left ∙ lefts) | inr none_right ↦ none-some at.2 (sym none_right ∙ rights) ]
-
-  -- and so has all that a word with a number entails
+  -- what a word with a number entails has one
   pub entails_unnumbered : (word other : List ℕ) (n : ℕ) → number_of k.dict word ≡ Some n → number_of k.dict other ≡ None → entails_word k word other ≡ false
   entails_unnumbered word other n is none = false_from_ne_true (entails_word k word other) (λ has_it.
       let found = up_has_number k sound n word other (word_from_number k.dict sound.dict word n is) (among_from_has_word (up (declared_of k) (axioms_of k) word) other has_it) in

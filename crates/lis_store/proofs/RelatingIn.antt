@@ -1,52 +1,24 @@
 -- What an axiom that may come allows memory.
-use Rattle.std.proofs.Common.{◌≡◌, ◌⊎◌, refl, sym, ap, ap₂, ◌∙◌, inl, inr, ℕ, ◌+◌, ◌*◌, ◌/◌, ◌<◌, ◌≤◌, not, ◌&&◌, ◌||◌, Bool, true, false, List, [], ◌∷◌, length, count_by, Some, is_some, IsSome, arith}
-use Rattle.std.proofs.lemmas.Bool.{and_parts, and_from, or_cases, or_left, or_right}
-use Rattle.lis_graph.proofs.Members.{among_right}
-use Rattle.lis_bits.specs.Rows.{Rows, HasShape, get, with_row}
-use Rattle.lis_dict.specs.Dict.{number_of, word_of}
-use Rattle.lis_dict.proofs.Laws.{word_from_number, number_below}
-use Rattle.lis_taxonomy.specs.Taxonomy.{Taxonomy, entails}
-use Rattle.lis_words.specs.Words.{has_word, is_plain_word, is_test, is_valued, is_head, is_built_in, head_bytes}
-use Rattle.lis_model.specs.State.{State, heads, up, is_known_head}
-use Rattle.lis_model.specs.Changes.{has_axiom}
-use Rattle.lis_laws.proofs.Apart.{plain_not_valued, test_not_valued, bare_head_not_valued}
-use Rattle.lis_kept.specs.Kept.{Kept}
-use Rattle.lis_kept.specs.Links.{has_pair, TellsLinks}
-use Rattle.lis_kept.specs.Linking.{is_filled, MayLink, Links}
-use Rattle.lis_kept.specs.Sound.{AreSound}
-use Rattle.lis_kept.specs.Telling.{declared_of, axioms_of}
+use Rattle.std.proofs.Common.{◌≡◌, ◌⊎◌, refl, sym, ap, ap₂, ◌∙◌, subst, inl, inr, ℕ, ◌+◌, ◌*◌, ◌/◌, ◌<◌, ◌≤◌, ◌&&◌, ◌||◌, Bool, true, false, List, [], ◌∷◌, length, count_by, Some, is_some, IsSome, arith}
+use Rattle.lis_store.proofs.Common.{and_parts, or_cases, same_Some, Among, among_right, number_of, word_of, number_from_word, word_from_number, Ext, has, among_where, where_among, sorted_where, has_word, is_plain_word, is_test, is_valued, is_head, is_built_in, head_bytes, State, heads, up, has_axiom, plain_not_valued, Kept, has_pair, is_filled, AreSound, FreeSlotsAreEmpty, declared_of, axioms_of, some_word, named_all, some_number}
+use Rattle.std.proofs.lemmas.Bool.{and_from, or_left, or_right}
+use Rattle.lis_model.specs.State.{is_known_head}
+use Rattle.lis_laws.proofs.Apart.{test_not_valued, bare_head_not_valued}
+use Rattle.lis_kept.specs.Linking.{MayLink, Links}
 use Rattle.lis_kept.proofs.AxiomsTold.{axiom_told, slot_free}
+use Rattle.lis_kept.proofs.Filing.{number_from_among}
+use Rattle.lis_kept.proofs.Known.{one_number}
 use Rattle.lis_store.specs.Adding.{behind_head, may_learn, LearnsAll}
-use Rattle.lis_store.specs.Relating.{entails_number, MayRelate}
-use Rattle.lis_store.proofs.Entailed.{entails_told}
+use Rattle.lis_store.specs.Closing.{is_entailed, is_gained, closure, entails_number, is_gained_by, wider}
+use Rattle.lis_store.specs.Relating.{MayRelate}
+use Rattle.lis_store.specs.Stored.{AreClosed}
+use Rattle.lis_store.proofs.Closed.{led, few_within}
+use Rattle.lis_store.proofs.Entailment.{up_has_number}
 use Rattle.lis_store.proofs.Learning.{number_stays, number_learnt}
-use Rattle.lis_store.proofs.Naming.{one_of, same_shape, value_at}
+use Rattle.lis_store.proofs.Learnt.{free_learnt, closed_learnt}
+use Rattle.lis_store.proofs.Linked.{IsLinked, of_all, closure_cases}
+use Rattle.lis_store.proofs.Naming.{of_one}
 use Rattle.lis_store.proofs.PutIn.{declared_known, may_by}
-
--- ---- the row of all that a word entails
-twice : (b : Bool) → not (true && not b) ≡ b
-twice true = refl
-twice false = refl
-
-module _ (k : Kept) (sound : AreSound k) (t : Taxonomy) (tells : TellsLinks k t) (entailed : Rows) (values : (p q : ℕ) → p < t.props → q < t.props → get entailed p q ≡ entails t p q)
-    (word : List ℕ) (number : ℕ) (there : number_of k.dict word ≡ Some number) (start full rest done : Rows) (shape : HasShape start 1 k.limits.props)
-    (is_full : full ≡ with_row start 0 (λ _. true)) (is_rest : rest ≡ with_row full 0 (λ bit. get full 0 bit && not (get entailed number bit)))
-    (turned : done ≡ with_row rest 0 (λ bit. not (get rest 0 bit))) where
-  full_shape : HasShape full 1 k.limits.props
-  full_shape = same_shape start full 1 k.limits.props 0 (λ _. true) shape is_full
-
-  rest_shape : HasShape rest 1 k.limits.props
-  rest_shape = same_shape full rest 1 k.limits.props 0 (λ bit. get full 0 bit && not (get entailed number bit)) full_shape is_rest
-
-  pub shown_bits : (n : ℕ) → n < k.limits.props → get done 0 n ≡ entails_number k word n
-  shown_bits n lt =
-      let below = number_below k.dict sound.dict word number there in
-      let value = values number n (omega (arith, below, sound.numbers, tells.props)) (omega (arith, lt, tells.props)) in
-      let told = entails_told k sound t tells number word (word_from_number k.dict sound.dict word number there) n in
-      value_at rest done k.limits.props n (λ bit. not (get rest 0 bit)) rest_shape turned lt
-      ∙ (ap not (value_at full rest k.limits.props n (λ bit. get full 0 bit && not (get entailed number bit)) full_shape is_rest lt
-      ∙ ap₂ (λ a b. a && not b) (value_at start full k.limits.props n (λ _. true) shape is_full lt) (value ∙ told))
-      ∙ twice (entails_number k word n))
 
 -- ---- the two words
 module _ (k : Kept) (left right : List ℕ) (may : MayRelate k left right) where
@@ -135,13 +107,55 @@ module _ (k : Kept) (left right : List ℕ) (may : MayRelate k left right) where
           room : (props count : ℕ) → count ≡ 512 * ((props + 511) / 512) → props ≤ count
           room props count is = omega (arith, is)
 
-      module _ (linked : Kept) (links : Links from to learnt linked) where
-        pub left_linked : IsSome (word_of linked.dict from)
-        left_linked = ap (λ (x : Kept). is_some (word_of x.dict from)) links.parts ∙ ap is_some left_named
+      module _ (linked : Kept) (links : Links from to learnt linked) (sound : AreSound k) (sound_linked : AreSound linked) (free : FreeSlotsAreEmpty k) (closed : AreClosed k) where
+        pub is_linked : IsLinked left right from to learnt linked
+        is_linked = record {
+          sound = after;
+          free = free_learnt k learnt (behind_head left) learns sound free;
+          closed = closed_learnt k learnt (behind_head left) learns sound after free closed;
+          is_from = left_named;
+          is_to = right_named;
+          plain = may.plain;
+          links = links;
+          sound_then = sound_linked;
+        }
 
-        -- what the right word entails has words
-        pub entailed_named : (test : ℕ → Bool) → ((n : ℕ) → n < learnt.limits.props → test n ≡ entails_number learnt right n) → (n : ℕ) → n < linked.limits.props → test n ≡ true → IsSome (word_of linked.dict n)
-        entailed_named test bits n lt passes =
-            let same = ap (λ (x : Kept). x.limits.props) links.parts in
-            let found = one_of (up (declared_of learnt) (axioms_of learnt) right) (word_of learnt.dict n) (sym (bits n (omega (arith, lt, same))) ∙ passes) in
-            ap (λ (x : Kept). is_some (word_of x.dict n)) links.parts ∙ ap is_some found.1
+        ext_before : learnt.ext ≡ k.ext
+        ext_before = ap (λ (x : Kept). x.ext) learns.parts
+
+        -- a file that has the left word had it before
+        left_before : (slot : ℕ) → has k.ext from slot ≡ true → number_of k.dict left ≡ Some from
+        left_before slot had =
+            let word = some_word (word_of k.dict from) (named_all k sound free from slot had) in
+            let same = same_Some word.0 left (sym (learns.keeps from word.0 word.1) ∙ left_named) in
+            number_from_word k.dict sound.dict left from (word.1 ∙ ap Some same)
+
+        -- the words that are learnt are none that the right word entails
+        entailed_before : (n : ℕ) → is_entailed learnt to n ≡ true → entails_number k right n ≡ true
+        entailed_before n is =
+            let e = led learnt to n is in
+            let reached : Among (up (declared_of k) (axioms_of k) right) e.to =
+            subst (λ ws. Among ws e.to) (ap₂ (λ declared axioms. up declared axioms right) declared_same axioms_same)
+            (subst (λ w. Among (up (declared_of learnt) (axioms_of learnt) w) e.to) (same_Some e.from right (sym e.is_from ∙ right_named)) e.entailed) in
+            let number = some_number (number_of k.dict right) may.numbered in
+            let there = up_has_number k sound number.0 right e.to (word_from_number k.dict sound.dict right number.0 number.1) reached in
+            let same = one_number learnt after there.0 n e.to (learns.keeps there.0 e.to there.1) e.is_to in
+            of_one (up (declared_of k) (axioms_of k) right) (word_of k.dict n) e.to (subst (λ i. word_of k.dict i ≡ Some e.to) same there.1) reached
+
+        -- no description gets too large
+        pub few_linked : (slot : ℕ) → has linked.ext from slot ≡ true → length (closure linked (of_all linked from slot)) ≤ 128
+        few_linked slot had =
+            let had_before : has k.ext from slot ≡ true = ap (λ (e : Ext). has e from slot) (sym ext_before) ∙ (ap (λ (x : Kept). has x.ext from slot) (sym links.parts) ∙ had) in
+            let numbers = closure linked (of_all linked from slot) in
+            let le = few_within numbers (wider k (is_gained_by k (right ∷ [])) slot) (sorted_where linked.limits.props (is_gained linked (of_all linked from slot))) (λ n m.
+            inside n (omega (arith, (among_where linked.limits.props (is_gained linked (of_all linked from slot)) n m).0, ap (λ (x : Kept). x.limits.props) links.parts, props_same, sound.rows))
+            (closure_cases is_linked n slot (number_from_among numbers n m))) in
+            omega (arith, le, may.short from slot (left_before slot had_before) had_before)
+          where
+            inside : (n : ℕ) → n < k.ext.props → (has learnt.ext n slot ≡ true) ⊎ (is_entailed learnt to n ≡ true) → Among (wider k (is_gained_by k (right ∷ [])) slot) n
+            inside n lt (inl old) =
+                where_among k.ext.props (λ i. has k.ext i slot || is_gained_by k (right ∷ []) i) n lt
+                (or_left (has k.ext n slot) (is_gained_by k (right ∷ []) n) (ap (λ (e : Ext). has e n slot) (sym ext_before) ∙ old))
+            inside n lt (inr up_so) =
+                where_among k.ext.props (λ i. has k.ext i slot || is_gained_by k (right ∷ []) i) n lt
+                (or_right (has k.ext n slot) (is_gained_by k (right ∷ []) n) (or_left (entails_number k right n) false (entailed_before n up_so)))

@@ -1,26 +1,8 @@
 -- A call that takes a file away.
-use Rattle.std.proofs.Common.{◌≡◌, refl, sym, ap, ◌∙◌, subst, ℕ, ◌+◌, ◌≤◌, not, Bool, true, false, cond, List, length, set, Some, is_some, Result, Err, arith}
-use Rattle.std.proofs.lemmas.Option.{same_Some}
-use Rattle.lis_ports.specs.Meaning.{Meaning}
-use Rattle.lis_journal.specs.Journal.{Held}
-use Rattle.lis_journal.specs.Phases.{looked}
-use Rattle.lis_content.specs.Content.{given}
-use Rattle.lis_content.specs.Placing.{Asks}
-use Rattle.lis_catalog.specs.Catalog.{slot_of, rec_at}
-use Rattle.lis_catalog.proofs.Laws.{rec_at-slot_of}
-use Rattle.lis_ext.specs.Ext.{Ext}
-use Rattle.lis_grammar.specs.Formula.{Formula}
-use Rattle.lis_fields.specs.Records.{FileRecord}
-use Rattle.lis_model.specs.declared.refusal.Refusal.TheVariants.{NoFileHere}
-use Rattle.lis_model.specs.Image.{bitmap_start, image_blocks}
-use Rattle.lis_model.specs.State.{State}
-use Rattle.lis_model.specs.Step.{Situation, Outcome, refused, changed, rm}
-use Rattle.lis_model.specs.Changes.{file_removed}
-use Rattle.lis_kept.specs.Kept.{Kept}
-use Rattle.lis_kept.specs.Areas.{IsSaved, marked_count}
-use Rattle.lis_kept.specs.Sound.{AreSound}
+use Rattle.std.proofs.Common.{◌≡◌, refl, sym, ap, ◌∙◌, subst, ℕ, ◌+◌, ◌≤◌, not, Bool, true, false, cond, List, length, set, Some, Result, Err, arith}
+use Rattle.lis_store.proofs.Common.{Meaning, Held, looked, Asks, slot_of, rec_at, rec_at-slot_of, Ext, Formula, FileRecord, NoFileHere, bitmap_start, image_blocks, State, Situation, Outcome, refused, rm, file_removed, Kept, IsSaved, marked_count, AreSound}
+use Rattle.lis_model.specs.Step.{changed}
 use Rattle.lis_kept.specs.Changes.{Gives}
-use Rattle.lis_kept.specs.Telling.{blocks_told}
 use Rattle.lis_store.specs.declared.change.Change.{Change}
 use Rattle.lis_store.specs.declared.change.Change.TheVariants.{Refused, Disk}
 use Rattle.lis_store.specs.Stored.{Stored, IsSound, StoreHolds}
@@ -30,12 +12,12 @@ use Rattle.lis_store.specs.Judging.{is_among}
 use Rattle.lis_store.specs.Saving.{settled, IsReady, Saves}
 use Rattle.lis_store.specs.Removing.{TakesOut}
 use Rattle.lis_store.specs.ReplacingIn.{AreInForm}
-use Rattle.lis_store.proofs.Facts.{here_told}
+use Rattle.lis_store.proofs.Facts.{here_told, filed_named}
 use Rattle.lis_store.proofs.Judged.{change_refused}
 use Rattle.lis_store.proofs.Cleaned.{none_marked}
 use Rattle.lis_store.proofs.Edits.{AreEditsFew}
 use Rattle.lis_store.proofs.Removed.{end_is, form_removed, few_marked, few_edits, ready_removed}
-use Rattle.lis_store.proofs.Replaced.{in_form, settled_sound}
+use Rattle.lis_store.proofs.Retaken.{in_form, settled_sound}
 use Rattle.lis_store.proofs.SavedAlone.{unplaced_stands}
 use Rattle.lis_store.proofs.Steps.{form_taken, pairs_same, sound_lost, holds_behind, holds_lost, asks_stand, asks_past}
 use Rattle.lis_store.proofs.ToldBy.{told_held}
@@ -84,61 +66,42 @@ module _ (old : Stored) (mid : Kept) (slot : ℕ) (rec : FileRecord) (before : M
   pub form_given : AreInForm mid
   form_given = form_taken old.parts mid mid.taken gives.takes (in_form old sound)
 
-  pub there_given : is_some (rec_at mid.catalog slot) ≡ true
-  there_given = ap is_some (ap (λ (k : Kept). rec_at k.catalog slot) gives.takes.parts ∙ filed)
+  pub filed_given : rec_at mid.catalog slot ≡ Some rec
+  filed_given = ap (λ (k : Kept). rec_at k.catalog slot) gives.takes.parts ∙ filed
 
-module _ (old : Stored) (mid q : Kept) (slot : ℕ) (place : List Formula) (name : List ℕ) (rec : FileRecord) (before : Meaning) (gives : Gives rec old.parts mid old.journal before) (out : TakesOut slot mid q)
-    (sound : IsSound old) (unbroken : old.is_broken ≡ false) (here : is_among old.parts place name ≡ true) (named : slot_of old.parts.catalog name ≡ Some slot) (filed : rec_at old.parts.catalog slot ≡ Some rec) where
-  form_mid : AreInForm mid
-  form_mid = form_given old mid slot rec before gives sound filed
+  module _ (q : Kept) (place : List Formula) (name : List ℕ) (out : TakesOut slot rec mid q) (unbroken : old.is_broken ≡ false) (here : is_among old.parts place name ≡ true) (named : slot_of old.parts.catalog name ≡ Some slot) where
+    abbrev after_marks : List Bool
+    after_marks = set old.parts.marks (bitmap_start old.parts.limits) true
 
-  abbrev after_marks : List Bool
-  after_marks = set old.parts.marks (bitmap_start old.parts.limits) true
+    same_axioms : q.axioms ≡ old.parts.axioms
+    same_axioms = ap (λ (k : Kept). k.axioms) (end_is slot rec mid q form_given out) ∙ ap (λ (k : Kept). k.axioms) gives.takes.parts
 
-  same_axioms : q.axioms ≡ old.parts.axioms
-  same_axioms = ap (λ (k : Kept). k.axioms) (end_is slot mid q out form_mid.sound) ∙ ap (λ (k : Kept). k.axioms) gives.takes.parts
+    pub same_limits : q.limits ≡ old.parts.limits
+    same_limits = ap (λ (k : Kept). k.limits) (end_is slot rec mid q form_given out) ∙ ap (λ (k : Kept). k.limits) gives.takes.parts
 
-  pub same_limits : q.limits ≡ old.parts.limits
-  same_limits = ap (λ (k : Kept). k.limits) (end_is slot mid q out form_mid.sound) ∙ ap (λ (k : Kept). k.limits) gives.takes.parts
+    pub removed_sound : AreSound q → IsSound (settled q old.journal)
+    removed_sound after =
+        settled_sound q old.journal (form_removed slot rec mid q form_given out) (pairs_same old.parts q same_axioms sound.pairs) (sound.image ∙ ap image_blocks (sym same_limits)) (sound.journal unbroken)
 
-  pub removed_sound : AreSound q → IsSound (settled q old.journal)
-  removed_sound after =
-      settled_sound q old.journal (form_removed slot mid q out form_mid.sound form_mid after) (pairs_same old.parts q same_axioms sound.pairs) (sound.image ∙ ap image_blocks (sym same_limits)) (sound.journal unbroken)
+    pub removed_marks : length old.journal.staged + marked_count q ≤ 575
+    removed_marks = omega (arith, few_marked slot rec mid q form_given out, gives.takes.marks.few, none_marked old.parts (sound.clean unbroken), sound.few unbroken)
 
-  pub removed_marks : length old.journal.staged + marked_count q ≤ 575
-  removed_marks =
-      let few = few_marked slot mid q out form_mid.sound (form_mid.short slot) in
-      let none = none_marked old.parts (sound.clean unbroken) in
-      omega (arith, few, gives.takes.marks.few, none, sound.few unbroken)
+    pub removed_edits : AreEditsFew old.parts.ext q.ext
+    removed_edits = subst (λ (e : Ext). AreEditsFew e q.ext) (ap (λ (k : Kept). k.ext) gives.takes.parts) (few_edits slot rec mid q form_given out)
 
-  pub removed_edits : AreEditsFew old.parts.ext q.ext
-  removed_edits =
-      subst (λ (e : Ext). AreEditsFew e q.ext) (ap (λ (k : Kept). k.ext) gives.takes.parts) (few_edits slot mid q out form_mid.sound)
-
-  rec_is : out.rec ≡ rec
-  rec_is = same_Some out.rec rec (sym out.drops.there ∙ (ap (λ (k : Kept). rec_at k.catalog slot) gives.takes.parts ∙ filed))
-
-  module _ (base : State) (s : State) (holds : StoreHolds old before base s) where
-    abbrev at : ℕ → List ℕ
-    at = looked old.journal.staged holds.kept
-
-    gave : mid.taken ≡ given old.parts.taken (blocks_told old.parts.limits at out.rec)
-    gave = gives.given holds.kept holds.journal ∙ ap (λ (r : FileRecord). given old.parts.taken (blocks_told old.parts.limits at r)) (sym rec_is)
-
-    ready : IsReady q at (file_removed s name)
-    ready =
-        let ts = mid.taken in
-        let R : Kept → Type 0 = λ k.
-        (out : TakesOut slot k q) → AreSound k → ts ≡ given old.parts.taken (blocks_told old.parts.limits at out.rec) → IsSaved k at → IsReady q at (file_removed s name) in
-        subst R (sym gives.takes.parts)
-        (λ out sound_then gave_then saved. ready_removed slot old.parts ts after_marks q out sound_then at s holds.tells gave_then name named saved)
-        out form_mid.sound gave (gives.takes.marks.saved at (λ area n lt unmarked. holds.written area n lt))
-
-    pub removed_holds : {T : Type 0} (new : Stored) (asked after : Meaning) (result : Result T Change) → Asks old.journal before asked → Saves q old.journal new asked after result
+    pub removed_holds : {T : Type 0} (base : State) (s : State) (holds : StoreHolds old before base s) (new : Stored) (asked after : Meaning) (result : Result T Change) → Asks old.journal before asked → Saves q old.journal new asked after result
         → Holds base (record { state = s; place = place }) (rm (record { state = s; place = place }) name) new before after result
-    removed_holds new asked after result asks saves =
+    removed_holds base s holds new asked after result asks saves =
         let now : Situation = record { state = s; place = place } in
-        let made : State = file_removed s name in
+        let at : ℕ → List ℕ = looked old.journal.staged holds.kept in
+        let gave = gives.given holds.kept holds.journal in
+        let ts = mid.taken in
+        let R : Kept → Type 0 = λ k. AreInForm k → TakesOut slot rec k q → IsSaved k at → IsReady q at (file_removed s rec.name) in
+        let ready : IsReady q at (file_removed s rec.name) =
+        subst R (sym gives.takes.parts) (λ form out saved. ready_removed slot rec old.parts ts after_marks q form out sound.parts at s holds.tells gave saved)
+        form_given out (gives.takes.marks.saved at (λ area n lt unmarked. holds.written area n lt)) in
+        let same : rec.name ≡ name = (filed_named old.parts sound.parts name slot rec named filed).1 in
         holds_behind base now (rm now name) new before asked after result (asks_stand old base s before sound holds asked asks) (asks_past old base s before sound holds asked asks)
-        (saves base now (rm now name) made holds.kept (asks.fits holds.kept holds.journal) (same_limits ∙ holds.limits) (unplaced_stands old sound unbroken base s before holds) (λ _. ready)
-        (ap (λ b. cond (not b) (refused now NoFileHere) (changed now made)) (sym (here_told old s sound (told_held old before base s sound holds) place name) ∙ here)))
+        (saves base now (rm now name) (file_removed s name) holds.kept (asks.fits holds.kept holds.journal) (same_limits ∙ holds.limits) (unplaced_stands old sound unbroken base s before holds)
+        (λ _. subst (λ n. IsReady q at (file_removed s n)) same ready)
+        (ap (λ b. cond (not b) (refused now NoFileHere) (changed now (file_removed s name))) (sym (here_told old s sound (told_held old before base s sound holds) place name) ∙ here)))

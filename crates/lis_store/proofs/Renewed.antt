@@ -1,28 +1,13 @@
 -- Bytes that come into blocks in the place of others, and what the disk keeps meanwhile.
 use Rattle.std.proofs.Common.{◌≡◌, refl, sym, ap, ap₂, ◌∙◌, subst, ℕ, true, false, Bool, List, [], ◌∷◌, length, Option, Some, None, Result, Ok, Err, OnErr, IsSomeAnd, IsTrue, set, get_or-set_same, arith}
 use Rattle.std.proofs.lemmas.Bool.{both_ways, false_from_ne_true}
-use Rattle.arrayvec.specs.ArrayVec.{ArrayVec}
-use Rattle.lis_ports.specs.Meaning.{Meaning}
-use Rattle.lis_ports.specs.Runs.{Leaves}
+use Rattle.lis_store.proofs.Common.{ArrayVec, Meaning, Leaves, Held, block, replayed, looked, Fits, KeepsPast, are_free, has_home, is_large, Asks, homes_of, stays_marked, among_homes, FileRecord, bitmap_start, data_start, Kept, is_marked, AreSound, blocks_told, Puts}
 use Rattle.lis_ports.proofs.Moments.{leaves_weaken, leaves_then}
-use Rattle.lis_journal.specs.Journal.{Held}
-use Rattle.lis_journal.specs.Record.{block, replayed}
-use Rattle.lis_journal.specs.Phases.{looked}
-use Rattle.lis_journal.specs.Images.{KeepsBut, StandsBut, Fits, KeepsPast, is_among}
+use Rattle.lis_journal.specs.Images.{KeepsBut, StandsBut, is_among}
 use Rattle.lis_journal.proofs.Fitting.{fits_but}
 use Rattle.lis_journal.proofs.Phases.{stands_less}
-use Rattle.lis_content.specs.Content.{given, marked, are_free, has_home}
-use Rattle.lis_content.specs.Large.{is_large}
-use Rattle.lis_content.specs.Placing.{Asks, homes_of}
-use Rattle.lis_content.proofs.Numbers.{stays_marked}
-use Rattle.lis_content.proofs.Laying.{among_homes}
-use Rattle.lis_fields.specs.Records.{FileRecord}
-use Rattle.lis_model.specs.Image.{bitmap_start, data_start}
-use Rattle.lis_kept.specs.Kept.{Kept}
-use Rattle.lis_kept.specs.Areas.{is_marked}
-use Rattle.lis_kept.specs.Sound.{AreSound}
-use Rattle.lis_kept.specs.Telling.{blocks_told}
-use Rattle.lis_kept.specs.Changes.{Marks, Takes, Gives, Puts}
+use Rattle.lis_content.specs.Content.{given, marked}
+use Rattle.lis_kept.specs.Changes.{Marks, Takes, Gives}
 use Rattle.lis_store.specs.declared.change.Change.{Change}
 use Rattle.lis_store.specs.declared.change.Change.TheVariants.{Refused, Disk}
 use Rattle.lis_store.specs.Contents.{ContentTorn, IsRenewed, Renews, ContentPut, ContentGiven, ContentRenewed}

@@ -1,54 +1,30 @@
 -- What a file is refused for that would move to another place, as the calls ask it.
-use Rattle.std.proofs.Common.{◌≡◌, refl, sym, ap, ◌∙◌, inl, inr, ◌⊎◌, ℕ, ◌<◌, Bool, true, false, not, cond, ◌||◌, IsSome, List, [], ◌∷◌, ◌++◌, length, filter, take, get_or, ◌+◌, append-nil, arith}
-use Rattle.std.specs.List.{list_any, flat_map}
-use Rattle.std.specs.List.Sorted.{IsStrictlySortedBy}
+use Rattle.std.proofs.Common.{◌≡◌, refl, sym, ap, ap₂, ◌∙◌, inl, inr, ◌⊎◌, ℕ, ◌<◌, Bool, true, false, not, cond, ◌||◌, IsSome, List, [], ◌∷◌, ◌++◌, length, filter, take, get_or, ◌+◌, arith}
+use Rattle.lis_store.proofs.Common.{list_any, flat_map, IsStrictlySortedBy, list_any-append, IsStrictlySortedBy-filter, Among, word_cmp, same_word, has_word, Formula, Node, nodes_of, with_words, place_words, retagged, among_with_words, with_words_new, among_set_of, sorted_with_words}
 use Rattle.std.proofs.lemmas.Bool.{leb-false}
-use Rattle.std.proofs.lemmas.List.{take_more}
-use Rattle.std.proofs.lemmas.List.Elements.{filter-append}
-use Rattle.std.proofs.lemmas.List.Folds.{list_any-append}
-use Rattle.std.proofs.lemmas.List.Kept.{IsStrictlySortedBy-filter}
-use Rattle.lis_graph.proofs.Members.{Among}
-use Rattle.lis_words.specs.Words.{word_cmp, same_word, has_word}
-use Rattle.lis_grammar.specs.Formula.{Formula}
-use Rattle.lis_place.specs.declared.node.Node.{Node}
-use Rattle.lis_place.specs.Nodes.{nodes_of}
-use Rattle.lis_model.specs.Sets.{with_words, set_of}
-use Rattle.lis_model.specs.Places.{place_words}
-use Rattle.lis_model.specs.Step.{tags_at, retagged}
-use Rattle.lis_laws.proofs.Members.{among_from_has_word, has_word_from_among, among_with_words, with_words_old, with_words_new, among_set_of, set_of_among, sorted_with_words, same_words}
-use Rattle.lis_laws.proofs.Locals.{same_tests, filter_same}
+use Rattle.std.proofs.lemmas.List.Elements.{filter_more}
+use Rattle.lis_model.specs.Sets.{set_of}
+use Rattle.lis_model.specs.Step.{tags_at}
+use Rattle.lis_laws.proofs.Members.{with_words_old, set_of_among, same_words}
+use Rattle.lis_laws.proofs.Locals.{filter_same}
 use Rattle.lis_store.specs.Assigning.{node_tags, Takes}
-use Rattle.lis_store.proofs.Assigned.{tags_of_nodes}
+use Rattle.lis_store.proofs.Assigned.{has_both, tags_of_nodes}
 
 -- ---- words of nodes
 pub any_of_nodes : (p : List ℕ → Bool) (f : Node → List (List ℕ)) (nodes : List Node) → list_any (λ node. list_any p (f node)) nodes ≡ list_any p (flat_map f nodes)
 any_of_nodes p f [] = refl
 any_of_nodes p f (node ∷ nodes) = ap (λ b. list_any p (f node) || b) (any_of_nodes p f nodes) ∙ sym (list_any-append p (f node) (flat_map f nodes))
 
-has_set : (words : List (List ℕ)) (word : List ℕ) → has_word words word ≡ has_word (set_of words) word
-has_set words word =
-    same_tests (has_word words word) (has_word (set_of words) word)
-    (λ h. has_word_from_among (set_of words) word (set_of_among words word (among_from_has_word words word h)))
-    (λ h. has_word_from_among words word (among_set_of words word (among_from_has_word (set_of words) word h)))
-
 has_tag : (place : List Formula) → IsSome (place_words place) → (word : List ℕ)
     → list_any (λ node. has_word (node_tags node) word) (nodes_of place) ≡ has_word (tags_at place) word
 has_tag place some word =
     any_of_nodes (λ w. same_word w word) node_tags (nodes_of place)
-    ∙ (has_set (flat_map node_tags (nodes_of place)) word ∙ ap (λ tags. has_word tags word) (sym (tags_of_nodes place some)))
+    ∙ (sym (has_both [] (flat_map node_tags (nodes_of place)) word) ∙ ap (λ tags. has_word tags word) (sym (tags_of_nodes place some)))
 
 -- ---- the words of a file that moves
-module _ {X : Type 0} (p : X → Bool) (xs : List X) (i : ℕ) (x : X) (lt : i < length xs) (is : x ≡ get_or xs i x) (kept : List X) (so_far : kept ≡ filter p (take i xs)) where
-  one_more : filter p (take (i + 1) xs) ≡ kept ++ filter p (x ∷ [])
-  one_more =
-      ap (filter p) (take_more xs i x lt ∙ ap (λ (y : X). take i xs ++ y ∷ []) (sym is))
-      ∙ (filter-append p (take i xs) (x ∷ []) ∙ ap (λ ys. ys ++ filter p (x ∷ [])) (sym so_far))
-
-  pub kept_one : p x ≡ true → (new : List X) → new ≡ kept ++ x ∷ [] → new ≡ filter p (take (i + 1) xs)
-  kept_one passes new is_new = is_new ∙ sym (one_more ∙ ap (λ b. kept ++ cond b (x ∷ []) []) passes)
-
-  pub kept_none : p x ≡ false → kept ≡ filter p (take (i + 1) xs)
-  kept_none fails = sym (one_more ∙ (ap (λ b. kept ++ cond b (x ∷ []) []) fails ∙ append-nil kept))
+pub kept_next : {X : Type 0} (p : X → Bool) (xs : List X) (i : ℕ) (x : X) → i < length xs → x ≡ get_or xs i x → (kept : List X) → kept ≡ filter p (take i xs)
+    → filter p (take (i + 1) xs) ≡ kept ++ cond (p x) (x ∷ []) []
+kept_next {X} p xs i x lt is kept so_far = filter_more p xs i x lt ∙ ap₂ (λ ys (y : X). ys ++ cond (p y) (y ∷ []) []) (sym so_far) (sym is)
 
 with_set : (old more : List (List ℕ)) → IsStrictlySortedBy word_cmp old → with_words old more ≡ with_words old (set_of more)
 with_set old more set =

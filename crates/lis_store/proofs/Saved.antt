@@ -1,23 +1,16 @@
 -- How parts are saved.
 use Rattle.std.proofs.Common.{◌≡◌, ◌⊎◌, ℕ, zero, suc, ◌+◌, ◌<◌, ◌≤◌, ◌||◌, Bool, true, false, List, [], ◌∷◌, length, Result, Ok, Err, refl, sym, ap, ◌∙◌, subst, inl, inr, IsTrue, arith}
 use Rattle.std.proofs.lemmas.Bool.{eq-eqb, false_from_ne_true}
-use Rattle.lis_ports.specs.Meaning.{Meaning}
-use Rattle.lis_ports.specs.Runs.{Leaves}
+use Rattle.lis_store.proofs.Common.{Meaning, Leaves, Held, are_whole, Fits, KeepsPast, looked, bitmap_start, data_start, image_blocks, State, Situation, Outcome, Kept, IsWritten, Properties, Axioms, Bitmap, AreSound, Tells}
 use Rattle.lis_ports.proofs.Moments.{leaves_none, leaves_weaken}
-use Rattle.lis_journal.specs.Journal.{Held, OpenRecords}
+use Rattle.lis_journal.specs.Journal.{OpenRecords}
 use Rattle.lis_journal.specs.Record.{Entry}
-use Rattle.lis_journal.specs.Staging.{are_whole}
-use Rattle.lis_journal.specs.Images.{StandsFor, StandsBut, StandsForAllOrNone, Fits, FitsAt, KeepsPast, is_among}
-use Rattle.lis_journal.specs.Phases.{looked}
-use Rattle.lis_model.specs.Image.{bitmap_start, data_start, image_blocks, properties_start}
-use Rattle.lis_model.specs.State.{State}
-use Rattle.lis_model.specs.Step.{Situation, Outcome, changed}
-use Rattle.lis_kept.specs.Kept.{Kept}
-use Rattle.lis_kept.specs.Areas.{Area, spelled, IsWritten}
-use Rattle.lis_kept.specs.Areas.Area.{Properties, Axioms, Files, Rows, Bitmap}
-use Rattle.lis_kept.specs.Sound.{AreSound}
+use Rattle.lis_journal.specs.Images.{StandsFor, StandsBut, StandsForAllOrNone, FitsAt, is_among}
+use Rattle.lis_model.specs.Image.{properties_start}
+use Rattle.lis_model.specs.Step.{changed}
+use Rattle.lis_kept.specs.Areas.{Area, spelled}
+use Rattle.lis_kept.specs.Areas.Area.{Files, Rows}
 use Rattle.lis_kept.specs.Staging.{Stages}
-use Rattle.lis_kept.specs.Telling.{Tells}
 use Rattle.lis_store.specs.declared.change.Change.{Change}
 use Rattle.lis_store.specs.declared.change.Change.TheVariants.{Refused, Disk}
 use Rattle.lis_store.specs.Stands.{Stands}

@@ -1,12 +1,8 @@
 -- Calls that change memory alone before they are saved.
 use Rattle.std.proofs.Common.{◌≡◌, ◌∙◌, ℕ, false, List, Result}
-use Rattle.lis_ports.specs.Meaning.{Meaning}
+use Rattle.lis_store.proofs.Common.{Meaning, looked, State, Situation, Outcome, Kept, AreSound}
 use Rattle.lis_journal.specs.Images.{StandsBut}
-use Rattle.lis_journal.specs.Phases.{looked}
-use Rattle.lis_model.specs.State.{State}
-use Rattle.lis_model.specs.Step.{Situation, Outcome, changed}
-use Rattle.lis_kept.specs.Kept.{Kept}
-use Rattle.lis_kept.specs.Sound.{AreSound}
+use Rattle.lis_model.specs.Step.{changed}
 use Rattle.lis_store.specs.declared.change.Change.{Change}
 use Rattle.lis_store.specs.Stands.{Stands}
 use Rattle.lis_store.specs.Stored.{Stored, IsSound, StoreHolds}

@@ -1,19 +1,17 @@
 -- What slots hold, in the order of their numbers, has the parts of what a map's entries hold, in the order of its keys.
 use Rattle.std.proofs.Common.{◌≡◌, ◌⊎◌, refl, sym, ap, ◌∙◌, subst, inl, inr, ℕ, zero, suc, ◌+◌, ◌<◌, ◌≤◌, ◌==◌, eqb, true, false, not, cond, List, [], ◌∷◌, ◌++◌, map, Option, Some, None, IsTrue, arith, append_assoc, slice_get}
-use Rattle.std.specs.List.{find, flat_map, range_with_len, AllByRecursion, IsDistinct}
+use Rattle.lis_store.proofs.Common.{find, flat_map, range_with_len, AllByRecursion, and_parts, not-true, not_from_false, ne_eqb, cases_eq, slice_get_within, get_or_from_slice_get, Among, among_from_contains, contains_from_among, flat_all}
+use Rattle.std.specs.List.{IsDistinct}
 use Rattle.std.specs.List.Sorted.{IsPermutation}
-use Rattle.std.proofs.lemmas.Bool.{and_parts, and_from, or_parts, or_from, not-true, not_from_false, eq-eqb, ne_eqb, cases_eq}
+use Rattle.std.proofs.lemmas.Bool.{and_from, or_parts, or_from, eq-eqb}
 use Rattle.std.proofs.lemmas.List.Concat.{flat_map-append}
 use Rattle.std.proofs.lemmas.List.FromFn.{length-map-range_with_len, get_or-map-range_with_len}
 use Rattle.std.proofs.lemmas.List.Sorted.{IsPermutation-refl, IsPermutation-trans, IsPermutation-append_comm, IsPermutation-append_left, IsPermutation-append_right, Contains-permutation}
 use Rattle.std.proofs.lemmas.Map.Keys.{IsDistinct-IsPermutation}
-use Rattle.std.proofs.lemmas.Option.{slice_get_within, get_or_from_slice_get}
-use Rattle.lis_graph.proofs.Members.{Among, among_from_contains, contains_from_among}
 use Rattle.lis_graph.proofs.Ranges.{among_range}
 use Rattle.lis_content.specs.Content.{has_number, are_distinct}
 use Rattle.lis_catalog.proofs.Slots.{turned}
 use Rattle.lis_kept.proofs.Filed.{each_once}
-use Rattle.lis_kept.proofs.WordMore.{flat_all}
 
 -- the k-th slot, where each is given by its number
 pub given_at : {X : Type 0} (f : ℕ → X) (n k : ℕ) (x : X) → slice_get (map f (range_with_len 0 n)) k ≡ Some x → (k < n) × (f k ≡ x)

@@ -1,21 +1,10 @@
 -- What home blocks spell, the images with these blocks stand for.
 use Rattle.std.proofs.Common.{◌≡◌, refl, ap, ◌∙◌, subst, ℕ, List, [], Option, Some, None, IsTrue, IsSomeAnd, arith}
-use Rattle.lis_ports.specs.Meaning.{Meaning}
+use Rattle.lis_store.proofs.Common.{Meaning, block, replayed, are_free, homes_of, among_homes, SpellsSuper, data_start, image_blocks, State, Kept, IsWritten, AreSound, FreeSlotsAreEmpty, Tells}
 use Rattle.lis_ports.specs.Runs.{Always}
 use Rattle.lis_ports.proofs.Always.{always_weaken}
-use Rattle.lis_journal.specs.Record.{block, replayed}
 use Rattle.lis_journal.specs.Images.{Keeps, KeepsBut, StandsFor as KeptBy, StandsBut}
 use Rattle.lis_journal.proofs.Fitting.{fits_stand, replayed-front}
-use Rattle.lis_content.specs.Content.{are_free}
-use Rattle.lis_content.specs.Placing.{homes_of}
-use Rattle.lis_content.proofs.Laying.{among_homes}
-use Rattle.lis_fields.specs.Layouts.{SpellsSuper}
-use Rattle.lis_model.specs.Image.{data_start, image_blocks}
-use Rattle.lis_model.specs.State.{State}
-use Rattle.lis_kept.specs.Kept.{Kept}
-use Rattle.lis_kept.specs.Areas.{IsWritten}
-use Rattle.lis_kept.specs.Sound.{AreSound, FreeSlotsAreEmpty}
-use Rattle.lis_kept.specs.Telling.{Tells}
 use Rattle.lis_store.specs.Stands.{Stands}
 use Rattle.lis_store.specs.Stored.{Stored, PairsAreApart, IsSound, StoreFits}
 use Rattle.lis_store.proofs.Elsewhere.{AreSameBut, tells_elsewhere, written_elsewhere}

@@ -1,23 +1,10 @@
 -- Contents that are put or given back before a change is saved: what is kept then, and what images stand for meanwhile.
-use Rattle.std.proofs.Common.{◌≡◌, ◌⊎◌, refl, sym, ap, ◌∙◌, subst, inl, inr, ℕ, true, false, Bool, List, [], length, set, slice_get, Result, Err, arith, length-set}
-use Rattle.lis_ports.specs.Meaning.{Meaning}
-use Rattle.lis_ports.specs.Runs.{Leaves}
+use Rattle.std.proofs.Common.{◌≡◌, ◌⊎◌, refl, sym, ap, ◌∙◌, subst, inl, inr, ℕ, true, false, Bool, List, [], length, set, slice_get, Result, Err, length-set}
+use Rattle.lis_store.proofs.Common.{Meaning, Leaves, Held, KeepsPast, block, are_free, has_home, is_large, Asks, homes_of, among_homes, AxiomSlot, bitmap_start, data_start, image_blocks, State, Situation, Outcome, Kept, Puts}
 use Rattle.lis_ports.proofs.Moments.{leaves_weaken, leaves_then}
-use Rattle.lis_journal.specs.Journal.{Held}
-use Rattle.lis_journal.specs.Images.{StandsBut, KeepsPast, is_among}
+use Rattle.lis_journal.specs.Images.{StandsBut, is_among}
 use Rattle.lis_journal.proofs.Fitting.{fits_stand}
-use Rattle.lis_journal.specs.Record.{block}
-use Rattle.lis_content.specs.Content.{are_free, has_home}
-use Rattle.lis_content.specs.Large.{is_large}
-use Rattle.lis_content.specs.Placing.{Asks, homes_of}
-use Rattle.lis_content.proofs.Laying.{among_homes}
-use Rattle.lis_fields.specs.declared.slots.AxiomSlot.{AxiomSlot}
-use Rattle.lis_model.specs.Image.{bitmap_start, data_start, image_blocks}
-use Rattle.lis_model.specs.State.{State}
-use Rattle.lis_model.specs.Step.{Situation, Outcome}
-use Rattle.lis_kept.specs.Kept.{Kept}
-use Rattle.lis_kept.specs.Sound.{AreSound}
-use Rattle.lis_kept.specs.Changes.{Takes, Fills, Puts}
+use Rattle.lis_kept.specs.Changes.{Takes, Fills}
 use Rattle.lis_store.specs.declared.change.Change.{Change}
 use Rattle.lis_store.specs.declared.change.Change.TheVariants.{Disk}
 use Rattle.lis_store.specs.Stands.{Stands}
@@ -28,32 +15,10 @@ use Rattle.lis_store.specs.ReplacingIn.{AreInForm}
 use Rattle.lis_store.proofs.Holding.{held_fits}
 use Rattle.lis_store.proofs.OneState.{one_state}
 use Rattle.lis_store.proofs.Renewed.{stands_same, stands_homes}
-use Rattle.lis_store.proofs.Replaced.{retaken, form_retaken}
+use Rattle.lis_store.proofs.Retaken.{form_retaken, sound_retaken}
 use Rattle.lis_store.proofs.Standing.{stands_none_but, placed_stand, fitting_stands}
 
 -- ---- memory
-sound_retaken : (o : Kept) (taken marks : List Bool) → AreSound o → length taken ≡ length o.taken → length marks ≡ length o.marks → AreSound (retaken o taken marks)
-sound_retaken o taken marks sound as_many as_long = record {
-  range = sound.range;
-  numbers = sound.numbers;
-  dict = sound.dict;
-  heads = sound.heads;
-  bits = sound.bits;
-  flagged = sound.flagged;
-  properties = sound.properties;
-  axiom_count = sound.axiom_count;
-  axioms = λ slot left right is. let one = sound.axioms slot left right is in record { below = one.below; left = one.left; right = one.right; plain = one.plain };
-  slots = sound.slots;
-  catalog = sound.catalog;
-  records = sound.records;
-  blocks = as_many ∙ sound.blocks;
-  rows = sound.rows;
-  files = sound.files;
-  named = sound.named;
-  settled = sound.settled;
-  marks = omega (arith, sound.marks, as_long);
-}
-
 -- it is in form where other blocks are taken
 pub form_taken : (o mid : Kept) (taken : List Bool) → Takes taken o mid → AreInForm o → AreInForm mid
 form_taken o mid taken takes form =

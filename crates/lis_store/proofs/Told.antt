@@ -1,16 +1,16 @@
 -- What memory tells under other words.
-use Rattle.std.proofs.Common.{◌≡◌, ℕ, ◌+◌, ◌≤◌, List, [], ◌∷◌, length, refl, ap, inl, inr, arith}
-use Rattle.std.specs.declared.cmp.Ordering.{Ordering}
-use Rattle.std.specs.declared.cmp.Ordering.TheVariants.{Less, Equal, Greater}
-use Rattle.std.specs.Ordering.{match_ordering}
+use Rattle.std.proofs.Common.{◌≡◌, ℕ, ◌+◌, ◌≤◌, List, [], ◌∷◌, length, map, refl, ap, subst, inl, inr, arith}
+use Rattle.lis_store.proofs.Common.{Ordering, Less, Equal, Greater, match_ordering, Among, Dict, word_of, word_cmp, with_word, with_words, flat_all}
 use Rattle.std.specs.Option.{option_to_list}
-use Rattle.lis_graph.proofs.Members.{Among}
-use Rattle.lis_dict.specs.Dict.{Dict, word_of}
-use Rattle.lis_words.specs.Words.{word_cmp}
-use Rattle.lis_model.specs.Sets.{set_of, with_word, with_words}
+use Rattle.lis_model.specs.Sets.{set_of}
 use Rattle.lis_laws.proofs.Counts.{le_insert_key}
 use Rattle.lis_kept.specs.Telling.{words_told}
-use Rattle.lis_kept.proofs.WordMore.{flat_all}
+
+-- lists that are told the same are told so one by one
+pub same_map : {X Y : Type 0} (f g : X → Y) (xs : List X) → map f xs ≡ map g xs → (x : X) → Among xs x → f x ≡ g x
+same_map f g [] e x m = absurd m
+same_map f g (y ∷ ys) e x (inl same) = let first : f y ≡ g y = cc in subst (λ z. f z ≡ g z) same first
+same_map f g (y ∷ ys) e x (inr m) = let rest : map f ys ≡ map g ys = cc in same_map f g ys rest x m
 
 -- numbers whose words are the same in both dictionaries
 pub words_same : (d e : Dict) (ns : List ℕ) → ((n : ℕ) → Among ns n → word_of e n ≡ word_of d n) → words_told e ns ≡ words_told d ns

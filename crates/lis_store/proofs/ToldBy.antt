@@ -1,16 +1,9 @@
 -- What memory tells by what a disk keeps, whether changes are held back or not.
 use Rattle.std.proofs.Common.{◌≡◌, inr, ℕ, ◌+◌, ◌<◌, ◌==◌, Bool, true, false, cond, List, [], ◌∷◌, length, arith}
-use Rattle.std.proofs.lemmas.Bool.{and_parts, eqb-true}
-use Rattle.lis_ports.specs.Meaning.{Meaning}
+use Rattle.lis_store.proofs.Common.{and_parts, eqb-true, Meaning, looked, are_whole, data_start, State, IsWritten, Tells}
 use Rattle.lis_journal.specs.Record.{Entry}
 use Rattle.lis_journal.specs.Images.{look}
-use Rattle.lis_journal.specs.Phases.{looked}
-use Rattle.lis_journal.specs.Staging.{are_whole}
 use Rattle.lis_journal.proofs.Fitting.{kept_whole}
-use Rattle.lis_model.specs.Image.{data_start}
-use Rattle.lis_model.specs.State.{State}
-use Rattle.lis_kept.specs.Areas.{IsWritten}
-use Rattle.lis_kept.specs.Telling.{Tells}
 use Rattle.lis_store.specs.Stored.{Stored, IsSound, StoreFits, StoreHolds}
 
 -- by these blocks memory tells the state and is written, and each data block is whole

@@ -1,18 +1,12 @@
 -- A fault of the disk while a call puts contents or gives them back: the store is broken, and tells what it did.
 use Rattle.std.proofs.Common.{◌≡◌, sym, ◌∙◌, subst, ℕ, true, false, Bool, List, [], length, Result, Err}
-use Rattle.lis_ports.specs.Meaning.{Meaning}
-use Rattle.lis_journal.specs.Journal.{Held}
-use Rattle.lis_content.specs.Large.{is_large}
-use Rattle.lis_model.specs.State.{State}
-use Rattle.lis_model.specs.Step.{Situation, Outcome}
-use Rattle.lis_kept.specs.Kept.{Kept}
-use Rattle.lis_kept.specs.Sound.{AreSound}
+use Rattle.lis_store.proofs.Common.{Meaning, Held, is_large, State, Situation, Outcome, Kept, AreSound}
 use Rattle.lis_store.specs.declared.change.Change.{Change}
 use Rattle.lis_store.specs.declared.change.Change.TheVariants.{Refused, Disk}
 use Rattle.lis_store.specs.Stored.{Stored, IsSound, StoreHolds}
 use Rattle.lis_store.specs.Changes.{Holds}
 use Rattle.lis_store.specs.Contents.{ContentTorn, ContentEnded}
-use Rattle.lis_store.proofs.Replaced.{retaken, form_retaken, in_form}
+use Rattle.lis_store.proofs.Retaken.{retaken, form_retaken, in_form}
 use Rattle.lis_store.proofs.Steps.{sound_lost, holds_lost, torn_stand, torn_past}
 
 module _ (old : Stored) (bytes : List ℕ) (q : Kept) (j : Held) (sound : IsSound old) (before after : Meaning) (torn : ContentTorn bytes old.parts q old.journal j before after) where

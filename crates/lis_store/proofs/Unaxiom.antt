@@ -1,47 +1,22 @@
 -- A call that takes an axiom away.
-use Rattle.std.proofs.Common.{◌≡◌, refl, sym, ap, ◌∙◌, subst, ℕ, ◌+◌, ◌≤◌, not, ◌&&◌, Bool, true, false, cond, List, length, Result, Err, arith}
-use Rattle.std.proofs.lemmas.Bool.{and_parts}
-use Rattle.std.proofs.lemmas.Option.{same_Some}
-use Rattle.lis_graph.proofs.Members.{among_from_any}
-use Rattle.lis_ports.specs.Meaning.{Meaning}
-use Rattle.lis_journal.specs.Phases.{looked}
-use Rattle.lis_words.specs.Words.{same_word, is_plain_word}
+use Rattle.std.proofs.Common.{◌≡◌, sym, ap, ◌∙◌, subst, ℕ, ◌+◌, ◌≤◌, not, true, false, cond, List, length, Result, Err, arith}
+use Rattle.lis_store.proofs.Common.{same_Some, Meaning, looked, is_plain_word, State, has_axiom, Situation, refused, Kept, axioms_of, marked_count, AreSound}
 use Rattle.lis_model.specs.declared.refusal.Refusal.TheVariants.{NoAxiom}
-use Rattle.lis_model.specs.State.{State}
-use Rattle.lis_model.specs.Changes.{same_pair, has_axiom, axiom_removed}
-use Rattle.lis_model.specs.Step.{Situation, refused, changed, unaxiom}
-use Rattle.lis_laws.proofs.Members.{same_word_decides}
-use Rattle.lis_laws.proofs.Sources.{rights_are, right_plain}
-use Rattle.lis_kept.specs.Kept.{Kept}
-use Rattle.lis_kept.specs.Areas.{marked_count}
+use Rattle.lis_model.specs.Changes.{axiom_removed}
+use Rattle.lis_model.specs.Step.{changed, unaxiom}
 use Rattle.lis_kept.specs.Linking.{MayUnlink}
-use Rattle.lis_kept.specs.Sound.{AreSound}
 use Rattle.lis_store.specs.declared.change.Change.{Change}
 use Rattle.lis_store.specs.declared.change.Change.TheVariants.{Refused}
 use Rattle.lis_store.specs.Stored.{Stored, PairsAreApart, IsSound, StoreHolds}
 use Rattle.lis_store.specs.Changes.{Holds}
 use Rattle.lis_store.specs.Saving.{settled, IsReady, Saves}
-use Rattle.lis_store.specs.Unlinking.{is_axiom, IsAxiomAt, TakesAxiom}
+use Rattle.lis_store.specs.Unlinking.{IsAxiomAt, TakesAxiom}
 use Rattle.lis_store.proofs.Judged.{change_refused}
 use Rattle.lis_store.proofs.SavedAlone.{saves_alone}
 use Rattle.lis_store.proofs.Unaxiomed.{limits_stay, sound_gone, ready_gone, few_marked}
 
--- only plain words are right sides
-axiom_here : (k : Stored) (m : Meaning) (base s : State) → StoreHolds k m base s → (l r : List ℕ) → is_axiom k.parts l r ≡ has_axiom s.axioms (l, r)
-axiom_here k m base s fits l r =
-    ap (λ (t : State). is_plain_word r && has_axiom t.axioms (l, r)) fits.tells.state ∙ by (has_axiom s.axioms (l, r)) refl
-  where
-    either : (b : Bool) → (b && false) ≡ false
-    either true = refl
-    either false = refl
-
-    by : (b : Bool) → has_axiom s.axioms (l, r) ≡ b → (is_plain_word r && b) ≡ b
-    by false is = either (is_plain_word r)
-    by true is =
-        let found = among_from_any (λ p. same_pair p (l, r)) s.axioms is in
-        let e = found.0 in
-        let same = (same_word_decides e.1 r).0 (and_parts (same_word e.0 l) (same_word e.1 r) found.2).1 in
-        ap (λ b. b && true) (subst (λ w. is_plain_word w ≡ true) same (right_plain s e.1 (rights_are s fits.tells.formed e found.1)))
+axiom_here : (k : Stored) (m : Meaning) (base s : State) → StoreHolds k m base s → (l r : List ℕ) → has_axiom (axioms_of k.parts) (l, r) ≡ has_axiom s.axioms (l, r)
+axiom_here k m base s fits l r = ap (λ (t : State). has_axiom t.axioms (l, r)) fits.tells.state
 
 -- an axiom that may go
 pub may_go : (k : Kept) → PairsAreApart k → (l r : List ℕ) (left right : ℕ) → IsAxiomAt k l r left right → MayUnlink left right k
@@ -52,14 +27,14 @@ may_go k apart l r left right found = record {
 }
 
 -- one that is not there
-pub unaxiom_refused : {T : Type 0} (old : Stored) (m : Meaning) (l r : List ℕ) (result : Result T Change) → is_axiom old.parts l r ≡ false → result ≡ Err (Refused NoAxiom)
+pub unaxiom_refused : {T : Type 0} (old : Stored) (m : Meaning) (l r : List ℕ) (result : Result T Change) → has_axiom (axioms_of old.parts) (l, r) ≡ false → result ≡ Err (Refused NoAxiom)
     → (base : State) (now : Situation) → StoreHolds old m base now.state → Holds base now (unaxiom now (l, r)) old m m result
 unaxiom_refused old m l r result none ends base now fits =
     change_refused old m base now (unaxiom now (l, r)) NoAxiom result fits
     (ap (λ b. cond (not b) (refused now NoAxiom) (changed now (axiom_removed now.state (l, r)))) (sym (axiom_here old m base now.state fits l r) ∙ none)) ends
 
 module _ (old : Stored) (q : Kept) (l r : List ℕ) (left right : ℕ) (found : IsAxiomAt old.parts l r left right) (takes : TakesAxiom left right old.parts q) (sound : IsSound old) (unbroken : old.is_broken ≡ false)
-    (there : is_axiom old.parts l r ≡ true) where
+    (there : has_axiom (axioms_of old.parts) (l, r) ≡ true) where
   pub unaxiom_sound : AreSound q → IsSound (settled q old.journal)
   unaxiom_sound = sound_gone left right old.parts q takes old.journal old.is_broken sound unbroken
 

@@ -1,60 +1,32 @@
 -- What a declaration that is taken back comes to.
-use Rattle.std.proofs.Common.{◌≡◌, ◌⊎◌, refl, sym, ap, ap₂, ◌∙◌, subst, inl, inr, ℕ, ◌+◌, ◌<◌, ◌≤◌, ◌==◌, not, ◌&&◌, ◌||◌, Bool, true, false, if◌then◌else◌, List, [], ◌∷◌, ◌++◌, length, map, slice_get, Option, Some, None, is_some, IsSome, Result, Err, arith, eq-eqb, get_or-set_other}
-use Rattle.std.specs.List.{list_any, flat_map, Contains}
-use Rattle.std.proofs.lemmas.Bool.{and_parts, or_cases, or_left, both_ways, cases_eq, ne_eqb, not_from_false, not-false, not-true, false_from_ne_true}
-use Rattle.std.proofs.lemmas.Option.{same_Some}
-use Rattle.lis_graph.proofs.Members.{Among, among_from_contains, contains_from_among, any_from_among, among_filter, filter_among, among_insert_key, insert_key_old, insert_key_new, among_left, among_right, map_among, flat_map_among}
-use Rattle.lis_graph.proofs.Sets.{sorted_from_rising, sorted_insert_key}
-use Rattle.lis_ports.specs.Meaning.{Meaning}
-use Rattle.lis_journal.specs.Phases.{looked}
-use Rattle.lis_journal.specs.Journal.{Held}
-use Rattle.lis_blockmap.specs.Bitmap.{is_taken}
-use Rattle.lis_content.specs.Content.{has_number, are_distinct}
+use Rattle.std.proofs.Common.{◌≡◌, ◌⊎◌, refl, sym, ap, ap₂, ◌∙◌, subst, inl, inr, ℕ, ◌+◌, ◌≤◌, ◌==◌, not, ◌&&◌, ◌||◌, Bool, true, false, if◌then◌else◌, List, [], ◌∷◌, length, slice_get, Option, Some, None, is_some, IsSome, Result, Err, arith, eq-eqb, get_or-set_other}
+use Rattle.lis_store.proofs.Common.{list_any, and_parts, cases_eq, ne_eqb, not_from_false, not-true, not-false, same_Some, Among, contains_from_among, among_filter, filter_among, Meaning, looked, is_taken, number_of, word_of, word_from_number, Filed, rec_at, has, numbers_at, FileRecord, Pair, is_prop, same_word, head_bytes, is_valued, is_test, has_word, Refusal, image_blocks, State, File, WellFormed, heads, own_words, description, is_met, Situation, rmdir, sorted_all_up, filter_le, same_word_decides, Kept, property_by, block_of, is_marked, marked_count, is_own_link, has_pair, AreSound, FreeSlotsAreEmpty, KeepsInUse, bit_of, is_declared, declared_of, state_of, is_head_by, is_left_of, is_left_head_of, is_had, is_named_left, is_used, Tells, test_by, filed_rec, among_word, word_among, among_slot, used_flagged, used_had, differs}
+use Rattle.std.proofs.lemmas.Bool.{or_left, both_ways, false_from_ne_true}
+use Rattle.lis_graph.proofs.Members.{any_from_among}
+use Rattle.lis_content.specs.Content.{has_number}
 use Rattle.lis_content.proofs.Numbers.{neither}
-use Rattle.lis_dict.specs.Dict.{number_of, word_of}
-use Rattle.lis_dict.proofs.Laws.{word_from_number}
-use Rattle.lis_catalog.specs.Catalog.{Filed, rec_at}
-use Rattle.lis_ext.specs.Ext.{Ext, has, set_of as numbers_at}
-use Rattle.lis_fields.specs.Records.{FileRecord}
-use Rattle.lis_fields.specs.declared.slots.AxiomSlot.TheVariants.{Pair}
-use Rattle.lis_fields.specs.Layouts.{is_prop}
-use Rattle.lis_words.specs.Words.{word_cmp, same_word, head_bytes, is_valued, is_built_in, is_test, test_of}
-use Rattle.lis_model.specs.declared.refusal.Refusal.{Refusal}
-use Rattle.lis_model.specs.declared.refusal.Refusal.TheVariants.{BuiltIn, NotAssignable, NotDeclared, InUse}
-use Rattle.lis_model.specs.declared.limits.Limits.{Limits}
-use Rattle.lis_model.specs.Image.{image_blocks}
-use Rattle.lis_model.specs.Sets.{with_word}
-use Rattle.lis_model.specs.State.{State, File, WellFormed, heads, all_up, own_words, description, is_declarable}
-use Rattle.lis_model.specs.Changes.{declared_under, undeclared}
-use Rattle.lis_model.specs.Tests.{is_met}
-use Rattle.lis_model.specs.Step.{Situation, Outcome, changed, judged, is_side, is_had as is_had_by, is_in_use, rmdir}
+use Rattle.lis_model.specs.State.{is_declarable}
+use Rattle.lis_model.specs.Changes.{undeclared}
+use Rattle.lis_model.specs.Step.{changed, is_in_use, rmdir_checks}
 use Rattle.lis_laws.proofs.Chains.{head_no_test}
-use Rattle.lis_laws.proofs.Closures.{sorted_all_up}
-use Rattle.lis_laws.proofs.Counts.{filter_le}
 use Rattle.lis_laws.proofs.Forms as forms
 use Rattle.lis_laws.proofs.Known.{described_within}
-use Rattle.lis_laws.proofs.Members.{word_exact, word_order, same_word_decides, has_word_from_among, among_from_has_word, same_words}
 use Rattle.lis_laws.proofs.Sources.{test_had}
 use Rattle.lis_laws.proofs.Locals.{same_tests}
-use Rattle.lis_kept.specs.Kept.{Kept, property_by}
-use Rattle.lis_kept.specs.Areas.{IsSaved, block_of, is_marked, marked_count}
 use Rattle.lis_kept.specs.Areas.Area.{Rows}
-use Rattle.lis_kept.specs.Links.{is_own_link, has_pair, is_linked}
-use Rattle.lis_kept.specs.Sound.{AreSound, FreeSlotsAreEmpty}
-use Rattle.lis_kept.specs.Forgetting.{KeepsInUse}
-use Rattle.lis_kept.specs.Telling.{bit_of, is_declared, declared_of, words_told, blocks_told, HasIndex, file_told, state_of, is_head_by, is_left_of, is_left_head_of, is_had, is_named_left, is_used, Tells}
-use Rattle.lis_kept.specs.TestEdges.{test_by}
+use Rattle.lis_kept.specs.Links.{is_linked}
+use Rattle.lis_kept.specs.Telling.{words_told, file_told}
 use Rattle.lis_kept.specs.Undeclaring.{is_right_of, is_named_by, is_needed, MayUndeclare, Undeclares}
-use Rattle.lis_kept.proofs.Filing.{among_from_number, number_from_among, filed_rec}
-use Rattle.lis_kept.proofs.Known.{one_number, among_word, word_among}
+use Rattle.lis_kept.proofs.Filing.{among_from_number, number_from_among}
+use Rattle.lis_kept.proofs.Known.{one_number}
 use Rattle.lis_kept.proofs.Numbered.{Numbers, numbers_are}
-use Rattle.lis_kept.proofs.OwnLinks.{own_head, among_slot, unnamed_to}
-use Rattle.lis_kept.proofs.Used.{any_or, used_flagged, used_had, used_left}
+use Rattle.lis_kept.proofs.OwnLinks.{own_head, unnamed_to}
+use Rattle.lis_kept.proofs.Used.{any_or, used_left}
 use Rattle.lis_kept.proofs.Needed.{may_undeclare}
 use Rattle.lis_kept.proofs.NeededTold.{needed_told}
 use Rattle.lis_store.specs.Stored.{Stored, PairsAreApart, AreClosed, TestsAreMet, IsSound, StoreHolds}
-use Rattle.lis_store.specs.Saving.{settled, IsReady, Saves}
-use Rattle.lis_store.specs.Judging.{is_needed_by, undeclare_checks}
+use Rattle.lis_store.specs.Saving.{settled, Saves}
+use Rattle.lis_store.specs.Judging.{is_needed_by, undeclare_checks, IsUndeclarable}
 use Rattle.lis_store.specs.Redescribing.{IsTurnedRow}
 use Rattle.lis_store.specs.Testing.{without_number, undescribed, UndeclaresUnmet}
 use Rattle.lis_store.specs.Changes.{Holds, first_refusal}
@@ -64,16 +36,18 @@ use Rattle.lis_store.proofs.SavedAlone.{saves_alone}
 use Rattle.lis_store.proofs.Facts.{described_told, file_of_filed}
 use Rattle.lis_store.proofs.HeadsUsed.{IsUsedFor, used_for}
 use Rattle.lis_store.proofs.HeadsUsed.IsUsedFor.{Flagged, HadAt, NamedLeft}
-use Rattle.lis_store.proofs.Judged.{all_pass, judged_refused, judged_done, change_refused}
-use Rattle.lis_store.proofs.Cleaned.{clean_is, sound_clean, in_use_clean, tests_clean, none_marked}
+use Rattle.lis_store.proofs.Judged.{judged_refused, judged_done, change_refused, same_first}
+use Rattle.lis_store.proofs.Cleaned.{none_marked}
 use Rattle.lis_store.proofs.Edits.{AreEditsFew}
 use Rattle.lis_store.proofs.Redescribed.{given_then, redescribed_edits}
 use Rattle.lis_store.proofs.Told.{words_same}
 use Rattle.lis_store.proofs.Declared.{declared_told}
-use Rattle.lis_store.proofs.Tested.{marked_more}
-use Rattle.lis_store.proofs.TestUnder.{test_gained}
-use Rattle.lis_store.proofs.Under.{described_under}
-use Rattle.lis_store.proofs.Without.{without_past}
+use Rattle.lis_store.proofs.MarkedMore.{marked_more}
+use Rattle.lis_store.proofs.Without.{without_past, is_other}
+use Rattle.lis_laws.proofs.Touched.{had_test, undeclared_split}
+use Rattle.lis_store.proofs.FileTests.{tested_word}
+use Rattle.lis_store.proofs.Retaken.{settled_sound}
+use Rattle.lis_store.proofs.Retold.{retold}
 
 -- ---- a declared word
 module _ (k : Kept) (sound : AreSound k) (word : List ℕ) (n : ℕ) (numbered : number_of k.dict word ≡ Some n) (declared : is_declared k word ≡ true) where
@@ -142,379 +116,232 @@ module _ (k : Kept) (sound : AreSound k) (word : List ℕ) (n : ℕ) (numbered :
   in_use_told at s free tells = ap (λ (x : State). is_in_use x word) (sym tells.state) ∙ needed_told k sound free at (described_told k at s sound free tells) n word word_at_number
 
 -- ---- what files have without a word that is in no use
-module _ (s : State) (formed : WellFormed s) (word : List ℕ) (listed : Among s.declared word) (unused : is_in_use s word ≡ false) (file : File) (there : Among s.files file) where
+module _ (s : State) (formed : WellFormed s) (word : List ℕ) (unused : not (is_in_use s word) ≡ true) (file : File) (there : Among s.files file) where
   abbrev without : State
   without = undeclared s word
 
-  formed_then : WellFormed without
-  formed_then = forms.undeclares s formed word (not_from_false (is_in_use s word) unused)
+  within_others : (w : List ℕ) → Among (description without file) w → Among (description s file) w
+  within_others = described_within without s (forms.undeclared_within s word) file
 
-  parts : (is_side s word ≡ false) × ((not (is_test word) && is_had_by s word) ≡ false)
-  parts = neither (is_side s word) (not (is_test word) && is_had_by s word) unused
-
-  unlisted : Among without.declared word → ⊥
-  unlisted m =
-      let found = among_filter (λ w. not (same_word w word)) s.declared word m in
+  not_there : Among (description without file) word → ⊥
+  not_there m =
+      let test = had_test s formed word unused file there (within_others word m) in
+      let found = among_filter (λ w. not (same_word w word)) s.declared word (test_had without (forms.undeclares s formed word unused) file there word test m).there in
       both_ways (same_word word word) (not-true (same_word word word) found.1) ((same_word_decides word word).1 refl)
 
-  unsided : (q : List ℕ) → Among without.axioms (word, q) → ⊥
-  unsided q m =
-      both_ways (is_side s word) parts.0
-      (has_word_from_among (map (λ (e : List ℕ × List ℕ). e.0) s.axioms ++ map (λ (e : List ℕ × List ℕ). e.1) s.axioms) word
-      (among_left (map (λ (e : List ℕ × List ℕ). e.0) s.axioms) (map (λ (e : List ℕ × List ℕ). e.1) s.axioms) word (map_among (λ (e : List ℕ × List ℕ). e.0) s.axioms (word, q) m)))
-
-  within : (w : List ℕ) → Among (description without file) w → Among (description s file) w
-  within = described_within without s (forms.undeclared_within s word) file
-
-  not_plainly_had : is_test word ≡ false → Among (description s file) word → ⊥
-  not_plainly_had no_test m =
-      both_ways (is_had_by s word) (sym (ap (λ b. not b && is_had_by s word) no_test) ∙ parts.1)
-      (has_word_from_among (flat_map (λ (e : List ℕ × List ℕ). heads e.0) s.axioms ++ flat_map (description s) s.files) word
-      (among_right (flat_map (λ (e : List ℕ × List ℕ). heads e.0) s.axioms) (flat_map (description s) s.files) word (flat_map_among (description s) s.files file word there m)))
-
-  pub not_there : Among (description without file) word → ⊥
-  not_there m = by (is_test word) refl
+  others_there : (w : List ℕ) → (w ≡ word → ⊥) → Among (description s file) w → Among (description without file) w
+  others_there w differ m = by (undeclared_split s formed word unused file there w m).now
     where
-      by : (b : Bool) → is_test word ≡ b → ⊥
-      by true test = unlisted (test_had without formed_then file there word test m).there
-      by false no_test = not_plainly_had no_test (within word m)
-
-  -- declared again, the state is as it was
-  again : declared_under without word [] ≡ s
-  again =
-      ap (λ (d : List (List ℕ)). record s { declared = d })
-      (same_words (with_word without.declared word) s.declared (sorted_insert_key word_cmp word_order without.declared word (sorted_from_rising word_cmp word_order without.declared formed_then.declared_set))
-      (sorted_from_rising word_cmp word_order s.declared formed.declared_set) (λ w m. forth w (among_insert_key word_cmp without.declared word w m)) (λ w m. back w m (same_word w word) refl))
-    where
-      forth : (w : List ℕ) → (word ≡ w) ⊎ Among without.declared w → Among s.declared w
-      forth w (inl same) = subst (λ u. Among s.declared u) same listed
-      forth w (inr m) = (among_filter (λ v. not (same_word v word)) s.declared w m).0
-
-      back : (w : List ℕ) → Among s.declared w → (b : Bool) → same_word w word ≡ b → Among (with_word without.declared word) w
-      back w m true same = subst (λ u. Among (with_word without.declared word) u) (sym ((same_word_decides w word).0 same)) (insert_key_new word_cmp word_exact without.declared word)
-      back w m false differ = insert_key_old word_cmp without.declared word w (filter_among (λ v. not (same_word v word)) s.declared w m (not_from_false (same_word w word) differ))
-
-  pub others_there : (w : List ℕ) → (w ≡ word → ⊥) → Among (description s file) w → Among (description without file) w
-  others_there w differ m = by (is_test word) refl
-    where
-      was : Among (description (declared_under without word []) file) w
-      was = subst (λ (x : State). Among (description x file) w) (sym again) m
-
-      gained : Among (description without file) w ⊎ ((is_met (test_of word) (length file.bytes) ≡ true) × ((word ≡ w) ⊎ Among (all_up without.declared without.axioms []) w)) → Among (description without file) w
-      gained (inl old) = old
-      gained (inr (met, inl same)) = absurd (differ (sym same))
-      gained (inr (met, inr none)) = absurd none
-
-      by : (b : Bool) → is_test word ≡ b → Among (description without file) w
-      by true test = gained (test_gained without formed_then word test unlisted unsided [] file there w was)
-      by false no_test = subst (λ ws. Among ws w) (described_under without word [] no_test file not_there) was
-
-  pub within_others : (w : List ℕ) → Among (description without file) w → Among (description s file) w
-  within_others = within
-
--- ---- a declaration that is taken back
-module _ (p q : Kept) (number : ℕ) (sound : AreSound p) (may : MayUndeclare number (undescribed p)) (gone : UndeclaresUnmet number p q) where
-  abbrev made : Kept
-  made = gone.made
-
-  abbrev undeclares : Undeclares number made q
-  undeclares = gone.undeclares
-
-  abbrev word : List ℕ
-  word = undeclares.word
-
-  set_then : (slot : ℕ) → numbers_at made.ext slot ≡ without_number p number slot
-  set_then = given_then (without_number p number) p.limits.files p made gone.takes sound.files (without_past p sound number)
-
-  had_then : (n slot : ℕ) → has made.ext n slot ≡ true → (has p.ext n slot ≡ true) × (n ≡ number → ⊥)
-  had_then n slot had =
-      let found = among_filter (λ m. not (m == number)) (numbers_at p.ext slot) n (subst (λ ns. Among ns n) (set_then slot) (among_from_number (numbers_at made.ext slot) n had)) in
-      (number_from_among (numbers_at p.ext slot) n found.0, λ same. both_ways (n == number) (not-true (n == number) found.1) (eq-eqb n number same))
-
-  then_had : (n slot : ℕ) → has p.ext n slot ≡ true → (n ≡ number → ⊥) → has made.ext n slot ≡ true
-  then_had n slot had differ =
-      ap (λ ns. has_number ns n) (set_then slot)
-      ∙ number_from_among (without_number p number slot) n
-      (filter_among (λ m. not (m == number)) (numbers_at p.ext slot) n (among_from_number (numbers_at p.ext slot) n had) (not_from_false (n == number) (ne_eqb n number differ)))
-
-  q_parts : q ≡ record made { dict = q.dict; declared = q.declared; marks = q.marks }
-  q_parts = subst (λ (k : Kept). k ≡ record made { dict = k.dict; declared = k.declared; marks = k.marks }) (sym undeclares.parts) refl
-
-  q_is : q ≡ record p { dict = q.dict; declared = q.declared; ext = made.ext; marks = q.marks }
-  q_is = q_parts ∙ ap (λ (k : Kept). record k { dict = q.dict; declared = q.declared; marks = q.marks }) gone.takes.parts
-
-  pub limits_then : q.limits ≡ p.limits
-  limits_then = ap (λ (k : Kept). k.limits) q_is
-
-  ext_is : q.ext ≡ made.ext
-  ext_is = ap (λ (k : Kept). k.ext) q_is
-
-  rec_is : (slot : ℕ) → rec_at q.catalog slot ≡ rec_at p.catalog slot
-  rec_is slot = ap (λ (k : Kept). rec_at k.catalog slot) q_is
-
-  entries_are : q.catalog.entries ≡ p.catalog.entries
-  entries_are = ap (λ (k : Kept). k.catalog.entries) q_is
-
-  dict_made : (n : ℕ) → word_of made.dict n ≡ word_of p.dict n
-  dict_made n = ap (λ (k : Kept). word_of k.dict n) gone.takes.parts
-
-  named : word_of p.dict number ≡ Some word
-  named = sym (dict_made number) ∙ undeclares.named
-
-  gone_word : word_of q.dict number ≡ None
-  gone_word = undeclares.words number ∙ ap (λ b. if b then None else word_of made.dict number) (eq-eqb number number refl)
-
-  stays : (n : ℕ) → (n ≡ number → ⊥) → word_of q.dict n ≡ word_of p.dict n
-  stays n differ = undeclares.words n ∙ (ap (λ b. if b then None else word_of made.dict n) (ne_eqb number n (λ same. differ (sym same))) ∙ dict_made n)
-
-  word_before : (n : ℕ) → IsSome (word_of q.dict n) → n ≡ number → ⊥
-  word_before n some same = both_ways (is_some (word_of q.dict n)) (ap is_some (ap (word_of q.dict) same ∙ gone_word)) some
-
-  not_tag : (f : Filed) → Among p.catalog.entries f → (n : ℕ) → Among f.rec.tags n → n ≡ number → ⊥
-  not_tag f m n tag same =
-      both_ways (has_number f.rec.tags number) (may.tags f.slot f.rec (filed_rec p.catalog sound.catalog f m))
-      (subst (λ i. has_number f.rec.tags i ≡ true) same (number_from_among f.rec.tags n tag))
-
-  not_tag_at : (slot : ℕ) (rec : FileRecord) → rec_at p.catalog slot ≡ Some rec → (n : ℕ) → has_number rec.tags n ≡ true → n ≡ number → ⊥
-  not_tag_at slot rec is n tag same = both_ways (has_number rec.tags number) (may.tags slot rec is) (subst (λ i. has_number rec.tags i ≡ true) same tag)
-
-  file_then : (at : ℕ → List ℕ) (f : Filed) → Among p.catalog.entries f → file_told q.limits q.dict at f ≡ file_told p.limits p.dict at f
-  file_then at f m =
-      ap (λ (l : Limits). file_told l q.dict at f) limits_then
-      ∙ ap (λ (ws : List (List ℕ)). record (file_told p.limits p.dict at f) { assigned = ws }) (words_same p.dict q.dict f.rec.tags (λ n of. stays n (not_tag f m n of)))
-
-  closed_then : AreSound q → AreClosed p → AreClosed q
-  closed_then after closed slot a b had linked =
-      let was = had_then a slot (ap (λ (e : Ext). has e a slot) (sym ext_is) ∙ had) in
-      let differ : b ≡ number → ⊥ = λ same. both_ways (is_linked q a number) (unnamed_to q after number gone_word a) (subst (λ i. is_linked q a i ≡ true) same linked) in
-      let before = ap (λ (k : Kept). is_linked k a b) (sym gone.takes.parts) ∙ (sym (undeclares.linked a b was.1 differ) ∙ linked) in
-      ap (λ (e : Ext). has e b slot) ext_is ∙ then_had b slot (closed slot a b was.0 before) differ
-
-  flagged_stays : (n : ℕ) → (n ≡ number → ⊥) → is_taken p.declared n ≡ true → is_taken q.declared n ≡ true
-  flagged_stays n differ bit =
-      ap (λ (k : Kept). is_taken k.declared n) undeclares.parts
-      ∙ (get_or-set_other made.declared number n false false differ ∙ (ap (λ (k : Kept). is_taken k.declared n) gone.takes.parts ∙ bit))
-
-  used_then : KeepsInUse p → (n : ℕ) → is_some (word_of q.dict n) ≡ true → is_used q n ≡ true
-  used_then keeps n some = undeclares.used n some ∙ by (used_for p n (keeps.used n (ap is_some (sym (stays n differ)) ∙ some)))
-    where
-      differ : n ≡ number → ⊥
-      differ = word_before n some
-
-      by : IsUsedFor p n → is_used made n ≡ true
-      by (Flagged bit) = used_flagged made n (ap (λ (k : Kept). is_taken k.declared n) gone.takes.parts ∙ bit)
-      by (HadAt slot was) = used_had made n slot (then_had n slot was differ)
-      by (NamedLeft lefts) = used_left made n (ap (λ (k : Kept). is_named_left k n) gone.takes.parts ∙ lefts)
-
-  in_use_then : KeepsInUse p → KeepsInUse q
-  in_use_then keeps = record {
-    used = used_then keeps;
-    tags = λ slot rec is n tag.
-        let was = sym (rec_is slot) ∙ is in
-        ap (λ (e : Ext). has e n slot) ext_is ∙ then_had n slot (keeps.tags slot rec was n tag) (not_tag_at slot rec was n tag);
-    rights = λ slot left right is.
-        let was = subst (λ (k : Kept). slice_get k.axioms slot ≡ Some (Pair left right)) q_is is in
-        flagged_stays right (may.rights slot left right was) (keeps.rights slot left right was);
-  }
-
-  tests_then : TestsAreMet p → TestsAreMet q
-  tests_then tests = record {
-    given = λ slot rec is n tag.
-        let was = sym (rec_is slot) ∙ is in
-        ap (λ o. is_some {T = Bool × ℕ} (test_by o)) (stays n (not_tag_at slot rec was n tag)) ∙ tests.given slot rec was n tag;
-    met = λ slot rec is n tested_n.
-        let differ = word_before n (tested_some (word_of q.dict n) tested_n) in
-        let same = stays n differ in
-        ap (λ (e : Ext). has e n slot) ext_is
-        ∙ (same_tests (has made.ext n slot) (has p.ext n slot) (λ h. (had_then n slot h).0) (λ h. then_had n slot h differ)
-        ∙ (tests.met slot rec (sym (rec_is slot) ∙ is) n (ap (λ o. is_some {T = Bool × ℕ} (test_by o)) (sym same) ∙ tested_n) ∙ ap (λ o. is_met (test_by o) rec.size) (sym same)));
-  }
-    where
-      tested_some : (o : Option (List ℕ)) → is_some {T = Bool × ℕ} (test_by o) ≡ true → IsSome o
-      tested_some None h = absurd (both_ways false refl h)
-      tested_some (Some w) h = refl
-
-  -- the store is in form again
-  sound_undeclared : (j : Held) (b : Bool) → b ≡ false → IsSound (record { parts = p; journal = j; is_broken = b }) → AreSound q → IsSound (settled q j)
-  sound_undeclared j b whole was after =
-      record {
-        parts = sound_clean q after;
-        free = λ slot none n. false_from_ne_true (has q.ext n slot) (λ had.
-            both_ways (has p.ext n slot) (was.free slot (sym (rec_is slot) ∙ none) n) (had_then n slot (ap (λ (e : Ext). has e n slot) (sym ext_is) ∙ had)).0);
-        pairs = subst (λ (k : Kept). PairsAreApart k) (sym q_is) was.pairs;
-        closed = closed_then after was.closed;
-        short = λ slot. omega (arith, ap (λ (e : Ext). length (numbers_at e slot)) ext_is, ap length (set_then slot), filter_le (λ n. not (n == number)) (numbers_at p.ext slot), was.short slot);
-        tests = tests_clean q (tests_then was.tests);
-        in_use = in_use_clean q (in_use_then was.in_use);
-        image = subst (λ (k : Kept). j.blocks ≡ image_blocks k.limits) (sym q_is) was.image;
-        journal = λ _. was.journal whole;
-        few = λ _. omega arith;
-        whole = λ _. refl;
-        placed = λ _. refl;
-        clean = λ _. clean_is q;
-      }
-
-  pub few_edits : AreEditsFew p.ext q.ext
-  few_edits = subst (λ (e : Ext). AreEditsFew p.ext e) (sym ext_is) (redescribed_edits (without_number p number) p.limits.files p made gone.takes sound.files (without_past p sound number))
-
-  -- the rows that change are that of the number
-  pub few_marked : marked_count p ≡ 0 → marked_count q ≤ 2
-  few_marked none =
-      let more = marked_more p made (block_of p.limits Rows number ∷ []) (λ block is. by block (gone.takes.within block is)) in
-      omega (arith, undeclares.marks.few, more, none)
-    where
-      turned : (slot n : ℕ) → ((has_number (without_number p number slot) n && not (has p.ext n slot)) ≡ true) ⊎ ((has p.ext n slot && not (has_number (without_number p number slot) n)) ≡ true) → n ≡ number
-      turned slot n (inl more) =
-          let both = and_parts (has_number (without_number p number slot) n) (not (has p.ext n slot)) more in
-          absurd (both_ways (has p.ext n slot) (not-true (has p.ext n slot) both.1) (had_then n slot (ap (λ ns. has_number ns n) (set_then slot) ∙ both.0)).0)
-      turned slot n (inr fewer) = side (cases_eq n number)
-        where
-          side : (n ≡ number) ⊎ (n ≡ number → ⊥) → n ≡ number
-          side (inl same) = same
-          side (inr differ) =
-              let both = and_parts (has p.ext n slot) (not (has_number (without_number p number slot) n)) fewer in
-              absurd (both_ways (has_number (without_number p number slot) n) (not-true (has_number (without_number p number slot) n) both.1) (ap (λ ns. has_number ns n) (sym (set_then slot)) ∙ then_had n slot both.0 differ))
-
-      by : (block : ℕ) → (is_marked p block ≡ true) ⊎ IsTurnedRow p (without_number p number) block → (is_marked p block ≡ true) ⊎ Among (block_of p.limits Rows number ∷ []) block
-      by block (inl was) = inl was
-      by block (inr row) =
-          let same = turned row.slot row.number (or_cases (has_number (without_number p number row.slot) row.number && not (has p.ext row.number row.slot)) (has p.ext row.number row.slot && not (has_number (without_number p number row.slot) row.number)) row.turned) in
-          inr (inl (sym (row.is ∙ ap (block_of p.limits Rows) same)))
-
-  -- ---- the state that it tells
-  module _ (at : ℕ → List ℕ) (s : State) (free : FreeSlotsAreEmpty p) (tells : Tells p at s) (in_use : KeepsInUse p) (unused : is_in_use s word ≡ false) (listed : Among s.declared word) where
-    abbrev t : State
-    t = undeclared s word
-
-    there : (f : Filed) → Contains q.catalog.entries f → Among p.catalog.entries f
-    there f m = subst (λ (fs : List Filed). Among fs f) entries_are (among_from_contains q.catalog.entries f m)
-
-    module _ (f : Filed) (m : Among p.catalog.entries f) where
-      abbrev file : File
-      file = file_told p.limits p.dict at f
-
-      filed : Among s.files file
-      filed = file_of_filed p at s sound free tells f m
-
-      told : words_told p.dict (numbers_at p.ext f.slot) ≡ description s file
-      told = tells.described f (contains_from_among p.catalog.entries f m)
-
-      less_numbers : Numbers p.dict (has_number (numbers_at made.ext f.slot)) (description t file)
-      less_numbers = record {
-        numbered = λ w inside.
-            let found = among_word p sound (numbers_at p.ext f.slot) w (subst (λ ws. Among ws w) (sym told) (within_others s tells.formed word listed unused file filed w inside)) in
-            let differ : found.0 ≡ number → ⊥ = λ same.
-            not_there s tells.formed word listed unused file filed (subst (λ u. Among (description t file) u) (same_Some w word (sym found.1 ∙ (ap (word_of p.dict) same ∙ named))) inside) in
-            (found.0, found.1, then_had found.0 f.slot found.2 differ);
-        worded = λ n w is had.
-            let was = had_then n f.slot had in
-            let differ : w ≡ word → ⊥ = λ same. was.1 (one_number p sound n number word (is ∙ ap Some same) named) in
-            others_there s tells.formed word listed unused file filed w differ (subst (λ ws. Among ws w) told (word_among p sound (numbers_at p.ext f.slot) n w is was.0));
-      }
-
-      described_then : words_told q.dict (numbers_at q.ext f.slot) ≡ description t (file_told q.limits q.dict at f)
-      described_then =
-          ap (λ (e : Ext). words_told q.dict (numbers_at e f.slot)) ext_is
-          ∙ (words_same p.dict q.dict (numbers_at made.ext f.slot) (λ n of. stays n (had_then n f.slot (number_from_among (numbers_at made.ext f.slot) n of)).1)
-          ∙ (numbers_are p sound (numbers_at made.ext f.slot) (description t file) (sorted_all_up t.declared t.axioms (own_words t.declared file)) less_numbers
-          ∙ ap (description t) (sym (file_then at f m))))
-
-    tells_undeclared : Tells q at t
-    tells_undeclared = record {
-      super = tells.super;
-      state = undeclares.state at ∙ (ap (λ (k : Kept). undeclared (state_of k at) word) gone.takes.parts ∙ ap (λ (x : State). undeclared x word) tells.state);
-      formed = forms.undeclares s tells.formed word (not_from_false (is_in_use s word) unused);
-      used = used_then in_use;
-      described = λ f m. described_then f (there f m);
-      taken = λ n lt is.
-          let b = tells.taken n (subst (λ (k : Kept). n < k.limits.blocks) q_is lt) (subst (λ (k : Kept). is_taken k.taken n ≡ true) q_is is) in
-          record {
-            file = b.file;
-            kept = subst (λ (fs : List Filed). Contains fs b.file) (sym entries_are) b.kept;
-            has = subst (λ (k : Kept). has_number (blocks_told k.limits at b.file.rec) n ≡ true) (sym q_is) b.has;
-          };
-      given = λ f m n has_it.
-          let g = tells.given f (contains_from_among p.catalog.entries f (there f m)) n (was_had f n has_it) in
-          subst (λ (k : Kept). (n < k.limits.blocks) × (is_taken k.taken n ≡ true)) (sym q_is) g;
-      indexed = λ f m. subst (λ (k : Kept). HasIndex k.limits at f.rec) (sym q_is) (tells.indexed f (contains_from_among p.catalog.entries f (there f m)));
-      apart = λ f m. subst (λ (k : Kept). are_distinct (blocks_told k.limits at f.rec) ≡ true) (sym q_is) (tells.apart f (contains_from_among p.catalog.entries f (there f m)));
-      one_use = λ f g mf mg n has_f has_g.
-          tells.one_use f g (contains_from_among p.catalog.entries f (there f mf)) (contains_from_among p.catalog.entries g (there g mg)) n (was_had f n has_f) (was_had g n has_g);
-    }
-      where
-        was_had : (f : Filed) (n : ℕ) → has_number (blocks_told q.limits at f.rec) n ≡ true → has_number (blocks_told p.limits at f.rec) n ≡ true
-        was_had f n = subst (λ (k : Kept). has_number (blocks_told k.limits at f.rec) n ≡ true) q_is
-
-    ready_undeclared : IsSaved p at → IsReady q at t
-    ready_undeclared saved = record { tells = tells_undeclared; saved = undeclares.marks.saved at (gone.takes.saved at saved) }
+      by : (word ≡ w) ⊎ Among (description without file) w → Among (description without file) w
+      by (inl same) = absurd (differ (sym same))
+      by (inr now) = now
 
 -- ---- the row of `rmdir`, asked of what memory keeps
 module _ (k : Kept) (sound : AreSound k) (at : ℕ → List ℕ) (now : Situation) (free : FreeSlotsAreEmpty k) (tells : Tells k at now.state) (word : List ℕ) where
-  abbrev checks : Bool → Bool → List (Bool × Refusal)
-  checks there used = (is_built_in word, BuiltIn) ∷ (is_valued word, NotAssignable) ∷ (not there, NotDeclared) ∷ (used, InUse) ∷ []
-
   -- what is in use is asked of a declared word alone
-  used_same : (there : Bool) → is_declared k word ≡ there → (made : Outcome)
-      → judged now (checks there (is_in_use now.state word)) made ≡ judged now (checks there (is_needed_by k (number_of k.dict word))) made
-  used_same false is made = refl
-  used_same true is made = by (number_of k.dict word) refl
-    where
-      by : (o : Option ℕ) → number_of k.dict word ≡ o → judged now (checks true (is_in_use now.state word)) made ≡ judged now (checks true (is_needed_by k o)) made
-      by None none = absurd (both_ways (is_declared k word) (ap (bit_of k.declared) none) is)
-      by (Some n) numbered = ap (λ b. judged now (checks true b) made) (in_use_told k sound word n numbered is at now.state free tells)
+  used_same : is_declared k word ≡ true → (o : Option ℕ) → number_of k.dict word ≡ o → is_in_use now.state word ≡ is_needed_by k o
+  used_same there None none = absurd (both_ways (is_declared k word) (ap (bit_of k.declared) none) there)
+  used_same there (Some n) numbered = in_use_told k sound word n numbered there at now.state free tells
 
-  rmdir_is : rmdir now word ≡ judged now (undeclare_checks k word) (changed now (undeclared now.state word))
-  rmdir_is =
-      ap (λ there. judged now (checks there (is_in_use now.state word)) (changed now (undeclared now.state word))) (declared_told k at now.state tells word)
-      ∙ used_same (is_declared k word) refl (changed now (undeclared now.state word))
+  rmdir_alike : first_refusal (rmdir_checks now.state word) ≡ first_refusal (undeclare_checks k word)
+  rmdir_alike = same_first (rmdir_checks now.state word) (undeclare_checks k word) (
+    refl,
+    refl,
+    λ own. (
+      refl,
+      refl,
+      λ valued. (
+        refl,
+        ap not (declared_told k at now.state tells word),
+        λ there. (refl, used_same (sym (declared_told k at now.state tells word) ∙ not-false (has_word now.state.declared word) there) (number_of k.dict word) refl, λ _. tt),
+      ),
+    ),
+  )
 
--- what the row says where it refuses nothing
-undeclare_passes : (k : Kept) (word : List ℕ) (n : ℕ) → first_refusal (undeclare_checks k word) ≡ None → number_of k.dict word ≡ Some n → (is_declared k word ≡ true) × (is_needed k n ≡ false)
-undeclare_passes k word n none numbered =
-    let all = all_pass (undeclare_checks k word) none in
-    (not-false (is_declared k word) all.1.1.0, ap (is_needed_by k) (sym numbered) ∙ all.1.1.1.0)
+-- ---- a declaration that is taken back
+module _ {old : Stored} {word : List ℕ} {number : ℕ} (sound : IsSound old) (may : IsUndeclarable old.parts word number) where
+  abbrev p : Kept
+  p = old.parts
 
--- ---- a call that takes a declaration back
-module _ (old : Stored) (word : List ℕ) (number : ℕ) (sound : IsSound old) (unbroken : old.is_broken ≡ false)
-    (none : first_refusal (undeclare_checks old.parts word) ≡ None) (numbered : number_of old.parts.dict word ≡ Some number) where
-  passes : (is_declared old.parts word ≡ true) × (is_needed old.parts number ≡ false)
-  passes = undeclare_passes old.parts word number none numbered
+  pub undeclared_may : MayUndeclare number (undescribed p)
+  undeclared_may = may_be_undeclared p sound.parts word number may.numbered may.declared sound.in_use sound.closed sound.tests may.unneeded
 
-  pub undeclared_may : MayUndeclare number (undescribed old.parts)
-  undeclared_may = may_be_undeclared old.parts sound.parts word number numbered passes.0 sound.in_use sound.closed sound.tests passes.1
+  pub undeclared_named : word_of p.dict number ≡ Some word
+  undeclared_named = word_at_number p sound.parts word number may.numbered may.declared
 
-  pub undeclared_named : is_some (word_of old.parts.dict number) ≡ true
-  undeclared_named = ap is_some (word_at_number old.parts sound.parts word number numbered passes.0)
+  module _ {q : Kept} (gone : UndeclaresUnmet number p q) where
+    abbrev made : Kept
+    made = gone.made
 
-  module _ (q : Kept) (gone : UndeclaresUnmet number old.parts q) where
-    same : gone.undeclares.word ≡ word
-    same = same_Some gone.undeclares.word word (sym (named old.parts q number sound.parts undeclared_may gone) ∙ word_at_number old.parts sound.parts word number numbered passes.0)
+    abbrev undeclares : Undeclares number made q
+    undeclares = gone.undeclares
 
-    pub undeclared_sound : AreSound q → IsSound (settled q old.journal)
-    undeclared_sound = sound_undeclared old.parts q number sound.parts undeclared_may gone old.journal old.is_broken unbroken sound
+    q_parts : q ≡ record made { dict = q.dict; declared = q.declared; marks = q.marks }
+    q_parts = subst (λ (k : Kept). k ≡ record made { dict = k.dict; declared = k.declared; marks = k.marks }) (sym undeclares.parts) refl
 
-    pub undeclared_limits : q.limits ≡ old.parts.limits
-    undeclared_limits = limits_then old.parts q number sound.parts undeclared_may gone
+    q_is : q ≡ record p { dict = q.dict; declared = q.declared; ext = made.ext; marks = q.marks }
+    q_is = q_parts ∙ ap (λ (k : Kept). record k { dict = q.dict; declared = q.declared; marks = q.marks }) gone.takes.parts
 
-    pub undeclared_edits : AreEditsFew old.parts.ext q.ext
-    undeclared_edits = few_edits old.parts q number sound.parts undeclared_may gone
+    set_then : (slot : ℕ) → numbers_at q.ext slot ≡ without_number p number slot
+    set_then slot = ap (λ (k : Kept). numbers_at k.ext slot) q_parts ∙ given_then (without_number p number) p.limits.files p made gone.takes sound.parts.files (without_past p sound.parts number) slot
 
-    pub undeclared_marks : length old.journal.staged + marked_count q ≤ 575
-    undeclared_marks =
-        let few = few_marked old.parts q number sound.parts undeclared_may gone (none_marked old.parts (sound.clean unbroken)) in
-        omega (arith, few, sound.few unbroken)
+    had_then : (n slot : ℕ) → has q.ext n slot ≡ true → (has p.ext n slot ≡ true) × (n ≡ number → ⊥)
+    had_then n slot had =
+        let found = among_filter (is_other number) (numbers_at p.ext slot) n (subst (λ ns. Among ns n) (set_then slot) (among_from_number (numbers_at q.ext slot) n had)) in
+        (number_from_among (numbers_at p.ext slot) n found.0, λ same. both_ways (n == number) (not-true (n == number) found.1) (eq-eqb n number same))
 
-    pub undeclared_holds : {T : Type 0} (new : Stored) (before after : Meaning) (result : Result T Change) → Saves q old.journal new before after result
-        → (base : State) (now : Situation) → StoreHolds old before base now.state → Holds base now (rmdir now word) new before after result
-    undeclared_holds new before after result saves base now fits =
-        let s : State = now.state in
-        let unused : is_in_use s word ≡ false = in_use_told old.parts sound.parts word number numbered passes.0 (looked old.journal.staged fits.kept) s sound.free fits.tells ∙ passes.1 in
-        let listed : Among s.declared word = among_from_has_word s.declared word (declared_told old.parts (looked old.journal.staged fits.kept) s fits.tells word ∙ passes.0) in
-        let ready : IsReady q (looked old.journal.staged fits.kept) (undeclared s gone.undeclares.word) =
-        ready_undeclared old.parts q number sound.parts undeclared_may gone (looked old.journal.staged fits.kept) s sound.free fits.tells sound.in_use (subst (λ w. is_in_use s w ≡ false) (sym same) unused)
-        (subst (λ w. Among s.declared w) (sym same) listed) (λ area n lt unmarked. fits.written area n lt) in
-        saves_alone old sound unbroken q new before after result saves base now (rmdir now word) (undeclared s word) fits undeclared_limits (λ _. subst (λ w. IsReady q (looked old.journal.staged fits.kept) (undeclared s w)) same ready)
-        (rmdir_is old.parts sound.parts (looked old.journal.staged fits.kept) now sound.free fits.tells word ∙ judged_done now (undeclare_checks old.parts word) (changed now (undeclared s word)) none)
+    then_had : (n slot : ℕ) → has p.ext n slot ≡ true → (n ≡ number → ⊥) → has q.ext n slot ≡ true
+    then_had n slot had differ =
+        ap (λ ns. has_number ns n) (set_then slot)
+        ∙ number_from_among (without_number p number slot) n
+        (filter_among (is_other number) (numbers_at p.ext slot) n (among_from_number (numbers_at p.ext slot) n had) (not_from_false (n == number) (ne_eqb n number differ)))
+
+    has_same : (n slot : ℕ) → (n ≡ number → ⊥) → has q.ext n slot ≡ has p.ext n slot
+    has_same n slot differ = same_tests (has q.ext n slot) (has p.ext n slot) (λ h. (had_then n slot h).0) (λ h. then_had n slot h differ)
+
+    rec_was : (slot : ℕ) (rec : FileRecord) → rec_at q.catalog slot ≡ Some rec → rec_at p.catalog slot ≡ Some rec
+    rec_was slot rec is = subst (λ (k : Kept). rec_at k.catalog slot ≡ Some rec) q_is is
+
+    -- ---- words
+    gone_word : word_of q.dict number ≡ None
+    gone_word = undeclares.words number ∙ ap (λ b. if b then None else word_of made.dict number) (eq-eqb number number refl)
+
+    stays : (n : ℕ) → (n ≡ number → ⊥) → word_of q.dict n ≡ word_of p.dict n
+    stays n differ =
+        undeclares.words n ∙ (ap (λ b. if b then None else word_of made.dict n) (ne_eqb number n (λ same. differ (sym same))) ∙ ap (λ (k : Kept). word_of k.dict n) gone.takes.parts)
+
+    word_before : (n : ℕ) → IsSome (word_of q.dict n) → n ≡ number → ⊥
+    word_before n some same = both_ways (is_some (word_of q.dict n)) (ap is_some (ap (word_of q.dict) same ∙ gone_word)) some
+
+    not_tag : (slot : ℕ) (rec : FileRecord) → rec_at p.catalog slot ≡ Some rec → (n : ℕ) → has_number rec.tags n ≡ true → n ≡ number → ⊥
+    not_tag slot rec is n tag same = both_ways (has_number rec.tags number) (undeclared_may.tags slot rec is) (subst (λ i. has_number rec.tags i ≡ true) same tag)
+
+    tags_stay : (f : Filed) → Among p.catalog.entries f → (n : ℕ) → Among f.rec.tags n → word_of q.dict n ≡ word_of p.dict n
+    tags_stay f m n tag = stays n (not_tag f.slot f.rec (filed_rec p.catalog sound.parts.catalog f m) n (number_from_among f.rec.tags n tag))
+
+    -- ---- the store is in form again
+    closed_then : AreSound q → AreClosed q
+    closed_then after slot a b had linked =
+        let was = had_then a slot had in
+        let differ : b ≡ number → ⊥ = λ same. both_ways (is_linked q a number) (unnamed_to q after number gone_word a) (subst (λ i. is_linked q a i ≡ true) same linked) in
+        then_had b slot (sound.closed slot a b was.0 (ap (λ (k : Kept). is_linked k a b) (sym gone.takes.parts) ∙ (sym (undeclares.linked a b was.1 differ) ∙ linked))) differ
+
+    in_use_then : KeepsInUse q
+    in_use_then = record {
+      used = λ n some. let differ = word_before n some in undeclares.used n some ∙ by n differ (used_for p n (sound.in_use.used n (ap is_some (sym (stays n differ)) ∙ some)));
+      tags = λ slot rec is n tag. let was = rec_was slot rec is in then_had n slot (sound.in_use.tags slot rec was n tag) (not_tag slot rec was n tag);
+      rights = λ slot left right is.
+          let was = subst (λ (k : Kept). slice_get k.axioms slot ≡ Some (Pair left right)) q_is is in
+          ap (λ (k : Kept). is_taken k.declared right) undeclares.parts
+          ∙ (get_or-set_other made.declared number right false false (undeclared_may.rights slot left right was)
+          ∙ (ap (λ (k : Kept). is_taken k.declared right) gone.takes.parts ∙ sound.in_use.rights slot left right was));
+    }
+      where
+        by : (n : ℕ) → (n ≡ number → ⊥) → IsUsedFor p n → is_used made n ≡ true
+        by n differ (Flagged bit) = used_flagged made n (ap (λ (k : Kept). is_taken k.declared n) gone.takes.parts ∙ bit)
+        by n differ (HadAt slot was) = used_had made n slot (ap (λ (k : Kept). has k.ext n slot) (sym q_parts) ∙ then_had n slot was differ)
+        by n differ (NamedLeft lefts) = used_left made n (ap (λ (k : Kept). is_named_left k n) gone.takes.parts ∙ lefts)
+
+    pub undeclared_sound : old.is_broken ≡ false → AreSound q → IsSound (settled q old.journal)
+    undeclared_sound unbroken after =
+        settled_sound q old.journal (record {
+          sound = after;
+          free = λ slot none n. false_from_ne_true (has q.ext n slot) (λ had.
+              both_ways (has p.ext n slot) (sound.free slot (subst (λ (k : Kept). rec_at k.catalog slot ≡ None) q_is none) n) (had_then n slot had).0);
+          closed = closed_then after;
+          short = λ slot. omega (arith, ap length (set_then slot), filter_le (is_other number) (numbers_at p.ext slot), sound.short slot);
+          in_use = in_use_then;
+          tests = record {
+            given = λ slot rec is n tag.
+                let was = rec_was slot rec is in
+                ap (λ o. is_some {T = Bool × ℕ} (test_by o)) (stays n (not_tag slot rec was n tag)) ∙ sound.tests.given slot rec was n tag;
+            met = λ slot rec is n test.
+                let differ = word_before n (ap is_some (tested_word (word_of q.dict n) test).1) in
+                let same = stays n differ in
+                has_same n slot differ
+                ∙ (sound.tests.met slot rec (rec_was slot rec is) n (ap (λ o. is_some {T = Bool × ℕ} (test_by o)) (sym same) ∙ test) ∙ ap (λ o. is_met (test_by o) rec.size) (sym same));
+          };
+        }) (subst (λ (k : Kept). PairsAreApart k) (sym q_is) sound.pairs) (subst (λ (k : Kept). old.journal.blocks ≡ image_blocks k.limits) (sym q_is) sound.image) (sound.journal unbroken)
+
+    pub undeclared_limits : q.limits ≡ p.limits
+    undeclared_limits = ap (λ (k : Kept). k.limits) q_is
+
+    pub undeclared_edits : AreEditsFew p.ext q.ext
+    undeclared_edits =
+        subst (λ (k : Kept). AreEditsFew p.ext k.ext) (sym q_parts) (redescribed_edits (without_number p number) p.limits.files p made gone.takes sound.parts.files (without_past p sound.parts number))
+
+    -- the rows that change are that of the number
+    pub undeclared_marks : old.is_broken ≡ false → length old.journal.staged + marked_count q ≤ 575
+    undeclared_marks unbroken =
+        let more = marked_more p made (block_of p.limits Rows number ∷ []) (λ block is. by block (gone.takes.within block is)) in
+        omega (arith, undeclares.marks.few, more, none_marked p (sound.clean unbroken), sound.few unbroken)
+      where
+        same : (c : Bool) → ((c && not c) || (c && not c)) ≡ false
+        same true = refl
+        same false = refl
+
+        turned : (slot n : ℕ) → differs (numbers_at p.ext slot) (without_number p number slot) n ≡ true → (n ≡ number) ⊎ (n ≡ number → ⊥) → n ≡ number
+        turned slot n turns (inl is) = is
+        turned slot n turns (inr differ) =
+            absurd (both_ways (differs (numbers_at p.ext slot) (without_number p number slot) n)
+            (ap (λ b. (b && not (has p.ext n slot)) || (has p.ext n slot && not b)) (sym (ap (λ ns. has_number ns n) (set_then slot)) ∙ has_same n slot differ) ∙ same (has p.ext n slot)) turns)
+
+        by : (block : ℕ) → (is_marked p block ≡ true) ⊎ IsTurnedRow p (without_number p number) block → (is_marked p block ≡ true) ⊎ Among (block_of p.limits Rows number ∷ []) block
+        by block (inl was) = inl was
+        by block (inr row) = inr (inl (sym (row.is ∙ ap (block_of p.limits Rows) (turned row.slot row.number row.turned (cases_eq row.number number)))))
+
+    -- ---- the state that it tells
+    module _ (at : ℕ → List ℕ) (s : State) (tells : Tells p at s) where
+      unused : not (is_in_use s word) ≡ true
+      unused = not_from_false (is_in_use s word) (in_use_told p sound.parts word number may.numbered may.declared at s sound.free tells ∙ may.unneeded)
+
+      same_word_gone : undeclares.word ≡ word
+      same_word_gone = same_Some undeclares.word word (sym undeclares.named ∙ (ap (λ (k : Kept). word_of k.dict number) gone.takes.parts ∙ undeclared_named))
+
+      abbrev t : State
+      t = undeclared s word
+
+      module _ (f : Filed) (m : Among p.catalog.entries f) where
+        abbrev file : File
+        file = file_told p.limits p.dict at f
+
+        filed : Among s.files file
+        filed = file_of_filed p at s sound.parts sound.free tells f m
+
+        told : words_told p.dict (numbers_at p.ext f.slot) ≡ description s file
+        told = tells.described f (contains_from_among p.catalog.entries f m)
+
+        fewer : Numbers p.dict (has_number (numbers_at q.ext f.slot)) (description t file)
+        fewer = record {
+          numbered = λ w inside.
+              let found = among_word p sound.parts (numbers_at p.ext f.slot) w (subst (λ ws. Among ws w) (sym told) (within_others s tells.formed word unused file filed w inside)) in
+              let differ : found.0 ≡ number → ⊥ = λ same.
+              not_there s tells.formed word unused file filed (subst (λ u. Among (description t file) u) (same_Some w word (sym found.1 ∙ (ap (word_of p.dict) same ∙ undeclared_named))) inside) in
+              (found.0, found.1, then_had found.0 f.slot found.2 differ);
+          worded = λ n w is had.
+              let was = had_then n f.slot had in
+              let differ : w ≡ word → ⊥ = λ same. was.1 (one_number p sound.parts n number word (is ∙ ap Some same) undeclared_named) in
+              others_there s tells.formed word unused file filed w differ (subst (λ ws. Among ws w) told (word_among p sound.parts (numbers_at p.ext f.slot) n w is was.0));
+        }
+
+        described : words_told q.dict (numbers_at q.ext f.slot) ≡ description t file
+        described =
+            words_same p.dict q.dict (numbers_at q.ext f.slot) (λ n of. stays n (had_then n f.slot (number_from_among (numbers_at q.ext f.slot) n of)).1)
+            ∙ numbers_are p sound.parts (numbers_at q.ext f.slot) (description t file) (sorted_all_up t.declared t.axioms (own_words t.declared file)) fewer
+
+      tells_undeclared : Tells q at t
+      tells_undeclared =
+          retold p q (subst (λ (k : Kept). k ≡ record p { dict = k.dict; declared = k.declared; axioms = k.axioms; ext = k.ext; marks = k.marks }) (sym q_is) refl) tags_stay at s t tells refl
+          (undeclares.state at ∙ (ap₂ (λ (k : Kept) (w : List ℕ). undeclared (state_of k at) w) gone.takes.parts same_word_gone ∙ ap (λ (x : State). undeclared x word) tells.state))
+          (forms.undeclares s tells.formed word unused) in_use_then.used described
+
+    pub undeclared_holds : {T : Type 0} (new : Stored) (before after : Meaning) (result : Result T Change) → Saves q old.journal new before after result → first_refusal (undeclare_checks p word) ≡ None
+        → old.is_broken ≡ false → (base : State) (now : Situation) → StoreHolds old before base now.state → Holds base now (rmdir now word) new before after result
+    undeclared_holds new before after result saves none unbroken base now fits =
+        let at = looked old.journal.staged fits.kept in
+        saves_alone old sound unbroken q new before after result saves base now (rmdir now word) (undeclared now.state word) fits undeclared_limits
+        (λ _. record { tells = tells_undeclared at now.state fits.tells; saved = undeclares.marks.saved at (gone.takes.saved at (λ area n lt unmarked. fits.written area n lt)) })
+        (judged_done now (rmdir_checks now.state word) (changed now (undeclared now.state word)) (rmdir_alike p sound.parts at now sound.free fits.tells word ∙ none))
 
 -- one that is refused
 pub undeclared_refused : {T : Type 0} (old : Stored) (m : Meaning) (word : List ℕ) (refusal : Refusal) (result : Result T Change) → IsSound old
@@ -522,5 +349,5 @@ pub undeclared_refused : {T : Type 0} (old : Stored) (m : Meaning) (word : List 
     → (base : State) (now : Situation) → StoreHolds old m base now.state → Holds base now (rmdir now word) old m m result
 undeclared_refused old m word refusal result sound first ends base now fits =
     change_refused old m base now (rmdir now word) refusal result fits
-    (rmdir_is old.parts sound.parts (looked old.journal.staged fits.kept) now sound.free fits.tells word
-    ∙ judged_refused now (undeclare_checks old.parts word) (changed now (undeclared now.state word)) refusal first) ends
+    (judged_refused now (rmdir_checks now.state word) (changed now (undeclared now.state word)) refusal
+    (rmdir_alike old.parts sound.parts (looked old.journal.staged fits.kept) now sound.free fits.tells word ∙ first)) ends

@@ -1,27 +1,21 @@
--- What memory keeps when a file is gone whose slot is still described: another file may come into the slot.
-use Rattle.std.proofs.Common.{◌≡◌, ◌⊎◌, refl, sym, ap, ◌∙◌, inl, inr, ℕ, ◌<◌, ◌==◌, not, Bool, true, false, if◌then◌else◌, [], set, Option, Some, None, length-set}
-use Rattle.std.proofs.lemmas.Bool.{both_ways, cases_eq, eq-eqb, ne_eqb}
+-- What is in use where a file is gone whose slot is still described, and the words that may be forgotten then.
+use Rattle.std.proofs.Common.{◌≡◌, ◌⊎◌, refl, sym, ap, ◌∙◌, subst, inl, inr, ℕ, ◌+◌, ◌<◌, ◌≤◌, ◌==◌, not, ◌&&◌, Bool, true, false, if◌then◌else◌, [], ◌∷◌, length, set, Option, Some, None, is_some, arith, length-set, get_or-set_same}
+use Rattle.lis_store.proofs.Common.{IsStrictlyIncreasing, cases_eq, ne_eqb, is_taken, stays_marked, word_of, slot_of, rec_at, has, numbers_at, FileRecord, same_word, File, same_word_decides, Kept, block_of, AreSound, state_of, is_used, MayForget, emptied, among_slots, left_out, used_flagged, used_had}
+use Rattle.std.proofs.lemmas.Bool.{both_ways, eq-eqb}
 use Rattle.std.proofs.lemmas.Map.Entries.{option_filter}
 use Rattle.lis_content.specs.Content.{has_number}
-use Rattle.lis_catalog.specs.Catalog.{slot_of, rec_at, without_slot}
+use Rattle.lis_catalog.specs.Catalog.{without_slot}
 use Rattle.lis_catalog.proofs.Laws.{rec_at-without_slot, slot_of-without_slot, slot_of-rec_at, filtered_none, filtered_one}
-use Rattle.lis_ext.specs.Ext.{has, set_of as numbers_at}
-use Rattle.lis_fields.specs.Records.{FileRecord}
-use Rattle.lis_words.specs.Words.{same_word}
-use Rattle.lis_model.specs.State.{File}
-use Rattle.lis_laws.proofs.Members.{same_word_decides}
-use Rattle.lis_kept.specs.Kept.{Kept}
-use Rattle.lis_kept.specs.Areas.{block_of}
 use Rattle.lis_kept.specs.Areas.Area.{Files}
-use Rattle.lis_kept.specs.Sound.{AreSound}
-use Rattle.lis_kept.specs.Telling.{is_used}
-use Rattle.lis_kept.specs.Forgetting.{MayForget, emptied}
+use Rattle.lis_kept.specs.Forgetting.{ForgetsWithout}
+use Rattle.lis_kept.specs.Changes.{Drops}
 use Rattle.lis_kept.proofs.Dropped.{file_slot_below}
-use Rattle.lis_kept.proofs.Without.{left_out, none_here, same_elsewhere}
-use Rattle.lis_store.specs.Stored.{AreClosed, TestsAreMet}
+use Rattle.lis_kept.proofs.Without.{none_here, same_elsewhere}
+use Rattle.lis_kept.proofs.Used.{used_left}
+use Rattle.lis_store.specs.Stored.{AreClosed}
+use Rattle.lis_store.specs.Removing.{Vacates}
 use Rattle.lis_store.specs.Replacing.{MayReplace}
 use Rattle.lis_store.specs.ReplacingIn.{AreInForm}
-use Rattle.lis_kept.proofs.Used.{used_flagged, used_had, used_left}
 use Rattle.lis_store.proofs.HeadsUsed.{IsUsedFor, used_for, head_used}
 use Rattle.lis_store.proofs.HeadsUsed.IsUsedFor.{Flagged, HadAt, NamedLeft}
 
@@ -32,107 +26,134 @@ vacated p slot = record p {
   marks = set p.marks (block_of p.limits Files slot) true;
 }
 
-module _ (p : Kept) (slot : ℕ) (rec : FileRecord) (form : AreInForm p) (there : rec_at p.catalog slot ≡ Some rec) where
-  abbrev d : Kept
-  d = vacated p slot
+pub rec_there : (o : Option FileRecord) → is_some o ≡ true → (rec : FileRecord) × (o ≡ Some rec)
+rec_there None none = absurd (both_ways false refl none)
+rec_there (Some rec) some = (rec, refl)
 
+-- memory stays sound where a slot without a file is not described
+pub sound_emptied : (k : Kept) (slot : ℕ) → AreSound k → AreSound (emptied k slot)
+sound_emptied k slot sound = record {
+  range = sound.range;
+  numbers = sound.numbers;
+  dict = sound.dict;
+  heads = sound.heads;
+  bits = sound.bits;
+  flagged = sound.flagged;
+  properties = sound.properties;
+  axiom_count = sound.axiom_count;
+  axioms = λ at left right is. let held = sound.axioms at left right is in record { below = held.below; left = held.left; right = held.right; plain = held.plain };
+  slots = sound.slots;
+  catalog = sound.catalog;
+  records = sound.records;
+  blocks = sound.blocks;
+  rows = sound.rows;
+  files = length-set k.ext.sets slot [] ∙ sound.files;
+  named = λ n at some h. sound.named n at some (sym (same_elsewhere k.ext slot n at (other_slot n at h)) ∙ h);
+  settled = sound.settled;
+  marks = sound.marks;
+}
+  where
+    other_slot : (n at : ℕ) → has (left_out k.ext slot) n at ≡ true → at ≡ slot → ⊥
+    other_slot n at h same = both_ways (has (left_out k.ext slot) n at) (ap (has (left_out k.ext slot) n) same ∙ none_here k.ext slot n) h
+
+module _ (p : Kept) (slot : ℕ) (rec : FileRecord) (form : AreInForm p) (there : rec_at p.catalog slot ≡ Some rec) where
   pub slot_below : slot < p.limits.files
   slot_below = file_slot_below p form.sound slot rec there
 
-  pub slot_vacant : rec_at d.catalog slot ≡ None
+  pub slot_vacant : rec_at (without_slot p.catalog slot) slot ≡ None
   slot_vacant = rec_at-without_slot p.catalog slot slot ∙ ap (λ b. if b then None else rec_at p.catalog slot) (eq-eqb slot slot refl)
 
-  pub rec_before : (at : ℕ) (r : FileRecord) → rec_at d.catalog at ≡ Some r → (at ≡ slot → ⊥) × (rec_at p.catalog at ≡ Some r)
+  pub rec_before : (at : ℕ) (r : FileRecord) → rec_at (without_slot p.catalog slot) at ≡ Some r → (at ≡ slot → ⊥) × (rec_at p.catalog at ≡ Some r)
   rec_before at r is = by (cases_eq at slot) (sym (rec_at-without_slot p.catalog slot at) ∙ is)
     where
       by : (at ≡ slot) ⊎ (at ≡ slot → ⊥) → (if at == slot then None else rec_at p.catalog at) ≡ Some r → (at ≡ slot → ⊥) × (rec_at p.catalog at ≡ Some r)
       by (inl same) e = let none : ◌≡◌ {A = Option FileRecord} None (Some r) = sym (ap (λ b. if b then None else rec_at p.catalog at) (eq-eqb at slot same)) ∙ e in absurd cc
       by (inr differ) e = (differ, sym (ap (λ b. if b then None else rec_at p.catalog at) (ne_eqb at slot differ)) ∙ e)
 
-  pub none_before : (at : ℕ) → (at ≡ slot → ⊥) → rec_at d.catalog at ≡ None → rec_at p.catalog at ≡ None
+  pub none_before : (at : ℕ) → (at ≡ slot → ⊥) → rec_at (without_slot p.catalog slot) at ≡ None → rec_at p.catalog at ≡ None
   none_before at differ none = sym (rec_at-without_slot p.catalog slot at ∙ ap (λ c. if c then None else rec_at p.catalog at) (ne_eqb at slot differ)) ∙ none
 
-  pub free_others : (at : ℕ) → (at ≡ slot → ⊥) → rec_at d.catalog at ≡ None → (n : ℕ) → has p.ext n at ≡ false
-  free_others at differ none = form.free at (none_before at differ none)
+  pub name_vacant : (file : File) → MayReplace p slot rec file → slot_of (without_slot p.catalog slot) file.name ≡ None
+  name_vacant file may = slot_of-without_slot p.catalog slot file.name form.sound.catalog ∙ by (same_word file.name rec.name) refl
+    where
+      by : (b : Bool) → same_word file.name rec.name ≡ b → option_filter (λ (n : ℕ). not (n == slot)) (slot_of p.catalog file.name) ≡ None
+      by true same =
+          filtered_one slot slot (slot_of p.catalog file.name)
+          (ap (slot_of p.catalog) ((same_word_decides file.name rec.name).0 same) ∙ slot_of-rec_at p.catalog slot rec form.sound.catalog there) refl
+      by false other =
+          filtered_none slot (slot_of p.catalog file.name) (may.new (λ same. both_ways (same_word file.name rec.name) other ((same_word_decides file.name rec.name).1 same)))
 
-  pub tags_others : (at : ℕ) (r : FileRecord) → rec_at d.catalog at ≡ Some r → (n : ℕ) → has_number r.tags n ≡ true → has p.ext n at ≡ true
-  tags_others at r is = form.in_use.tags at r (rec_before at r is).1
+  -- ---- what is in use without the description
+  pub used_elsewhere : (n at : ℕ) → (at ≡ slot → ⊥) → has p.ext n at ≡ true → is_used (emptied p slot) n ≡ true
+  used_elsewhere n at differ h = used_had (emptied p slot) n at (same_elsewhere p.ext slot n at differ ∙ h)
 
-  pub tests_others : TestsAreMet d
-  tests_others = record { given = λ at r is. form.tests.given at r (rec_before at r is).1; met = λ at r is. form.tests.met at r (rec_before at r is).1 }
+  pub used_or_here : (n : ℕ) → is_used p n ≡ true → (is_used (emptied p slot) n ≡ true) ⊎ (has_number (numbers_at p.ext slot) n ≡ true)
+  used_or_here n used = by (used_for p n used)
+    where
+      place : (at : ℕ) → has p.ext n at ≡ true → (at ≡ slot) ⊎ (at ≡ slot → ⊥) → (is_used (emptied p slot) n ≡ true) ⊎ (has_number (numbers_at p.ext slot) n ≡ true)
+      place at h (inl same) = inr (ap (has p.ext n) (sym same) ∙ h)
+      place at h (inr differ) = inl (used_elsewhere n at differ h)
 
-  module _ (file : File) (may : MayReplace p slot rec file) where
-    pub name_vacant : slot_of d.catalog file.name ≡ None
-    name_vacant = slot_of-without_slot p.catalog slot file.name form.sound.catalog ∙ by (same_word file.name rec.name) refl
-      where
-        by : (b : Bool) → same_word file.name rec.name ≡ b → option_filter (λ (n : ℕ). not (n == slot)) (slot_of p.catalog file.name) ≡ None
-        by true same =
-            filtered_one slot slot (slot_of p.catalog file.name)
-            (ap (slot_of p.catalog) ((same_word_decides file.name rec.name).0 same) ∙ slot_of-rec_at p.catalog slot rec form.sound.catalog there) refl
-        by false other =
-            filtered_none slot (slot_of p.catalog file.name) (may.new (λ same. both_ways (same_word file.name rec.name) other ((same_word_decides file.name rec.name).1 same)))
+      by : IsUsedFor p n → (is_used (emptied p slot) n ≡ true) ⊎ (has_number (numbers_at p.ext slot) n ≡ true)
+      by (Flagged bit) = inl (used_flagged (emptied p slot) n bit)
+      by (HadAt at h) = place at h (cases_eq at slot)
+      by (NamedLeft left) = inl (used_left (emptied p slot) n left)
 
   -- ---- words that may be forgotten
-  module _ (sound : AreSound d) where
-    -- what is kept but for the description
-    abbrev e : Kept
-    e = emptied d slot
+  abbrev e : Kept
+  e = emptied (vacated p slot) slot
 
-    sound_emptied : AreSound e
-    sound_emptied = record {
-      range = sound.range;
-      numbers = sound.numbers;
-      dict = sound.dict;
-      heads = sound.heads;
-      bits = sound.bits;
-      flagged = sound.flagged;
-      properties = sound.properties;
-      axiom_count = sound.axiom_count;
-      axioms = λ at left right is. let held = sound.axioms at left right is in record { below = held.below; left = held.left; right = held.right; plain = held.plain };
-      slots = sound.slots;
-      catalog = sound.catalog;
-      records = sound.records;
-      blocks = sound.blocks;
-      rows = sound.rows;
-      files = length-set p.ext.sets slot [] ∙ sound.files;
-      named = λ n at some h. sound.named n at some (sym (same_elsewhere p.ext slot n at (other_slot n at h)) ∙ h);
-      settled = sound.settled;
-      marks = sound.marks;
+  may_forget : AreSound (vacated p slot) → MayForget (numbers_at p.ext slot) (emptied (vacated p slot) slot)
+  may_forget sound = record {
+    given = λ n some unused. given n unused (used_or_here n (form.in_use.used n some));
+    tags = λ at r is n tag. let before = rec_before at r is in used_elsewhere n at before.0 (form.in_use.tags at r before.1 n tag);
+    rights = λ at left right is. used_flagged e right (form.in_use.rights at left right is);
+    heads = λ n head used is. head_used e (sound_emptied (vacated p slot) slot sound) closed_emptied n head is used;
+  }
+    where
+      given : (n : ℕ) → is_used e n ≡ false → (is_used e n ≡ true) ⊎ (has_number (numbers_at p.ext slot) n ≡ true) → has_number (numbers_at p.ext slot) n ≡ true
+      given n unused (inl used) = absurd (both_ways (is_used e n) unused used)
+      given n unused (inr here) = here
+
+      closed_emptied : AreClosed e
+      closed_emptied at a b h linked = by (cases_eq at slot)
+        where
+          by : (at ≡ slot) ⊎ (at ≡ slot → ⊥) → has e.ext b at ≡ true
+          by (inl same) = absurd (both_ways (has e.ext a at) (ap (has e.ext a) same ∙ none_here p.ext slot a) h)
+          by (inr differ) = same_elsewhere p.ext slot b at differ ∙ form.closed at a b (sym (same_elsewhere p.ext slot a at differ) ∙ h) linked
+
+  -- ---- the record goes, and then the words
+  abbrev home : ℕ
+  home = block_of p.limits Files slot
+
+  module _ (dropped : Kept) (drops : Drops slot rec p dropped) where
+    pub below_dropped : slot < dropped.limits.files
+    below_dropped = omega (arith, ap (λ (x : Kept). x.limits.files) drops.parts, slot_below)
+
+    pub free_dropped : rec_at dropped.catalog slot ≡ None
+    free_dropped = ap (λ (x : Kept). rec_at x.catalog slot) drops.parts ∙ slot_vacant
+
+    pub may_forget_dropped : AreSound dropped → MayForget (numbers_at p.ext slot) (emptied dropped slot)
+    may_forget_dropped sound =
+        subst (λ (x : Kept). MayForget (numbers_at p.ext slot) (emptied x slot)) (sym drops.parts) (may_forget (subst (λ (x : Kept). AreSound x) drops.parts sound))
+
+    pub vacates : (q : Kept) → IsStrictlyIncreasing (numbers_at p.ext slot) → ForgetsWithout slot (numbers_at p.ext slot) dropped q → AreSound q → Vacates slot rec p q
+    vacates q rising forgets sound = record {
+      there = there;
+      rising = rising;
+      parts = forgets.parts ∙ ap (λ (x : Kept). record x { dict = q.dict; marks = q.marks }) drops.parts;
+      words = λ n. subst (λ (x : Kept). word_of q.dict n ≡ (if has_number (numbers_at p.ext slot) n && not (is_used (emptied x slot) n) then None else word_of x.dict n)) drops.parts (forgets.words n);
+      used = λ n some. forgets.used n some ∙ ap (λ (x : Kept). is_used (emptied x slot) n) drops.parts;
+      told = λ at. forgets.state at ∙ ap (λ (x : Kept). state_of x at) drops.parts;
+      state = λ at. ap (λ (x : Kept). state_of x at) (sym drops.parts) ∙ drops.state at;
+      marks = record { saved = λ at saved. forgets.marks.saved at (drops.marks.saved at saved); few = omega (arith, drops.marks.few, forgets.marks.few) };
+      marked = λ block is. forgets.marked block (kept block is);
+      slot_marked = forgets.marked home (ap (λ (x : Kept). is_taken x.marks home) drops.parts ∙ get_or-set_same p.marks home true false in_marks);
+      sound = sound;
     }
       where
-        other_slot : (n at : ℕ) → has (left_out p.ext slot) n at ≡ true → at ≡ slot → ⊥
-        other_slot n at h same = both_ways (has (left_out p.ext slot) n at) (ap (has (left_out p.ext slot) n) same ∙ none_here p.ext slot n) h
+        in_marks : home < length p.marks
+        in_marks = omega (arith, (among_slots p.limits form.sound.range Files slot slot_below).1, form.sound.marks)
 
-    closed_emptied : AreClosed e
-    closed_emptied at a b h linked = by (cases_eq at slot)
-      where
-        by : (at ≡ slot) ⊎ (at ≡ slot → ⊥) → has e.ext b at ≡ true
-        by (inl same) = absurd (both_ways (has e.ext a at) (ap (has e.ext a) same ∙ none_here p.ext slot a) h)
-        by (inr differ) = same_elsewhere p.ext slot b at differ ∙ form.closed at a b (sym (same_elsewhere p.ext slot a at differ) ∙ h) linked
-
-    pub used_or_here : (n : ℕ) → is_used p n ≡ true → (is_used e n ≡ true) ⊎ (has_number (numbers_at p.ext slot) n ≡ true)
-    used_or_here n used = by (used_for p n used)
-      where
-        place : (at : ℕ) → has p.ext n at ≡ true → (at ≡ slot) ⊎ (at ≡ slot → ⊥) → (is_used e n ≡ true) ⊎ (has_number (numbers_at p.ext slot) n ≡ true)
-        place at h (inl same) = inr (ap (has p.ext n) (sym same) ∙ h)
-        place at h (inr differ) = inl (used_had e n at (same_elsewhere p.ext slot n at differ ∙ h))
-
-        by : IsUsedFor p n → (is_used e n ≡ true) ⊎ (has_number (numbers_at p.ext slot) n ≡ true)
-        by (Flagged bit) = inl (used_flagged e n bit)
-        by (HadAt at h) = place at h (cases_eq at slot)
-        by (NamedLeft left) = inl (used_left e n left)
-
-    pub used_elsewhere : (n at : ℕ) → (at ≡ slot → ⊥) → has p.ext n at ≡ true → is_used e n ≡ true
-    used_elsewhere n at differ h = used_had e n at (same_elsewhere p.ext slot n at differ ∙ h)
-
-    pub may_forget : MayForget (numbers_at p.ext slot) e
-    may_forget = record {
-      given = λ n some unused. given n unused (used_or_here n (form.in_use.used n some));
-      tags = λ at r is n tag. used_elsewhere n at (rec_before at r is).0 (tags_others at r is n tag);
-      rights = λ at left right is. used_flagged e right (form.in_use.rights at left right is);
-      heads = λ n head used is. head_used e sound_emptied closed_emptied n head is used;
-    }
-      where
-        given : (n : ℕ) → is_used e n ≡ false → (is_used e n ≡ true) ⊎ (has_number (numbers_at p.ext slot) n ≡ true) → has_number (numbers_at p.ext slot) n ≡ true
-        given n unused (inl used) = absurd (both_ways (is_used e n) unused used)
-        given n unused (inr here) = here
+        kept : (block : ℕ) → is_taken p.marks block ≡ true → is_taken dropped.marks block ≡ true
+        kept block is = ap (λ (x : Kept). is_taken x.marks block) drops.parts ∙ stays_marked p.marks (home ∷ []) block is

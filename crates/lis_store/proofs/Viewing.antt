@@ -1,34 +1,19 @@
 -- What memory keeps is a view, and its rows and its taxonomy tell of it.
 use Rattle.std.proofs.Common.{◌≡◌, ℕ, ◌==◌, ◌&&◌, nat_lt, nat_le, if◌then◌else◌, Bool, true, false, List, map, is_some, Option, Some, None, refl, sym, ap, ap₂, ◌∙◌, subst, eq-eqb, arith}
-use Rattle.std.specs.List.{list_any, Contains}
-use Rattle.std.proofs.lemmas.Bool.{and_parts, and_from, both_ways, eqb-true, ltb-true}
-use Rattle.std.proofs.lemmas.List.{length-map}
-use Rattle.std.proofs.lemmas.Option.{same_Some}
-use Rattle.lis_graph.proofs.Members.{Among, among_from_contains, contains_from_among, among_from_any, any_from_among, among_map, map_among}
-use Rattle.lis_dict.specs.Dict.{words, number_of, word_of}
-use Rattle.lis_dict.proofs.Laws.{among_from_word, number_from_among, word_from_among, number_below}
-use Rattle.lis_catalog.specs.Catalog.{Filed, slot_of, rec_at}
-use Rattle.lis_ext.specs.Ext.{has, set_of as numbers_at}
-use Rattle.lis_taxonomy.specs.Taxonomy.{Taxonomy, entails as leads}
-use Rattle.lis_taxonomy.proofs.Laws.{entails_decides}
-use Rattle.lis_fields.specs.Records.{FileRecord}
-use Rattle.lis_words.specs.Words.{same_word, has_word, test_of}
-use Rattle.lis_model.specs.State.{up}
+use Rattle.lis_store.proofs.Common.{list_any, Contains, and_parts, eqb-true, ltb-true, length-map, same_Some, Among, among_from_contains, contains_from_among, number_of, word_of, number_below, Filed, slot_of, rec_at, has, numbers_at, Taxonomy, leads, entails_decides, FileRecord, same_word, has_word, test_of, up, is_met, same_word_decides, among_from_has_word, Placed, Kept, AreSound, FreeSlotsAreEmpty, declared_of, axioms_of, test_by, TellsLinks, filed_rec, filed_slot, filed_at_slot, among_word, number_told}
+use Rattle.std.proofs.lemmas.Bool.{and_from, both_ways}
+use Rattle.lis_graph.proofs.Members.{among_from_any, any_from_among, among_map, map_among}
+use Rattle.lis_dict.specs.Dict.{words}
+use Rattle.lis_dict.proofs.Laws.{among_from_word, number_from_among, word_from_among}
 use Rattle.lis_grammar.specs.Formula.Formula.{SizeAtLeast, SizeBelow}
-use Rattle.lis_model.specs.Tests.{is_met, step_by}
+use Rattle.lis_model.specs.Tests.{step_by}
 use Rattle.lis_model.specs.Table.{Entry, entails}
 use Rattle.lis_model.specs.Listing.{holds}
-use Rattle.lis_laws.proofs.Members.{same_word_decides, among_from_has_word, has_word_from_among}
+use Rattle.lis_laws.proofs.Members.{has_word_from_among}
 use Rattle.lis_laws.proofs.Counts.{all_among}
 use Rattle.lis_laws.proofs.Locals.{same_tests}
-use Rattle.lis_eval.specs.View.{Placed, file_in, IsView, TellsFiles, TellsEntailment}
-use Rattle.lis_kept.specs.Kept.{Kept}
-use Rattle.lis_kept.specs.Sound.{AreSound, FreeSlotsAreEmpty}
-use Rattle.lis_kept.specs.Telling.{words_told, declared_of, axioms_of}
-use Rattle.lis_kept.specs.TestEdges.{test_by}
-use Rattle.lis_kept.specs.Links.{TellsLinks}
-use Rattle.lis_kept.proofs.Filing.{filed_rec, filed_slot, filed_at_slot}
-use Rattle.lis_kept.proofs.Known.{among_word, number_told}
+use Rattle.lis_eval.specs.View.{file_in, IsView, TellsFiles, TellsEntailment}
+use Rattle.lis_kept.specs.Telling.{words_told}
 use Rattle.lis_store.specs.Stored.{AreClosed, TestsAreMet}
 use Rattle.lis_store.specs.Seen.{placed, seen_of, table_of}
 use Rattle.lis_kept.proofs.Entailed.{leads_from_up, up_from_leads}

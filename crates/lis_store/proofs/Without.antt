@@ -1,27 +1,13 @@
 -- Descriptions without one number.
 use Rattle.std.proofs.Common.{◌≡◌, refl, sym, ap, ◌∙◌, subst, ℕ, ◌≤◌, ◌==◌, not, cond, Bool, true, false, List, [], ◌∷◌, filter, slice_get, Some, is_some, IsSome, arith}
-use Rattle.std.specs.List.{list_all}
-use Rattle.std.specs.List.Sorted.{IsStrictlyIncreasing}
-use Rattle.std.specs.Ordering.{nat_cmp}
-use Rattle.std.proofs.lemmas.Bool.{both_ways, false_from_ne_true, not-true, eq-eqb}
-use Rattle.std.proofs.lemmas.List.{get_or_past}
-use Rattle.std.proofs.lemmas.List.Kept.{IsStrictlySortedBy-filter}
+use Rattle.lis_store.proofs.Common.{list_all, IsStrictlyIncreasing, nat_cmp, not-true, get_or_past, IsStrictlySortedBy-filter, Among, among_filter, is_taken, word_of, rec_at, has, numbers_at, Pair, Kept, AreSound, is_head_by, is_had, is_named_left, had_at}
+use Rattle.std.proofs.lemmas.Bool.{both_ways, false_from_ne_true, eq-eqb}
 use Rattle.std.proofs.lemmas.Map.Keys.{sorted_from_strictly_increasing, IsStrictlyIncreasing-from_sorted}
-use Rattle.lis_graph.proofs.Members.{Among, among_filter}
-use Rattle.lis_blockmap.specs.Bitmap.{is_taken}
 use Rattle.lis_content.specs.Content.{has_number}
 use Rattle.lis_content.proofs.Numbers.{neither}
-use Rattle.lis_dict.specs.Dict.{word_of}
-use Rattle.lis_catalog.specs.Catalog.{rec_at}
-use Rattle.lis_ext.specs.Ext.{has, set_of as numbers_at}
-use Rattle.lis_fields.specs.declared.slots.AxiomSlot.TheVariants.{Pair}
 use Rattle.lis_laws.proofs.Counts.{all_from}
-use Rattle.lis_kept.specs.Kept.{Kept}
-use Rattle.lis_kept.specs.Sound.{AreSound}
-use Rattle.lis_kept.specs.Telling.{is_head_by, is_had, is_named_left}
 use Rattle.lis_kept.specs.Undeclaring.{MayUndeclare}
 use Rattle.lis_kept.proofs.Filing.{among_from_number, number_from_among}
-use Rattle.lis_kept.proofs.Used.{had_at}
 use Rattle.lis_store.specs.Redescribing.{Redescribes}
 use Rattle.lis_store.specs.Testing.{without_number, undescribed}
 use Rattle.lis_store.proofs.Redescribed.{same_here, given_then}

@@ -1,21 +1,10 @@
 -- The calls that write and rename a file.
 use Rattle.std.proofs.Common.{◌≡◌, refl, sym, ap, ap₂, ◌∙◌, subst, ℕ, ◌+◌, ◌≤◌, ◌==◌, not, cond, Bool, true, false, List, [], length, Option, Some, None, Result, Err, IsSomeAnd, arith}
-use Rattle.std.specs.List.{list_all}
-use Rattle.std.proofs.lemmas.Bool.{both_ways, le-ltb, ltb-false}
-use Rattle.lis_ports.specs.Meaning.{Meaning}
-use Rattle.lis_catalog.specs.Catalog.{slot_of, rec_at}
-use Rattle.lis_catalog.proofs.Laws.{rec_at-slot_of}
-use Rattle.lis_fields.specs.Records.{FileRecord}
-use Rattle.lis_words.specs.Words.{is_file_name}
-use Rattle.lis_grammar.specs.Formula.{Formula}
-use Rattle.lis_model.specs.declared.refusal.Refusal.{Refusal}
-use Rattle.lis_model.specs.declared.refusal.Refusal.TheVariants.{NoFileHere, LargeFile}
-use Rattle.lis_model.specs.State.{State, File, file_limit, is_assignable, blocks_taken, used_blocks}
-use Rattle.lis_model.specs.Changes.{new_file, file_of, file_replaced}
-use Rattle.lis_model.specs.Step.{Situation, Payload, free_blocks, changed, write, rename}
-use Rattle.lis_kept.specs.Kept.{Kept}
-use Rattle.lis_kept.specs.Sound.{AreSound}
-use Rattle.lis_kept.specs.Telling.{declared_of, words_told, bytes_told}
+use Rattle.lis_store.proofs.Common.{list_all, ltb-false, Meaning, slot_of, rec_at, rec_at-slot_of, FileRecord, is_file_name, Formula, Refusal, NoFileHere, LargeFile, State, File, file_limit, is_assignable, blocks_taken, used_blocks, new_file, file_replaced, Situation, Payload, free_blocks, write, rename, Kept, AreSound, declared_of, bytes_told}
+use Rattle.std.proofs.lemmas.Bool.{both_ways, le-ltb}
+use Rattle.lis_model.specs.Changes.{file_of}
+use Rattle.lis_model.specs.Step.{changed}
+use Rattle.lis_kept.specs.Telling.{words_told}
 use Rattle.lis_kept.proofs.Filed.{record_named}
 use Rattle.lis_store.specs.declared.change.Change.{Change}
 use Rattle.lis_store.specs.declared.change.Change.TheVariants.{Refused}

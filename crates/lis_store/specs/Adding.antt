@@ -1,4 +1,4 @@
--- A file that comes into memory.
+-- Words of a file that comes into memory.
 use Rattle.std.specs.Prelude.{◌≡◌, ℕ, ◌≤◌, Bool, true, false, ◌&&◌, ◌||◌, if◌then◌else◌, Option, is_some, Some, None, List, [], ◌∷◌, ◌++◌, length, IsSome}
 use Rattle.std.specs.List.{flat_map}
 use Rattle.lis_dict.specs.Dict.{Dict, words, number_of, word_of}
@@ -10,8 +10,7 @@ use Rattle.lis_model.specs.State.{File, heads}
 use Rattle.lis_kept.specs.Kept.{Kept}
 use Rattle.lis_kept.specs.Areas.{is_marked}
 use Rattle.lis_kept.specs.Telling.{state_of}
-use Rattle.lis_kept.specs.Changes.{Marks, Files, Describes}
-use Rattle.lis_store.specs.Admitting.{described_by}
+use Rattle.lis_kept.specs.Changes.{Marks}
 
 -- ---- numbers of words
 -- there is a word, and it is one of these
@@ -54,18 +53,6 @@ pub record LearnsAll (more : List (List ℕ)) (p q : Kept) : Type 0 where
   pub keeps : (n : ℕ) (word : List ℕ) → word_of p.dict n ≡ Some word → word_of q.dict n ≡ Some word
   pub state : (at : ℕ → List ℕ) → state_of q at ≡ state_of p at
 
--- ---- a file that is put in
 -- The words of a file that are learnt with it: those that it was given, and the derived ones. Tests that it meets are declared.
 abbrev pub learnt_words : File → List (List ℕ)
 learnt_words file = file.assigned ++ derived_words file.name file.bytes
-
--- Its words are learnt, then it is filed with the numbers of those that it was given and of its blocks, and described with the numbers of
--- its description.
-pub record PutsIn (file : File) (blocks : List ℕ) (p q : Kept) : Type 0 where
-  pub learnt : Kept
-  pub learns : LearnsAll (with_heads (learnt_words file)) p learnt
-  pub few : length (numbers_named learnt.dict (described_by p file)) ≤ 128
-  pub slot : ℕ
-  pub filed : Kept
-  pub files : Files slot (record { name = file.name; size = length file.bytes; tags = numbers_named learnt.dict file.assigned; blocks = blocks }) learnt filed
-  pub describes : Describes slot (numbers_named learnt.dict (described_by p file)) filed q

@@ -1,34 +1,18 @@
 -- What a file is refused for that would come into the place of another, told by what a store keeps.
-use Rattle.std.specs.Prelude.{◌≡◌, ℕ, ◌+◌, ◌<◌, ◌==◌, nat_lt, not, ◌&&◌, if◌then◌else◌, Bool, is_some, List, [], ◌∷◌, ◌++◌, length, filter}
+use Rattle.std.specs.Prelude.{ℕ, ◌+◌, ◌==◌, nat_lt, not, if◌then◌else◌, Bool, is_some, Some, List, [], ◌∷◌, ◌++◌, length, filter}
 use Rattle.std.specs.List.{list_all}
-use Rattle.lis_bits.specs.Rows.{Rows, get}
 use Rattle.lis_blockmap.specs.Bitmap.{free_count, is_taken}
 use Rattle.lis_catalog.specs.Catalog.{slot_of}
-use Rattle.lis_dict.specs.Dict.{word_of}
-use Rattle.lis_ext.specs.Ext.{has}
-use Rattle.lis_ext.specs.Numbers.{numbers_where}
 use Rattle.lis_fields.specs.Records.{FileRecord}
 use Rattle.lis_grammar.specs.Formula.{Formula}
 use Rattle.lis_model.specs.declared.refusal.Refusal.{Refusal}
-use Rattle.lis_model.specs.declared.refusal.Refusal.TheVariants.{UnknownProperty, NameTaken, NoFileHere, LargeDescription, LargeFile, NoPropertyRoom, NoSpace}
+use Rattle.lis_model.specs.declared.refusal.Refusal.TheVariants.{UnknownProperty, NameTaken, NoFileHere, LargeFile, NoSpace}
 use Rattle.lis_model.specs.State.{File, is_assignable, file_limit, blocks_taken}
 use Rattle.lis_model.specs.Changes.{new_file}
 use Rattle.lis_kept.specs.Kept.{Kept}
-use Rattle.lis_kept.specs.Telling.{declared_of, words_told, is_used}
-use Rattle.lis_store.specs.Adding.{is_one_of}
-use Rattle.lis_store.specs.Admitting.{described_by}
+use Rattle.lis_kept.specs.Telling.{declared_of, words_told}
 use Rattle.lis_store.specs.Judging.{is_among}
-use Rattle.lis_kept.specs.Forgetting.{emptied}
-use Rattle.lis_store.specs.Replacing.{known_instead}
-
--- ---- words
--- The row has the numbers of the words that the file's description would have, where they have any.
-abbrev pub HasNumbers : Kept → Rows → File → Type 0
-HasNumbers k row file = (n : ℕ) → n < k.limits.props → get row 0 n ≡ is_one_of (described_by k file) (word_of k.dict n)
-
--- the numbers of the description in the slot which are not in the row, and which nothing else uses
-abbrev pub leaving : Kept → Rows → ℕ → List ℕ
-leaving k row slot = numbers_where k.limits.props (λ n. has k.ext n slot && not (get row 0 n) && not (is_used (emptied k slot) n))
+use Rattle.lis_store.specs.Beside.{words_checks}
 
 -- ---- files
 -- a file of a name and these bytes, with the words that the file of a record was given
@@ -40,10 +24,7 @@ given_before k rec name bytes = new_file name (words_told k.dict rec.tags) bytes
 -- keeps does not say so by itself.
 abbrev pub instead_checks : Kept → ℕ → File → List (Bool × Refusal)
 instead_checks k slot file =
-    (not (list_all (is_assignable (declared_of k)) file.assigned), UnknownProperty)
-    ∷ (nat_lt 128 (length (described_by k file)), LargeDescription)
-    ∷ (nat_lt k.limits.props (length (known_instead k slot file)), NoPropertyRoom)
-    ∷ []
+    (not (list_all (is_assignable (declared_of k)) file.assigned), UnknownProperty) ∷ words_checks k (Some slot) file
 
 -- How many blocks are free for other bytes of the file of a record. In version 1 those that it has, which are taken, may be used again; in
 -- version 2 they stay until the command is done.

@@ -1,5 +1,5 @@
 -- What commands are refused for, asked of what memory keeps.
-use Rattle.std.specs.Prelude.{ℕ, ◌+◌, nat_lt, Bool, false, not, Option, Some, None, List, [], ◌∷◌, length, count_by}
+use Rattle.std.specs.Prelude.{◌≡◌, ℕ, ◌+◌, nat_lt, Bool, true, false, not, Option, Some, None, List, [], ◌∷◌, length, count_by, ◌++◌}
 use Rattle.std.specs.List.{list_any, list_all}
 use Rattle.lis_grammar.specs.Formula.{Formula}
 use Rattle.lis_dict.specs.Dict.{number_of}
@@ -15,24 +15,40 @@ use Rattle.lis_kept.specs.Telling.{is_declared}
 use Rattle.lis_kept.specs.Linking.{is_filled}
 use Rattle.lis_kept.specs.Undeclaring.{is_needed}
 use Rattle.lis_store.specs.Seen.{table_of}
-use Rattle.lis_store.specs.Testing.{is_gained_by, has_crowded}
+use Rattle.lis_store.specs.Testing.{has_crowded}
+use Rattle.lis_store.specs.Adding.{numbers_named}
 
 -- a file of that name is in the extension of the place
 abbrev pub is_among : Kept → List Formula → List ℕ → Bool
 is_among k place name = list_any (λ (file : Entry). same_word file.name name) (extension (table_of k) place)
 
--- the row of `mkdir`
-abbrev pub word_checks : Kept → List Formula → List ℕ → List (Bool × Refusal)
-word_checks k place word =
+-- whether a word is new, and the place under which it is to stand is one of plain declared words
+abbrev pub place_checks : Kept → List Formula → List ℕ → List (Bool × Refusal)
+place_checks k place word =
     (is_built_in word, BuiltIn)
     ∷ (is_valued word, NotAssignable)
     ∷ (is_declared k word, AlreadyDeclared)
     ∷ (not (is_plain_place (place_words place)), NotAPlace)
     ∷ (not (list_all (is_declared k) (words_at place)), UnknownProperty)
-    ∷ (nat_lt k.limits.props (count_by is_filled k.axioms + length (words_at place)), NoAxiomRoom)
-    ∷ (nat_lt k.limits.props (length k.dict.entries + 1), NoPropertyRoom)
-    ∷ (has_crowded k (test_of word) (is_gained_by k (words_at place)), LargeDescription)
     ∷ []
+
+-- whether there is room for the word, for so many axioms, and for what files gain that meet it under the words of these numbers
+abbrev pub room_checks : Kept → List ℕ → ℕ → List ℕ → List (Bool × Refusal)
+room_checks k word axioms numbers =
+    (nat_lt k.limits.props (count_by is_filled k.axioms + axioms), NoAxiomRoom)
+    ∷ (nat_lt k.limits.props (length k.dict.entries + 1), NoPropertyRoom)
+    ∷ (has_crowded k (test_of word) numbers, LargeDescription)
+    ∷ []
+
+-- the row of `mkdir`
+abbrev pub word_checks : Kept → List Formula → List ℕ → List (Bool × Refusal)
+word_checks k place word = place_checks k place word ++ room_checks k word (length (words_at place)) (numbers_named k.dict (words_at place))
+
+-- a declared word, with its number, that nothing needs
+pub record IsUndeclarable (k : Kept) (word : List ℕ) (number : ℕ) : Type 0 where
+  pub numbered : number_of k.dict word ≡ Some number
+  pub declared : is_declared k word ≡ true
+  pub unneeded : is_needed k number ≡ false
 
 -- the word has a number, and is needed
 abbrev pub is_needed_by : Kept → Option ℕ → Bool

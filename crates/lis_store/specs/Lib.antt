@@ -10,14 +10,16 @@ pub mod Judging
 pub mod Admitting
 pub mod Assigning
 pub mod Placing
-pub mod Describing
 pub mod Removing
 pub mod Replacing
 pub mod Adding
+pub mod Beside
+pub mod Describing
 pub mod Counting
 pub mod Relating
 pub mod RelatingIn
 pub mod Redescribing
+pub mod Closing
 pub mod Unlinking
 pub mod Testing
 pub mod ReplacingIn

@@ -1,9 +1,9 @@
 -- What refuses a new axiom, told by what a store keeps.
-use Rattle.std.specs.Prelude.{◌≡◌, ℕ, ◌+◌, ◌<◌, ◌≤◌, nat_lt, Bool, true, false, not, ◌&&◌, ◌||◌, Option, Some, None, List, [], ◌∷◌, ◌++◌, length, count_by, IsTrue, IsSome}
-use Rattle.std.specs.List.{list_any}
-use Rattle.lis_dict.specs.Dict.{words, number_of, word_of}
-use Rattle.lis_ext.specs.Ext.{has, set_of}
-use Rattle.lis_ext.specs.Numbers.{has_number, numbers_where}
+use Rattle.std.specs.Prelude.{◌≡◌, ℕ, ◌+◌, ◌<◌, ◌≤◌, nat_lt, Bool, true, false, not, ◌&&◌, Option, Some, None, List, [], ◌∷◌, ◌++◌, length, count_by, IsTrue, IsSome}
+use Rattle.std.specs.List.{list_any, range_with_len}
+use Rattle.lis_dict.specs.Dict.{words, number_of}
+use Rattle.lis_ext.specs.Ext.{has, set_of as numbers_at}
+use Rattle.lis_ext.specs.Numbers.{has_number}
 use Rattle.lis_words.specs.Words.{has_word, is_plain_word}
 use Rattle.lis_model.specs.declared.refusal.Refusal.{Refusal}
 use Rattle.lis_model.specs.declared.refusal.Refusal.TheVariants.{NotAssignable, UnknownProperty, AxiomThere, Cycle, NoAxiomRoom, NoPropertyRoom, LargeDescription}
@@ -13,31 +13,24 @@ use Rattle.lis_model.specs.Changes.{has_axiom}
 use Rattle.lis_kept.specs.Kept.{Kept}
 use Rattle.lis_kept.specs.Linking.{is_filled}
 use Rattle.lis_kept.specs.Telling.{is_declared, declared_of, axioms_of}
-use Rattle.lis_store.specs.Adding.{is_one_of, behind_head}
+use Rattle.lis_store.specs.Adding.{behind_head}
+use Rattle.lis_store.specs.Closing.{is_gained_by, wider}
 
 -- the first word entails the second one
 abbrev pub entails_word : Kept → List ℕ → List ℕ → Bool
 entails_word k word other = has_word (up (declared_of k) (axioms_of k) word) other
-
--- the number is that of a word that this one entails
-abbrev pub entails_number : Kept → List ℕ → ℕ → Bool
-entails_number k word n = is_one_of (up (declared_of k) (axioms_of k) word) (word_of k.dict n)
-
--- these numbers with those of all that a word entails, in rising order
-abbrev pub widened_numbers : Kept → List ℕ → List ℕ → List ℕ
-widened_numbers k word numbers = numbers_where k.ext.props (λ n. has_number numbers n || entails_number k word n)
 
 -- there is a number, and it is one of these
 abbrev pub is_number_of : List ℕ → Option ℕ → Bool
 is_number_of numbers None = false
 is_number_of numbers (Some n) = has_number numbers n
 
--- a description that has the left word would have more words than it may
-abbrev pub is_overfull : Kept → List ℕ → List ℕ → List ℕ → Bool
-is_overfull k left right numbers = is_number_of numbers (number_of k.dict left) && nat_lt 128 (length (widened_numbers k right numbers))
+-- the description in a slot has the left word, and would have more words than it may with all that the right one entails
+abbrev pub is_overfull : Kept → List ℕ → List ℕ → ℕ → Bool
+is_overfull k left right slot = is_number_of (numbers_at k.ext slot) (number_of k.dict left) && nat_lt 128 (length (wider k (is_gained_by k (right ∷ [])) slot))
 
 abbrev pub has_overfull : Kept → List ℕ → List ℕ → Bool
-has_overfull k left right = list_any (is_overfull k left right) k.ext.sets
+has_overfull k left right = list_any (is_overfull k left right) (range_with_len 0 k.limits.files)
 
 -- what the two words are refused for
 abbrev pub pair_checks : Kept → List ℕ → List ℕ → List (Bool × Refusal)
@@ -71,4 +64,4 @@ pub record MayRelate (k : Kept) (left right : List ℕ) : Type 0 where
   pub slots : count_by is_filled k.axioms < k.limits.props
   pub room : length (with_words (words k.dict) (behind_head left)) ≤ k.limits.props
   -- no description that has the left word gets too large
-  pub short : (n slot : ℕ) → number_of k.dict left ≡ Some n → has k.ext n slot ≡ true → length (widened_numbers k right (set_of k.ext slot)) ≤ 128
+  pub short : (n slot : ℕ) → number_of k.dict left ≡ Some n → has k.ext n slot ≡ true → length (wider k (is_gained_by k (right ∷ [])) slot) ≤ 128

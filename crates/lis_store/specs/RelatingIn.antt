@@ -1,14 +1,15 @@
 -- An axiom that comes into memory.
-use Rattle.std.specs.Prelude.{◌≡◌, ℕ, ◌<◌, Bool, Some, List}
+use Rattle.std.specs.Prelude.{◌≡◌, ℕ, Some, List}
 use Rattle.lis_dict.specs.Dict.{number_of}
 use Rattle.lis_kept.specs.Kept.{Kept}
 use Rattle.lis_kept.specs.Sound.{AreSound}
 use Rattle.lis_kept.specs.Linking.{Links}
-use Rattle.lis_kept.specs.Widening.{Widens}
 use Rattle.lis_store.specs.Adding.{behind_head, LearnsAll}
-use Rattle.lis_store.specs.Relating.{entails_number}
+use Rattle.lis_store.specs.Closing.{rebuilt}
+use Rattle.lis_store.specs.declared.closing.Rebuild.TheVariants.{Having}
+use Rattle.lis_store.specs.Redescribing.{Redescribes}
 
--- The left word is learnt, then linked to the right one, and each file that has it gets the numbers of all that the right word entails.
+-- The left word is learnt, then linked to the right one, and the descriptions that have it are made anew.
 pub record RelatesIn (left right : List ℕ) (p q : Kept) : Type 0 where
   pub learnt : Kept
   pub learns : LearnsAll (behind_head left) p learnt
@@ -19,6 +20,5 @@ pub record RelatesIn (left right : List ℕ) (p q : Kept) : Type 0 where
   pub is_right : number_of learnt.dict right ≡ Some to
   pub linked : Kept
   pub links : Links from to learnt linked
-  pub entailed : ℕ → Bool
-  pub bits : (n : ℕ) → n < learnt.limits.props → entailed n ≡ entails_number learnt right n
-  pub widens : Widens from entailed linked q
+  pub sound_linked : AreSound linked
+  pub rebuilds : Redescribes (rebuilt linked (Having from)) linked.limits.files linked q

@@ -1,19 +1,23 @@
--- How a file takes the place of another in memory. Words are forgotten while the slot is still described as it was, and the slot is described
--- anew once the other words have numbers, so that each bit of the rows is edited once at most.
-use Rattle.std.specs.Prelude.{◌≡◌, ℕ, ◌≤◌, None, List, length, IsTrue}
+-- How a file comes into a slot of memory, in the place of another or into a free one. Words are forgotten while the slot is still described as
+-- it was, and the slot is described anew once the other words have numbers, so that each bit of the rows is edited once at most.
+use Rattle.std.specs.Prelude.{◌≡◌, ℕ, ◌<◌, ◌≤◌, Option, None, Some, List, length, IsTrue, IsSomeAnd}
 use Rattle.std.specs.List.{list_all}
 use Rattle.std.specs.List.Sorted.{IsStrictlyIncreasing}
-use Rattle.lis_catalog.specs.Catalog.{slot_of}
+use Rattle.lis_graph.specs.Graph.{is_rising}
+use Rattle.lis_catalog.specs.Catalog.{slot_of, rec_at}
 use Rattle.lis_ext.specs.Ext.{set_of}
 use Rattle.lis_fields.specs.Records.{FileRecord}
-use Rattle.lis_model.specs.State.{File, is_assignable}
+use Rattle.lis_words.specs.Words.{is_file_name, word_cmp}
+use Rattle.lis_model.specs.State.{File, is_assignable, file_limit}
 use Rattle.lis_kept.specs.Kept.{Kept}
 use Rattle.lis_kept.specs.Telling.{declared_of}
 use Rattle.lis_kept.specs.Sound.{AreSound, FreeSlotsAreEmpty}
-use Rattle.lis_kept.specs.Forgetting.{KeepsInUse, ForgetsWithout}
-use Rattle.lis_kept.specs.Changes.{Drops, Describes, Files}
+use Rattle.lis_kept.specs.Forgetting.{KeepsInUse, emptied}
+use Rattle.lis_kept.specs.Changes.{Describes, Files}
 use Rattle.lis_store.specs.Stored.{AreClosed, DescriptionsAreShort, TestsAreMet}
-use Rattle.lis_store.specs.Admitting.{described_by, known_with}
+use Rattle.lis_store.specs.Admitting.{described_by, known_with, IsAdmitted}
+use Rattle.lis_store.specs.Removing.{Vacates}
+use Rattle.lis_store.specs.Replacing.{MayReplace}
 use Rattle.lis_store.specs.Adding.{numbers_named, with_heads, LearnsAll, learnt_words}
 
 -- what holds of what every store keeps, whatever is marked
@@ -25,23 +29,45 @@ pub record AreInForm (k : Kept) : Type 0 where
   pub in_use : KeepsInUse k
   pub tests : TestsAreMet k
 
+-- ---- room for a file
+-- the record that goes where a file comes into the slot, if one is told
+abbrev pub record_in : Kept → Option ℕ → Option FileRecord
+record_in k None = None
+record_in k (Some slot) = rec_at k.catalog slot
+
+-- A file that may be put into the slot, in the place of the file there, or into a free one where none is told.
+abbrev pub MayPut : Kept → Option ℕ → File → Type 0
+MayPut k None file = IsAdmitted k file
+MayPut k (Some slot) file = IsSomeAnd (rec_at k.catalog slot) (λ (rec : FileRecord). MayReplace k slot rec file)
+
 -- A file whose words may be given, and that has a new name.
 pub record MayComeIn (k : Kept) (file : File) : Type 0 where
+  pub name : IsTrue (is_file_name file.name)
   pub new : slot_of k.catalog file.name ≡ None
+  pub set : IsTrue (is_rising word_cmp file.assigned)
   pub assignable : IsTrue (list_all (is_assignable (declared_of k)) file.assigned)
   pub few : length file.assigned ≤ 16
   pub short : length (described_by k file) ≤ 128
   pub room : length (known_with k file) ≤ k.limits.props
+  pub small : length file.bytes ≤ file_limit k.limits.version
 
--- The record in the slot goes, and the words go that nothing else uses. The slot is described as before.
-pub record Vacates (slot : ℕ) (rec : FileRecord) (p q : Kept) : Type 0 where
-  pub rising : IsStrictlyIncreasing (set_of p.ext slot)
-  pub dropped : Kept
-  pub drops : Drops slot rec p dropped
-  pub form_dropped : AreSound dropped
-  pub forgets : ForgetsWithout slot (set_of p.ext slot) dropped q
-  pub form : AreSound q
+-- The slot has no file, and is described by these numbers. Without them memory is in form.
+pub record IsVacant (slot : ℕ) (old : List ℕ) (k : Kept) : Type 0 where
+  pub below : slot < k.limits.files
+  pub spare : length k.catalog.entries < k.limits.files
+  pub free : rec_at k.catalog slot ≡ None
+  pub was : set_of k.ext slot ≡ old
+  pub rising : IsStrictlyIncreasing old
+  pub few : length old ≤ 128
+  pub sound : AreSound k
+  pub form : AreInForm (emptied k slot)
 
+-- The file of the record goes, or where there is none the slot is free.
+abbrev pub MakesRoom : ℕ → Option FileRecord → Kept → Kept → Type 0
+MakesRoom slot None p q = q ≡ p
+MakesRoom slot (Some rec) p q = Vacates slot rec p q
+
+-- ---- a file that comes
 -- The words of a file are learnt. These are the numbers of those that it was given, and those of its description.
 pub record LearnsOwn (file : File) (tags numbers : List ℕ) (p q : Kept) : Type 0 where
   pub learns : LearnsAll (with_heads (learnt_words file)) p q
@@ -50,20 +76,25 @@ pub record LearnsOwn (file : File) (tags numbers : List ℕ) (p q : Kept) : Type
   pub numbered : numbers ≡ numbers_named q.dict (described_by p file)
   pub few : length numbers ≤ 128
 
--- The file in the slot goes, the words of another one are learnt, and the slot is described by them. `tags` are the numbers of those that
--- it was given.
-pub record MakesWay (slot : ℕ) (file : File) (tags : List ℕ) (p q : Kept) : Type 0 where
-  pub rec : FileRecord
-  pub vacated : Kept
-  pub vacates : Vacates slot rec p vacated
-  pub learnt : Kept
-  pub learns : LearnsOwn file tags (numbers_named learnt.dict (described_by vacated file)) vacated learnt
-  pub describes : Describes slot (numbers_named learnt.dict (described_by vacated file)) learnt q
-  pub form : AreSound q
+-- the record of a file of these blocks
+abbrev pub record_of : List ℕ → File → List ℕ → FileRecord
+record_of tags file blocks = record { name = file.name; size = length file.bytes; tags = tags; blocks = blocks }
 
--- The file in the slot makes way for another one, which stands in these blocks.
-pub record RefilesIn (slot : ℕ) (file : File) (blocks : List ℕ) (p q : Kept) : Type 0 where
-  pub tags : List ℕ
+-- Its words are learnt, then the slot is described by them, and last it is filed there.
+pub record SettlesIn (slot : ℕ) (file : File) (blocks : List ℕ) (p q : Kept) : Type 0 where
+  pub learnt : Kept
+  pub own : LearnsOwn file (numbers_named learnt.dict file.assigned) (numbers_named learnt.dict (described_by p file)) p learnt
   pub described : Kept
-  pub way : MakesWay slot file tags p described
-  pub files : Files slot (record { name = file.name; size = length file.bytes; tags = tags; blocks = blocks }) described q
+  pub describes : Describes slot (numbers_named learnt.dict (described_by p file)) learnt described
+  pub files : Files slot (record_of (numbers_named learnt.dict file.assigned) file blocks) described q
+  pub sound : AreSound q
+
+-- The file of the record goes, if there is one, and another comes into its slot or into a free one.
+pub record RefilesIn (gone : Option FileRecord) (file : File) (blocks : List ℕ) (p q : Kept) : Type 0 where
+  pub slot : ℕ
+  pub old : List ℕ
+  pub vacated : Kept
+  pub makes : MakesRoom slot gone p vacated
+  pub vacant : IsVacant slot old vacated
+  pub may : MayComeIn vacated file
+  pub settles : SettlesIn slot file blocks vacated q

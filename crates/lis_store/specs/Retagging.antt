@@ -1,20 +1,19 @@
 -- What a file is refused for that would move from one place to another, told by what a store keeps.
-use Rattle.std.specs.Prelude.{ℕ, true, nat_lt, Bool, not, ◌&&◌, is_some, List, [], ◌∷◌, ◌++◌, length, Result, Ok, Err}
+use Rattle.std.specs.Prelude.{ℕ, nat_lt, Bool, not, ◌&&◌, is_some, List, [], ◌∷◌, ◌++◌, length, Result, Ok, Err}
 use Rattle.std.specs.List.{list_any, list_all}
 use Rattle.lis_fields.specs.Records.{FileRecord}
 use Rattle.lis_words.specs.Words.{is_built_in, is_head}
 use Rattle.lis_grammar.specs.Formula.{Formula}
-use Rattle.lis_grammar.specs.Places.{Resolution, resolved, text_words}
+use Rattle.lis_grammar.specs.Places.{Resolution}
 use Rattle.lis_grammar.specs.Places.Resolution.{NewPlace, BeyondLimits, Unreadable}
 use Rattle.lis_model.specs.declared.refusal.Refusal.{Refusal}
-use Rattle.lis_model.specs.declared.refusal.Refusal.TheVariants.{BadFormula, UnknownProperty, LargeFormula, NotAPlace, NoFileHere, NotAssignable, TooManyAssigned, BuiltIn}
+use Rattle.lis_model.specs.declared.refusal.Refusal.TheVariants.{BadFormula, UnknownProperty, LargeFormula, NotAPlace, NotAssignable, TooManyAssigned, BuiltIn}
 use Rattle.lis_model.specs.State.{File, is_assignable}
 use Rattle.lis_model.specs.Changes.{new_file}
 use Rattle.lis_model.specs.Places.{place_words}
 use Rattle.lis_model.specs.Step.{tags_at, retagged}
 use Rattle.lis_kept.specs.Kept.{Kept}
 use Rattle.lis_kept.specs.Telling.{words_told, declared_of}
-use Rattle.lis_store.specs.Judging.{is_among}
 use Rattle.lis_store.specs.Instead.{instead_checks}
 
 -- the place that a text makes of a place, or why it is refused
@@ -48,13 +47,3 @@ moving_checks k here there words rec = places_checks k here there words ++ (nat_
 
 abbrev pub retag_checks : Kept → List Formula → List Formula → List (List ℕ) → ℕ → FileRecord → File → List (Bool × Refusal)
 retag_checks k here there words slot rec file = moving_checks k here there words rec ++ instead_checks k slot file
-
--- the row of `mv` of a file that has these bytes
-abbrev pub mv_checks_by : Kept → List Formula → List ℕ → List ℕ → ℕ → FileRecord → List ℕ → Resolution → List (Bool × Refusal)
-mv_checks_by k here name text slot rec bytes (Unreadable n) = (true, BadFormula) ∷ []
-mv_checks_by k here name text slot rec bytes BeyondLimits = (true, LargeFormula) ∷ []
-mv_checks_by k here name text slot rec bytes (NewPlace there) =
-    (not (is_among k here name), NoFileHere) ∷ retag_checks k here there (text_words text) slot rec (moved_from k rec here there name bytes)
-
-abbrev pub mv_checks_of : Kept → List Formula → List ℕ → List ℕ → ℕ → FileRecord → List ℕ → List (Bool × Refusal)
-mv_checks_of k here name text slot rec bytes = mv_checks_by k here name text slot rec bytes (resolved here text)

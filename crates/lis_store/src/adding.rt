@@ -1,28 +1,21 @@
-//! Files that come into memory.
+//! Words of files that come into memory, and their numbers.
 
-ghost use Rattle.std.specs.Prelude.{◌≡◌, ℕ, ◌<◌, ◌≤◌, nat_lt, not, ◌&&◌, ◌++◌, length, IsTrue};
+ghost use Rattle.std.specs.Prelude.{◌≡◌, ℕ, ◌<◌, ◌≤◌, not, ◌&&◌, ◌++◌, length, IsTrue};
 ghost use Rattle.std.specs.List.{list_all};
 ghost use Rattle.lis_bits.specs.Rows.{HasShape, get};
 ghost use Rattle.lis_dict.specs.Dict.{word_of};
 ghost use Rattle.lis_ext.specs.Numbers.{numbers_where};
-ghost use Rattle.lis_fields.specs.Layouts.{are_blocks};
 ghost use Rattle.lis_model.specs.State.{heads, all_up};
 ghost use Rattle.lis_model.specs.Tests.{met_tests};
-ghost use Rattle.lis_model.specs.Changes.{new_file};
-ghost use Rattle.lis_eval.specs.Room.{HasRoom};
-ghost use Rattle.lis_kept.specs.Sound.{AreSound, FreeSlotsAreEmpty};
+ghost use Rattle.lis_kept.specs.Sound.{AreSound};
 ghost use Rattle.lis_kept.specs.Telling.{declared_of, axioms_of};
-ghost use Rattle.lis_store.specs.Admitting.{IsAdmitted};
-ghost use Rattle.lis_store.specs.Adding.{is_one_of, numbers_named, AreNumbered, behind_head, with_heads, may_learn, HasWordRoom, LearnsAll, PutsIn};
+ghost use Rattle.lis_store.specs.Adding.{is_one_of, numbers_named, AreNumbered, behind_head, with_heads, may_learn, HasWordRoom, LearnsAll};
 
 use crate::meeting::leave_out_met;
 use arrayvec::ArrayVec;
 use lis_bits::{Rows, and_not_row};
-use lis_derive::derive_words;
-use lis_eval::Scratch;
-use lis_fields::FileRec;
 use lis_kept::Parts;
-use lis_words::{Name, Word, head_of};
+use lis_words::{Word, head_of};
 
 // Gives the head of a valued word a number if it has none.
 fn learn_head(parts: &mut Parts, word: &Word)
@@ -131,43 +124,4 @@ pub(crate) fn numbers_entailed(
     leave_out_met(parts, size, row);
     row.negate(0);
     numbers_in(row, props)
-}
-
-/// Files bytes under a new name: its words come first, then its record in a slot, and last the numbers of its description. The bytes stand
-/// in blocks that are taken already.
-pub(crate) fn put_in(
-    parts: &mut Parts,
-    scratch: &mut Scratch,
-    name: &Name,
-    assigned: &[Word],
-    payload: &[u8],
-    blocks: ArrayVec<u16, 16>,
-)
-    requires sound { AreSound parts.old }
-    requires admitted { IsAdmitted parts.old (new_file name.now assigned.now payload.now) }
-    requires free { FreeSlotsAreEmpty parts.old }
-    requires in_form { IsTrue (are_blocks parts.old.limits.version (length payload.now) blocks.items) }
-    requires below { IsTrue (list_all (λ n. nat_lt n parts.old.limits.blocks) blocks.items) }
-    requires scratch { HasRoom scratch.old parts.old.limits }
-    ensures scratch { HasRoom scratch.new parts.old.limits }
-    ensures put { PutsIn (new_file name.now assigned.now payload.now) blocks.items parts.old parts.new }
-{
-    let derived = derive_words(name, payload);
-    learn_words(parts, assigned);
-    learn_words(parts, derived.as_slice());
-    let tags = numbers_of(parts, assigned, &mut scratch.candidates);
-    let numbers = numbers_entailed(
-        parts,
-        assigned,
-        derived.as_slice(),
-        payload.len() as u64,
-        &mut scratch.candidates,
-    );
-    let slot = parts.add_record(FileRec {
-        name: name.copied(),
-        size: payload.len() as u32,
-        tags,
-        blocks,
-    });
-    parts.describe(slot, &[], numbers.as_slice());
 }

@@ -1,8 +1,9 @@
 //! What a new file is refused for.
 
-ghost use Rattle.std.specs.Prelude.{◌≡◌, ◌≤◌, length, IfOk, IsTrue};
+ghost use Rattle.std.specs.Prelude.{◌≡◌, ◌≤◌, ◌∷◌, nat_lt, length, IfOk, IsTrue};
 ghost use Rattle.std.specs.List.{list_any};
 ghost use Rattle.lis_words.specs.Words.{is_built_in, is_file_name};
+ghost use Rattle.lis_model.specs.declared.refusal.Refusal.TheVariants.{LargeFile};
 ghost use Rattle.lis_model.specs.Changes.{new_file};
 ghost use Rattle.lis_model.specs.State.{file_limit, blocks_taken};
 ghost use Rattle.lis_model.specs.Step.{is_head_or_test, assigned_at};
@@ -69,20 +70,24 @@ fn has_head_or_test(words: &[Word]) -> bool
     words.iter().any(|word| is_head_or_test(word))
 }
 
-// The words that a new file would be given, or what its name, its place and the named words are refused for.
+// The words that a new file would be given, or what its size, its name, its place and the named words are refused for.
 fn may_name(
     parts: &Parts,
     place: &Place,
     name: &Name,
     tags: &Tags,
     payload: &[u8],
+    size: u64,
 ) -> Result<ArrayVec<Word, 16>, Refusal>
-    ensures row { Judges (named_checks parts.now place.now tags.now
+    ensures row { Judges ((nat_lt (file_limit parts.now.limits.version) size, LargeFile) ∷ named_checks parts.now place.now tags.now
         (new_file name.now (assigned_at place.now tags.now) payload.now)) result }
     ensures words { IfOk result (λ words. words.items ≡ assigned_at place.now tags.now) }
     ensures few { IfOk result (λ words. length words.items ≤ 16) }
-    ensures name { IsTrue (is_file_name name.now) }
+    ensures name { IfOk result (λ words. IsTrue (is_file_name name.now)) }
 {
+    if size > file_limit(parts.limits().version) {
+        return Err(Refusal::LargeFile);
+    }
     if parts.slot_of(name).is_some() {
         return Err(Refusal::NameTaken);
     }
@@ -122,11 +127,11 @@ fn has_room(
     if parts.file_count() >= limits.files {
         return Err(Refusal::NoFileRoom);
     }
-    let measure = measure(parts, &mut scratch.candidates, name, words, payload);
+    let measure = measure(parts, &mut scratch.candidates, None, name, words, payload);
     if measure.words > MAX_DESCRIPTION {
         return Err(Refusal::LargeDescription);
     }
-    if parts.word_count() + measure.fresh > limits.props {
+    if measure.known > limits.props {
         return Err(Refusal::NoPropertyRoom);
     }
     if blocks_taken(limits.version, size) > u64::from(parts.free_blocks()) {
@@ -152,10 +157,7 @@ pub(crate) fn may_add(
     ensures words { IfOk result (λ words. words.items ≡ assigned_at place.now tags.now) }
     ensures name { IfOk result (λ words. IsTrue (is_file_name name.now)) }
 {
-    if size > file_limit(parts.limits().version) {
-        return Err(Refusal::LargeFile);
-    }
-    let words = may_name(parts, place, name, tags, payload)?;
+    let words = may_name(parts, place, name, tags, payload, size)?;
     has_room(parts, scratch, name, words.as_slice(), payload, size)?;
     Ok(words)
 }

@@ -1,10 +1,11 @@
 //! The words that a new file is given: those of its place, and those that are named.
 
-ghost use Rattle.std.specs.Prelude.{◌≡◌, ◌<◌, ◌≤◌, [], ◌∷◌, length, slice_get, is_some, IsSome, MatchOption, IfSome};
-ghost use Rattle.std.specs.List.{flat_map, list_all, prefix_len};
+ghost use Rattle.std.specs.Prelude.{◌≡◌, ◌<◌, ◌≤◌, [], ◌∷◌, length, slice_get, is_some, IsSome, MatchOption, IfSome, OnOk, IfErr};
+ghost use Rattle.std.specs.List.{flat_map, list_all, prefix_len, insert};
 ghost use Rattle.std.specs.Ordering.{is_gt};
 ghost use Rattle.lis_words.specs.Words.{word_cmp};
 ghost use Rattle.lis_place.specs.Nodes.{nodes_of};
+ghost use Rattle.lis_model.specs.Sets.{with_word};
 ghost use Rattle.lis_model.specs.Places.{is_tag, place_words};
 ghost use Rattle.lis_model.specs.State.{is_assignable};
 ghost use Rattle.lis_model.specs.Step.{assigned_at};
@@ -126,20 +127,35 @@ fn stands_at(words: &[Word], place: usize, word: &Word) -> bool
     }
 }
 
+// Where the word stands in a set of words, or else where it would.
+fn find_place(words: &[Word], word: &Word) -> Result<usize, usize>
+    ensures there { OnOk result (with_word words.now word.now ≡ words.now) }
+    ensures new { IfErr result (λ place. insert words.now place word.now ≡ with_word words.now word.now) }
+    ensures within { IfErr result (λ place. place ≤ length words.now) }
+{
+    let place = place_of(words, word);
+    if stands_at(words, place, word) {
+        Ok(place)
+    } else {
+        Err(place)
+    }
+}
+
 /// Puts a word into a set of words. The answer tells whether there is room for it.
 pub(crate) fn put_word(words: &mut ArrayVec<Word, 16>, word: &Word) -> bool
     requires { length words.old.items ≤ 16 }
     ensures { Takes (word.now ∷ []) words.old.items words.new.items result }
 {
-    let place = place_of(words.as_slice(), word);
-    if stands_at(words.as_slice(), place, word) {
-        return true;
+    match find_place(words.as_slice(), word) {
+        Ok(_) => true,
+        Err(place) => {
+            if words.is_full() {
+                return false;
+            }
+            words.insert(place, word.copied());
+            true
+        }
     }
-    if words.is_full() {
-        return false;
-    }
-    words.insert(place, word.copied());
-    true
 }
 
 // Puts the word of a node into a set of words, if a file can be given it.

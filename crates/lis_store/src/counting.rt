@@ -10,6 +10,7 @@ ghost use Rattle.lis_kept.specs.Telling.{axioms_of};
 ghost use Rattle.lis_model.specs.Changes.{has_axiom};
 ghost use Rattle.lis_store.specs.Stored.{IsSound};
 
+use crate::relating::axiom_numbers;
 use crate::store::Store;
 use lis_words::Word;
 
@@ -44,14 +45,7 @@ impl Store {
     pub fn has_axiom(&self, left: &Word, right: &Word) -> bool
         ensures { result ≡ has_axiom (axioms_of self.now.parts) (left.now, right.now) }
     {
-        let parts = self.parts();
-        let Some(from) = parts.number_of(left) else {
-            return false;
-        };
-        let Some(to) = parts.number_of(right) else {
-            return false;
-        };
-        parts.has_axiom(from, to)
+        axiom_numbers(self.parts(), left, right).is_some()
     }
 
     /// Of the words to which axioms lead from a word, the first in byte order that comes behind the last one, where one is given: so

@@ -1,14 +1,16 @@
-//! The size of a new file's description, and how many of its words are new.
+//! What the description of a file would be: how many words it would have, and how many words would be known with it.
 
-ghost use Rattle.std.specs.Prelude.{◌≡◌, ◌+◌, ◌*◌, ◌<◌, ◌≤◌, [], ◌∷◌, length};
+ghost use Rattle.std.specs.Prelude.{◌≡◌, ◌+◌, ◌*◌, ◌<◌, ◌≤◌, [], ◌∷◌, length, IsSome, IfSome};
 ghost use Rattle.lis_bits.specs.Rows.{HasShape};
+ghost use Rattle.lis_catalog.specs.Catalog.{rec_at};
 ghost use Rattle.lis_words.specs.Words.{has_word};
 ghost use Rattle.lis_model.specs.Changes.{new_file};
 ghost use Rattle.lis_model.specs.State.{heads};
 ghost use Rattle.lis_kept.specs.Sound.{AreSound};
-ghost use Rattle.lis_store.specs.Admitting.{described_by, known_with};
-ghost use Rattle.lis_store.specs.Describing.{with_heads, Gathers};
-ghost use Rattle.lis_store.specs.Instead.{HasNumbers};
+ghost use Rattle.lis_kept.specs.Telling.{AreUsed};
+ghost use Rattle.lis_store.specs.Admitting.{described_by};
+ghost use Rattle.lis_store.specs.Beside.{known_beside, is_leaving, leaving};
+ghost use Rattle.lis_store.specs.Describing.{with_heads, Gathers, IsTold};
 
 use crate::meeting::leave_out_met;
 use arrayvec::ArrayVec;
@@ -20,11 +22,11 @@ use lis_words::{Name, Word, head_of};
 /// The words that are new: as many as 64 words, which a file is given or which are derived from it, have with their heads.
 type Fresh = ArrayVec<Word, 128>;
 
-/// How many words a description has, and how many of them are not known yet.
+/// How many words a description has, and how many words would be known with them.
 #[derive(Clone, Copy, Debug, PartialEq, Eq)]
 pub(crate) struct Extent {
     pub(crate) words: u32,
-    pub(crate) fresh: u32,
+    pub(crate) known: u32,
 }
 
 // Whether the word is one of the words.
@@ -76,23 +78,13 @@ fn gather_all(parts: &Parts, lacked: &mut Rows, fresh: &mut Fresh, words: &[Word
     }
 }
 
-/// Measures the description of a new file of a name, the words that it is given, and these bytes. `row` is a row of words to
-/// work in, and has then the numbers of its words.
-pub(crate) fn measure(
-    parts: &Parts,
-    row: &mut Rows,
-    name: &Name,
-    words: &[Word],
-    payload: &[u8],
-) -> Extent
+// Tells the description of a file of a name, the words that it is given, and these bytes: `row`, a row of words to work in, has
+// then the numbers of its words. The answer is those that have none.
+fn tell(parts: &Parts, row: &mut Rows, name: &Name, words: &[Word], payload: &[u8]) -> Fresh
     requires sound { AreSound parts.now }
     requires shape { HasShape row.old 1 parts.now.limits.props }
     requires few { length words.now ≤ 16 }
-    ensures shape { HasShape row.new 1 parts.now.limits.props }
-    ensures words { result.words ≡ length (described_by parts.now (new_file name.now words.now payload.now)) }
-    ensures known { length parts.now.dict.entries + result.fresh ≡ length (known_with parts.now (new_file name.now words.now payload.now)) }
-    ensures fresh { result.fresh ≤ 128 }
-    ensures row { HasNumbers parts.now row.new (new_file name.now words.now payload.now) }
+    ensures { IsTold parts.now (new_file name.now words.now payload.now) row.new result.items }
 {
     // Rows of other rows are taken from a row, so it has at first what the file lacks.
     let mut fresh = ArrayVec::new();
@@ -106,9 +98,68 @@ pub(crate) fn measure(
     );
     leave_out_met(parts, payload.len() as u64, row);
     row.negate(0);
-    let fresh = fresh.len() as u32;
+    fresh
+}
+
+// Whether the description in a slot has a number which is not in the row, and which nothing else uses.
+fn is_leaving(parts: &Parts, row: &Rows, slot: u16, number: u16) -> bool
+    requires sound { AreSound parts.now }
+    requires there { IsSome (rec_at parts.now.catalog slot) }
+    requires slot { slot < length parts.now.ext.sets }
+    requires number { number < parts.now.limits.props }
+    requires shape { HasShape row.now 1 parts.now.limits.props }
+    ensures { result ≡ is_leaving parts.now row.now slot number }
+{
+    if !parts.ext().rows().get(u32::from(number), u32::from(slot)) {
+        return false;
+    }
+    if row.get(0, u32::from(number)) {
+        return false;
+    }
+    !parts.is_used_without(slot, number)
+}
+
+// How many numbers of the description in a slot are not in the row, and nothing else uses them. Where no slot is given, none leave.
+fn leaving(parts: &Parts, row: &Rows, beside: Option<u16>) -> u32
+    requires there { IfSome beside (λ slot. IsSome (rec_at parts.now.catalog slot)) }
+    requires shape { HasShape row.now 1 parts.now.limits.props }
+    ensures { result ≡ length (leaving parts.now row.now beside) }
+{
+    let Some(slot) = beside else {
+        return 0;
+    };
+    let props = parts.limits().props;
+    let mut count = 0;
+    for number in 0..props {
+        if is_leaving(parts, row, slot, number as u16) {
+            count += 1;
+        }
+    }
+    count
+}
+
+/// Measures what there would be with a file of a name, the words that it is given, and these bytes, in the place of that in a slot, if
+/// one is given. `row` is a row of words to work in.
+pub(crate) fn measure(
+    parts: &Parts,
+    row: &mut Rows,
+    beside: Option<u16>,
+    name: &Name,
+    words: &[Word],
+    payload: &[u8],
+) -> Extent
+    requires sound { AreSound parts.now }
+    requires there { IfSome beside (λ slot. IsSome (rec_at parts.now.catalog slot)) }
+    requires used { IfSome beside (λ slot. AreUsed parts.now) }
+    requires shape { HasShape row.old 1 parts.now.limits.props }
+    requires few { length words.now ≤ 16 }
+    ensures shape { HasShape row.new 1 parts.now.limits.props }
+    ensures words { result.words ≡ length (described_by parts.now (new_file name.now words.now payload.now)) }
+    ensures known { result.known ≡ length (known_beside parts.now beside (new_file name.now words.now payload.now)) }
+{
+    let fresh = tell(parts, row, name, words, payload).len() as u32;
     Extent {
         words: row.count(0) + fresh,
-        fresh,
+        known: parts.word_count() + fresh - leaving(parts, row, beside),
     }
 }

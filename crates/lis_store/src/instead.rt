@@ -1,39 +1,25 @@
 //! What a file is refused for that would come into the place of another.
 
-ghost use Rattle.std.specs.Prelude.{◌≡◌, ◌<◌, ◌≤◌, not, ◌&&◌, Some, None, length, IsSome, IfOk};
+ghost use Rattle.std.specs.Prelude.{◌≡◌, ◌≤◌, Some, None, length, IsSome, IfOk};
 ghost use Rattle.std.specs.Option.{option_to_list};
-ghost use Rattle.lis_bits.specs.Rows.{HasShape, get};
 ghost use Rattle.lis_catalog.specs.Catalog.{slot_of, rec_at};
 ghost use Rattle.lis_dict.specs.Dict.{word_of};
-ghost use Rattle.lis_ext.specs.Ext.{has};
 ghost use Rattle.lis_fields.specs.Records.{FileRecord};
 ghost use Rattle.lis_model.specs.Changes.{new_file};
 ghost use Rattle.lis_eval.specs.Room.{HasRoom};
-ghost use Rattle.lis_kept.specs.Sound.{AreSound};
-ghost use Rattle.lis_kept.specs.Telling.{words_told, is_used, AreUsed};
-ghost use Rattle.lis_store.specs.Admitting.{described_by};
+ghost use Rattle.lis_kept.specs.Telling.{words_told, AreUsed};
 ghost use Rattle.lis_store.specs.Assigning.{Takes};
 ghost use Rattle.lis_store.specs.Changes.{Judges};
-ghost use Rattle.lis_store.specs.Instead.{leaving, given_before, free_instead, instead_checks, overwriting_checks, renaming_checks};
-ghost use Rattle.lis_kept.specs.Forgetting.{emptied};
-ghost use Rattle.lis_store.specs.Replacing.{known_instead};
+ghost use Rattle.lis_store.specs.Instead.{given_before, free_instead, instead_checks, overwriting_checks, renaming_checks};
 
 use crate::admitting::{MAX_DESCRIPTION, blocks_taken};
 use crate::assigning::{all_assignable, put_word};
 use crate::describing::measure;
 use arrayvec::ArrayVec;
-use lis_bits::Rows;
 use lis_eval::Scratch;
 use lis_kept::Parts;
 use lis_model::refusal::Refusal;
 use lis_words::{Name, Word};
-
-/// How many words a description would have in the place of another, and how many words would be known then.
-#[derive(Clone, Copy, Debug, PartialEq, Eq)]
-struct Known {
-    words: u32,
-    known: u32,
-}
 
 // Puts the word of a number into a set of words, if there is one.
 fn put_number(parts: &Parts, words: &mut ArrayVec<Word, 16>, number: u16) -> bool
@@ -83,68 +69,6 @@ fn free_instead(parts: &Parts, slot: u16) -> u64
     free + parts.taken_blocks(slot) as u64
 }
 
-// Whether the description in a slot has a number which is not in the row, and which nothing else uses.
-fn is_leaving(parts: &Parts, row: &Rows, slot: u16, number: u16) -> bool
-    requires sound { AreSound parts.now }
-    requires there { IsSome (rec_at parts.now.catalog slot) }
-    requires slot { slot < length parts.now.ext.sets }
-    requires number { number < parts.now.limits.props }
-    requires shape { HasShape row.now 1 parts.now.limits.props }
-    ensures { result ≡ (has parts.now.ext number slot && not (get row.now 0 number) && not (is_used (emptied parts.now slot) number)) }
-{
-    if !parts.ext().rows().get(u32::from(number), u32::from(slot)) {
-        return false;
-    }
-    if row.get(0, u32::from(number)) {
-        return false;
-    }
-    !parts.is_used_without(slot, number)
-}
-
-// How many numbers of the description in a slot are not in the row, and nothing else uses them.
-fn leaving(parts: &Parts, row: &Rows, slot: u16) -> u32
-    requires there { IsSome (rec_at parts.now.catalog slot) }
-    requires slot { slot < length parts.now.ext.sets }
-    requires shape { HasShape row.now 1 parts.now.limits.props }
-    ensures { result ≡ length (leaving parts.now row.now slot) }
-{
-    let props = parts.limits().props;
-    let mut count = 0;
-    for number in 0..props {
-        if is_leaving(parts, row, slot, number as u16) {
-            count += 1;
-        }
-    }
-    count
-}
-
-// Measures what would be known with a file in the place of that in a slot.
-fn measure_instead(
-    parts: &Parts,
-    row: &mut Rows,
-    slot: u16,
-    name: &Name,
-    words: &[Word],
-    payload: &[u8],
-) -> Known
-    requires sound { AreSound parts.now }
-    requires slot { slot < length parts.now.ext.sets }
-    requires there { IsSome (rec_at parts.now.catalog slot) }
-    requires used { AreUsed parts.now }
-    requires shape { HasShape row.old 1 parts.now.limits.props }
-    requires few { length words.now ≤ 16 }
-    ensures shape { HasShape row.new 1 parts.now.limits.props }
-    ensures words { result.words ≡ length (described_by parts.now (new_file name.now words.now payload.now)) }
-    ensures known { result.known ≡ length (known_instead parts.now slot (new_file name.now words.now payload.now)) }
-{
-    let extent = measure(parts, row, name, words, payload);
-    let gone = leaving(parts, row, slot);
-    Known {
-        words: extent.words,
-        known: parts.word_count() + extent.fresh - gone,
-    }
-}
-
 /// Whether the words of a file may stand in the place of those of the file in a slot.
 pub(crate) fn has_room_instead(
     parts: &Parts,
@@ -166,7 +90,14 @@ pub(crate) fn has_room_instead(
     if !all_assignable(parts, words) {
         return Err(Refusal::UnknownProperty);
     }
-    let measure = measure_instead(parts, &mut scratch.candidates, slot, name, words, payload);
+    let measure = measure(
+        parts,
+        &mut scratch.candidates,
+        Some(slot),
+        name,
+        words,
+        payload,
+    );
     if measure.words > MAX_DESCRIPTION {
         return Err(Refusal::LargeDescription);
     }

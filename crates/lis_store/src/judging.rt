@@ -1,14 +1,17 @@
 //! What commands are refused for.
 
-ghost use Rattle.std.specs.Prelude.{◌≡◌, ◌≤◌, length, Some, IsTrue, OnOk, IfOk};
-ghost use Rattle.lis_dict.specs.Dict.{number_of};
+ghost use Rattle.std.specs.Prelude.{◌≡◌, ◌≤◌, is_some, length, IsTrue, OnOk, IfOk};
+ghost use Rattle.std.specs.List.{list_all};
+ghost use Rattle.lis_dict.specs.Dict.{word_of};
 ghost use Rattle.lis_model.specs.State.{is_declarable};
 ghost use Rattle.lis_model.specs.Step.{words_at};
 ghost use Rattle.lis_words.specs.Words.{is_property};
 ghost use Rattle.lis_kept.specs.Sound.{AreSound};
 ghost use Rattle.lis_store.specs.Changes.{Judges};
-ghost use Rattle.lis_store.specs.Judging.{word_checks, undeclare_checks};
+ghost use Rattle.lis_store.specs.Judging.{place_checks, room_checks, word_checks, IsUndeclarable, undeclare_checks};
+ghost use Rattle.lis_kept.specs.Telling.{words_told};
 ghost use Rattle.lis_store.specs.Placing.{AreNumbersOf};
+ghost use Rattle.lis_store.specs.Testing.{MayDeclare};
 
 use crate::crowding::has_crowded;
 use crate::placing::{has_plain_words, place_numbers};
@@ -18,14 +21,10 @@ use lis_model::refusal::Refusal;
 use lis_place::Place;
 use lis_words::{Word, is_builtin, is_valued};
 
-/// The numbers of the place's words, where a word may be declared at the place.
-pub(crate) fn may_declare(
-    parts: &Parts,
-    place: &Place,
-    word: &Word,
-) -> Result<ArrayVec<u16, 64>, Refusal>
+// The numbers of the place's words, where the word is a new one, and these are plain words that are declared.
+fn may_place(parts: &Parts, place: &Place, word: &Word) -> Result<ArrayVec<u16, 64>, Refusal>
     requires sound { AreSound parts.now }
-    ensures row { Judges (word_checks parts.now place.now word.now) result }
+    ensures row { Judges (place_checks parts.now place.now word.now) result }
     ensures form { OnOk result (IsTrue (is_declarable word.now)) }
     ensures word { IsTrue (is_property word.now) }
     ensures numbers { IfOk result (λ numbers. AreNumbersOf parts.now (words_at place.now) numbers.items) }
@@ -44,9 +43,18 @@ pub(crate) fn may_declare(
     if !has_plain_words(place) {
         return Err(Refusal::NotAPlace);
     }
-    let Some(numbers) = place_numbers(parts, place) else {
-        return Err(Refusal::UnknownProperty);
-    };
+    match place_numbers(parts, place) {
+        None => Err(Refusal::UnknownProperty),
+        Some(numbers) => Ok(numbers),
+    }
+}
+
+// Whether there is room for the word, and for axioms from it to the words of these numbers.
+fn has_room(parts: &Parts, word: &Word, numbers: &[u16]) -> Result<(), Refusal>
+    requires named { IsTrue (list_all (λ n. is_some (word_of parts.now.dict n)) numbers.now) }
+    requires few { length numbers.now ≤ 64 }
+    ensures { Judges (room_checks parts.now word.now (length numbers.now) numbers.now) result }
+{
     let props = parts.limits().props;
     if parts.axiom_count() + numbers.len() as u32 > props {
         return Err(Refusal::NoAxiomRoom);
@@ -54,9 +62,26 @@ pub(crate) fn may_declare(
     if parts.word_count() >= props {
         return Err(Refusal::NoPropertyRoom);
     }
-    if has_crowded(parts, word, numbers.as_slice()) {
+    if has_crowded(parts, word, numbers) {
         return Err(Refusal::LargeDescription);
     }
+    Ok(())
+}
+
+/// The numbers of the place's words, where a word may be declared at the place.
+pub(crate) fn may_declare(
+    parts: &Parts,
+    place: &Place,
+    word: &Word,
+) -> Result<ArrayVec<u16, 64>, Refusal>
+    requires sound { AreSound parts.now }
+    ensures row { Judges (word_checks parts.now place.now word.now) result }
+    ensures word { IsTrue (is_property word.now) }
+    ensures may { IfOk result (λ numbers. MayDeclare parts.now word.now numbers.items) }
+    ensures told { IfOk result (λ numbers. words_told parts.now.dict numbers.items ≡ words_at place.now) }
+{
+    let numbers = may_place(parts, place, word)?;
+    has_room(parts, word, numbers.as_slice())?;
     Ok(numbers)
 }
 
@@ -64,7 +89,7 @@ pub(crate) fn may_declare(
 pub(crate) fn may_undeclare(parts: &Parts, word: &Word) -> Result<u16, Refusal>
     requires sound { AreSound parts.now }
     ensures row { Judges (undeclare_checks parts.now word.now) result }
-    ensures number { IfOk result (λ number. number_of parts.now.dict word.now ≡ Some number) }
+    ensures may { IfOk result (λ number. IsUndeclarable parts.now word.now number) }
 {
     if is_builtin(word) {
         return Err(Refusal::BuiltIn);

@@ -7,6 +7,7 @@ mod adding;
 mod admitting;
 mod assigning;
 mod change;
+mod closing;
 mod contents;
 mod counting;
 mod crowding;

@@ -1,8 +1,8 @@
 //! What a new axiom is refused for.
 
-ghost use Rattle.std.specs.Prelude.{◌≡◌, ◌+◌, ◌<◌, ◌≤◌, ◌&&◌, ◌||◌, length, is_some, Some, IfOk, if◌then◌else◌};
-ghost use Rattle.lis_dict.specs.Dict.{words, number_of};
-ghost use Rattle.lis_ext.specs.Ext.{has, set_of};
+ghost use Rattle.std.specs.Prelude.{◌≡◌, ◌+◌, ◌<◌, ◌≤◌, ◌&&◌, ◌||◌, nat_lt, [], ◌∷◌, length, is_some, Some, IsSome, IfSome, IfOk, if◌then◌else◌};
+ghost use Rattle.lis_dict.specs.Dict.{words, number_of, word_of};
+ghost use Rattle.lis_ext.specs.Ext.{has};
 ghost use Rattle.lis_words.specs.Words.{has_word, is_plain_word, is_test, is_valued, head_bytes};
 ghost use Rattle.lis_model.specs.Sets.{with_words};
 ghost use Rattle.lis_model.specs.State.{is_known_head, is_nameable};
@@ -11,8 +11,11 @@ ghost use Rattle.lis_kept.specs.Sound.{AreSound};
 ghost use Rattle.lis_kept.specs.Telling.{declared_of, axioms_of};
 ghost use Rattle.lis_store.specs.Adding.{behind_head};
 ghost use Rattle.lis_store.specs.Changes.{Judges};
-ghost use Rattle.lis_store.specs.Relating.{entails_word, entails_number, widened_numbers, is_overfull, has_overfull, pair_checks, axiom_room_checks, axiom_checks_of};
+ghost use Rattle.lis_store.specs.Closing.{is_gained, wider};
+ghost use Rattle.lis_store.specs.Unlinking.{IsAxiomAt};
+ghost use Rattle.lis_store.specs.Relating.{entails_word, has_overfull, pair_checks, axiom_room_checks, axiom_checks_of};
 
+use crate::crowding::is_full;
 use lis_kept::Parts;
 use lis_model::refusal::Refusal;
 use lis_words::{Word, head_of, is_builtin, is_head, is_plain_word, test_of};
@@ -75,18 +78,22 @@ fn is_nameable(parts: &Parts, word: &Word) -> bool
     has_known_head(parts, word)
 }
 
-// Whether the axiom is there.
-fn is_related(parts: &Parts, left: &Word, right: &Word) -> bool
+/// The numbers of the two words of an axiom, if it is kept.
+pub(crate) fn axiom_numbers(parts: &Parts, left: &Word, right: &Word) -> Option<(u16, u16)>
     requires sound { AreSound parts.now }
-    ensures { result ≡ has_axiom (axioms_of parts.now) (left.now, right.now) }
+    ensures there { is_some result ≡ has_axiom (axioms_of parts.now) (left.now, right.now) }
+    ensures numbers { IfSome result (λ pair. IsAxiomAt parts.now left.now right.now pair.0 pair.1) }
 {
     let Some(from) = parts.number_of(left) else {
-        return false;
+        return None;
     };
     let Some(to) = parts.number_of(right) else {
-        return false;
+        return None;
     };
-    parts.has_axiom(from, to)
+    if !parts.has_axiom(from, to) {
+        return None;
+    }
+    Some((from, to))
 }
 
 // Whether a word that has a number entails the other word.
@@ -123,53 +130,24 @@ fn lacked_with_head(parts: &Parts, word: &Word) -> u32
     }
 }
 
-// Whether the description in a slot has a number, or a word entails the word of the number.
-fn would_have(parts: &Parts, slot: u32, number: u16, word: &Word, other: u32) -> bool
+// Whether the description in a slot has the left number, and would have more words than it may with all that the right one entails.
+fn is_overfull(parts: &Parts, slot: u16, left: u16, right: u16) -> bool
     requires sound { AreSound parts.now }
     requires slot { slot < parts.now.limits.files }
-    requires number { number_of parts.now.dict word.now ≡ Some number }
-    requires other { other < parts.now.limits.props }
-    ensures { result ≡ (has parts.now.ext other slot || entails_number parts.now word.now other) }
+    requires left { IsSome (word_of parts.now.dict left) }
+    requires right { IsSome (word_of parts.now.dict right) }
+    ensures { result ≡ (has parts.now.ext left slot && nat_lt 128 (length (wider parts.now (is_gained parts.now (right ∷ [])) slot))) }
 {
-    if parts.ext().has(other, slot) {
-        return true;
-    }
-    parts.taxonomy().entails(u32::from(number), other)
-}
-
-// How many numbers the description in a slot would have with those of all that a word entails.
-fn widened_count(parts: &Parts, slot: u32, number: u16, word: &Word) -> u32
-    requires slot { slot < parts.now.limits.files }
-    requires number { number_of parts.now.dict word.now ≡ Some number }
-    ensures { result ≡ length (widened_numbers parts.now word.now (set_of parts.now.ext slot)) }
-{
-    let props = parts.limits().props;
-    let mut count = 0;
-    for other in 0..props {
-        if would_have(parts, slot, number, word, other) {
-            count += 1;
-        }
-    }
-    count
-}
-
-// Whether the description in a slot has the left word and would have more words than it may.
-fn is_overfull(parts: &Parts, slot: u32, left: &Word, from: u16, right: &Word, number: u16) -> bool
-    requires sound { AreSound parts.now }
-    requires slot { slot < parts.now.limits.files }
-    requires left { number_of parts.now.dict left.now ≡ Some from }
-    requires right { number_of parts.now.dict right.now ≡ Some number }
-    ensures { result ≡ is_overfull parts.now left.now right.now (set_of parts.now.ext slot) }
-{
-    if !parts.ext().has(u32::from(from), slot) {
+    if !parts.ext().has(u32::from(left), u32::from(slot)) {
         return false;
     }
-    widened_count(parts, slot, number, right) > MAX_DESCRIPTION
+    is_full(parts, &[right], slot, MAX_DESCRIPTION)
 }
 
 // Whether a description that has the left word would have more words than it may.
 fn has_overfull(parts: &Parts, left: &Word, right: &Word, number: u16) -> bool
-    requires { number_of parts.now.dict right.now ≡ Some number }
+    requires sound { AreSound parts.now }
+    requires number { number_of parts.now.dict right.now ≡ Some number }
     ensures { result ≡ has_overfull parts.now left.now right.now }
 {
     let Some(from) = parts.number_of(left) else {
@@ -177,7 +155,7 @@ fn has_overfull(parts: &Parts, left: &Word, right: &Word, number: u16) -> bool
     };
     let files = parts.limits().files;
     for slot in 0..files {
-        if is_overfull(parts, slot, left, from, right, number) {
+        if is_overfull(parts, slot as u16, from, number) {
             return true;
         }
     }
@@ -196,7 +174,7 @@ fn may_pair(parts: &Parts, left: &Word, right: &Word) -> Result<u16, Refusal>
     if !parts.is_declared(right) || !is_nameable(parts, left) {
         return Err(Refusal::UnknownProperty);
     }
-    if is_related(parts, left, right) {
+    if axiom_numbers(parts, left, right).is_some() {
         return Err(Refusal::AxiomThere);
     }
     let Some(number) = parts.number_of(right) else {
@@ -210,7 +188,8 @@ fn may_pair(parts: &Parts, left: &Word, right: &Word) -> Result<u16, Refusal>
 
 // Whether there is room for an axiom between the two words.
 fn has_room(parts: &Parts, left: &Word, right: &Word, number: u16) -> Result<(), Refusal>
-    requires { number_of parts.now.dict right.now ≡ Some number }
+    requires sound { AreSound parts.now }
+    requires number { number_of parts.now.dict right.now ≡ Some number }
     ensures row { Judges (axiom_room_checks parts.now left.now right.now) result }
 {
     let props = parts.limits().props;

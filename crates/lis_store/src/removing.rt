@@ -1,12 +1,12 @@
 //! Files that leave memory.
 
-ghost use Rattle.std.specs.Prelude.{◌≡◌, ℕ, ◌<◌, ◌≤◌, All, length, IsSome};
+ghost use Rattle.std.specs.Prelude.{◌≡◌, ◌<◌, ◌≤◌, All, Some, length, IsSome};
 ghost use Rattle.std.specs.List.Sorted.{IsStrictlyIncreasing};
 ghost use Rattle.lis_catalog.specs.Catalog.{rec_at};
 ghost use Rattle.lis_ext.specs.Ext.{set_of};
-ghost use Rattle.lis_kept.specs.Forgetting.{KeepsInUse};
-ghost use Rattle.lis_store.specs.Stored.{AreClosed};
-ghost use Rattle.lis_store.specs.Removing.{TakesOut};
+ghost use Rattle.lis_fields.specs.Records.{FileRecord};
+ghost use Rattle.lis_store.specs.ReplacingIn.{AreInForm};
+ghost use Rattle.lis_store.specs.Removing.{Vacates, TakesOut};
 
 use arrayvec::ArrayVec;
 use lis_ext::Ext;
@@ -21,26 +21,37 @@ pub(crate) fn numbers_at(ext: &Ext, props: u32, slot: u16) -> ArrayVec<u16, 128>
     ensures rising { IsStrictlyIncreasing (set_of ext.now slot) }
     ensures below { All (λ n. n < ext.now.props) (set_of ext.now slot) }
 {
-    let rows = ext.rows();
+    let sets = ext.sets();
+    let row = u32::from(slot);
     let mut numbers = ArrayVec::new();
-    for number in 0..props {
-        if rows.get(number, u32::from(slot)) {
-            numbers.push(number as u16);
-        }
+    let mut start = 0;
+    while let Some(number) = sets.next(row, start) {
+        numbers.push(number as u16);
+        start = number + 1;
     }
+    numbers
+}
+
+/// Takes the file out of its slot, and forgets the words that nothing else uses. The slot is described as before, by the numbers that it
+/// answers.
+pub(crate) fn vacate(parts: &mut Parts, slot: u16) -> ArrayVec<u16, 128>
+    requires form { AreInForm parts.old }
+    requires there { IsSome (rec_at parts.old.catalog slot) }
+    ensures vacated { (rec : FileRecord) → rec_at parts.old.catalog slot ≡ Some rec → Vacates slot rec parts.old parts.new }
+    ensures numbers { result.items ≡ set_of parts.old.ext slot }
+{
+    let numbers = numbers_at(parts.ext(), parts.limits().props, slot);
+    parts.drop_record(slot);
+    parts.forget_without(slot, numbers.as_slice());
     numbers
 }
 
 /// Takes the file out of its slot, with its description and the words that nothing else uses. Its blocks are given back already.
 pub(crate) fn take_out(parts: &mut Parts, slot: u16)
+    requires form { AreInForm parts.old }
     requires there { IsSome (rec_at parts.old.catalog slot) }
-    requires few { length (set_of parts.old.ext slot) ≤ 128 }
-    requires closed { AreClosed parts.old }
-    requires in_use { KeepsInUse parts.old }
-    ensures { TakesOut slot parts.old parts.new }
+    ensures { (rec : FileRecord) → rec_at parts.old.catalog slot ≡ Some rec → TakesOut slot rec parts.old parts.new }
 {
-    let numbers = numbers_at(parts.ext(), parts.limits().props, slot);
-    parts.drop_record(slot);
+    let numbers = vacate(parts, slot);
     parts.describe(slot, numbers.as_slice(), &[]);
-    parts.forget_unused(numbers.as_slice());
 }

@@ -1,19 +1,16 @@
-//! Files that take the place of others.
+//! Files that come into memory, in the place of others or into free slots.
 
-ghost use Rattle.std.specs.Prelude.{◌≡◌, nat_lt, Some, length, IsSome, IsSomeAnd, IsTrue};
+ghost use Rattle.std.specs.Prelude.{◌≡◌, ◌<◌, nat_lt, None, length, IsSome, IfSome, IsTrue};
 ghost use Rattle.std.specs.List.{list_all};
 ghost use Rattle.lis_catalog.specs.Catalog.{rec_at};
-ghost use Rattle.lis_ext.specs.Ext.{set_of};
-ghost use Rattle.lis_fields.specs.Records.{FileRecord};
 ghost use Rattle.lis_fields.specs.Layouts.{are_blocks};
 ghost use Rattle.lis_model.specs.Changes.{new_file};
 ghost use Rattle.lis_eval.specs.Room.{HasRoom};
 ghost use Rattle.lis_kept.specs.Sound.{AreSound};
-ghost use Rattle.lis_store.specs.Replacing.{MayReplace};
-ghost use Rattle.lis_store.specs.ReplacingIn.{AreInForm, MayComeIn, LearnsOwn, Vacates, MakesWay, RefilesIn};
+ghost use Rattle.lis_store.specs.ReplacingIn.{AreInForm, record_in, MayPut, MayComeIn, IsVacant, MakesRoom, LearnsOwn, SettlesIn, RefilesIn};
 
 use crate::adding::{learn_words, numbers_entailed, numbers_of};
-use crate::removing::numbers_at;
+use crate::removing::vacate;
 use arrayvec::ArrayVec;
 use lis_derive::derive_words;
 use lis_eval::Scratch;
@@ -28,18 +25,11 @@ struct Numbers {
     all: ArrayVec<u16, 128>,
 }
 
-// Takes the file out of its slot, and forgets the words that nothing else uses. The slot is described as before, by the numbers that it
-// answers.
-fn vacate(parts: &mut Parts, slot: u16) -> ArrayVec<u16, 128>
-    requires form { AreInForm parts.old }
-    requires there { IsSome (rec_at parts.old.catalog slot) }
-    ensures vacated { (rec : FileRecord) → rec_at parts.old.catalog slot ≡ Some rec → Vacates slot rec parts.old parts.new }
-    ensures numbers { result.items ≡ set_of parts.old.ext slot }
-{
-    let numbers = numbers_at(parts.ext(), parts.limits().props, slot);
-    parts.drop_record(slot);
-    parts.forget_without(slot, numbers.as_slice());
-    numbers
+// A slot without a file, and the numbers by which it is described.
+#[derive(Drop)]
+struct Room {
+    slot: u16,
+    numbers: ArrayVec<u16, 128>,
 }
 
 // Gives numbers to those words of a file that have none, and answers the numbers of its words.
@@ -70,57 +60,94 @@ fn learn_own(
     Numbers { tags, all }
 }
 
-// Takes the file out of its slot, and describes the slot by the words of another one that is to come into it. Answers the numbers of those
-// that it is given.
-fn make_way(
+// A slot without a file.
+fn free_slot(parts: &Parts) -> u16
+    requires sound { AreSound parts.now }
+    requires room { length parts.now.catalog.entries < parts.now.limits.files }
+    ensures below { result < parts.now.limits.files }
+    ensures free { rec_at parts.now.catalog result ≡ None }
+{
+    let files = parts.limits().files;
+    for slot in 0..files {
+        if parts.rec(slot as u16).is_none() {
+            return slot as u16;
+        }
+    }
+    unreachable!()
+}
+
+// Makes room for a file in the slot, whose file goes, or in a free one.
+fn make_room(parts: &mut Parts, slot: Option<u16>) -> Room
+    requires form { AreInForm parts.old }
+    requires free { slot ≡ None → length parts.old.catalog.entries < parts.old.limits.files }
+    requires there { IfSome slot (λ slot. IsSome (rec_at parts.old.catalog slot)) }
+    ensures room { MakesRoom result.slot (record_in parts.old slot) parts.old parts.new }
+    ensures asked { IfSome slot (λ slot. result.slot ≡ slot) }
+    ensures vacant { IsVacant result.slot result.numbers.items parts.new }
+{
+    match slot {
+        None => Room {
+            slot: free_slot(parts),
+            numbers: ArrayVec::new(),
+        },
+        Some(slot) => Room {
+            slot,
+            numbers: vacate(parts, slot),
+        },
+    }
+}
+
+// Files bytes in a slot without a file: their words come first, then the numbers of the description in the place of the old ones, and last
+// the record.
+fn settle_in(
     parts: &mut Parts,
     scratch: &mut Scratch,
-    slot: u16,
+    room: &Room,
     name: &Name,
     assigned: &[Word],
     payload: &[u8],
-) -> ArrayVec<u16, 16>
-    requires form { AreInForm parts.old }
-    requires may { IsSomeAnd (rec_at parts.old.catalog slot)
-        (λ (rec : FileRecord). MayReplace parts.old slot rec (new_file name.now assigned.now payload.now)) }
+    blocks: ArrayVec<u16, 16>,
+)
+    requires vacant { IsVacant room.now.slot room.now.numbers.items parts.old }
+    requires may { MayComeIn parts.old (new_file name.now assigned.now payload.now) }
+    requires in_form { IsTrue (are_blocks parts.old.limits.version (length payload.now) blocks.items) }
+    requires below { IsTrue (list_all (λ n. nat_lt n parts.old.limits.blocks) blocks.items) }
     requires scratch { HasRoom scratch.old parts.old.limits }
     ensures scratch { HasRoom scratch.new parts.old.limits }
-    ensures way { MakesWay slot (new_file name.now assigned.now payload.now) result.items parts.old parts.new }
+    ensures settles { SettlesIn room.now.slot (new_file name.now assigned.now payload.now) blocks.items parts.old parts.new }
 {
-    let old = vacate(parts, slot);
     let numbers = learn_own(parts, scratch, name, assigned, payload);
-    parts.describe(slot, old.as_slice(), numbers.all.as_slice());
-    numbers.tags
+    parts.describe(room.slot, room.numbers.as_slice(), numbers.all.as_slice());
+    parts.place_record(
+        room.slot,
+        FileRec {
+            name: name.copied(),
+            size: payload.len() as u32,
+            tags: numbers.tags,
+            blocks,
+        },
+    );
 }
 
-/// Gives the file in the slot another name, other words and other bytes, which stand in these blocks; they are taken already. Words are
-/// derived from the bytes.
+/// Files bytes under a name, in the place of the file in the slot if one is told. They stand in these blocks, which are taken already. Words
+/// are derived from them.
 pub(crate) fn refile(
     parts: &mut Parts,
     scratch: &mut Scratch,
-    slot: u16,
+    slot: Option<u16>,
     name: &Name,
     assigned: &[Word],
     payload: &[u8],
     blocks: ArrayVec<u16, 16>,
 )
     requires form { AreInForm parts.old }
-    requires may { IsSomeAnd (rec_at parts.old.catalog slot)
-        (λ (rec : FileRecord). MayReplace parts.old slot rec (new_file name.now assigned.now payload.now)) }
+    requires may { MayPut parts.old slot (new_file name.now assigned.now payload.now) }
     requires in_form { IsTrue (are_blocks parts.old.limits.version (length payload.now) blocks.items) }
     requires below { IsTrue (list_all (λ n. nat_lt n parts.old.limits.blocks) blocks.items) }
     requires scratch { HasRoom scratch.old parts.old.limits }
     ensures scratch { HasRoom scratch.new parts.old.limits }
-    ensures refiled { RefilesIn slot (new_file name.now assigned.now payload.now) blocks.items parts.old parts.new }
+    ensures refiles { RefilesIn (record_in parts.old slot) (new_file name.now assigned.now payload.now) blocks.items parts.old parts.new }
 {
-    let tags = make_way(parts, scratch, slot, name, assigned, payload);
-    parts.place_record(
-        slot,
-        FileRec {
-            name: name.copied(),
-            size: payload.len() as u32,
-            tags,
-            blocks,
-        },
-    );
+    let room = make_room(parts, slot);
+    settle_in(parts, scratch, &room, name, assigned, payload, blocks);
 }

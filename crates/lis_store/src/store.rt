@@ -27,11 +27,11 @@ mod replacing;
 mod undeclaring;
 mod unlinking;
 
-use crate::adding::put_in;
 use crate::admitting::may_add;
 use crate::change::Change;
 use crate::contents::{give_content, put_content};
 use crate::removing::take_out;
+use crate::replacing::refile;
 use crate::saving::{MOST_HELD, commit, hold, most_held};
 use lis_content::{Buffer, is_large, read_block, read_block_by, read_index_block};
 use lis_eval::{Scratch, View, evaluate, found};
@@ -308,6 +308,7 @@ impl Store {
         ensures limits { self.new.parts.limits ≡ self.old.parts.limits }
         ensures image { self.new.journal.blocks ≡ self.old.journal.blocks }
         ensures left { ChangeLeft self.old self.new result }
+        ensures settled { OnOk result (self.new.journal.staged ≡ []) }
         ensures edits { EditsFew self.old self.new }
         ensures sound { IsSound self.new }
         ensures run { IsDiskRun (D.meaning disk.old) (D.meaning disk.new) }
@@ -392,7 +393,15 @@ impl Store {
             disk,
             payload,
         )?;
-        put_in(&mut self.parts, scratch, name, assigned, payload, blocks);
+        refile(
+            &mut self.parts,
+            scratch,
+            None,
+            name,
+            assigned,
+            payload,
+            blocks,
+        );
         hold(
             &mut self.parts,
             &mut self.journal,
@@ -421,6 +430,7 @@ impl Store {
         ensures limits { self.new.parts.limits ≡ self.old.parts.limits }
         ensures image { self.new.journal.blocks ≡ self.old.journal.blocks }
         ensures left { ChangeLeft self.old self.new result }
+        ensures settled { OnOk result (self.new.journal.staged ≡ []) }
         ensures edits { EditsFew self.old self.new }
         ensures sound { IsSound self.new }
         ensures run { IsDiskRun (D.meaning disk.old) (D.meaning disk.new) }

@@ -1,6 +1,6 @@
 //! Axioms of a store.
 
-ghost use Rattle.std.specs.Prelude.{◌≡◌, ◌*◌, ◌≤◌, false, Err};
+ghost use Rattle.std.specs.Prelude.{◌≡◌, ◌*◌, ◌≤◌, false, [], Err, OnOk};
 ghost use Rattle.lis_ports.specs.Calls.{DiskFaultEnds};
 ghost use Rattle.lis_ports.specs.Runs.{IsDiskRun};
 ghost use Rattle.lis_model.specs.declared.refusal.Refusal.{Refusal};
@@ -39,6 +39,7 @@ impl Store {
         ensures limits { self.new.parts.limits ≡ self.old.parts.limits }
         ensures image { self.new.journal.blocks ≡ self.old.journal.blocks }
         ensures left { ChangeLeft self.old self.new result }
+        ensures settled { OnOk result (self.new.journal.staged ≡ []) }
         ensures edits { EditsFew self.old self.new }
         ensures sound { IsSound self.new }
         ensures run { IsDiskRun (D.meaning disk.old) (D.meaning disk.new) }
@@ -75,7 +76,7 @@ impl Store {
         ensures first_fault { DiskFaultEnds (D.meaning disk.old) (D.meaning disk.new) }
     {
         may_relate(&self.parts, left, right)?;
-        relate(&mut self.parts, scratch, left, right);
+        relate(&mut self.parts, left, right);
         hold(
             &mut self.parts,
             &mut self.journal,

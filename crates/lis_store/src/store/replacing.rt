@@ -60,6 +60,7 @@ impl Store {
         ensures limits { self.new.parts.limits ≡ self.old.parts.limits }
         ensures image { self.new.journal.blocks ≡ self.old.journal.blocks }
         ensures left { ChangeLeft self.old self.new result }
+        ensures settled { OnOk result (self.new.journal.staged ≡ []) }
         ensures edits { EditsFew self.old self.new }
         ensures sound { IsSound self.new }
         ensures run { IsDiskRun (D.meaning disk.old) (D.meaning disk.new) }
@@ -157,7 +158,7 @@ impl Store {
         refile(
             &mut self.parts,
             scratch,
-            slot,
+            Some(slot),
             name,
             assigned,
             payload,
@@ -193,6 +194,7 @@ impl Store {
         ensures limits { self.new.parts.limits ≡ self.old.parts.limits }
         ensures image { self.new.journal.blocks ≡ self.old.journal.blocks }
         ensures left { ChangeLeft self.old self.new result }
+        ensures settled { OnOk result (self.new.journal.staged ≡ []) }
         ensures edits { EditsFew self.old self.new }
         ensures sound { IsSound self.new }
         ensures run { IsDiskRun (D.meaning disk.old) (D.meaning disk.new) }
@@ -246,7 +248,7 @@ impl Store {
         refile(
             &mut self.parts,
             scratch,
-            slot,
+            Some(slot),
             new,
             words.as_slice(),
             self.bytes.bytes(),
@@ -282,6 +284,7 @@ impl Store {
         ensures limits { self.new.parts.limits ≡ self.old.parts.limits }
         ensures image { self.new.journal.blocks ≡ self.old.journal.blocks }
         ensures left { ChangeLeft self.old self.new result }
+        ensures settled { OnOk result (self.new.journal.staged ≡ []) }
         ensures edits { EditsFew self.old self.new }
         ensures sound { IsSound self.new }
         ensures run { IsDiskRun (D.meaning disk.old) (D.meaning disk.new) }
@@ -343,7 +346,7 @@ impl Store {
         refile(
             &mut self.parts,
             scratch,
-            slot,
+            Some(slot),
             name,
             words.as_slice(),
             self.bytes.bytes(),

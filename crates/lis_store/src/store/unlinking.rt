@@ -1,6 +1,6 @@
 //! `unaxiom`.
 
-ghost use Rattle.std.specs.Prelude.{◌≡◌, ◌*◌, ◌≤◌, false, Err};
+ghost use Rattle.std.specs.Prelude.{◌≡◌, ◌*◌, ◌≤◌, false, [], Err, OnOk};
 ghost use Rattle.lis_ports.specs.Calls.{DiskFaultEnds};
 ghost use Rattle.lis_ports.specs.Runs.{IsDiskRun};
 ghost use Rattle.lis_model.specs.declared.refusal.Refusal.{Refusal};
@@ -12,7 +12,8 @@ ghost use Rattle.lis_store.specs.Stored.{IsSound, StoreFits, StoreHolds};
 ghost use Rattle.lis_store.specs.Changes.{Changes, Holds, HasChangeCause, ChangeLeft, EditsFew};
 
 use crate::change::Change;
-use crate::lessening::{axiom_numbers, take_axiom};
+use crate::lessening::take_axiom;
+use crate::relating::axiom_numbers;
 use crate::saving::{MOST_HELD, hold};
 use crate::store::Store;
 use lis_eval::Scratch;
@@ -39,6 +40,7 @@ impl Store {
         ensures limits { self.new.parts.limits ≡ self.old.parts.limits }
         ensures image { self.new.journal.blocks ≡ self.old.journal.blocks }
         ensures left { ChangeLeft self.old self.new result }
+        ensures settled { OnOk result (self.new.journal.staged ≡ []) }
         ensures edits { EditsFew self.old self.new }
         ensures sound { IsSound self.new }
         ensures run { IsDiskRun (D.meaning disk.old) (D.meaning disk.new) }
@@ -77,7 +79,7 @@ impl Store {
         let Some((from, to)) = axiom_numbers(&self.parts, left, right) else {
             return Err(Change::Refused(Refusal::NoAxiom));
         };
-        take_axiom(&mut self.parts, scratch, from, to);
+        take_axiom(&mut self.parts, from, to);
         hold(
             &mut self.parts,
             &mut self.journal,

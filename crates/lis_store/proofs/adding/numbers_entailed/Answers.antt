@@ -1,10 +1,6 @@
 use Rattle.std.proofs.Common.{◌∙◌, ℕ, length, sym, ap, subst, arith}
-use Rattle.lis_bits.specs.Rows.{HasShape, get}
+use Rattle.lis_store.proofs.Common.{HasShape, get, few_properties, Limits, met_tests, declared_of}
 use Rattle.lis_ext.specs.Numbers.{numbers_where}
-use Rattle.lis_kept.proofs.InArea.{few_properties}
-use Rattle.lis_model.specs.declared.limits.Limits.{Limits}
-use Rattle.lis_model.specs.Tests.{met_tests}
-use Rattle.lis_kept.specs.Telling.{declared_of}
 use Rattle.lis_store.proofs.Entailed.{entailed_shape, entailed_numbers, entailed_few}
 use Rattle.lis_store.proofs.adding.numbers_entailed.Goals as goal
 

@@ -1,10 +1,7 @@
 use Rattle.std.proofs.Common.{◌≡◌, ◌∙◌, ℕ, ◌+◌, ◌==◌, if◌then◌else◌, true, List, [], ◌∷◌, ◌++◌, length, take, sym, ap, subst, arith}
-use Rattle.std.proofs.lemmas.List.{take_more, take_all}
-use Rattle.lis_bits.specs.Rows.{Rows, HasShape, get, with_row}
-use Rattle.lis_dict.proofs.Laws.{number_below}
+use Rattle.lis_store.proofs.Common.{take_more, take_all, HasShape, get, with_row, number_below, few_properties, Limits}
+use Rattle.lis_bits.specs.Rows.{Rows}
 use Rattle.lis_ext.specs.Numbers.{numbers_where}
-use Rattle.lis_kept.proofs.InArea.{few_properties}
-use Rattle.lis_model.specs.declared.limits.Limits.{Limits}
 use Rattle.lis_store.proofs.Naming.{ShowsNumbers, shows_none, shows_one, shows_same, shown_numbers, named_few}
 use Rattle.lis_store.proofs.adding.numbers_of.Goals as goal
 use Rattle.lis_store.proofs.adding.numbers_of.Goals.{in-Some, in_default}

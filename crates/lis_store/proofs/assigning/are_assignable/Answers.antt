@@ -1,7 +1,5 @@
 use Rattle.std.proofs.Common.{◌∙◌, ◌&&◌, sym, ap}
-use Rattle.std.specs.List.{list_all}
-use Rattle.lis_model.specs.State.{is_assignable}
-use Rattle.lis_kept.specs.Telling.{declared_of}
+use Rattle.lis_store.proofs.Common.{list_all, is_assignable, declared_of}
 use Rattle.lis_store.specs.Assigning.{node_tags}
 use Rattle.lis_store.proofs.Assigned.{all_assigned}
 use Rattle.lis_store.proofs.assigning.are_assignable.Goals as goal

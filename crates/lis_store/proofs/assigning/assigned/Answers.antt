@@ -1,8 +1,6 @@
 use Rattle.std.proofs.Common.{◌∙◌, sym, subst, length}
-use Rattle.std.specs.List.{flat_map}
+use Rattle.lis_store.proofs.Common.{flat_map, nodes_of, assigned_at}
 use Rattle.std.proofs.lemmas.Bool.{leb-false}
-use Rattle.lis_place.specs.Nodes.{nodes_of}
-use Rattle.lis_model.specs.Step.{assigned_at}
 use Rattle.lis_store.specs.Assigning.{node_tags, Takes}
 use Rattle.lis_store.proofs.Assigned.{too_many, takes_all}
 use Rattle.lis_store.proofs.assigning.assigned.Goals as goal

@@ -1,5 +1,5 @@
 use Rattle.std.proofs.Common.{◌∙◌, ap}
-use Rattle.std.specs.List.{list_all}
+use Rattle.lis_store.proofs.Common.{list_all}
 use Rattle.lis_store.specs.Assigning.{is_conjunct}
 use Rattle.lis_store.proofs.Assigned.{place_has_words}
 use Rattle.lis_store.proofs.assigning.has_words.Goals as goal

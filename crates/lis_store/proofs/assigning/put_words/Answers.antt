@@ -1,6 +1,5 @@
 use Rattle.std.proofs.Common.{ℕ, ◌∙◌, [], ◌∷◌, true, false, ap, subst, List, arith}
-use Rattle.std.specs.List.{flat_map}
-use Rattle.std.proofs.lemmas.List.{take_all}
+use Rattle.lis_store.proofs.Common.{flat_map, take_all}
 use Rattle.lis_store.specs.Assigning.{Takes}
 use Rattle.lis_store.proofs.Assigned.{takes_stop, each_alone}
 use Rattle.lis_store.proofs.assigning.put_words.Goals as goal

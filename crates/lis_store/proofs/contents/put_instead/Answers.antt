@@ -1,12 +1,6 @@
 use Rattle.std.proofs.Common.{◌≡◌, ◌∙◌, ℕ, ◌+◌, ◌==◌, Err, length, filter, sym, ap, arith}
 use Rattle.std.proofs.lemmas.Bool.{cond-true, eq-eqb}
-use Rattle.std.proofs.lemmas.Result.{err_from_is_err_and}
-use Rattle.lis_blockmap.specs.Bitmap.{is_taken, free_count}
-use Rattle.lis_catalog.specs.Catalog.{rec_at}
-use Rattle.lis_content.proofs.Indexes.{small_size}
-use Rattle.lis_model.specs.declared.limits.Limits.{Limits}
-use Rattle.lis_model.specs.State.{file_limit}
-use Rattle.lis_kept.specs.Kept.{Kept}
+use Rattle.lis_store.proofs.Common.{err_from_is_err_and, is_taken, free_count, rec_at, small_size, Limits, file_limit, Kept}
 use Rattle.lis_store.proofs.FreeAgain.{rec_some, first_version, enough_given}
 use Rattle.lis_store.proofs.Renewed.{renews_placed, lost_last, lost_first, put_last}
 use Rattle.lis_store.proofs.contents.put_instead.Goals as goal

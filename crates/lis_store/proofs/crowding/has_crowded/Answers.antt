@@ -1,20 +1,19 @@
 use Rattle.std.proofs.Common.{◌≡◌, ◌∙◌, ℕ, ◌<◌, Bool, false, Some, is_some, sym, ap, subst, inl, inr, arith}
-use Rattle.std.proofs.lemmas.Bool.{cases_lt}
-use Rattle.lis_model.specs.declared.limits.Limits.{Limits}
-use Rattle.lis_store.specs.Testing.{is_gained, is_crowded, has_crowded}
-use Rattle.lis_store.proofs.Crowded.{crowded_at, crowded_nowhere, never_crowded}
+use Rattle.lis_store.proofs.Common.{cases_lt, Limits}
+use Rattle.lis_store.specs.Testing.{is_crowded, has_crowded}
+use Rattle.lis_store.proofs.Crowded.{never_crowded}
 use Rattle.lis_store.proofs.crowding.has_crowded.Goals as goal
+use Rattle.lis_store.proofs.Full.{full_at, full_nowhere}
 
 pub returns-in_default : goal.returns-in_default
-returns-in_default c = sym (never_crowded c.args.parts.now c.args.word.now (is_gained c.args.parts.now c.args.numbers.now) (ap (is_some {T = Bool × ℕ}) (sym c.test_of.ensures ∙ c.in_default.is)))
+returns-in_default c = sym (never_crowded c.args.parts.now c.args.word.now c.args.numbers.now (ap (is_some {T = Bool × ℕ}) (sym c.test_of.ensures ∙ c.in_default.is)))
 
 pub returns-then-is_crowded : goal.returns-then-is_crowded
 returns-then-is_crowded c =
     let k = c.args.parts.now in
-    let gains = is_gained k c.args.numbers.now in
     let test = sym c.test_of.ensures ∙ c.in-Some.is in
     let below : c.loop-slot.slot < k.limits.files = omega (arith, c.loop-slot-test.true, ap (λ (l : Limits). l.files) c.limits.ensures.value) in
-    sym (ap (λ t. has_crowded k t gains) test ∙ crowded_at k (Some c.in-Some.test) gains c.loop-slot.slot below (sym c.is_crowded.ensures ∙ c.if-is_crowded.true))
+    sym (ap (λ t. has_crowded k t c.args.numbers.now) test ∙ full_at (is_crowded k (Some c.in-Some.test) c.args.numbers.now) k.limits.files c.loop-slot.slot below (sym c.is_crowded.ensures ∙ c.if-is_crowded.true))
 
 pub loop-slot-preserved : goal.loop-slot-preserved
 loop-slot-preserved c = λ i lt.
@@ -24,7 +23,7 @@ loop-slot-preserved c = λ i lt.
     elim (cases_lt i n) [
       | inl less ↦ c.loop-slot.invariant i less
       | inr more ↦
-          let P : ℕ → Type 0 = λ m. is_crowded k (Some c.in-Some.test) (is_gained k c.args.numbers.now) m ≡ false in
+          let P : ℕ → Type 0 = λ m. is_crowded k (Some c.in-Some.test) c.args.numbers.now m ≡ false in
           let same : n ≡ i = omega (arith, lt, more) in
           subst P same here
     ]
@@ -32,7 +31,6 @@ loop-slot-preserved c = λ i lt.
 pub returns : goal.returns
 returns c =
     let k = c.args.parts.now in
-    let gains = is_gained k c.args.numbers.now in
     let test = sym c.test_of.ensures ∙ c.in-Some.is in
-    sym (ap (λ t. has_crowded k t gains) test
-    ∙ crowded_nowhere k (Some c.in-Some.test) gains (λ i lt. c.loop-slot.invariant i (omega (arith, lt, c.loop-slot.auto.slot-end, c.loop-slot-test.false, ap (λ (l : Limits). l.files) c.limits.ensures.value))))
+    sym (ap (λ t. has_crowded k t c.args.numbers.now) test
+    ∙ full_nowhere (is_crowded k (Some c.in-Some.test) c.args.numbers.now) k.limits.files (λ i lt. c.loop-slot.invariant i (omega (arith, lt, c.loop-slot.auto.slot-end, c.loop-slot-test.false, ap (λ (l : Limits). l.files) c.limits.ensures.value))))

@@ -1,26 +1,38 @@
-use Rattle.std.proofs.Common.{◌≡◌, ◌||◌, ◌∙◌, ℕ, Bool, length, sym, ap, arith}
-use Rattle.lis_model.specs.declared.limits.Limits.{Limits}
-use Rattle.lis_ext.specs.Ext.{has}
-use Rattle.lis_store.specs.Testing.{is_gained}
-use Rattle.lis_store.proofs.Had.{found_below, found_all}
-use Rattle.lis_store.proofs.RelatedNumbers.{count_one, count_none}
+use Rattle.std.proofs.Common.{◌≡◌, ◌||◌, ◌∙◌, ◌<◌, ℕ, Bool, count_by, ap, ap₂, length, arith}
+use Rattle.lis_bits.specs.Rows.{get, get_any, row_of}
+use Rattle.lis_ext.specs.Ext.{Ext, has}
+use Rattle.lis_ext.specs.Numbers.{numbers_where}
+use Rattle.lis_ext.proofs.Numbers.{numbers_same}
+use Rattle.lis_store.specs.Closing.{is_gained}
+use Rattle.lis_store.proofs.LedRows.{rows_below, wide_as, any_led}
+use Rattle.lis_store.proofs.Measured.{row_counted}
 use Rattle.lis_store.proofs.crowding.wider_count.Goals as goal
-use Rattle.lis_store.proofs.crowding.wider_count.Goals.{then-would_gain, else-would_gain}
 
-pub loop-other-preserved : goal.loop-other-preserved
-loop-other-preserved c =
-    let k = c.args.parts.now in
-    let n = c.loop-other.other in
-    let test : ℕ → Bool = λ i. has k.ext i c.args.slot || is_gained k c.args.numbers.now i in
-    elim c.if-would_gain.branch [
-      | then-would_gain w ↦ (w.count-is ∙ count_one test n c.loop-other.count c.loop-other.invariant.0 (sym c.would_gain.ensures ∙ w.if-would_gain.true), omega (arith, w.count-is, c.loop-other.invariant.1))
-      | else-would_gain w ↦ (w.count-is ∙ count_none test n c.loop-other.count c.loop-other.invariant.0 (sym c.would_gain.ensures ∙ w.if-would_gain.false), omega (arith, w.count-is, c.loop-other.invariant.1))
-    ]
+pub count_with-requires-clause-others : goal.count_with-requires-clause-others
+count_with-requires-clause-others c = rows_below c.args.parts.now c.requires.sound c.taxonomy.result.now c.taxonomy.ensures c.rows-entailed.result.now c.rows-entailed.ensures.shape c.args.numbers.now c.requires.named
+
+pub count_with-requires-clause-row : goal.count_with-requires-clause-row
+count_with-requires-clause-row c = omega (arith, c.requires.slot, c.requires.sound.files, c.sets.ensures.shape.tall, c.from.ensures, ap (λ (e : Ext). length e.sets) c.ext.ensures)
+
+pub count_with-requires-clause-bits : goal.count_with-requires-clause-bits
+count_with-requires-clause-bits c =
+    let wide = wide_as c.args.parts.now c.taxonomy.result.now c.taxonomy.ensures c.rows-entailed.result.now c.rows-entailed.ensures.shape in
+    omega (arith, wide, c.sets.ensures.shape.wide, ap (λ (e : Ext). e.props) c.ext.ensures, c.requires.sound.rows)
 
 pub returns : goal.returns
 returns c =
     let k = c.args.parts.now in
-    let test : ℕ → Bool = λ i. has k.ext i c.args.slot || is_gained k c.args.numbers.now i in
-    let all : c.loop-other.other ≡ k.ext.props =
-    omega (arith, c.loop-other.auto.other-end, c.loop-other-test.false, ap (λ (l : Limits). l.props) c.limits.ensures.value, c.limits.ensures.sound.rows) in
-    c.loop-other.invariant.0 ∙ (ap (λ n. length (found_below test n)) all ∙ ap length (found_all test k.ext.props))
+    let sets = c.sets.result.now in
+    let rows = c.rows-entailed.result.now in
+    let numbers = c.args.numbers.now in
+    let slot = c.args.slot in
+    let bits : sets.bits ≡ k.ext.props = c.sets.ensures.shape.wide ∙ ap (λ (e : Ext). e.props) c.ext.ensures in
+    let inside : slot < length c.ext.result.now.sets = omega (arith, c.requires.slot, c.requires.sound.files, ap (λ (e : Ext). length e.sets) c.ext.ensures) in
+    c.count_with.ensures
+    ∙ (ap (λ i. count_by (λ (b : Bool). b) (row_of sets.bits (λ bit. get sets i bit || get_any rows numbers bit))) c.from.ensures
+    ∙ (row_counted sets.bits (λ bit. get sets slot bit || get_any rows numbers bit)
+    ∙ (ap (λ n. length (numbers_where n (λ bit. get sets slot bit || get_any rows numbers bit))) bits
+    ∙ ap length (numbers_same k.ext.props (λ bit. get sets slot bit || get_any rows numbers bit) (λ n. has k.ext n slot || is_gained k numbers n) (λ n lt.
+    ap₂ (λ a b. a || b)
+    (c.sets.ensures.values slot n inside (omega (arith, lt, ap (λ (e : Ext). e.props) c.ext.ensures)) ∙ ap (λ (e : Ext). has e n slot) c.ext.ensures)
+    (any_led k c.requires.sound c.taxonomy.result.now c.taxonomy.ensures rows c.rows-entailed.ensures.shape c.rows-entailed.ensures.values numbers c.requires.named n (omega (arith, lt, c.requires.sound.rows))))))))

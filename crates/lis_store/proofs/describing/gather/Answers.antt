@@ -1,6 +1,5 @@
 use Rattle.std.proofs.Common.{ℕ, ◌∙◌, ◌∷◌, [], ◌++◌, Some, sym, ap, subst, List, arith}
-use Rattle.lis_dict.proofs.Laws.{word_from_number}
-use Rattle.lis_words.specs.Words.{has_word}
+use Rattle.lis_store.proofs.Common.{word_from_number, has_word}
 use Rattle.lis_store.specs.Describing.{Gathers}
 use Rattle.lis_store.proofs.Gathered.{numbered_below, gathers_known, gathers_new, gathers_there}
 use Rattle.lis_store.proofs.describing.gather.Goals as goal
@@ -14,7 +13,7 @@ and_not_row-requires-clause-row c =
 
 pub returns-in-Some : goal.returns-in-Some
 returns-in-Some c =
-    gathers_known c.args.parts.now c.requires.sound c.taxonomy.result.now c.taxonomy.ensures c.args.word.now c.from.result
+    gathers_known c.args.parts.now c.args.word.now c.requires.sound c.taxonomy.result.now c.taxonomy.ensures c.from.result
     (sym c.number_of.ensures ∙ (c.in-Some.is ∙ ap Some (sym c.from.ensures))) c.rows-entailed.result.now c.args.lacked.now c.and_not_row.new.to
     c.rows-entailed.ensures.values c.requires.shape c.and_not_row.ensures c.args.fresh.now.items
 
@@ -25,9 +24,9 @@ returns-then-not-has c =
     let lacks = ap (λ ws. has_word ws word) (sym c.as_slice.ensures.value) ∙ (sym c.has.ensures ∙ c.if-not-has.true) in
     subst (λ (ws : List (List ℕ)). Gathers c.args.parts.now (word ∷ []) c.args.lacked.now c.args.lacked.now fresh ws)
     (sym (c.push.ensures.items ∙ ap (λ w. fresh ++ w ∷ []) c.copied.ensures))
-    (gathers_new c.args.parts.now c.requires.sound word (sym c.number_of.ensures ∙ c.in_default.is) c.args.lacked.now c.requires.shape fresh lacks)
+    (gathers_new c.args.parts.now word (sym c.number_of.ensures ∙ c.in_default.is) c.args.lacked.now c.requires.shape fresh lacks)
 
 pub returns-else-not-has : goal.returns-else-not-has
 returns-else-not-has c =
     let has = ap (λ ws. has_word ws c.args.word.now) (sym c.as_slice.ensures.value) ∙ (sym c.has.ensures ∙ c.if-not-has.false) in
-    gathers_there c.args.parts.now c.requires.sound c.args.word.now (sym c.number_of.ensures ∙ c.in_default.is) c.args.lacked.now c.requires.shape c.args.fresh.now.items has
+    gathers_there c.args.parts.now c.args.word.now (sym c.number_of.ensures ∙ c.in_default.is) c.args.lacked.now c.requires.shape c.args.fresh.now.items has

@@ -1,14 +1,7 @@
 use Rattle.std.proofs.Common.{◌≡◌, ◌∙◌, length, sym, ap, arith}
-use Rattle.std.proofs.lemmas.Option.{same_Some}
-use Rattle.std.proofs.lemmas.Result.{on_ok_weaker}
-use Rattle.lis_content.specs.Large.{slot_count}
-use Rattle.lis_journal.specs.Phases.{looked}
-use Rattle.lis_fields.specs.Records.{FileRecord}
-use Rattle.lis_fields.proofs.Parts.{size_fits}
-use Rattle.lis_model.specs.Image.{data_start}
+use Rattle.lis_store.proofs.Common.{same_Some, on_ok_weaker, slot_count, looked, FileRecord, size_fits, data_start, record_in_form}
 use Rattle.lis_kept.proofs.BlocksTaken.{slot_within}
 use Rattle.lis_kept.proofs.Contents.{slot_counted}
-use Rattle.lis_kept.proofs.Dropped.{record_in_form}
 use Rattle.lis_store.proofs.ReadBack.{read_told}
 use Rattle.lis_store.proofs.file_bytes.read_file.Goals as goal
 

@@ -1,9 +1,5 @@
 use Rattle.std.proofs.Common.{◌≡◌, ◌∙◌, ℕ, List, [], ◌∷◌, Some, None, cond, nat_lt, true, ap, subst, arith}
-use Rattle.std.proofs.lemmas.Bool.{lt-ltb}
-use Rattle.lis_model.specs.declared.limits.Limits.{Limits}
-use Rattle.lis_model.specs.declared.refusal.Refusal.TheVariants.{NoSpace}
-use Rattle.lis_model.specs.State.{blocks_taken}
-use Rattle.lis_model.specs.Changes.{new_file}
+use Rattle.lis_store.proofs.Common.{lt-ltb, Limits, NoSpace, blocks_taken, new_file}
 use Rattle.lis_store.specs.Changes.{first_refusal}
 use Rattle.lis_store.specs.Instead.{given_before, free_instead, instead_checks}
 use Rattle.lis_store.proofs.Judged.{refused_then}

@@ -1,80 +1,45 @@
-use Rattle.std.proofs.Common.{◌≡◌, ◌∙◌, ◌<◌, ◌≤◌, ◌+◌, true, false, is_some, length, count_by, sym, ap, arith}
-use Rattle.std.specs.List.{list_all}
-use Rattle.lis_dict.specs.Dict.{word_of}
-use Rattle.lis_words.specs.Words.{is_valued, is_built_in, test_of}
-use Rattle.lis_laws.proofs.Apart.{declarable_from}
-use Rattle.lis_model.specs.declared.limits.Limits.{Limits}
-use Rattle.lis_model.specs.Places.{place_words}
-use Rattle.lis_model.specs.Step.{is_plain_place, words_at}
-use Rattle.lis_kept.specs.Linking.{is_filled}
-use Rattle.lis_kept.specs.Telling.{is_declared}
-use Rattle.lis_store.specs.Testing.{is_gained, is_gained_by, has_crowded}
-use Rattle.lis_store.proofs.Crowded.{gains_same}
-use Rattle.lis_store.proofs.Declared.{rights_counted, no_axiom_room, no_word_room, too_many_words, all_room}
+use Rattle.std.proofs.Common.{◌∙◌, ◌≡◌, ℕ, List, ap, sym, subst, length, is_some, None, Ok, Err, arith}
+use Rattle.lis_store.proofs.Common.{err_from_is_err_and, list_all, word_of, words_at}
+use Rattle.lis_store.specs.Adding.{numbers_named}
+use Rattle.lis_store.specs.Changes.{first_refusal}
+use Rattle.lis_store.specs.Judging.{place_checks, room_checks, word_checks}
+use Rattle.lis_store.specs.Placing.{AreNumbersOf}
+use Rattle.lis_store.proofs.Declared.{may_be_declared, row_told}
+use Rattle.lis_store.proofs.Judged.{judges_refused, refused_first}
 use Rattle.lis_store.proofs.judging.may_declare.Goals as goal
 
-pub returns-clause-form : goal.returns-clause-form
-returns-clause-form c =
-    let w = c.args.word.now in
-    declarable_from w c.bytes-bytes.ensures.word
-    (sym (c.is_valued.ensures ∙ ap is_valued c.bytes-bytes.ensures.bytes) ∙ c.if-is_valued.false) (sym c.is_builtin.ensures ∙ c.if-is_builtin.false)
-
-pub returns-then-axiom_count-len-clause-row : goal.returns-then-axiom_count-len-clause-row
-returns-then-axiom_count-len-clause-row c =
+pub returns-in_err-numbers-clause-row : goal.returns-in_err-numbers-clause-row
+returns-in_err-numbers-clause-row c =
     let k = c.args.parts.now in
-    let own : is_built_in c.args.word.now ≡ false = sym c.is_builtin.ensures ∙ c.if-is_builtin.false in
-    let valued : is_valued c.args.word.now ≡ false = sym (c.is_valued.ensures ∙ ap is_valued c.bytes-bytes.ensures.bytes) ∙ c.if-is_valued.false in
-    let there : is_declared k c.args.word.now ≡ false = sym c.is_declared.ensures ∙ c.if-is_declared.false in
-    let plain : is_plain_place (place_words c.args.place.now) ≡ true = sym c.has_plain_words.ensures ∙ c.if-not-has_plain_words.false in
-    let counted = rights_counted k c.limits.ensures.sound (words_at c.args.place.now) c.in-Some.numbers.items c.in-Some.ensures.numbers in
-    let most = ap (λ (l : Limits). l.props) c.limits.ensures.value in
-    let more : k.limits.props < count_by is_filled k.axioms + length (words_at c.args.place.now) = omega (arith, c.if-axiom_count-len.true, c.axiom_count.ensures, c.len.ensures.value, counted, most) in
-    no_axiom_room k c.args.place.now c.args.word.now own valued there plain c.in-Some.ensures.numbers.declared more
+    let words = words_at c.args.place.now in
+    let p = err_from_is_err_and c.from_residual.result c.from_residual.ensures.1 in
+    judges_refused (word_checks k c.args.place.now c.args.word.now) c.from_residual.result c.in_err-numbers.field-0.0 (p.1 ∙ ap Err p.2)
+    (refused_first (place_checks k c.args.place.now c.args.word.now) (room_checks k c.args.word.now (length words) (numbers_named k.dict words)) c.in_err-numbers.field-0.0 c.in_err-numbers.ensures.row)
 
-pub returns-then-word_count-props-clause-row : goal.returns-then-word_count-props-clause-row
-returns-then-word_count-props-clause-row c =
-    let k = c.args.parts.now in
-    let own : is_built_in c.args.word.now ≡ false = sym c.is_builtin.ensures ∙ c.if-is_builtin.false in
-    let valued : is_valued c.args.word.now ≡ false = sym (c.is_valued.ensures ∙ ap is_valued c.bytes-bytes.ensures.bytes) ∙ c.if-is_valued.false in
-    let there : is_declared k c.args.word.now ≡ false = sym c.is_declared.ensures ∙ c.if-is_declared.false in
-    let plain : is_plain_place (place_words c.args.place.now) ≡ true = sym c.has_plain_words.ensures ∙ c.if-not-has_plain_words.false in
-    let counted = rights_counted k c.limits.ensures.sound (words_at c.args.place.now) c.in-Some.numbers.items c.in-Some.ensures.numbers in
-    let most = ap (λ (l : Limits). l.props) c.limits.ensures.value in
-    let few : count_by is_filled k.axioms + length (words_at c.args.place.now) ≤ k.limits.props = omega (arith, c.if-axiom_count-len.false, c.axiom_count.ensures, c.len.ensures.value, counted, most) in
-    let more : k.limits.props < length k.dict.entries + 1 = omega (arith, c.if-word_count-props.true, c.word_count.ensures, most) in
-    no_word_room k c.args.place.now c.args.word.now own valued there plain c.in-Some.ensures.numbers.declared few more
+pub has_room-requires : goal.has_room-requires
+has_room-requires c = record {
+  named = ap (list_all (λ n. is_some (word_of c.args.parts.now.dict n))) c.as_slice.ensures.value ∙ c.in_ok-numbers.ensures.numbers.named;
+  few = omega (arith, ap length c.as_slice.ensures.value, c.in_ok-numbers.ensures.few);
+}
 
-pub has_crowded-requires : goal.has_crowded-requires
-has_crowded-requires c =
+pub returns-in_err-has_room-clause-row : goal.returns-in_err-has_room-clause-row
+returns-in_err-has_room-clause-row c =
     let k = c.args.parts.now in
-    record { named = ap (list_all (λ n. is_some (word_of k.dict n))) c.as_slice.ensures.value ∙ c.in-Some.ensures.numbers.named }
-
-pub returns-then-has_crowded-clause-row : goal.returns-then-has_crowded-clause-row
-returns-then-has_crowded-clause-row c =
-    let k = c.args.parts.now in
-    let own : is_built_in c.args.word.now ≡ false = sym c.is_builtin.ensures ∙ c.if-is_builtin.false in
-    let valued : is_valued c.args.word.now ≡ false = sym (c.is_valued.ensures ∙ ap is_valued c.bytes-bytes.ensures.bytes) ∙ c.if-is_valued.false in
-    let there : is_declared k c.args.word.now ≡ false = sym c.is_declared.ensures ∙ c.if-is_declared.false in
-    let plain : is_plain_place (place_words c.args.place.now) ≡ true = sym c.has_plain_words.ensures ∙ c.if-not-has_plain_words.false in
-    let counted = rights_counted k c.limits.ensures.sound (words_at c.args.place.now) c.in-Some.numbers.items c.in-Some.ensures.numbers in
-    let most = ap (λ (l : Limits). l.props) c.limits.ensures.value in
-    let few : count_by is_filled k.axioms + length (words_at c.args.place.now) ≤ k.limits.props = omega (arith, c.if-axiom_count-len.false, c.axiom_count.ensures, c.len.ensures.value, counted, most) in
-    let some : length k.dict.entries + 1 ≤ k.limits.props = omega (arith, c.if-word_count-props.false, c.word_count.ensures, most) in
-    let gains = ap (is_gained k) c.as_slice.ensures.value ∙ gains_same k c.limits.ensures.sound (words_at c.args.place.now) c.in-Some.numbers.items c.in-Some.ensures.numbers in
-    let large : has_crowded k (test_of c.args.word.now) (is_gained_by k (words_at c.args.place.now)) ≡ true = sym (c.has_crowded.ensures ∙ ap (has_crowded k (test_of c.args.word.now)) gains) ∙ c.if-has_crowded.true in
-    too_many_words k c.args.place.now c.args.word.now own valued there plain c.in-Some.ensures.numbers.declared few some large
+    let slice = c.as_slice.result.now in
+    let result = c.from_residual-in_err-has_room.result in
+    let p = err_from_is_err_and result c.from_residual-in_err-has_room.ensures.1 in
+    let are = subst (λ (ns : List ℕ). AreNumbersOf k (words_at c.args.place.now) ns) (sym c.as_slice.ensures.value) c.in_ok-numbers.ensures.numbers in
+    row_told k c.args.place.now c.args.word.now slice c.requires.sound are c.in_ok-numbers.ensures.row result
+    (judges_refused (room_checks k c.args.word.now (length slice) slice) result c.in_err-has_room.field-0.0 (p.1 ∙ ap Err p.2) c.in_err-has_room.ensures)
 
 pub returns-clause-row : goal.returns-clause-row
 returns-clause-row c =
     let k = c.args.parts.now in
-    let own : is_built_in c.args.word.now ≡ false = sym c.is_builtin.ensures ∙ c.if-is_builtin.false in
-    let valued : is_valued c.args.word.now ≡ false = sym (c.is_valued.ensures ∙ ap is_valued c.bytes-bytes.ensures.bytes) ∙ c.if-is_valued.false in
-    let there : is_declared k c.args.word.now ≡ false = sym c.is_declared.ensures ∙ c.if-is_declared.false in
-    let plain : is_plain_place (place_words c.args.place.now) ≡ true = sym c.has_plain_words.ensures ∙ c.if-not-has_plain_words.false in
-    let counted = rights_counted k c.limits.ensures.sound (words_at c.args.place.now) c.in-Some.numbers.items c.in-Some.ensures.numbers in
-    let most = ap (λ (l : Limits). l.props) c.limits.ensures.value in
-    let few : count_by is_filled k.axioms + length (words_at c.args.place.now) ≤ k.limits.props = omega (arith, c.if-axiom_count-len.false, c.axiom_count.ensures, c.len.ensures.value, counted, most) in
-    let some : length k.dict.entries + 1 ≤ k.limits.props = omega (arith, c.if-word_count-props.false, c.word_count.ensures, most) in
-    let gains = ap (is_gained k) c.as_slice.ensures.value ∙ gains_same k c.limits.ensures.sound (words_at c.args.place.now) c.in-Some.numbers.items c.in-Some.ensures.numbers in
-    let short : has_crowded k (test_of c.args.word.now) (is_gained_by k (words_at c.args.place.now)) ≡ false = sym (c.has_crowded.ensures ∙ ap (has_crowded k (test_of c.args.word.now)) gains) ∙ c.if-has_crowded.false in
-    all_room k c.args.place.now c.args.word.now own valued there plain c.in-Some.ensures.numbers.declared few some short
+    let are = subst (λ (ns : List ℕ). AreNumbersOf k (words_at c.args.place.now) ns) (sym c.as_slice.ensures.value) c.in_ok-numbers.ensures.numbers in
+    row_told k c.args.place.now c.args.word.now c.as_slice.result.now c.requires.sound are c.in_ok-numbers.ensures.row (Ok c.in_ok-numbers.numbers) c.in_ok-has_room.ensures
+
+pub returns-clause-may : goal.returns-clause-may
+returns-clause-may c =
+    let k = c.args.parts.now in
+    may_be_declared k c.args.place.now c.args.word.now c.in_ok-numbers.numbers.items c.requires.sound c.in_ok-numbers.ensures.form c.in_ok-numbers.ensures.numbers c.in_ok-numbers.ensures.few c.in_ok-numbers.ensures.row
+    (subst (λ (ns : List ℕ). first_refusal (room_checks k c.args.word.now (length ns) ns) ≡ None) c.as_slice.ensures.value c.in_ok-has_room.ensures)

@@ -1,39 +1,39 @@
-use Rattle.std.proofs.Common.{◌∙◌, ℕ, List, IsSome, length, sym, ap, subst, arith}
-use Rattle.lis_dict.specs.Dict.{word_of}
+use Rattle.std.proofs.Common.{◌∙◌, List, ℕ, is_some, sym, ap, subst, length, ◌&&◌, arith}
+use Rattle.std.proofs.lemmas.Bool.{and_from}
+use Rattle.lis_store.proofs.Common.{word_of, Kept, MayForget, FreeSlotsAreEmpty}
 use Rattle.lis_ext.specs.Ext.{set_of}
-use Rattle.lis_kept.specs.Kept.{Kept}
 use Rattle.lis_kept.specs.Changes.{Forgets}
-use Rattle.lis_kept.specs.Forgetting.{MayForget}
-use Rattle.lis_kept.specs.Sound.{FreeSlotsAreEmpty}
-use Rattle.lis_store.proofs.AxiomFound.{pair_named}
-use Rattle.lis_store.proofs.AxiomGone.{closed_unlinked, gone_may_forget}
-use Rattle.lis_store.proofs.Remaining.{remaining_few}
+use Rattle.lis_store.specs.Closing.{base_at}
+use Rattle.lis_store.specs.declared.closing.Rebuild.TheVariants.{Losing}
+use Rattle.lis_store.specs.Stored.{DescriptionsAreShort}
+use Rattle.lis_store.proofs.AxiomFound.{pair_sound}
+use Rattle.lis_store.proofs.AxiomGone.{closed_unlinked, less_had, gone_may_forget}
+use Rattle.lis_store.proofs.Closed.{closure_few}
 use Rattle.lis_store.proofs.lessening.take_axiom.Goals as goal
 
 pub with_head-numbers-requires : goal.with_head-numbers-requires
-with_head-numbers-requires c = (pair_named c.args.parts.now c.requires.sound c.args.left c.args.right c.requires.may.there).0
+with_head-numbers-requires c = (pair_sound c.args.parts.now c.requires.sound c.args.left c.args.right c.requires.may.there).1.left
 
-pub lessen_all-requires-clause-left : goal.lessen_all-requires-clause-left
-lessen_all-requires-clause-left c =
-    let P : Kept → Type 0 = λ k. IsSome (word_of k.dict c.args.left) in
-    subst P (sym c.unlink.ensures.unlinks.parts) (pair_named c.args.parts.now c.requires.sound c.args.left c.args.right c.requires.may.there).0
-
-pub lessen_all-requires-clause-right : goal.lessen_all-requires-clause-right
-lessen_all-requires-clause-right c =
-    let P : Kept → Type 0 = λ k. IsSome (word_of k.dict c.args.right) in
-    subst P (sym c.unlink.ensures.unlinks.parts) (pair_named c.args.parts.now c.requires.sound c.args.left c.args.right c.requires.may.there).1
-
-pub lessen_all-requires-clause-free : goal.lessen_all-requires-clause-free
-lessen_all-requires-clause-free c = subst (λ (k : Kept). FreeSlotsAreEmpty k) (sym c.unlink.ensures.unlinks.parts) c.requires.free
-
-pub lessen_all-requires-clause-few : goal.lessen_all-requires-clause-few
-lessen_all-requires-clause-few c = λ slot.
+pub rebuild_all-requires-clause-words : goal.rebuild_all-requires-clause-words
+rebuild_all-requires-clause-words c =
     let p = c.args.parts.now in
+    let both = (pair_sound p c.requires.sound c.args.left c.args.right c.requires.may.there).1 in
+    ap (λ (k : Kept). is_some (word_of k.dict c.args.left) && is_some (word_of k.dict c.args.right)) c.unlink.ensures.unlinks.parts
+    ∙ and_from (is_some (word_of p.dict c.args.left)) (is_some (word_of p.dict c.args.right)) both.left both.right
+
+pub rebuild_all-requires-clause-free : goal.rebuild_all-requires-clause-free
+rebuild_all-requires-clause-free c = subst (λ (k : Kept). FreeSlotsAreEmpty k) (sym c.unlink.ensures.unlinks.parts) c.requires.free
+
+pub rebuild_all-requires-clause-short : goal.rebuild_all-requires-clause-short
+rebuild_all-requires-clause-short c = subst (λ (k : Kept). DescriptionsAreShort k) (sym c.unlink.ensures.unlinks.parts) c.requires.short
+
+pub rebuild_all-requires-clause-few : goal.rebuild_all-requires-clause-few
+rebuild_all-requires-clause-few c = λ slot here.
     let k = c.unlink.new.self in
-    let closed = closed_unlinked c.args.left c.args.right p k c.unlink.ensures.unlinks c.requires.closed in
+    let closed = closed_unlinked c.args.left c.args.right c.args.parts.now k c.unlink.ensures.unlinks c.requires.closed in
     omega (
       arith,
-      remaining_few k c.unlink.ensures.sound closed c.args.right slot,
+      closure_few k c.unlink.ensures.sound (base_at k (Losing c.args.left c.args.right) slot) closed slot (less_had k c.args.left c.args.right slot),
       c.requires.short slot,
       ap (λ (u : Kept). length (set_of u.ext slot)) c.unlink.ensures.unlinks.parts,
     )
@@ -41,22 +41,24 @@ lessen_all-requires-clause-few c = λ slot.
 pub forget_unused-requires : goal.forget_unused-requires
 forget_unused-requires c =
     let p = c.args.parts.now in
-    let k = c.unlink.new.self in
-    let m = c.lessen_all.new.parts in
-    let closed = closed_unlinked c.args.left c.args.right p k c.unlink.ensures.unlinks c.requires.closed in
-    let P : List ℕ → Type 0 = λ ns. MayForget ns m in
+    let unlinks = c.unlink.ensures.unlinks in
+    let P : List ℕ → Type 0 = λ ns. MayForget ns c.rebuild_all.new.parts in
     subst P (sym (c.as_slice.ensures.value ∙ c.with_head-numbers.ensures))
-    (gone_may_forget c.args.left c.args.right p k m c.requires.sound c.requires.in_use.used c.unlink.ensures.unlinks c.unlink.ensures.sound closed c.lessen_all.ensures.lessened
-    c.requires.in_use.rights c.requires.in_use.tags c.lessen_all.ensures.sound)
+    (gone_may_forget (record {
+      sound = c.unlink.ensures.sound;
+      closed = closed_unlinked c.args.left c.args.right p c.unlink.new.self unlinks c.requires.closed;
+      free = subst (λ (k : Kept). FreeSlotsAreEmpty k) (sym unlinks.parts) c.requires.free;
+      lessens = c.rebuild_all.ensures.rebuilt;
+    }) p c.requires.sound c.requires.in_use.used unlinks c.requires.in_use.rights c.requires.in_use.tags c.rebuild_all.ensures.sound)
 
-pub returns-clause-taken : goal.returns-clause-taken
-returns-clause-taken c =
-    let P : List ℕ → Type 0 = λ ns. Forgets ns c.lessen_all.new.parts c.forget_unused.new.self in
+pub returns : goal.returns
+returns c =
+    let P : List ℕ → Type 0 = λ ns. Forgets ns c.rebuild_all.new.parts c.forget_unused.new.self in
     record {
       unlinked = c.unlink.new.self;
       unlinks = c.unlink.ensures.unlinks;
       sound = c.unlink.ensures.sound;
-      made = c.lessen_all.new.parts;
-      lessens = c.lessen_all.ensures.lessened;
+      made = c.rebuild_all.new.parts;
+      lessens = c.rebuild_all.ensures.rebuilt;
       forgets = subst P (c.as_slice.ensures.value ∙ c.with_head-numbers.ensures) c.forget_unused.ensures.forgets;
     }

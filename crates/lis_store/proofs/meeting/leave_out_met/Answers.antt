@@ -1,9 +1,8 @@
 use Rattle.std.proofs.Common.{◌≡◌, ◌∙◌, ℕ, ◌+◌, not, ◌&&◌, Some, List, sym, ap, subst, arith}
 use Rattle.std.specs.List.{slice_get}
-use Rattle.lis_bits.specs.Rows.{get, with_row}
-use Rattle.lis_dict.proofs.Laws.{number_from_among, number_below}
+use Rattle.lis_store.proofs.Common.{get, with_row, number_below, among_place}
+use Rattle.lis_dict.proofs.Laws.{number_from_among}
 use Rattle.lis_eval.proofs.Members.{past_end}
-use Rattle.lis_kept.proofs.Known.{among_place}
 use Rattle.lis_store.proofs.Entailed.{LeavesOut, leaves_none, leaves_one}
 use Rattle.lis_store.proofs.MetTests.{met_first, met_next, unmet_next, met_before, met_behind}
 use Rattle.lis_store.proofs.meeting.leave_out_met.Goals as goal

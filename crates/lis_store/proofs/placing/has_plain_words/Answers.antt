@@ -1,5 +1,5 @@
 use Rattle.std.proofs.Common.{◌∙◌, ap}
-use Rattle.std.specs.List.{list_all}
+use Rattle.lis_store.proofs.Common.{list_all}
 use Rattle.lis_store.specs.Placing.{is_plain_conjunct}
 use Rattle.lis_store.proofs.PlaceNumbers.{plain_place}
 use Rattle.lis_store.proofs.placing.has_plain_words.Goals as goal

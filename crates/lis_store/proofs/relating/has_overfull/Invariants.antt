@@ -1,8 +1,7 @@
 use Rattle.std.proofs.Common.{◌≡◌, ℕ, ◌<◌, false}
-use Rattle.lis_ext.specs.Ext.{set_of}
 use Rattle.lis_store.specs.Relating.{is_overfull}
 use Rattle.lis_store.proofs.relating.has_overfull.Given as goal
 
 -- none of the slots so far is too large
 abbrev pub invariant-loop-slot : goal.invariant-loop-slot
-invariant-loop-slot l = (i : ℕ) → i < l.slot → is_overfull l.parts l.left l.right (set_of l.parts.ext i) ≡ false
+invariant-loop-slot l = (i : ℕ) → i < l.slot → is_overfull l.parts l.left l.right i ≡ false

@@ -1,6 +1,5 @@
 use Rattle.std.proofs.Common.{◌&&◌, ◌∙◌, sym, ap}
-use Rattle.lis_words.specs.Words.{has_word}
-use Rattle.lis_kept.specs.Telling.{declared_of}
+use Rattle.lis_store.proofs.Common.{has_word, declared_of}
 use Rattle.lis_store.proofs.Assigned.{has_declared}
 use Rattle.lis_store.proofs.relating.is_named.Goals as goal
 

@@ -1,5 +1,5 @@
 use Rattle.std.proofs.Common.{◌+◌, ◌∙◌, List, ℕ, cond, is_some, length, refl, sym, ap, ap₂}
-use Rattle.lis_dict.specs.Dict.{number_of}
+use Rattle.lis_store.proofs.Common.{number_of}
 use Rattle.lis_store.proofs.RelatedNumbers.{lacks_one, lacks_two}
 use Rattle.lis_store.proofs.relating.lacked_with_head.Goals as goal
 

@@ -1,5 +1,5 @@
 use Rattle.std.proofs.Common.{◌∙◌, sym, ap₂, arith}
-use Rattle.lis_dict.proofs.Laws.{number_below, word_from_number}
+use Rattle.lis_store.proofs.Common.{number_below, word_from_number}
 use Rattle.lis_taxonomy.specs.Taxonomy.{entails}
 use Rattle.lis_kept.proofs.Entailed.{leads_told}
 use Rattle.lis_store.proofs.RelatedNumbers.{entails_unnumbered, decided}

@@ -1,8 +1,8 @@
-use Rattle.std.proofs.Common.{◌∙◌, is_some, sym, ap}
+use Rattle.std.proofs.Common.{◌∙◌, is_some, length, sym, ap, subst, arith}
 use Rattle.std.proofs.lemmas.Bool.{both_ways}
-use Rattle.lis_dict.specs.Dict.{number_of}
-use Rattle.lis_bits.specs.Rows.{get}
-use Rattle.lis_store.proofs.RelatingIn.{left_may, left_numbered, right_numbered, may_link, left_linked, entailed_named}
+use Rattle.lis_store.proofs.Common.{number_of, word_of, Kept, FreeSlotsAreEmpty}
+use Rattle.lis_ext.specs.Ext.{set_of}
+use Rattle.lis_store.proofs.RelatingIn.{left_may, left_numbered, right_numbered, left_named, may_link, few_linked}
 use Rattle.lis_store.proofs.relating_in.relate.Goals as goal
 
 pub learn_word-requires-clause-form : goal.learn_word-requires-clause-form
@@ -25,18 +25,28 @@ link-requires c =
     may_link c.args.parts.now c.args.left.now c.args.right.now c.requires.may c.learn_word.new.parts c.learn_word.ensures.learns c.learn_word.ensures.sound c.in-Some.from c.in-Some-number_of.to
     (sym c.number_of.ensures ∙ c.in-Some.is) (sym c.number_of-2.ensures ∙ c.in-Some-number_of.is)
 
-pub widen-requires-clause-left : goal.widen-requires-clause-left
-widen-requires-clause-left c =
-    left_linked c.args.parts.now c.args.left.now c.args.right.now c.requires.may c.learn_word.new.parts c.learn_word.ensures.learns c.learn_word.ensures.sound c.in-Some.from c.in-Some-number_of.to
-    (sym c.number_of.ensures ∙ c.in-Some.is) (sym c.number_of-2.ensures ∙ c.in-Some-number_of.is) c.link.new.self c.link.ensures.links
+pub rebuild_all-requires-clause-words : goal.rebuild_all-requires-clause-words
+rebuild_all-requires-clause-words c =
+    ap (λ (k : Kept). is_some (word_of k.dict c.in-Some.from)) c.link.ensures.links.parts
+    ∙ ap is_some (left_named c.args.parts.now c.args.left.now c.args.right.now c.requires.may c.learn_word.new.parts c.learn_word.ensures.learns c.learn_word.ensures.sound c.in-Some.from c.in-Some-number_of.to
+    (sym c.number_of.ensures ∙ c.in-Some.is) (sym c.number_of-2.ensures ∙ c.in-Some-number_of.is))
 
-pub widen-requires-clause-named : goal.widen-requires-clause-named
-widen-requires-clause-named c =
-    entailed_named c.args.parts.now c.args.left.now c.args.right.now c.requires.may c.learn_word.new.parts c.learn_word.ensures.learns c.learn_word.ensures.sound c.in-Some.from c.in-Some-number_of.to
-    (sym c.number_of.ensures ∙ c.in-Some.is) (sym c.number_of-2.ensures ∙ c.in-Some-number_of.is) c.link.new.self c.link.ensures.links (get c.show_entailed.new.row 0) c.show_entailed.ensures.bits
+pub rebuild_all-requires-clause-free : goal.rebuild_all-requires-clause-free
+rebuild_all-requires-clause-free c =
+    subst (λ (k : Kept). FreeSlotsAreEmpty k) (sym c.link.ensures.links.parts)
+    (subst (λ (k : Kept). FreeSlotsAreEmpty k) (sym c.learn_word.ensures.learns.parts) c.requires.free)
 
-pub returns-clause-relates : goal.returns-clause-relates
-returns-clause-relates c = record {
+pub rebuild_all-requires-clause-short : goal.rebuild_all-requires-clause-short
+rebuild_all-requires-clause-short c = λ slot.
+    omega (arith, c.requires.short slot, ap (λ (k : Kept). length (set_of k.ext slot)) c.link.ensures.links.parts, ap (λ (k : Kept). length (set_of k.ext slot)) c.learn_word.ensures.learns.parts)
+
+pub rebuild_all-requires-clause-few : goal.rebuild_all-requires-clause-few
+rebuild_all-requires-clause-few c =
+    few_linked c.args.parts.now c.args.left.now c.args.right.now c.requires.may c.learn_word.new.parts c.learn_word.ensures.learns c.learn_word.ensures.sound c.in-Some.from c.in-Some-number_of.to
+    (sym c.number_of.ensures ∙ c.in-Some.is) (sym c.number_of-2.ensures ∙ c.in-Some-number_of.is) c.link.new.self c.link.ensures.links c.requires.sound c.link.ensures.sound c.requires.free c.requires.closed
+
+pub returns : goal.returns
+returns c = record {
   learnt = c.learn_word.new.parts;
   learns = c.learn_word.ensures.learns;
   sound = c.learn_word.ensures.sound;
@@ -46,7 +56,6 @@ returns-clause-relates c = record {
   is_right = sym c.number_of-2.ensures ∙ c.in-Some-number_of.is;
   linked = c.link.new.self;
   links = c.link.ensures.links;
-  entailed = get c.show_entailed.new.row 0;
-  bits = c.show_entailed.ensures.bits;
-  widens = c.widen.ensures.widens;
+  sound_linked = c.link.ensures.sound;
+  rebuilds = c.rebuild_all.ensures.rebuilt;
 }

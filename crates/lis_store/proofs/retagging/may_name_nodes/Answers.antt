@@ -1,7 +1,5 @@
 use Rattle.std.proofs.Common.{◌≡◌, refl, sym, ◌∙◌, true, false}
-use Rattle.std.specs.List.{list_any, flat_map}
-use Rattle.lis_words.specs.Words.{is_built_in, is_head}
-use Rattle.lis_place.specs.Nodes.{node_words}
+use Rattle.lis_store.proofs.Common.{list_any, flat_map, is_built_in, is_head, node_words}
 use Rattle.lis_store.proofs.Retagged.{any_of_nodes}
 use Rattle.lis_store.proofs.retagging.may_name_nodes.Goals as goal
 

@@ -1,6 +1,5 @@
 use Rattle.std.proofs.Common.{subst}
-use Rattle.std.specs.List.{flat_map}
-use Rattle.lis_place.specs.Nodes.{nodes_of}
+use Rattle.lis_store.proofs.Common.{flat_map, nodes_of}
 use Rattle.lis_store.specs.Assigning.{node_tags, Takes}
 use Rattle.lis_store.proofs.Retagged.{too_many_moved, moved_are}
 use Rattle.lis_store.proofs.retagging.retagged.Goals as goal

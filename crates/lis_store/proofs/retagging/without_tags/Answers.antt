@@ -1,10 +1,7 @@
-use Rattle.std.proofs.Common.{ℕ, ◌≡◌, ◌<◌, Bool, true, false, List, [], ◌∷◌, ◌++◌, not, take, length, refl, sym, ◌∙◌, ap, arith}
-use Rattle.std.specs.List.{list_any}
-use Rattle.std.proofs.lemmas.List.{length-take-le}
-use Rattle.lis_words.specs.Words.{has_word}
-use Rattle.lis_laws.proofs.Counts.{filter_le}
+use Rattle.std.proofs.Common.{ℕ, ◌≡◌, ◌<◌, Bool, true, false, List, [], ◌∷◌, ◌++◌, not, cond, take, length, append-nil, sym, ◌∙◌, ap, arith}
+use Rattle.lis_store.proofs.Common.{list_any, length-take-le, has_word, filter_le}
 use Rattle.lis_store.specs.Assigning.{node_tags}
-use Rattle.lis_store.proofs.Retagged.{kept_one, kept_none}
+use Rattle.lis_store.proofs.Retagged.{kept_next}
 use Rattle.lis_store.proofs.retagging.without_tags.Goals as goal
 use Rattle.lis_store.proofs.retagging.without_tags.Goals.{then-not-has_tag, else-not-has_tag}
 
@@ -24,13 +21,14 @@ loop-word-preserved c =
     let kept = c.loop-word.kept.items in
     let test : List ℕ → Bool = λ w. not (list_any (λ node. has_word (node_tags node) w) c.args.nodes.now) in
     let lt : i < length words = omega (arith, c.loop-word-test.true, c.loop-word.auto.word-index-end) in
+    let next = kept_next test words i word lt c.word-item.is kept c.loop-word.invariant in
     elim c.if-not-has_tag.branch [
       | then-not-has_tag w ↦
           let passes : test word ≡ true = ap not (sym c.has_tag.ensures ∙ w.if-not-has_tag.true) in
-          let more = kept_one test words i word lt c.word-item.is kept c.loop-word.invariant passes (kept ++ word ∷ []) refl in cc
+          let more = next ∙ ap (λ b. kept ++ cond b (word ∷ []) []) passes in cc
       | else-not-has_tag w ↦
           let fails : test word ≡ false = ap not (sym c.has_tag.ensures ∙ w.if-not-has_tag.false) in
-          let same = kept_none test words i word lt c.word-item.is kept c.loop-word.invariant fails in cc
+          let same = next ∙ (ap (λ b. kept ++ cond b (word ∷ []) []) fails ∙ append-nil kept) in cc
     ]
 
 pub returns-clause-few : goal.returns-clause-few

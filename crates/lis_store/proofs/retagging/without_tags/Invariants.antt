@@ -1,6 +1,5 @@
 use Rattle.std.proofs.Common.{◌≡◌, not, filter, take}
-use Rattle.std.specs.List.{list_any}
-use Rattle.lis_words.specs.Words.{has_word}
+use Rattle.lis_store.proofs.Common.{list_any, has_word}
 use Rattle.lis_store.specs.Assigning.{node_tags}
 use Rattle.lis_store.proofs.retagging.without_tags.Given as goal
 

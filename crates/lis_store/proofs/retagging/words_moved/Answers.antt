@@ -1,11 +1,7 @@
 use Rattle.std.proofs.Common.{ℕ, ◌≡◌, ◌<◌, option_to_list, List, length, sym, subst, ◌∙◌}
 use Rattle.std.specs.Prelude.{MatchOption}
-use Rattle.std.specs.List.{flat_map}
-use Rattle.std.specs.List.Sorted.{IsStrictlySortedBy}
-use Rattle.lis_dict.specs.Dict.{word_of}
-use Rattle.lis_words.specs.Words.{word_cmp}
-use Rattle.lis_model.specs.Step.{tags_at, retagged}
-use Rattle.lis_laws.proofs.Members.{sorted_set_of}
+use Rattle.lis_store.proofs.Common.{flat_map, IsStrictlySortedBy, word_of, word_cmp, retagged, sorted_set_of}
+use Rattle.lis_model.specs.Step.{tags_at}
 use Rattle.lis_kept.specs.Telling.{words_told}
 use Rattle.lis_store.proofs.retagging.words_moved.Goals as goal
 

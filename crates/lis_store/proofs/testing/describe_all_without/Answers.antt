@@ -1,5 +1,5 @@
 use Rattle.std.proofs.Common.{◌≡◌, ℕ, ◌<◌, List, length, ap, subst, arith}
-use Rattle.lis_model.specs.declared.limits.Limits.{Limits}
+use Rattle.lis_store.proofs.Common.{Limits}
 use Rattle.lis_store.specs.Redescribing.{Gives, Redescribes}
 use Rattle.lis_store.specs.Testing.{without_number}
 use Rattle.lis_store.proofs.Redescribed.{redescribed_more}

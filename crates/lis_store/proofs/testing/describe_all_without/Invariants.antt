@@ -1,4 +1,4 @@
-use Rattle.lis_kept.specs.Sound.{AreSound}
+use Rattle.lis_store.proofs.Common.{AreSound}
 use Rattle.lis_store.specs.Redescribing.{Redescribes}
 use Rattle.lis_store.specs.Testing.{without_number}
 use Rattle.lis_store.proofs.testing.describe_all_without.Given as goal

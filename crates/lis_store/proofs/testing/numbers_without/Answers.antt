@@ -1,6 +1,5 @@
 use Rattle.std.proofs.Common.{◌<◌, length, take, ap, arith}
-use Rattle.std.proofs.lemmas.List.{length-take-le}
-use Rattle.lis_laws.proofs.Counts.{filter_le}
+use Rattle.lis_store.proofs.Common.{length-take-le, filter_le}
 use Rattle.lis_store.proofs.Without.{is_other}
 use Rattle.lis_store.proofs.testing.numbers_without.Goals as goal
 

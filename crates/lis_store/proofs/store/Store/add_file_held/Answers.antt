@@ -1,10 +1,6 @@
 use Rattle.std.proofs.Common.{◌∙◌, sym, ap, subst, ℕ, ◌≤◌, List, Ok, Err, length}
-use Rattle.std.proofs.lemmas.Result.{err_from_is_err_and}
-use Rattle.lis_blockmap.specs.Bitmap.{free_count}
-use Rattle.lis_model.specs.Changes.{new_file, file_added}
-use Rattle.lis_model.specs.State.{blocks_taken}
-use Rattle.lis_model.specs.Step.{Situation, Outcome, Payload, changed, add}
-use Rattle.lis_kept.specs.Kept.{Kept}
+use Rattle.lis_store.proofs.Common.{err_from_is_err_and, free_count, new_file, file_added, blocks_taken, Situation, Outcome, Payload, add, Kept}
+use Rattle.lis_model.specs.Step.{changed}
 use Rattle.lis_store.specs.Admitting.{IsAdmitted}
 use Rattle.lis_store.specs.Stored.{Stored, StoreHolds}
 use Rattle.lis_store.specs.Changes.{Holds, Commits}

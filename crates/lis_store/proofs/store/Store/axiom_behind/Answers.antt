@@ -1,9 +1,7 @@
 use Rattle.std.proofs.Common.{ap, ◌∙◌}
-use Rattle.std.specs.List.{find}
+use Rattle.lis_store.proofs.Common.{find, Kept, axioms_of}
 use Rattle.std.specs.Option.{option_map}
 use Rattle.lis_kept.specs.Behind.{rights_of, is_behind}
-use Rattle.lis_kept.specs.Kept.{Kept}
-use Rattle.lis_kept.specs.Telling.{axioms_of}
 use Rattle.lis_store.proofs.store.Store.axiom_behind.Goals as goal
 
 pub returns : goal.returns

@@ -1,40 +1,25 @@
-use Rattle.std.proofs.Common.{◌∙◌, ◌*◌, ◌<◌, sym, ap, subst, arith, IsSomeAnd}
-use Rattle.std.proofs.lemmas.Result.{on_ok_weaker}
-use Rattle.lis_catalog.specs.Catalog.{slot_of, rec_at}
-use Rattle.lis_fields.specs.Records.{FileRecord}
-use Rattle.lis_model.specs.Image.{data_start}
+use Rattle.std.proofs.Common.{rules, ◌∙◌, ◌*◌, ◌<◌, sym, ap, subst, arith, IsSomeAnd}
+use Rattle.lis_store.proofs.Common.{on_ok_weaker, slot_of, rec_at, FileRecord, data_start}
 use Rattle.lis_store.specs.Stored.{Stored, StoreFits, IsIndex}
 use Rattle.lis_store.proofs.Reading.{has_block, block_few, block_counted, block_within_slot, block_inside, block_read, index_kept}
 use Rattle.lis_store.proofs.store.Store.content_by.Goals as goal
 
-pub read_block_by-requires-clause-few : goal.read_block_by-requires-clause-few
-read_block_by-requires-clause-few g c =
+pub read_block_by-requires : goal.read_block_by-requires
+read_block_by-requires g c =
     let old : Stored = record { parts = c.self.inside.parts; journal = c.self.inside.journal; is_broken = c.self.inside.is_broken } in
     let W : Stored → Type 0 = λ k. IsSomeAnd (rec_at k.parts.catalog c.args.slot) (λ (r : FileRecord). 4096 * c.args.n < r.size) in
     let has = has_block old c.args.slot c.args.n c.in-Some.rec.now _ c.as_slice.result.now c.self.invariant c.in-Some.ensures (subst W (sym c.self.view_is) c.requires.within) c.rec-2.view_is c.as_slice.ensures.value in
-    block_few old c.args.slot c.args.n c.in-Some.rec.now c.as_slice.result.now _ has
-
-pub read_block_by-requires-clause-count : goal.read_block_by-requires-clause-count
-read_block_by-requires-clause-count g c =
-    let old : Stored = record { parts = c.self.inside.parts; journal = c.self.inside.journal; is_broken = c.self.inside.is_broken } in
-    let W : Stored → Type 0 = λ k. IsSomeAnd (rec_at k.parts.catalog c.args.slot) (λ (r : FileRecord). 4096 * c.args.n < r.size) in
-    let has = has_block old c.args.slot c.args.n c.in-Some.rec.now _ c.as_slice.result.now c.self.invariant c.in-Some.ensures (subst W (sym c.self.view_is) c.requires.within) c.rec-2.view_is c.as_slice.ensures.value in
-    block_counted old c.args.slot c.args.n c.in-Some.rec.now c.as_slice.result.now _ has
-
-pub read_block_by-requires-clause-within : goal.read_block_by-requires-clause-within
-read_block_by-requires-clause-within g c =
-    let old : Stored = record { parts = c.self.inside.parts; journal = c.self.inside.journal; is_broken = c.self.inside.is_broken } in
-    let W : Stored → Type 0 = λ k. IsSomeAnd (rec_at k.parts.catalog c.args.slot) (λ (r : FileRecord). 4096 * c.args.n < r.size) in
-    let has = has_block old c.args.slot c.args.n c.in-Some.rec.now _ c.as_slice.result.now c.self.invariant c.in-Some.ensures (subst W (sym c.self.view_is) c.requires.within) c.rec-2.view_is c.as_slice.ensures.value in
-    block_within_slot old c.args.slot c.args.n c.in-Some.rec.now c.as_slice.result.now _ has c.data_start-base.result
-    (c.data_start-base.ensures.start ∙ ap data_start c.limits.ensures.value)
-
-pub read_block_by-requires-clause-inside : goal.read_block_by-requires-clause-inside
-read_block_by-requires-clause-inside g c =
-    let old : Stored = record { parts = c.self.inside.parts; journal = c.self.inside.journal; is_broken = c.self.inside.is_broken } in
-    let W : Stored → Type 0 = λ k. IsSomeAnd (rec_at k.parts.catalog c.args.slot) (λ (r : FileRecord). 4096 * c.args.n < r.size) in
-    let has = has_block old c.args.slot c.args.n c.in-Some.rec.now _ c.as_slice.result.now c.self.invariant c.in-Some.ensures (subst W (sym c.self.view_is) c.requires.within) c.rec-2.view_is c.as_slice.ensures.value in
-    block_inside old c.args.slot c.args.n c.in-Some.rec.now c.as_slice.result.now _ has
+    record {
+      few = block_few old c.args.slot c.args.n c.in-Some.rec.now c.as_slice.result.now _ has;
+      count = block_counted old c.args.slot c.args.n c.in-Some.rec.now c.as_slice.result.now _ has;
+      home = search rules;
+      within = block_within_slot old c.args.slot c.args.n c.in-Some.rec.now c.as_slice.result.now _ has c.data_start-base.result (c.data_start-base.ensures.start ∙ ap data_start c.limits.ensures.value);
+      inside = block_inside old c.args.slot c.args.n c.in-Some.rec.now c.as_slice.result.now _ has;
+      index = search rules;
+      whole = search rules;
+      unbroken = search rules;
+      long = search rules;
+    }
 
 pub returns-clause-read : goal.returns-clause-read
 returns-clause-read g c =

@@ -1,7 +1,5 @@
 use Rattle.std.proofs.Common.{◌∙◌, sym, ap}
-use Rattle.lis_catalog.specs.Catalog.{rec_at}
-use Rattle.lis_catalog.proofs.Laws.{rec_at-slot_of}
-use Rattle.lis_kept.specs.Kept.{Kept}
+use Rattle.lis_store.proofs.Common.{rec_at, rec_at-slot_of, Kept}
 use Rattle.lis_store.proofs.store.Store.file_size.Goals as goal
 
 pub unreachable-requires : goal.unreachable-requires

@@ -1,17 +1,10 @@
 use Rattle.std.proofs.Common.{◌≡◌, ◌∙◌, ◌≤◌, sym, ap, subst, ℕ, nat_lt, true, length, Err}
-use Rattle.std.specs.List.{list_all}
-use Rattle.std.proofs.lemmas.Result.{err_from_is_err_and}
-use Rattle.arrayvec.specs.ArrayVec.{ArrayVec}
-use Rattle.lis_blockmap.specs.Bitmap.{free_count}
-use Rattle.lis_content.specs.Large.{is_large}
-use Rattle.lis_model.specs.declared.limits.Limits.{Limits}
-use Rattle.lis_model.specs.Changes.{new_file, file_added}
-use Rattle.lis_model.specs.State.{blocks_taken}
+use Rattle.lis_store.proofs.Common.{list_all, err_from_is_err_and, ArrayVec, free_count, is_large, Limits, new_file, file_added, blocks_taken}
 use Rattle.lis_model.specs.Step.{changed}
 use Rattle.lis_store.specs.Admitting.{IsAdmitted}
 use Rattle.lis_store.specs.Stored.{Stored, StoreHolds}
 use Rattle.lis_store.proofs.Edits.{edits_saved}
-use Rattle.lis_store.proofs.AddFile.{limits_put, admitted_put, added_sound, added_placed, added_marks, added_edits, added_holds, lost_sound, lost_holds}
+use Rattle.lis_store.proofs.AddFile.{form_put, limits_put, admitted_put, added_sound, added_placed, added_marks, added_edits, added_holds, lost_sound, lost_holds}
 use Rattle.lis_store.proofs.Large.{none_left}
 use Rattle.lis_store.proofs.store.Store.put_file.Goals as goal
 
@@ -40,17 +33,23 @@ returns-in_err-blocks-clause-holds g c = λ base now holds.
     lost_holds (ArrayVec ℕ) old c.self.invariant c.args.payload.now c.put_content.new.parts c.put_content.new.journal c.put_content.new.is_broken c.in_err-blocks.field-0.0 m placed c.in_err-blocks.ensures.put c.in_err-blocks.ensures.ended base now
     (changed now (file_added now.state (new_file c.args.name.now c.args.assigned.now c.args.payload.now))) c.from_residual.result (r.1 ∙ ap Err r.2) alone (subst H (sym c.self.view_is) holds)
 
-pub put_in-requires-clause-admitted : goal.put_in-requires-clause-admitted
-put_in-requires-clause-admitted g c =
+pub refile-requires-clause-may : goal.refile-requires-clause-may
+refile-requires-clause-may g c =
+    let old : Stored = record { parts = c.self.inside.parts; journal = c.self.inside.journal; is_broken = c.self.inside.is_broken } in
+    let A : Stored → Type 0 = λ k. IsAdmitted k.parts (new_file c.args.name.now c.args.assigned.now c.args.payload.now) in
+    let m = g.D.Disk.meaning c.args.disk.now in
+    let placed = g.D.Disk.meaning c.put_content.new.disk in
+    admitted_put old c.put_content.new.parts c.put_content.new.journal c.args.payload.now c.in_ok-blocks.blocks.items m placed c.in_ok-blocks.ensures.put c.self.invariant c.args.name.now c.args.assigned.now (subst A (sym c.self.view_is) c.requires.admitted)
+
+pub refile-requires-clause-form : goal.refile-requires-clause-form
+refile-requires-clause-form g c =
     let old : Stored = record { parts = c.self.inside.parts; journal = c.self.inside.journal; is_broken = c.self.inside.is_broken } in
     let m = g.D.Disk.meaning c.args.disk.now in
     let placed = g.D.Disk.meaning c.put_content.new.disk in
-    let A : Stored → Type 0 = λ k. IsAdmitted k.parts (new_file c.args.name.now c.args.assigned.now c.args.payload.now) in
-    let one = subst A (sym c.self.view_is) c.requires.admitted in
-    admitted_put old c.put_content.new.parts c.put_content.new.journal c.args.payload.now c.in_ok-blocks.blocks.items m placed c.in_ok-blocks.ensures.put c.self.invariant c.args.name.now c.args.assigned.now one
+    form_put old c.put_content.new.parts c.put_content.new.journal c.args.payload.now c.in_ok-blocks.blocks.items m placed c.in_ok-blocks.ensures.put c.self.invariant
 
-pub put_in-requires-clause-below : goal.put_in-requires-clause-below
-put_in-requires-clause-below g c =
+pub refile-requires-clause-below : goal.refile-requires-clause-below
+refile-requires-clause-below g c =
     let old : Stored = record { parts = c.self.inside.parts; journal = c.self.inside.journal; is_broken = c.self.inside.is_broken } in
     let m = g.D.Disk.meaning c.args.disk.now in
     let placed = g.D.Disk.meaning c.put_content.new.disk in
@@ -61,44 +60,36 @@ hold-requires-clause-sound g c =
     let old : Stored = record { parts = c.self.inside.parts; journal = c.self.inside.journal; is_broken = c.self.inside.is_broken } in
     let m = g.D.Disk.meaning c.args.disk.now in
     let placed = g.D.Disk.meaning c.put_content.new.disk in
-    let A : Stored → Type 0 = λ k. IsAdmitted k.parts (new_file c.args.name.now c.args.assigned.now c.args.payload.now) in
-    let one = subst A (sym c.self.view_is) c.requires.admitted in
     let unbroken = ap (λ (k : Stored). k.is_broken) c.self.view_is ∙ c.requires.unbroken in
-    added_sound old c.put_content.new.parts c.put_content.new.journal c.args.payload.now c.in_ok-blocks.blocks.items m placed c.in_ok-blocks.ensures.put c.self.invariant c.put_in.new.parts c.args.name.now c.args.assigned.now unbroken one c.put_in.ensures.put
+    added_sound old c.put_content.new.parts c.put_content.new.journal c.args.payload.now c.in_ok-blocks.blocks.items m placed c.in_ok-blocks.ensures.put c.self.invariant c.refile.new.parts c.args.name.now c.args.assigned.now unbroken c.refile.ensures.refiles
 
 pub hold-requires-clause-placed : goal.hold-requires-clause-placed
 hold-requires-clause-placed g c =
     let old : Stored = record { parts = c.self.inside.parts; journal = c.self.inside.journal; is_broken = c.self.inside.is_broken } in
     let m = g.D.Disk.meaning c.args.disk.now in
     let placed = g.D.Disk.meaning c.put_content.new.disk in
-    let A : Stored → Type 0 = λ k. IsAdmitted k.parts (new_file c.args.name.now c.args.assigned.now c.args.payload.now) in
-    let one = subst A (sym c.self.view_is) c.requires.admitted in
     let unbroken = ap (λ (k : Stored). k.is_broken) c.self.view_is ∙ c.requires.unbroken in
-    added_placed old c.put_content.new.parts c.put_content.new.journal c.args.payload.now c.in_ok-blocks.blocks.items m placed c.in_ok-blocks.ensures.put c.self.invariant c.put_in.new.parts c.args.name.now c.args.assigned.now unbroken one c.put_in.ensures.put
+    added_placed old c.put_content.new.parts c.put_content.new.journal c.args.payload.now c.in_ok-blocks.blocks.items m placed c.in_ok-blocks.ensures.put c.self.invariant c.refile.new.parts c.args.name.now c.args.assigned.now unbroken c.refile.ensures.refiles
 
 pub hold-requires-clause-room : goal.hold-requires-clause-room
 hold-requires-clause-room g c =
     let old : Stored = record { parts = c.self.inside.parts; journal = c.self.inside.journal; is_broken = c.self.inside.is_broken } in
     let m = g.D.Disk.meaning c.args.disk.now in
     let placed = g.D.Disk.meaning c.put_content.new.disk in
-    let A : Stored → Type 0 = λ k. IsAdmitted k.parts (new_file c.args.name.now c.args.assigned.now c.args.payload.now) in
-    let one = subst A (sym c.self.view_is) c.requires.admitted in
     let unbroken = ap (λ (k : Stored). k.is_broken) c.self.view_is ∙ c.requires.unbroken in
-    added_marks old c.put_content.new.parts c.put_content.new.journal c.args.payload.now c.in_ok-blocks.blocks.items m placed c.in_ok-blocks.ensures.put c.self.invariant c.put_in.new.parts c.args.name.now c.args.assigned.now unbroken one c.put_in.ensures.put
+    added_marks old c.put_content.new.parts c.put_content.new.journal c.args.payload.now c.in_ok-blocks.blocks.items m placed c.in_ok-blocks.ensures.put c.self.invariant c.refile.new.parts c.args.name.now c.args.assigned.now unbroken c.refile.ensures.refiles
 
 pub returns-clause-holds : goal.returns-clause-holds
 returns-clause-holds g c = λ base now holds.
     let old : Stored = record { parts = c.self.inside.parts; journal = c.self.inside.journal; is_broken = c.self.inside.is_broken } in
     let m = g.D.Disk.meaning c.args.disk.now in
     let placed = g.D.Disk.meaning c.put_content.new.disk in
-    let A : Stored → Type 0 = λ k. IsAdmitted k.parts (new_file c.args.name.now c.args.assigned.now c.args.payload.now) in
-    let one = subst A (sym c.self.view_is) c.requires.admitted in
     let unbroken = ap (λ (k : Stored). k.is_broken) c.self.view_is ∙ c.requires.unbroken in
     let alone = λ (large : is_large (length c.args.payload.now) ≡ true). ap (λ (k : Stored). k.journal.staged) c.self.view_is ∙ c.requires.alone large in
     let H : Stored → Type 0 = λ k. StoreHolds k m base now.state in
     let E : Stored → Type 0 = λ k. blocks_taken k.parts.limits.version (length c.args.payload.now) ≤ free_count k.parts.taken in
     let new : Stored = record { parts = c.hold.new.parts; journal = c.hold.new.journal; is_broken = c.hold.new.is_broken } in
-    added_holds old c.put_content.new.parts c.put_content.new.journal c.args.payload.now c.in_ok-blocks.blocks.items m placed c.in_ok-blocks.ensures.put c.self.invariant c.put_in.new.parts c.args.name.now c.args.assigned.now unbroken one c.put_in.ensures.put base now
+    added_holds old c.put_content.new.parts c.put_content.new.journal c.args.payload.now c.in_ok-blocks.blocks.items m placed c.in_ok-blocks.ensures.put c.self.invariant c.refile.new.parts c.args.name.now c.args.assigned.now unbroken c.refile.ensures.refiles base now
     (subst H (sym c.self.view_is) holds) (subst E (sym c.self.view_is) c.requires.enough) new (g.D.Disk.meaning c.hold.new.disk) c.hold.result alone c.hold.ensures.saves
 
 pub returns-clause-settled : goal.returns-clause-settled
@@ -110,7 +101,5 @@ returns-clause-edits g c =
     let old : Stored = record { parts = c.self.inside.parts; journal = c.self.inside.journal; is_broken = c.self.inside.is_broken } in
     let m = g.D.Disk.meaning c.args.disk.now in
     let placed = g.D.Disk.meaning c.put_content.new.disk in
-    let A : Stored → Type 0 = λ k. IsAdmitted k.parts (new_file c.args.name.now c.args.assigned.now c.args.payload.now) in
-    let one = subst A (sym c.self.view_is) c.requires.admitted in
     let unbroken = ap (λ (k : Stored). k.is_broken) c.self.view_is ∙ c.requires.unbroken in
-    edits_saved c.put_in.new.parts c.self.view_is c.hold.ensures.parts (added_edits old c.put_content.new.parts c.put_content.new.journal c.args.payload.now c.in_ok-blocks.blocks.items m placed c.in_ok-blocks.ensures.put c.self.invariant c.put_in.new.parts c.args.name.now c.args.assigned.now unbroken one c.put_in.ensures.put)
+    edits_saved c.refile.new.parts c.self.view_is c.hold.ensures.parts (added_edits old c.put_content.new.parts c.put_content.new.journal c.args.payload.now c.in_ok-blocks.blocks.items m placed c.in_ok-blocks.ensures.put c.self.invariant c.refile.new.parts c.args.name.now c.args.assigned.now unbroken c.refile.ensures.refiles)

@@ -1,12 +1,7 @@
 use Rattle.std.proofs.Common.{◌≡◌, ◌∙◌, ℕ, true, length, Err, sym, ap, subst, arith}
-use Rattle.std.proofs.lemmas.Result.{err_from_is_err_and}
-use Rattle.arrayvec.specs.ArrayVec.{ArrayVec}
-use Rattle.lis_content.specs.Large.{is_large}
-use Rattle.lis_model.specs.declared.limits.Limits.{Limits}
-use Rattle.lis_model.specs.Changes.{new_file, file_replaced}
+use Rattle.lis_store.proofs.Common.{err_from_is_err_and, ArrayVec, is_large, Limits, new_file, file_replaced, Kept}
 use Rattle.lis_model.specs.Step.{changed}
 use Rattle.lis_eval.specs.Room.{HasRoom}
-use Rattle.lis_kept.specs.Kept.{Kept}
 use Rattle.lis_store.specs.Stored.{Stored, StoreHolds}
 use Rattle.lis_store.proofs.AddFile.{lost_sound, lost_holds}
 use Rattle.lis_store.proofs.Edits.{edits_saved}
@@ -72,23 +67,23 @@ most_held-requires g c =
 
 pub hold-requires-clause-sound : goal.hold-requires-clause-sound
 hold-requires-clause-sound g c =
-    written_sound c.self.view_is c.args.slot c.args.name.now c.args.assigned.now c.args.payload.now c.in_ok-blocks.blocks.items c.self.invariant c.in_ok-blocks.ensures.sound c.requires.may c.in_ok-blocks.ensures.renewed c.refile.ensures.refiled c.requires.unbroken
+    written_sound c.self.view_is c.args.slot c.args.name.now c.args.assigned.now c.args.payload.now c.in_ok-blocks.blocks.items c.self.invariant c.in_ok-blocks.ensures.sound c.requires.may c.in_ok-blocks.ensures.renewed c.refile.ensures.refiles c.requires.unbroken
 
 pub hold-requires-clause-unbroken : goal.hold-requires-clause-unbroken
 hold-requires-clause-unbroken g c =
-    written_unbroken c.self.view_is c.args.slot c.args.name.now c.args.assigned.now c.args.payload.now c.in_ok-blocks.blocks.items c.self.invariant c.in_ok-blocks.ensures.sound c.requires.may c.in_ok-blocks.ensures.renewed c.refile.ensures.refiled c.requires.unbroken
+    written_unbroken c.self.view_is c.args.slot c.args.name.now c.args.assigned.now c.args.payload.now c.in_ok-blocks.blocks.items c.self.invariant c.in_ok-blocks.ensures.sound c.requires.may c.in_ok-blocks.ensures.renewed c.refile.ensures.refiles c.requires.unbroken
 
 pub hold-requires-clause-placed : goal.hold-requires-clause-placed
 hold-requires-clause-placed g c =
-    written_placed c.self.view_is c.args.slot c.args.name.now c.args.assigned.now c.args.payload.now c.in_ok-blocks.blocks.items c.self.invariant c.in_ok-blocks.ensures.sound c.requires.may c.in_ok-blocks.ensures.renewed c.refile.ensures.refiled c.requires.unbroken
+    written_placed c.self.view_is c.args.slot c.args.name.now c.args.assigned.now c.args.payload.now c.in_ok-blocks.blocks.items c.self.invariant c.in_ok-blocks.ensures.sound c.requires.may c.in_ok-blocks.ensures.renewed c.refile.ensures.refiles c.requires.unbroken
 
 pub hold-requires-clause-room : goal.hold-requires-clause-room
 hold-requires-clause-room g c =
-    written_room c.self.view_is c.args.slot c.args.name.now c.args.assigned.now c.args.payload.now c.in_ok-blocks.blocks.items c.self.invariant c.in_ok-blocks.ensures.sound c.requires.may c.in_ok-blocks.ensures.renewed c.refile.ensures.refiled c.requires.unbroken
+    written_room c.self.view_is c.args.slot c.args.name.now c.args.assigned.now c.args.payload.now c.in_ok-blocks.blocks.items c.self.invariant c.in_ok-blocks.ensures.sound c.requires.may c.in_ok-blocks.ensures.renewed c.refile.ensures.refiles c.requires.unbroken
 
 pub hold-requires-clause-image : goal.hold-requires-clause-image
 hold-requires-clause-image g c =
-    written_image c.self.view_is c.args.slot c.args.name.now c.args.assigned.now c.args.payload.now c.in_ok-blocks.blocks.items c.self.invariant c.in_ok-blocks.ensures.sound c.requires.may c.in_ok-blocks.ensures.renewed c.refile.ensures.refiled
+    written_image c.self.view_is c.args.slot c.args.name.now c.args.assigned.now c.args.payload.now c.in_ok-blocks.blocks.items c.self.invariant c.in_ok-blocks.ensures.sound c.requires.may c.in_ok-blocks.ensures.renewed c.refile.ensures.refiles
 
 pub hold-requires-clause-unplaced : goal.hold-requires-clause-unplaced
 hold-requires-clause-unplaced g c = λ some.
@@ -105,7 +100,7 @@ returns-clause-scratch g c =
 pub returns-clause-holds : goal.returns-clause-holds
 returns-clause-holds g c = λ base now holds.
     let new : Stored = record { parts = c.hold.new.parts; journal = c.hold.new.journal; is_broken = c.hold.new.is_broken } in
-    written_holds c.self.view_is c.args.slot c.args.name.now c.args.assigned.now c.args.payload.now c.in_ok-blocks.blocks.items c.self.invariant c.in_ok-blocks.ensures.sound c.requires.may c.in_ok-blocks.ensures.renewed c.refile.ensures.refiled
+    written_holds c.self.view_is c.args.slot c.args.name.now c.args.assigned.now c.args.payload.now c.in_ok-blocks.blocks.items c.self.invariant c.in_ok-blocks.ensures.sound c.requires.may c.in_ok-blocks.ensures.renewed c.refile.ensures.refiles
     base now holds c.requires.named c.requires.enough c.requires.alone new (g.D.Disk.meaning c.hold.new.disk) c.hold.result c.hold.ensures.saves
 
 pub returns-clause-settled : goal.returns-clause-settled
@@ -114,7 +109,7 @@ returns-clause-settled g c = λ large.
 
 pub returns-clause-limits : goal.returns-clause-limits
 returns-clause-limits g c =
-    ap (λ (k : Kept). k.limits) c.hold.ensures.parts ∙ written_limits c.self.view_is c.args.slot c.args.name.now c.args.assigned.now c.args.payload.now c.in_ok-blocks.blocks.items c.self.invariant c.in_ok-blocks.ensures.sound c.requires.may c.in_ok-blocks.ensures.renewed c.refile.ensures.refiled
+    ap (λ (k : Kept). k.limits) c.hold.ensures.parts ∙ written_limits c.self.view_is c.args.slot c.args.name.now c.args.assigned.now c.args.payload.now c.in_ok-blocks.blocks.items c.self.invariant c.in_ok-blocks.ensures.sound c.requires.may c.in_ok-blocks.ensures.renewed c.refile.ensures.refiles
 
 pub returns-clause-image : goal.returns-clause-image
 returns-clause-image g c =
@@ -122,4 +117,4 @@ returns-clause-image g c =
 
 pub returns-clause-edits : goal.returns-clause-edits
 returns-clause-edits g c =
-    edits_saved c.refile.new.parts c.self.view_is c.hold.ensures.parts (written_edits c.self.view_is c.args.slot c.args.name.now c.args.assigned.now c.args.payload.now c.in_ok-blocks.blocks.items c.self.invariant c.in_ok-blocks.ensures.sound c.requires.may c.in_ok-blocks.ensures.renewed c.refile.ensures.refiled)
+    edits_saved c.refile.new.parts c.self.view_is c.hold.ensures.parts (written_edits c.self.view_is c.args.slot c.args.name.now c.args.assigned.now c.args.payload.now c.in_ok-blocks.blocks.items c.self.invariant c.in_ok-blocks.ensures.sound c.requires.may c.in_ok-blocks.ensures.renewed c.refile.ensures.refiles)

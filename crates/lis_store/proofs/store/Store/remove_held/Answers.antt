@@ -1,14 +1,9 @@
 use Rattle.std.proofs.Common.{◌≡◌, ◌∙◌, refl, sym, ap, subst, is_some, Err}
-use Rattle.std.proofs.lemmas.Result.{err_from_is_err_and}
-use Rattle.lis_catalog.specs.Catalog.{slot_of}
-use Rattle.lis_catalog.proofs.Laws.{rec_at-slot_of}
+use Rattle.lis_store.proofs.Common.{err_from_is_err_and, slot_of, rec_at-slot_of, image_blocks, Situation, rm, Kept}
 use Rattle.lis_store.specs.Stored.{Stored, IsSound, StoreHolds}
 use Rattle.lis_store.specs.Judging.{is_among}
-use Rattle.lis_model.specs.Image.{image_blocks}
-use Rattle.lis_model.specs.Step.{Situation, rm}
-use Rattle.lis_kept.specs.Kept.{Kept}
 use Rattle.lis_store.proofs.Edits.{edits_same, edits_saved}
-use Rattle.lis_store.proofs.RemoveFile.{removed_refused, lost_parts, lost_sound, lost_holds, form_given, there_given, same_limits, removed_sound, removed_marks, removed_edits, removed_holds}
+use Rattle.lis_store.proofs.RemoveFile.{removed_refused, lost_parts, lost_sound, lost_holds, form_given, filed_given, same_limits, removed_sound, removed_marks, removed_edits, removed_holds}
 use Rattle.lis_store.proofs.store.Store.remove_held.Goals as goal
 
 pub returns-in_default-clause-holds : goal.returns-in_default-clause-holds
@@ -62,41 +57,21 @@ returns-in_err-give_content-clause-edits g c =
     let is : c.give_content.new.parts.ext ≡ c.args.self.now.parts.ext = ap (λ (k : Kept). k.ext) same ∙ ap (λ (k : Stored). k.parts.ext) c.self.view_is in
     edits_same c.args.self.now.parts.ext c.give_content.new.parts.ext is
 
+pub take_out-requires-clause-form : goal.take_out-requires-clause-form
+take_out-requires-clause-form g c =
+    let old : Stored = record { parts = c.self.inside.parts; journal = c.self.inside.journal; is_broken = c.self.inside.is_broken } in
+    let named = ap (λ (k : Stored). slot_of k.parts.catalog c.args.name.now) c.self.view_is ∙ c.in-Some.ensures.slot in
+    let found = rec_at-slot_of c.self.inside.parts.catalog c.args.name.now c.in-Some.slot c.self.invariant.parts.catalog named in
+    let given = c.in_ok-give_content.ensures.given found.0 found.1 in
+    form_given old c.give_content.new.parts c.in-Some.slot found.0 (g.D.Disk.meaning c.args.disk.now) given.0 c.self.invariant found.1
+
 pub take_out-requires-clause-there : goal.take_out-requires-clause-there
 take_out-requires-clause-there g c =
     let old : Stored = record { parts = c.self.inside.parts; journal = c.self.inside.journal; is_broken = c.self.inside.is_broken } in
     let named = ap (λ (k : Stored). slot_of k.parts.catalog c.args.name.now) c.self.view_is ∙ c.in-Some.ensures.slot in
     let found = rec_at-slot_of c.self.inside.parts.catalog c.args.name.now c.in-Some.slot c.self.invariant.parts.catalog named in
     let given = c.in_ok-give_content.ensures.given found.0 found.1 in
-    let m = g.D.Disk.meaning c.args.disk.now in
-    there_given old c.give_content.new.parts c.in-Some.slot found.0 m given.0 c.self.invariant found.1
-
-pub take_out-requires-clause-few : goal.take_out-requires-clause-few
-take_out-requires-clause-few g c =
-    let old : Stored = record { parts = c.self.inside.parts; journal = c.self.inside.journal; is_broken = c.self.inside.is_broken } in
-    let named = ap (λ (k : Stored). slot_of k.parts.catalog c.args.name.now) c.self.view_is ∙ c.in-Some.ensures.slot in
-    let found = rec_at-slot_of c.self.inside.parts.catalog c.args.name.now c.in-Some.slot c.self.invariant.parts.catalog named in
-    let given = c.in_ok-give_content.ensures.given found.0 found.1 in
-    let m = g.D.Disk.meaning c.args.disk.now in
-    (form_given old c.give_content.new.parts c.in-Some.slot found.0 m given.0 c.self.invariant found.1).short c.in-Some.slot
-
-pub take_out-requires-clause-closed : goal.take_out-requires-clause-closed
-take_out-requires-clause-closed g c =
-    let old : Stored = record { parts = c.self.inside.parts; journal = c.self.inside.journal; is_broken = c.self.inside.is_broken } in
-    let named = ap (λ (k : Stored). slot_of k.parts.catalog c.args.name.now) c.self.view_is ∙ c.in-Some.ensures.slot in
-    let found = rec_at-slot_of c.self.inside.parts.catalog c.args.name.now c.in-Some.slot c.self.invariant.parts.catalog named in
-    let given = c.in_ok-give_content.ensures.given found.0 found.1 in
-    let m = g.D.Disk.meaning c.args.disk.now in
-    (form_given old c.give_content.new.parts c.in-Some.slot found.0 m given.0 c.self.invariant found.1).closed
-
-pub take_out-requires-clause-in_use : goal.take_out-requires-clause-in_use
-take_out-requires-clause-in_use g c =
-    let old : Stored = record { parts = c.self.inside.parts; journal = c.self.inside.journal; is_broken = c.self.inside.is_broken } in
-    let named = ap (λ (k : Stored). slot_of k.parts.catalog c.args.name.now) c.self.view_is ∙ c.in-Some.ensures.slot in
-    let found = rec_at-slot_of c.self.inside.parts.catalog c.args.name.now c.in-Some.slot c.self.invariant.parts.catalog named in
-    let given = c.in_ok-give_content.ensures.given found.0 found.1 in
-    let m = g.D.Disk.meaning c.args.disk.now in
-    (form_given old c.give_content.new.parts c.in-Some.slot found.0 m given.0 c.self.invariant found.1).in_use
+    ap is_some (filed_given old c.give_content.new.parts c.in-Some.slot found.0 (g.D.Disk.meaning c.args.disk.now) given.0 c.self.invariant found.1)
 
 pub hold-requires-clause-sound : goal.hold-requires-clause-sound
 hold-requires-clause-sound g c =
@@ -107,7 +82,8 @@ hold-requires-clause-sound g c =
     let m = g.D.Disk.meaning c.args.disk.now in
     let unbroken = ap (λ (k : Stored). k.is_broken) c.self.view_is ∙ c.requires.unbroken in
     let here = ap (λ (k : Stored). is_among k.parts c.args.place.now c.args.name.now) c.self.view_is ∙ sym c.in-Some.ensures.here in
-    removed_sound old c.give_content.new.parts c.take_out.new.parts c.in-Some.slot c.args.place.now c.args.name.now found.0 m given.0 c.take_out.ensures c.self.invariant unbroken here named found.1
+    let out = c.take_out.ensures found.0 (filed_given old c.give_content.new.parts c.in-Some.slot found.0 m given.0 c.self.invariant found.1) in
+    removed_sound old c.give_content.new.parts c.in-Some.slot found.0 m given.0 c.self.invariant found.1 c.take_out.new.parts c.args.place.now c.args.name.now out unbroken here named
 
 pub hold-requires-clause-image : goal.hold-requires-clause-image
 hold-requires-clause-image g c =
@@ -118,7 +94,8 @@ hold-requires-clause-image g c =
     let m = g.D.Disk.meaning c.args.disk.now in
     let unbroken = ap (λ (k : Stored). k.is_broken) c.self.view_is ∙ c.requires.unbroken in
     let here = ap (λ (k : Stored). is_among k.parts c.args.place.now c.args.name.now) c.self.view_is ∙ sym c.in-Some.ensures.here in
-    c.self.invariant.image ∙ ap image_blocks (sym (same_limits old c.give_content.new.parts c.take_out.new.parts c.in-Some.slot c.args.place.now c.args.name.now found.0 m given.0 c.take_out.ensures c.self.invariant unbroken here named found.1))
+    let out = c.take_out.ensures found.0 (filed_given old c.give_content.new.parts c.in-Some.slot found.0 m given.0 c.self.invariant found.1) in
+    c.self.invariant.image ∙ ap image_blocks (sym (same_limits old c.give_content.new.parts c.in-Some.slot found.0 m given.0 c.self.invariant found.1 c.take_out.new.parts c.args.place.now c.args.name.now out unbroken here named))
 
 pub hold-requires-clause-room : goal.hold-requires-clause-room
 hold-requires-clause-room g c =
@@ -129,7 +106,8 @@ hold-requires-clause-room g c =
     let m = g.D.Disk.meaning c.args.disk.now in
     let unbroken = ap (λ (k : Stored). k.is_broken) c.self.view_is ∙ c.requires.unbroken in
     let here = ap (λ (k : Stored). is_among k.parts c.args.place.now c.args.name.now) c.self.view_is ∙ sym c.in-Some.ensures.here in
-    removed_marks old c.give_content.new.parts c.take_out.new.parts c.in-Some.slot c.args.place.now c.args.name.now found.0 m given.0 c.take_out.ensures c.self.invariant unbroken here named found.1
+    let out = c.take_out.ensures found.0 (filed_given old c.give_content.new.parts c.in-Some.slot found.0 m given.0 c.self.invariant found.1) in
+    removed_marks old c.give_content.new.parts c.in-Some.slot found.0 m given.0 c.self.invariant found.1 c.take_out.new.parts c.args.place.now c.args.name.now out unbroken here named
 
 pub returns-clause-holds : goal.returns-clause-holds
 returns-clause-holds g c = λ base s holds.
@@ -140,9 +118,10 @@ returns-clause-holds g c = λ base s holds.
     let m = g.D.Disk.meaning c.args.disk.now in
     let unbroken = ap (λ (k : Stored). k.is_broken) c.self.view_is ∙ c.requires.unbroken in
     let here = ap (λ (k : Stored). is_among k.parts c.args.place.now c.args.name.now) c.self.view_is ∙ sym c.in-Some.ensures.here in
+    let out = c.take_out.ensures found.0 (filed_given old c.give_content.new.parts c.in-Some.slot found.0 m given.0 c.self.invariant found.1) in
     let new : Stored = record { parts = c.hold.new.parts; journal = c.hold.new.journal; is_broken = c.hold.new.is_broken } in
     let H : Stored → Type 0 = λ k. StoreHolds k m base s in
-    removed_holds old c.give_content.new.parts c.take_out.new.parts c.in-Some.slot c.args.place.now c.args.name.now found.0 m given.0 c.take_out.ensures c.self.invariant unbroken here named found.1
+    removed_holds old c.give_content.new.parts c.in-Some.slot found.0 m given.0 c.self.invariant found.1 c.take_out.new.parts c.args.place.now c.args.name.now out unbroken here named
     base s (subst H (sym c.self.view_is) holds) new (g.D.Disk.meaning c.give_content.new.disk) (g.D.Disk.meaning c.hold.new.disk) c.hold.result given.1 c.hold.ensures.saves
 
 pub returns-clause-limits : goal.returns-clause-limits
@@ -154,7 +133,8 @@ returns-clause-limits g c =
     let m = g.D.Disk.meaning c.args.disk.now in
     let unbroken = ap (λ (k : Stored). k.is_broken) c.self.view_is ∙ c.requires.unbroken in
     let here = ap (λ (k : Stored). is_among k.parts c.args.place.now c.args.name.now) c.self.view_is ∙ sym c.in-Some.ensures.here in
-    ap (λ (k : Kept). k.limits) c.hold.ensures.parts ∙ (same_limits old c.give_content.new.parts c.take_out.new.parts c.in-Some.slot c.args.place.now c.args.name.now found.0 m given.0 c.take_out.ensures c.self.invariant unbroken here named found.1 ∙ ap (λ (k : Stored). k.parts.limits) c.self.view_is)
+    let out = c.take_out.ensures found.0 (filed_given old c.give_content.new.parts c.in-Some.slot found.0 m given.0 c.self.invariant found.1) in
+    ap (λ (k : Kept). k.limits) c.hold.ensures.parts ∙ (same_limits old c.give_content.new.parts c.in-Some.slot found.0 m given.0 c.self.invariant found.1 c.take_out.new.parts c.args.place.now c.args.name.now out unbroken here named ∙ ap (λ (k : Stored). k.parts.limits) c.self.view_is)
 
 pub returns-clause-edits : goal.returns-clause-edits
 returns-clause-edits g c =
@@ -165,4 +145,5 @@ returns-clause-edits g c =
     let m = g.D.Disk.meaning c.args.disk.now in
     let unbroken = ap (λ (k : Stored). k.is_broken) c.self.view_is ∙ c.requires.unbroken in
     let here = ap (λ (k : Stored). is_among k.parts c.args.place.now c.args.name.now) c.self.view_is ∙ sym c.in-Some.ensures.here in
-    edits_saved c.take_out.new.parts c.self.view_is c.hold.ensures.parts (removed_edits old c.give_content.new.parts c.take_out.new.parts c.in-Some.slot c.args.place.now c.args.name.now found.0 m given.0 c.take_out.ensures c.self.invariant unbroken here named found.1)
+    let out = c.take_out.ensures found.0 (filed_given old c.give_content.new.parts c.in-Some.slot found.0 m given.0 c.self.invariant found.1) in
+    edits_saved c.take_out.new.parts c.self.view_is c.hold.ensures.parts (removed_edits old c.give_content.new.parts c.in-Some.slot found.0 m given.0 c.self.invariant found.1 c.take_out.new.parts c.args.place.now c.args.name.now out unbroken here named)

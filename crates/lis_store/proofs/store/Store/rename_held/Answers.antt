@@ -1,14 +1,5 @@
-use Rattle.std.proofs.Common.{◌≡◌, ◌∙◌, List, ℕ, None, Err, is_some, refl, sym, ap, subst}
-use Rattle.std.proofs.lemmas.Result.{err_from_is_err_and}
-use Rattle.lis_catalog.specs.Catalog.{slot_of}
-use Rattle.lis_content.specs.Placing.{Asks}
-use Rattle.lis_model.specs.Changes.{new_file}
-use Rattle.lis_model.specs.Step.{Situation, rename}
-use Rattle.lis_kept.specs.Kept.{Kept}
-use Rattle.lis_kept.specs.Telling.{bytes_told}
-use Rattle.lis_journal.specs.Images.{Fits}
-use Rattle.lis_journal.specs.Phases.{looked}
-use Rattle.lis_model.specs.declared.refusal.Refusal.TheVariants.{NameTaken}
+use Rattle.std.proofs.Common.{◌≡◌, ◌∙◌, List, ℕ, Option, Some, None, Err, is_some, refl, sym, ap, subst}
+use Rattle.lis_store.proofs.Common.{err_from_is_err_and, slot_of, Asks, FileRecord, new_file, Situation, rename, Kept, bytes_told, Fits, looked, NameTaken}
 use Rattle.lis_store.specs.declared.change.Change.TheVariants.{Refused}
 use Rattle.lis_store.specs.Stored.{Stored, IsSound, StoreHolds}
 use Rattle.lis_store.specs.Changes.{Holds, first_refusal}
@@ -84,28 +75,23 @@ refile-requires-clause-may g c =
 
 pub hold-requires-clause-sound : goal.hold-requires-clause-sound
 hold-requires-clause-sound g c =
-    let first = rename_asks c.self.view_is c.self.invariant c.args.place.now c.args.name.now c.in-Some.ensures.slot c.in-Some.ensures.here c.bytes.ensures.bytes c.bytes-2.ensures.bytes c.in_default-read_file.ensures.size c.args.new.now c.slot_of.ensures.name c.as_slice.ensures.value c.in_ok-words.ensures.words c.in_ok-words.ensures.row in
-    refiled_sound c.self.view_is c.args.new.now c.as_slice.result.now c.bytes-2.result.now c.self.invariant first c.refile.ensures.refiled c.requires.unbroken
+    refiled_sound c.self.view_is c.self.invariant c.args.name.now c.in-Some.ensures.slot c.refile.ensures.refiles c.requires.unbroken
 
 pub hold-requires-clause-image : goal.hold-requires-clause-image
 hold-requires-clause-image g c =
-    let first = rename_asks c.self.view_is c.self.invariant c.args.place.now c.args.name.now c.in-Some.ensures.slot c.in-Some.ensures.here c.bytes.ensures.bytes c.bytes-2.ensures.bytes c.in_default-read_file.ensures.size c.args.new.now c.slot_of.ensures.name c.as_slice.ensures.value c.in_ok-words.ensures.words c.in_ok-words.ensures.row in
-    refiled_image c.self.view_is c.args.new.now c.as_slice.result.now c.bytes-2.result.now c.self.invariant first c.refile.ensures.refiled
+    refiled_image c.self.view_is c.self.invariant c.args.name.now c.in-Some.ensures.slot c.refile.ensures.refiles
 
 pub hold-requires-clause-placed : goal.hold-requires-clause-placed
 hold-requires-clause-placed g c =
-    let first = rename_asks c.self.view_is c.self.invariant c.args.place.now c.args.name.now c.in-Some.ensures.slot c.in-Some.ensures.here c.bytes.ensures.bytes c.bytes-2.ensures.bytes c.in_default-read_file.ensures.size c.args.new.now c.slot_of.ensures.name c.as_slice.ensures.value c.in_ok-words.ensures.words c.in_ok-words.ensures.row in
-    refiled_placed c.self.view_is c.args.new.now c.as_slice.result.now c.bytes-2.result.now c.self.invariant first c.refile.ensures.refiled c.requires.unbroken
+    refiled_placed c.self.view_is c.self.invariant c.args.name.now c.in-Some.ensures.slot c.refile.ensures.refiles c.requires.unbroken
 
 pub hold-requires-clause-room : goal.hold-requires-clause-room
 hold-requires-clause-room g c =
-    let first = rename_asks c.self.view_is c.self.invariant c.args.place.now c.args.name.now c.in-Some.ensures.slot c.in-Some.ensures.here c.bytes.ensures.bytes c.bytes-2.ensures.bytes c.in_default-read_file.ensures.size c.args.new.now c.slot_of.ensures.name c.as_slice.ensures.value c.in_ok-words.ensures.words c.in_ok-words.ensures.row in
-    refiled_room c.self.view_is c.args.new.now c.as_slice.result.now c.bytes-2.result.now c.self.invariant first c.refile.ensures.refiled c.requires.unbroken
+    refiled_room c.self.view_is c.self.invariant c.args.name.now c.in-Some.ensures.slot c.refile.ensures.refiles c.requires.unbroken
 
 pub returns-clause-edits : goal.returns-clause-edits
 returns-clause-edits g c =
-    let first = rename_asks c.self.view_is c.self.invariant c.args.place.now c.args.name.now c.in-Some.ensures.slot c.in-Some.ensures.here c.bytes.ensures.bytes c.bytes-2.ensures.bytes c.in_default-read_file.ensures.size c.args.new.now c.slot_of.ensures.name c.as_slice.ensures.value c.in_ok-words.ensures.words c.in_ok-words.ensures.row in
-    edits_saved c.refile.new.parts c.self.view_is c.hold.ensures.parts (refiled_edits c.self.view_is c.args.new.now c.as_slice.result.now c.bytes-2.result.now c.self.invariant first c.refile.ensures.refiled)
+    edits_saved c.refile.new.parts c.self.view_is c.hold.ensures.parts (refiled_edits c.self.view_is c.self.invariant c.args.name.now c.in-Some.ensures.slot c.refile.ensures.refiles)
 
 pub returns-clause-holds : goal.returns-clause-holds
 returns-clause-holds g c = λ base s holds.
@@ -115,7 +101,6 @@ returns-clause-holds g c = λ base s holds.
     let here = ap (λ (k : Stored). is_among k.parts c.args.place.now c.args.name.now) c.self.view_is ∙ sym c.in-Some.ensures.here in
     let words = c.as_slice.ensures.value ∙ c.in_ok-words.ensures.words found.0 found.1 in
     let same = c.bytes.ensures.bytes ∙ sym c.bytes-2.ensures.bytes in
-    let first = rename_asks c.self.view_is c.self.invariant c.args.place.now c.args.name.now c.in-Some.ensures.slot c.in-Some.ensures.here c.bytes.ensures.bytes c.bytes-2.ensures.bytes c.in_default-read_file.ensures.size c.args.new.now c.slot_of.ensures.name c.as_slice.ensures.value c.in_ok-words.ensures.words c.in_ok-words.ensures.row in
     let unbroken = ap (λ (k : Stored). k.is_broken) c.self.view_is ∙ c.requires.unbroken in
     let m = g.D.Disk.meaning c.args.disk.now in
     let mid = g.D.Disk.meaning c.read_file.new.disk in
@@ -125,18 +110,17 @@ returns-clause-holds g c = λ base s holds.
     let asks : Asks c.self.inside.journal m mid = record { run = c.read_file.ensures.run; same = c.read_file.ensures.same; moments = c.read_file.ensures.any_moment; fits = c.read_file.ensures.fits } in
     let R : List ℕ → Type 0 = λ bs. (kept : ℕ → List ℕ) → Fits c.self.inside.journal m kept → AreContentsWithin c.self.inside.parts.limits (looked c.self.inside.journal.staged kept) found.0 → bs ≡ bytes_told c.self.inside.parts.limits (looked c.self.inside.journal.staged kept) found.0 in
     let read_now : R c.read_file.new.bytes = λ kept held within. c.in_default-read_file.ensures.read found.0 kept found.1 held within in
-    let Again : List ℕ → Type 0 = λ ns. RefilesIn c.in-Some.slot (new_file c.args.new.now c.as_slice.result.now c.bytes-2.result.now) ns c.self.inside.parts c.refile.new.parts in
-    let again = subst Again (c.blocks_in-blocks.ensures found.0 found.1) c.refile.ensures.refiled in
+    let Again : Option FileRecord → List ℕ → Type 0 = λ gone ns. RefilesIn gone (new_file c.args.new.now c.as_slice.result.now c.bytes-2.result.now) ns c.self.inside.parts c.refile.new.parts in
+    let again = subst (Again (Some found.0)) (c.blocks_in-blocks.ensures found.0 found.1) (subst (λ gone. Again gone c.blocks_in-blocks.result.items) found.1 c.refile.ensures.refiles) in
     let new : Stored = record { parts = c.hold.new.parts; journal = c.hold.new.journal; is_broken = c.hold.new.is_broken } in
     let N : List ℕ → Type 0 = λ bs. first_refusal (renaming_checks c.self.inside.parts c.in-Some.slot (given_before c.self.inside.parts found.0 c.args.new.now bs)) ≡ None in
     renaming_holds old c.args.place.now c.args.name.now c.in-Some.slot found.0 c.self.invariant named found.1 here m base s holds_old mid asks
-    c.bytes-2.result.now (subst R (sym c.bytes-2.ensures.bytes) read_now) c.refile.new.parts c.args.new.now c.as_slice.result.now unbroken words first again
+    c.bytes-2.result.now (subst R (sym c.bytes-2.ensures.bytes) read_now) c.refile.new.parts c.args.new.now c.as_slice.result.now unbroken words again
     (subst N same (c.in_ok-words.ensures.row found.0 found.1)) new (g.D.Disk.meaning c.hold.new.disk) c.hold.result c.hold.ensures.saves
 
 pub returns-clause-limits : goal.returns-clause-limits
 returns-clause-limits g c =
-    let first = rename_asks c.self.view_is c.self.invariant c.args.place.now c.args.name.now c.in-Some.ensures.slot c.in-Some.ensures.here c.bytes.ensures.bytes c.bytes-2.ensures.bytes c.in_default-read_file.ensures.size c.args.new.now c.slot_of.ensures.name c.as_slice.ensures.value c.in_ok-words.ensures.words c.in_ok-words.ensures.row in
-    ap (λ (k : Kept). k.limits) c.hold.ensures.parts ∙ refiled_limits c.self.view_is c.args.new.now c.as_slice.result.now c.bytes-2.result.now c.self.invariant first c.refile.ensures.refiled
+    ap (λ (k : Kept). k.limits) c.hold.ensures.parts ∙ refiled_limits c.self.view_is c.self.invariant c.args.name.now c.in-Some.ensures.slot c.refile.ensures.refiles
 
 pub blocks_in-blocks-requires : goal.blocks_in-blocks-requires
 blocks_in-blocks-requires g c =

@@ -1,11 +1,6 @@
 use Rattle.std.proofs.Common.{◌≡◌, ◌∙◌, ◌≤◌, Some, Ok, Err, is_some, refl, sym, ap, subst, arith}
-use Rattle.std.proofs.lemmas.Result.{err_from_is_err_and}
-use Rattle.lis_catalog.specs.Catalog.{slot_of, rec_at}
-use Rattle.lis_fields.specs.Records.{FileRecord}
-use Rattle.lis_model.specs.declared.limits.Limits.{Limits}
-use Rattle.lis_model.specs.Changes.{new_file, file_replaced}
-use Rattle.lis_model.specs.State.{file_limit}
-use Rattle.lis_model.specs.Step.{Situation, Outcome, Payload, changed, write}
+use Rattle.lis_store.proofs.Common.{err_from_is_err_and, slot_of, rec_at, FileRecord, Limits, new_file, file_replaced, file_limit, Situation, Outcome, Payload, write}
+use Rattle.lis_model.specs.Step.{changed}
 use Rattle.lis_kept.specs.Telling.{words_told}
 use Rattle.lis_store.specs.Stored.{Stored, IsSound, StoreHolds}
 use Rattle.lis_store.specs.Changes.{Holds, Commits}

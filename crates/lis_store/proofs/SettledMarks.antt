@@ -1,0 +1,87 @@
+-- How much is marked when a file has come into a vacant slot, and how often rows are edited.
+use Rattle.std.proofs.Common.{◌≡◌, sym, ap, ◌∙◌, subst, ℕ, ◌+◌, ◌*◌, ◌<◌, ◌≤◌, Bool, true, false, cond, List, [], ◌∷◌, ◌++◌, length, set, map, count_by, length-append, arith}
+use Rattle.lis_store.proofs.Common.{sum_by-set, is_taken, stays_marked, Ext, numbers_at, differs, is_valued, head_bytes, derived_words, File, Kept, IsSaved, block_of, is_marked, marked_count}
+use Rattle.lis_content.proofs.Numbers.{below_if_taken}
+use Rattle.lis_ext.specs.Numbers.{numbers_where}
+use Rattle.lis_laws.proofs.Derived.{derived_few}
+use Rattle.lis_kept.specs.Areas.Area.{Files, Rows}
+use Rattle.lis_store.specs.Admitting.{described_by}
+use Rattle.lis_store.specs.Adding.{numbers_named, behind_head, with_heads, learnt_words}
+use Rattle.lis_store.specs.ReplacingIn.{MayComeIn, IsVacant, SettlesIn}
+use Rattle.lis_store.proofs.Differing.{differ_few}
+use Rattle.lis_store.proofs.Edits.{AreEditsFew, edits_at}
+use Rattle.lis_store.proofs.PutIn.{named_rising}
+use Rattle.lis_store.proofs.Settled.{described_is, set_here}
+
+-- a word has one head at most
+heads_few : (words : List (List ℕ)) → length (with_heads words) ≤ 2 * length words
+heads_few [] = omega arith
+heads_few (word ∷ words) = omega (arith, heads_few words, length-append (behind_head word) (with_heads words), one (is_valued word))
+  where
+    one : (b : Bool) → length (cond b (head_bytes word ∷ []) [] ++ word ∷ []) ≤ 2
+    one true = omega arith
+    one false = omega arith
+
+-- a mark that is there already
+kept_true : (bits : List Bool) (n : ℕ) → is_taken bits n ≡ true → count_by (λ (b : Bool). b) (set bits n true) ≡ count_by (λ (b : Bool). b) bits
+kept_true bits n is =
+    let changed = sum_by-set (λ (b : Bool). cond b 1 0) bits n true false (below_if_taken bits n is) in
+    omega (arith, changed, ap {B = ℕ} (λ (b : Bool). cond b 1 0) is)
+
+module _ {slot : ℕ} {old : List ℕ} {file : File} {blocks : List ℕ} {v q : Kept} (vacant : IsVacant slot old v) (may : MayComeIn v file) (settles : SettlesIn slot file blocks v q) where
+  abbrev l : Kept
+  l = settles.learnt
+
+  abbrev d : Kept
+  d = settles.described
+
+  abbrev numbers : List ℕ
+  numbers = numbers_named l.dict (described_by v file)
+
+  abbrev changed : ℕ
+  changed = length (numbers_where v.ext.props (differs old numbers))
+
+  ext_before : l.ext ≡ v.ext
+  ext_before = ap (λ (x : Kept). x.ext) settles.own.learns.parts
+
+  was : old ≡ numbers_at l.ext slot
+  was = sym (ap (λ (e : Ext). numbers_at e slot) ext_before ∙ vacant.was)
+
+  pub saved_settled : (at : ℕ → List ℕ) → IsSaved v at → IsSaved q at
+  saved_settled at saved = settles.files.marks.saved at ((settles.describes.marks old was).saved at (settles.own.learns.marks.saved at saved))
+
+  few_described : marked_count d ≤ marked_count v + 384
+  few_described =
+      let one = settles.own.learns.marks.few in
+      let heads_of = heads_few (learnt_words file) in
+      let own = length-append file.assigned (derived_words file.name file.bytes) in
+      let two = subst (λ (e : Ext). marked_count d ≤ marked_count l + length (numbers_where e.props (differs old numbers))) ext_before (settles.describes.marks old was).few in
+      let turned = differ_few v.ext.props old numbers vacant.rising (named_rising l settles.own.sound (described_by v file)) in
+      omega (arith, one, heads_of, own, may.few, derived_few file.name file.bytes, two, turned, vacant.few, settles.own.few)
+
+  pub few_settled : marked_count q ≤ marked_count v + 385
+  few_settled = omega (arith, few_described, settles.files.marks.few)
+
+  -- what is marked stays marked
+  still_marked : (block : ℕ) → is_marked v block ≡ true → is_marked d block ≡ true
+  still_marked block is =
+      ap (λ ms. is_taken ms block) (settles.describes.touched old was)
+      ∙ stays_marked l.marks (map (block_of l.limits Rows) (numbers_where l.ext.props (differs old numbers))) block (settles.own.learns.marked block is)
+
+  pub marked_settled : (block : ℕ) → is_marked v block ≡ true → is_marked q block ≡ true
+  marked_settled block is =
+      ap (λ (x : Kept). is_marked x block) settles.files.parts ∙ stays_marked d.marks (block_of d.limits Files slot ∷ []) block (still_marked block is)
+
+  -- and the block of the slot is marked once
+  pub few_again : is_marked v (block_of v.limits Files slot) ≡ true → marked_count q ≤ marked_count v + 384
+  few_again is =
+      let home = ap (λ (x : Kept). is_marked d (block_of x.limits Files slot)) (described_is vacant may settles) ∙ still_marked (block_of v.limits Files slot) is in
+      omega (arith, few_described, ap (λ (x : Kept). marked_count x) settles.files.parts, kept_true d.marks (block_of d.limits Files slot) home)
+
+  pub edits_settled : AreEditsFew v.ext q.ext
+  edits_settled =
+      let same = ap (λ (x : Kept). x.ext.edits) settles.files.parts in
+      let made = subst (λ (e : Ext). d.ext.edits ≤ e.edits + length (numbers_where e.props (differs old numbers))) ext_before (settles.describes.edits old was) in
+      let no_fewer = subst (λ (e : Ext). e.edits ≤ d.ext.edits) ext_before settles.describes.no_fewer in
+      let slot_in : slot < length v.ext.sets = omega (arith, vacant.below, vacant.sound.files) in
+      edits_at v.ext q.ext slot old numbers slot_in vacant.was (set_here vacant may settles) (omega (arith, no_fewer, same)) (omega (arith, made, same))

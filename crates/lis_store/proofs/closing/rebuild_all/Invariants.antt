@@ -1,0 +1,8 @@
+use Rattle.lis_store.proofs.Common.{AreSound}
+use Rattle.lis_store.specs.Closing.{rebuilt}
+use Rattle.lis_store.specs.Redescribing.{Redescribes}
+use Rattle.lis_store.proofs.closing.rebuild_all.Given as goal
+
+-- the slots so far are made anew
+abbrev pub invariant-loop-slot : goal.invariant-loop-slot
+invariant-loop-slot l = Redescribes (rebuilt l.initial.parts l.how) l.slot l.initial.parts l.parts × AreSound l.parts

@@ -1,0 +1,8 @@
+use Rattle.std.proofs.Common.{◌≡◌, ◌≤◌, length}
+use Rattle.lis_store.specs.Beside.{is_leaving}
+use Rattle.lis_store.proofs.Had.{found_below}
+use Rattle.lis_store.proofs.describing.leaving.Given as goal
+
+-- the numbers so far that leave
+abbrev pub invariant-loop-number : goal.invariant-loop-number
+invariant-loop-number l = (l.count ≡ length (found_below (is_leaving l.parts l.row l.slot) l.number)) × (l.count ≤ l.number)

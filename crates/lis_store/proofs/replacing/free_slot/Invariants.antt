@@ -1,0 +1,7 @@
+use Rattle.std.proofs.Common.{◌≡◌, ℕ, ◌<◌, true, is_some}
+use Rattle.lis_store.proofs.Common.{rec_at}
+use Rattle.lis_store.proofs.replacing.free_slot.Given as goal
+
+-- each slot so far has a file
+abbrev pub invariant-loop-slot : goal.invariant-loop-slot
+invariant-loop-slot l = (k : ℕ) → k < l.slot → is_some (rec_at l.parts.catalog k) ≡ true
