@@ -2,19 +2,13 @@
 use Rattle.std.proofs.Common.{◌≡◌, ◌∙◌, refl, sym, ap, subst, ℕ, ◌≤◌, ◌&&◌, not, nat_lt, Bool, true, false, Option, Some, None, IfSome, List, ◌++◌, length, IsTrue, arith}
 use Rattle.std.specs.Option.{option_map}
 use Rattle.std.proofs.lemmas.Bool.{and_parts, both_ways}
-use Rattle.std.proofs.lemmas.List.Folds.{list_all-append}
-use Rattle.lis_blockmap.specs.Bitmap.{is_taken}
-use Rattle.lis_content.specs.Content.{are_free, are_distinct, are_within}
-use Rattle.lis_content.specs.Large.{is_large, slot_count, index_bytes, numbers_in, index_home, file_blocks}
+use Rattle.lis_open.proofs.Common.{list_all-append, is_taken, are_free, are_distinct, is_large, index_bytes, numbers_in, index_home, FileRecord, is_record, Limits, data_start, image_blocks, blocks_needed}
+use Rattle.lis_content.specs.Content.{are_within}
+use Rattle.lis_content.specs.Large.{slot_count, file_blocks}
 use Rattle.lis_content.proofs.Indexes.{length-numbers_in, large_blocks, small_blocks}
 use Rattle.lis_content.proofs.Numbers.{below_from_free, within_if_below}
-use Rattle.lis_fields.specs.Records.{FileRecord}
-use Rattle.lis_fields.specs.Layouts.{is_record}
 use Rattle.lis_fields.proofs.Parts.{record_tests, few_blocks, size_fits}
 use Rattle.lis_kept.proofs.Contents.{slot_blocks_counted}
-use Rattle.lis_model.specs.declared.limits.Limits.{Limits}
-use Rattle.lis_model.specs.Image.{data_start, image_blocks}
-use Rattle.lis_model.specs.State.{blocks_needed}
 use Rattle.lis_open.specs.ReadFiles.{HasBlocks, AreIndexed, AreReadBlocks}
 
 -- ---- records in form

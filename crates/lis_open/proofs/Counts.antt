@@ -2,15 +2,11 @@
 use Rattle.std.proofs.Common.{◌≡◌, refl, sym, ap, ap₂, subst, inl, inr, ℕ, ◌+◌, zero, suc, ◌<◌, ◌≤◌, eqb, true, ◌&&◌, List, [], ◌∷◌, length, map, take, arith, sum, length-append}
 use Rattle.std.specs.declared.cmp.Ordering.{Ordering}
 use Rattle.std.specs.Ordering.{is_lt}
-use Rattle.std.specs.List.{list_all, flat_map}
-use Rattle.std.proofs.lemmas.Bool.{eqb-true}
+use Rattle.lis_open.proofs.Common.{list_all, flat_map, eqb-true, insert_key, Among, among_from_any, are_distinct}
 use Rattle.std.proofs.lemmas.List.Sums.{sum_by-cons}
 use Rattle.std.proofs.lemmas.Map.Steps.{length-le_from_distinct_below}
-use Rattle.std.specs.BTreeSet.{insert_key}
 use Rattle.lis_graph.specs.Graph.{is_rising, with_more}
 use Rattle.lis_laws.proofs.Counts.{insert_key_le}
-use Rattle.lis_graph.proofs.Members.{Among, among_from_any}
-use Rattle.lis_content.specs.Content.{are_distinct}
 use Rattle.lis_kept.proofs.Filed.{each_once}
 
 -- ---- numbers below a bound, none of them twice

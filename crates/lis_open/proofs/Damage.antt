@@ -1,50 +1,35 @@
 -- Where blocks spell a state, no part fails its check.
 use Rattle.std.proofs.Common.{◌≡◌, ◌⊎◌, ◌∙◌, refl, sym, ap, subst, inl, inr, ℕ, ◌+◌, ◌-◌, ◌/◌, ◌<◌, ◌≤◌, nat_lt, nat_le, Bool, true, false, ◌||◌, is_some, List, [], ◌∷◌, ◌++◌, length, map, take, drop, get_or, replicate, slice_get, Option, Some, None, IsTrue, arith}
 use Rattle.std.specs.Option.{option_to_list}
-use Rattle.std.specs.List.{list_all, flat_map}
-use Rattle.std.proofs.lemmas.Bool.{and_parts, both_ways, ltb-true, leb-true, cases_lt}
-use Rattle.std.proofs.lemmas.List.{length-map, length-take-le, length-drop, length-replicate, get_or-replicate, get_or_past, get_or-drop}
-use Rattle.std.proofs.lemmas.Option.{slice_get-get_or, slice_get_within, get_or_from_slice_get, same_Some}
-use Rattle.lis_graph.proofs.Members.{Among, among_from_contains, contains_from_among, map_among, among_flat_map, flat_map_among, among_with_more, with_more_new}
-use Rattle.lis_journal.specs.Record.{block, replayed}
-use Rattle.lis_slots.specs.Slots.{Slots}
-use Rattle.lis_blockmap.specs.Bitmap.{is_taken, has_bit}
+use Rattle.lis_open.proofs.Common.{list_all, flat_map, or-false, ltb-true, leb-true, cases_lt, length-take-le, length-replicate, slice_get_within, get_or_from_slice_get, same_Some, Among, among_from_contains, contains_from_among, among_left, map_among, among_flat_map, block, Slots, has_bit, marked, are_distinct, FileRecord, prop_bytes, is_prop, axiom_bytes, is_axiom, file_bytes, is_file, PropSlot, FreeProp, AxiomSlot, FreeAxiom, Pair, FileSlot, FreeFile, Used, prop_once, axiom_once, word_cmp, is_plain_word, head_bytes, among_from_has_word, among_set_of, Limits, Spot, Super, BadRecord, Property, Axiom, Word, Row, bitmap_start, image_blocks, State, description, known, is_nameable, is_assignable, property_slots, axiom_slots, file_slots, blocks_told, among_from_number, placed_at, among_place, Contents, AreSlots, word_in, words_in, word_at, all_records, spelled_state, is_had_by, row_bit, one_array, AllApart}
+use Rattle.std.proofs.lemmas.Bool.{and_parts, both_ways}
+use Rattle.std.proofs.lemmas.List.{length-map, length-drop, get_or_past, get_or-drop}
+use Rattle.std.proofs.lemmas.Option.{slice_get-get_or}
+use Rattle.lis_graph.proofs.Members.{flat_map_among, among_with_more, with_more_new}
+use Rattle.lis_journal.specs.Record.{replayed}
 use Rattle.lis_blockmap.proofs.Laws.{has_bit-bitmap_bytes}
-use Rattle.lis_content.specs.Content.{marked, has_number, are_distinct}
-use Rattle.lis_fields.specs.Records.{FileRecord}
-use Rattle.lis_fields.specs.Layouts.{prop_bytes, is_prop, axiom_bytes, is_axiom, file_bytes, is_file}
-use Rattle.lis_fields.specs.declared.slots.PropSlot.{PropSlot}
-use Rattle.lis_fields.specs.declared.slots.PropSlot.TheVariants.{Free as FreeProp}
-use Rattle.lis_fields.specs.declared.slots.AxiomSlot.{AxiomSlot}
-use Rattle.lis_fields.specs.declared.slots.AxiomSlot.TheVariants.{Free as FreeAxiom, Pair}
-use Rattle.lis_fields.specs.declared.slots.FileSlot.{FileSlot}
-use Rattle.lis_fields.specs.declared.slots.FileSlot.TheVariants.{Free as FreeFile, Used}
-use Rattle.lis_fields.proofs.OneSpelling.{prop_once, axiom_once, file_once}
-use Rattle.lis_words.specs.Words.{word_cmp, is_plain_word, has_word, head_bytes}
-use Rattle.lis_laws.proofs.Members.{word_order, word_exact, pair_order, pair_exact, among_from_has_word, has_word_from_among, among_set_of, set_of_among}
+use Rattle.lis_content.specs.Content.{has_number}
+use Rattle.lis_fields.proofs.OneSpelling.{file_once}
+use Rattle.lis_words.specs.Words.{has_word}
+use Rattle.lis_laws.proofs.Members.{word_order, word_exact, pair_order, pair_exact, has_word_from_among, set_of_among}
 use Rattle.lis_laws.proofs.Counts.{all_among}
 use Rattle.lis_laws.proofs.Chains.{heads_of_valued, entails_within}
 use Rattle.lis_laws.proofs.Sources.{known_from, described_known, rights_are, assigned_are}
 use Rattle.lis_laws.proofs.Sources.Source.{LeftHead}
-use Rattle.lis_model.specs.declared.limits.Limits.{Limits}
-use Rattle.lis_model.specs.declared.spot.Spot.{Spot}
-use Rattle.lis_model.specs.declared.spot.Spot.TheVariants.{Super, BadRecord, Property, Axiom, File as FileSpot, Word, Bitmap, Row}
-use Rattle.lis_model.specs.Image.{bitmap_start, image_blocks}
+use Rattle.lis_model.specs.declared.spot.Spot.TheVariants.{File as FileSpot, Bitmap}
 use Rattle.lis_model.specs.Sets.{set_of}
-use Rattle.lis_model.specs.State.{State, File, pair_cmp, description, known, is_nameable, is_assignable}
-use Rattle.lis_kept.specs.Areas.{property_slots, axiom_slots, file_slots}
-use Rattle.lis_kept.specs.Telling.{blocks_told}
-use Rattle.lis_kept.proofs.Filing.{among_from_number, number_from_among as has_from_among}
+use Rattle.lis_model.specs.State.{File, pair_cmp}
+use Rattle.lis_kept.proofs.Filing.{number_from_among as has_from_among}
 use Rattle.lis_kept.proofs.Formed.{some_word}
-use Rattle.lis_kept.proofs.Known.{placed_at, among_place}
 use Rattle.lis_kept.proofs.InArea.{rows_counted}
-use Rattle.lis_store.specs.Stands.{Contents, AreSlots, word_in, words_in, word_at, pair_in, pairs_in, is_named_axiom, is_free_axiom, records_in, all_records, all_blocks, file_by, spelled_state, is_had_by, row_bit, Spells, Stands}
-use Rattle.lis_store.proofs.OneState.{one_array}
-use Rattle.lis_store.proofs.Points.{AllApart}
+use Rattle.lis_store.specs.Stands.{pair_in, pairs_in, is_named_axiom, is_free_axiom, records_in, all_blocks, file_by, Spells, Stands}
+use Rattle.lis_store.proofs.SlotOrder.{flat_map-flat_map}
 use Rattle.lis_open.specs.Checks.{IsFile, AreContents, IsUsed, axioms_by, PropertyFails, AxiomFault, HasAxiomFault, AxiomFails, FileFault, HasFileFault, FileFails, WordFails, BitFails, RowFault, RowFails, Fails, FailsReplayed, RecordFails, FailsIn}
 use Rattle.lis_open.specs.Checks.AxiomFault.{PastLast, LeftUnnumbered, RightUnnumbered, RightNotPlain, RightUndeclared, LeftUnnameable, HeadUnnumbered, PairThere, Circle}
 use Rattle.lis_open.specs.Checks.FileFault.{NameTaken, TagUnnumbered, TagUnassignable, BlockMissing, IndexUnformed, BlockTwice, BlockTaken, WordUnnumbered, TooManyWords}
 use Rattle.lis_open.specs.Checks.RowFault.{RowWrong, RestNotZero}
+use Rattle.lis_open.proofs.FileFaults.{file_fault_by}
+use Rattle.lis_open.proofs.WordsRead.{nothing_at}
 use Rattle.lis_open.proofs.Needs.{one_limits, has_super}
 use Rattle.lis_open.proofs.Numbers.{is_taken-marked, distinct_piece}
 use Rattle.lis_open.proofs.ZeroRows.{zero_row}
@@ -68,24 +53,15 @@ first_slots spelled is_in_range slots at values n le are = record {
   each = λ k value is. are.each k value (taken_place n values k value is).1;
 }
 
--- the name of a file slot, and its blocks
+-- the name of a file slot
 abbrev name_parts : FileSlot → List (List ℕ)
 name_parts FreeFile = []
 name_parts (Used rec) = rec.name ∷ []
 
-abbrev block_parts : Limits → (ℕ → List ℕ) → FileSlot → List ℕ
-block_parts limits at FreeFile = []
-block_parts limits at (Used rec) = blocks_told limits at rec
-
-names_same : (files : List FileSlot) → map (λ (rec : FileRecord). rec.name) (all_records files) ≡ flat_map name_parts files
-names_same [] = refl
-names_same (FreeFile ∷ files) = names_same files
-names_same (Used rec ∷ files) = ap (λ ns. rec.name ∷ ns) (names_same files)
-
-blocks_same : (limits : Limits) (at : ℕ → List ℕ) (files : List FileSlot) → all_blocks limits at (all_records files) ≡ flat_map (block_parts limits at) files
-blocks_same limits at [] = refl
-blocks_same limits at (FreeFile ∷ files) = blocks_same limits at files
-blocks_same limits at (Used rec ∷ files) = ap (λ ns. blocks_told limits at rec ++ ns) (blocks_same limits at files)
+names_same : (limits : Limits) (properties : List PropSlot) (at : ℕ → List ℕ) (files : List FileSlot) → map (λ (f : File). f.name) (map (file_by limits properties at) (all_records files)) ≡ flat_map name_parts files
+names_same limits properties at [] = refl
+names_same limits properties at (FreeFile ∷ files) = names_same limits properties at files
+names_same limits properties at (Used rec ∷ files) = ap (λ ns. rec.name ∷ ns) (names_same limits properties at files)
 
 used_record : (f : FileSlot) (rec : FileRecord) → Among (records_in f) rec → f ≡ Used rec
 used_record FreeFile rec m = absurd m
@@ -249,19 +225,18 @@ module _ (limits : Limits) (contents : Contents) (at : ℕ → List ℕ) (spells
 
   names_apart : AllApart (flat_map name_parts contents.files)
   names_apart =
+      let same = names_same limits properties at contents.files in
       apart_by_count word_cmp word_order word_exact (flat_map name_parts contents.files)
-      (ap (λ ns. length (set_of ns)) (sym (names_same contents.files))
-      ∙ (ap (λ ns. length (set_of ns)) (names_of records)
+      (ap (λ ns. length (set_of ns)) (sym same)
       ∙ (ap (λ ns. length ns) (sym (names-more [] files))
-      ∙ (length-map s.files (λ (f : File). f.name)
-      ∙ (full ∙ (length-map records (file_by limits properties at) ∙ (sym (length-map records (λ (rec : FileRecord). rec.name)) ∙ ap (λ ns. length ns) (names_same contents.files))))))))
-    where
-      names_of : (recs : List FileRecord) → map (λ (rec : FileRecord). rec.name) recs ≡ map (λ (f : File). f.name) (map (file_by limits properties at) recs)
-      names_of [] = refl
-      names_of (rec ∷ recs) = ap (λ ns. rec.name ∷ ns) (names_of recs)
+      ∙ (length-map s.files (λ (f : File). f.name) ∙ (full ∙ (sym (length-map files (λ (f : File). f.name)) ∙ ap (λ ns. length ns) same)))))
 
-  blocks_apart : AllApart (flat_map (block_parts limits at) contents.files)
-  blocks_apart = apart_numbers (flat_map (block_parts limits at) contents.files) (ap are_distinct (sym (blocks_same limits at contents.files)) ∙ spells.each_block_once)
+  -- the blocks of a file slot
+  abbrev block_parts : FileSlot → List ℕ
+  block_parts file = all_blocks limits at (records_in file)
+
+  blocks_apart : AllApart (flat_map block_parts contents.files)
+  blocks_apart = apart_numbers (flat_map block_parts contents.files) (ap are_distinct (sym (flat_map-flat_map (blocks_told limits at) records_in contents.files)) ∙ spells.each_block_once)
 
   module _ (n : ℕ) (rec : FileRecord) (is : IsFile limits at n (Used rec)) where
     in_records : Among records rec
@@ -291,9 +266,9 @@ module _ (limits : Limits) (contents : Contents) (at : ℕ → List ℕ) (spells
     no_file_fault (BlockTwice twice) =
         both_ways (are_distinct (blocks_told limits at rec)) twice (distinct_piece (blocks_told limits at) records rec in_records spells.each_block_once)
     no_file_fault (BlockTaken earlier other data_block before is_other has_other has_it) =
-        part_once (block_parts limits at) contents.files blocks_apart earlier n (Used other) (Used rec) data_block before
-        (file_value earlier (Used other) is_other) (file_value n (Used rec) is)
-        (among_from_number (blocks_told limits at other) data_block has_other) (among_from_number (blocks_told limits at rec) data_block has_it)
+        part_once block_parts contents.files blocks_apart earlier n (Used other) (Used rec) data_block before (file_value earlier (Used other) is_other) (file_value n (Used rec) is)
+        (among_left (blocks_told limits at other) [] data_block (among_from_number (blocks_told limits at other) data_block has_other))
+        (among_left (blocks_told limits at rec) [] data_block (among_from_number (blocks_told limits at rec) data_block has_it))
     no_file_fault (WordUnnumbered w has_it none) =
         let file = file_by limits properties at rec in
         both_ways (has_word (words_in properties) w) none
@@ -304,23 +279,12 @@ module _ (limits : Limits) (contents : Contents) (at : ℕ → List ℕ) (spells
         omega (arith, few, more)
 
   no_file : (n : ℕ) → FileFails limits at n → ⊥
-  no_file n fails = by (get_or contents.files n FreeFile) here (fault (get_or contents.files n FreeFile) here)
+  no_file n fails = by (get_or contents.files n FreeFile) here (file_fault_by limits at n properties axioms fails spells.properties spells.axioms (get_or contents.files n FreeFile) here)
     where
       here : IsFile limits at n (get_or contents.files n FreeFile)
       here =
           slot_at file_bytes (is_file limits.version) (file_slots limits) at contents.files spells.files n (get_or contents.files n FreeFile)
           (slice_get-get_or contents.files n FreeFile (omega (arith, fails.below, spells.files.count)))
-
-      words_same : fails.properties ≡ properties
-      words_same = one_array prop_bytes is_prop (property_slots limits) at fails.properties properties prop_once fails.words spells.properties
-
-      axioms_same : fails.axioms ≡ axioms
-      axioms_same = one_array axiom_bytes is_axiom (axiom_slots limits) at fails.axioms axioms axiom_once fails.pairs spells.axioms
-
-      fault : (f : FileSlot) → IsFile limits at n f → HasFileFault limits at properties axioms n f
-      fault f is =
-          subst (λ (xs : List AxiomSlot). HasFileFault limits at properties xs n f) axioms_same
-          (subst (λ (ps : List PropSlot). HasFileFault limits at ps fails.axioms n f) words_same (fails.fault f is))
 
       by : (f : FileSlot) → IsFile limits at n f → HasFileFault limits at properties axioms n f → ⊥
       by FreeFile is fault = fault
@@ -362,15 +326,7 @@ module _ (limits : Limits) (contents : Contents) (at : ℕ → List ℕ) (spells
       ap (λ bytes. has_bit bytes n) spells.bitmap
       ∙ (has_bit-bitmap_bytes (marked (replicate limits.blocks false) (all_blocks limits at records)) n lt
       ∙ (is_taken-marked (replicate limits.blocks false) (all_blocks limits at records) n (ap (λ m. list_all (λ j. nat_lt j m) (all_blocks limits at records)) (length-replicate limits.blocks false) ∙ spells.blocks)
-      ∙ (ap (λ t. has_number (all_blocks limits at records) n || t) (none_yet (cases_lt n limits.blocks)) ∙ same_or (has_number (all_blocks limits at records) n))))
-    where
-      same_or : (b : Bool) → (b || false) ≡ b
-      same_or true = refl
-      same_or false = refl
-
-      none_yet : (n < limits.blocks) ⊎ (limits.blocks ≤ n) → is_taken (replicate limits.blocks false) n ≡ false
-      none_yet (inl below) = get_or-replicate limits.blocks n false false below
-      none_yet (inr past) = get_or_past (replicate limits.blocks false) n false (omega (arith, length-replicate limits.blocks false))
+      ∙ (ap (λ t. has_number (all_blocks limits at records) n || t) (nothing_at limits.blocks n false) ∙ or-false (has_number (all_blocks limits at records) n))))
 
   no_bit : (n : ℕ) → BitFails limits at n → ⊥
   no_bit n fails = by fails.fault

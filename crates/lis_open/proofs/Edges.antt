@@ -1,9 +1,9 @@
 -- An edge of a taxonomy leads on.
 use Rattle.std.proofs.Common.{◌≡◌, inr, ℕ, ◌+◌, true, refl}
 use Rattle.std.specs.FinSet as set
-use Rattle.lis_graph.proofs.Members.{contains_from_among}
+use Rattle.lis_open.proofs.Common.{contains_from_among, Taxonomy, no_links, has_edge}
 use Rattle.lis_graph.proofs.Graph.{chain_append}
-use Rattle.lis_taxonomy.specs.Taxonomy.{Taxonomy, no_links, has_edge, Entails}
+use Rattle.lis_taxonomy.specs.Taxonomy.{Entails}
 use Rattle.lis_kept.proofs.Entailed.{edge_among}
 
 pub leads_on : (t : Taxonomy) (p q r : ℕ) → Entails t p q → has_edge t q r ≡ true → Entails t p r

@@ -1,46 +1,24 @@
 -- What is wrong with a file slot that is not taken, and that nothing is wrong with those that are.
-use Rattle.std.proofs.Common.{◌≡◌, ◌⊎◌, ◌∙◌, refl, sym, ap, subst, inl, inr, ℕ, ◌-◌, ◌^◌, ◌<◌, ◌≤◌, nat_lt, nat_le, Bool, true, false, not, ◌&&◌, ◌||◌, is_some, Option, Some, None, List, [], ◌∷◌, length, slice_get, arith}
-use Rattle.std.specs.List.{list_all, flat_map}
-use Rattle.std.proofs.lemmas.Bool.{and_parts, and_from, and_cases, or_left, or_right, both_ways, cases_Bool, cases_lt, lt-ltb, leb-false}
-use Rattle.std.proofs.lemmas.Option.{same_Some, slice_get_within, get_or_from_slice_get}
-use Rattle.lis_graph.proofs.Members.{Among, flat_map_among}
-use Rattle.lis_blockmap.specs.Bitmap.{is_taken}
-use Rattle.lis_content.specs.Content.{are_free, has_number, are_distinct}
-use Rattle.lis_content.specs.Large.{is_large, index_bytes, numbers_in, index_home}
+use Rattle.std.proofs.Common.{◌≡◌, ◌⊎◌, ◌∙◌, refl, sym, ap, subst, inl, inr, ℕ, ◌+◌, ◌-◌, ◌^◌, ◌<◌, ◌≤◌, nat_lt, nat_le, Bool, true, false, not, ◌&&◌, ◌||◌, is_some, Option, Some, None, List, [], ◌∷◌, length, slice_get, arith}
+use Rattle.lis_open.proofs.Common.{list_all, flat_map, cases_lt, lt-ltb, same_Some, slice_get_within, get_or_from_slice_get, Among, is_taken, are_free, are_distinct, is_large, index_bytes, numbers_in, index_home, number_of, word_of, number_from_word, Filed, rec_at, numbers_at, FileRecord, prop_bytes, is_prop, axiom_bytes, is_axiom, file_bytes, is_file, is_record, PropSlot, AxiomSlot, FreeAxiom, Pair, FileSlot, FreeFile, Used, prop_once, axiom_once, same_word, is_valued, head_bytes, same_word_decides, among_from_has_word, Limits, Spot, Super, BadRecord, Property, Axiom, Word, Row, data_start, blocks_needed, file_words, own_words, up, is_assignable, axiom_at, record_at, property_slots, axiom_slots, file_slots, words_told, bytes_told, blocks_told, HasIndex, file_told, axioms_of, among_from_number, words_in, word_at, one_array}
+use Rattle.std.proofs.lemmas.Bool.{and_parts, and_from, and_cases, or_parts, both_ways, false_from_ne_true, not-false, cases_Bool, ltb-false, leb-false}
+use Rattle.lis_graph.proofs.Members.{flat_map_among}
+use Rattle.lis_content.specs.Content.{has_number}
 use Rattle.lis_content.proofs.Numbers.{below_if_taken}
-use Rattle.lis_dict.specs.Dict.{number_of, word_of}
-use Rattle.lis_dict.proofs.Laws.{number_from_word}
-use Rattle.lis_catalog.specs.Catalog.{Filed, slot_of, rec_at}
+use Rattle.lis_catalog.specs.Catalog.{slot_of}
 use Rattle.lis_catalog.proofs.Laws.{rec_at-slot_of, slot_of-rec_at}
-use Rattle.lis_ext.specs.Ext.{set_of as numbers_at}
-use Rattle.lis_fields.specs.Records.{FileRecord}
-use Rattle.lis_fields.specs.Layouts.{axiom_bytes, is_axiom, file_bytes, is_file, is_record}
-use Rattle.lis_fields.specs.declared.slots.PropSlot.{PropSlot}
-use Rattle.lis_fields.specs.declared.slots.AxiomSlot.{AxiomSlot}
-use Rattle.lis_fields.specs.declared.slots.AxiomSlot.TheVariants.{Free as FreeAxiom, Pair}
-use Rattle.lis_fields.specs.declared.slots.FileSlot.{FileSlot}
-use Rattle.lis_fields.specs.declared.slots.FileSlot.TheVariants.{Free as FreeFile, Used}
-use Rattle.lis_fields.proofs.OneSpelling.{axiom_once}
-use Rattle.lis_words.specs.Words.{same_word, has_word, is_valued, head_bytes}
+use Rattle.lis_words.specs.Words.{has_word}
 use Rattle.lis_laws.proofs.Counts.{all_among}
 use Rattle.lis_laws.proofs.Chains.{up_self, up_own, links_head}
-use Rattle.lis_laws.proofs.Members.{same_word_decides, among_from_has_word, has_word_from_among, set_of_among}
-use Rattle.lis_model.specs.declared.limits.Limits.{Limits}
-use Rattle.lis_model.specs.declared.spot.Spot.{Spot}
-use Rattle.lis_model.specs.declared.spot.Spot.TheVariants.{Super, BadRecord, Property, Axiom, File as FileSpot, Word, Bitmap, Row}
-use Rattle.lis_model.specs.Image.{data_start}
-use Rattle.lis_model.specs.State.{blocks_needed, file_words, own_words, up, is_assignable}
-use Rattle.lis_kept.specs.Kept.{axiom_at, file_by, record_at}
-use Rattle.lis_kept.specs.Areas.{axiom_slots, file_slots}
-use Rattle.lis_kept.specs.Telling.{words_told, bytes_told, blocks_told, HasIndex, file_told, axioms_of}
-use Rattle.lis_kept.proofs.Filing.{among_from_number, number_from_among}
-use Rattle.lis_store.specs.Stands.{words_in}
-use Rattle.lis_store.proofs.OneState.{one_array}
+use Rattle.lis_laws.proofs.Members.{has_word_from_among, set_of_among}
+use Rattle.lis_model.specs.declared.spot.Spot.TheVariants.{File as FileSpot, Bitmap}
+use Rattle.lis_kept.specs.Kept.{file_by}
+use Rattle.lis_kept.proofs.Filing.{number_from_among}
 use Rattle.lis_store.proofs.Relates.{told_few}
 use Rattle.lis_open.specs.declared.words.Words.{Words}
 use Rattle.lis_open.specs.declared.axioms.Axioms.{Axioms}
 use Rattle.lis_open.specs.declared.files.Files.{Files}
-use Rattle.lis_open.specs.Checks.{IsFile, AreAxioms, declared_by, axioms_by, description_by, FileFault, HasFileFault, FileFails, Fails, rank, place}
+use Rattle.lis_open.specs.Checks.{IsFile, AreProperties, AreAxioms, declared_by, axioms_by, description_by, FileFault, HasFileFault, FileFails, Fails, rank, place}
 use Rattle.lis_open.specs.Checks.FileFault.{NameTaken, TagUnnumbered, TagUnassignable, BlockMissing, IndexUnformed, BlockTwice, BlockTaken, WordUnnumbered, TooManyWords}
 use Rattle.lis_open.specs.Reading.{IsReadAs, IsFirst}
 use Rattle.lis_open.specs.ReadWords.{AreFirstWords, AreFirstAxioms, WordsAreSpelled, AxiomsAreSpelled, declared_words, kept_words}
@@ -48,42 +26,38 @@ use Rattle.lis_open.specs.ReadFiles.{described, found_words, is_numbered, own_nu
 use Rattle.lis_open.specs.ReadFiles.RecordFault.{NotFiled, NoBlocks, NotDescribed}
 use Rattle.lis_open.proofs.Slots.{one_file}
 use Rattle.lis_open.proofs.WordsRead.{old_from}
-use Rattle.lis_open.proofs.WordPlaces.{assignable_word}
-use Rattle.lis_open.proofs.Joined.{sides}
-use Rattle.lis_open.proofs.WordsTold.{told_properties, number_within, word_at_told, declared_told, told_word, word_told, axioms_told, file_is_told, are_told, only_told}
-use Rattle.lis_open.proofs.Descriptions.{among_told, found_own, described_words, description_long}
+use Rattle.lis_open.proofs.Sides.{sides}
+use Rattle.lis_open.proofs.Owned.{found_own}
+use Rattle.lis_open.proofs.WordsTold.{told_properties, number_within, word_at_told, declared_told, told_word, word_told, axioms_told, file_is_told, are_told}
+use Rattle.lis_open.proofs.Descriptions.{among_told, described_words, description_long}
 
 -- a test that some member does not pass
 failing : {X : Type 0} (test : X → Bool) (xs : List X) → list_all test xs ≡ false → (x : X) × Among xs x × (test x ≡ false)
 failing test [] fails = absurd cc
-failing test (x ∷ xs) fails = by (test x) refl fails (failing test xs)
+failing test (x ∷ xs) fails = by (and_cases (test x) (list_all test xs) fails) (failing test xs)
   where
-    by : (b : Bool) → test x ≡ b → (b && list_all test xs) ≡ false → (list_all test xs ≡ false → (y : _) × Among xs y × (test y ≡ false)) → (y : _) × Among (x ∷ xs) y × (test y ≡ false)
-    by true is some more = let rest = more some in (rest.0, inr rest.1, rest.2)
-    by false is some more = (x, inl refl, is)
+    by : (test x ≡ false) ⊎ (list_all test xs ≡ false) → (list_all test xs ≡ false → (y : _) × Among xs y × (test y ≡ false)) → (y : _) × Among (x ∷ xs) y × (test y ≡ false)
+    by (inl is) more = (x, inl refl, is)
+    by (inr some) more = let rest = more some in (rest.0, inr rest.1, rest.2)
 
 used_slot : (o : Option FileRecord) (rec : FileRecord) → file_by o ≡ Used rec → o ≡ Some rec
 used_slot None rec is = cc
 used_slot (Some r) rec is = cc
 
 -- ---- an index block is in form or not
-same_or_not : (xs ys : List ℕ) → (xs ≡ ys) ⊎ (xs ≡ ys → ⊥)
-same_or_not xs ys = by (cases_Bool (same_word xs ys))
-  where
-    by : (same_word xs ys ≡ true) ⊎ (same_word xs ys ≡ false) → (xs ≡ ys) ⊎ (xs ≡ ys → ⊥)
-    by (inl same) = inl ((same_word_decides xs ys).0 same)
-    by (inr differ) = inr (λ same. both_ways (same_word xs ys) differ ((same_word_decides xs ys).1 same))
-
-under_or_not : (b : Bool) (P : Type 0) → P ⊎ (P → ⊥) → (b ≡ true → P) ⊎ ((b ≡ true → P) → ⊥)
-under_or_not true P (inl is) = inl (λ _. is)
-under_or_not true P (inr none) = inr (λ all. none (all refl))
-under_or_not false P either = inl (λ e. absurd cc)
-
 index_or_not : (limits : Limits) (at : ℕ → List ℕ) (rec : FileRecord) → HasIndex limits at rec ⊎ (HasIndex limits at rec → ⊥)
-index_or_not limits at rec =
-    let held = at (index_home (data_start limits) rec.blocks) in
-    let spelled = index_bytes (numbers_in (blocks_needed rec.size) held) in
-    under_or_not (is_large rec.size) (held ≡ spelled) (same_or_not held spelled)
+index_or_not limits at rec = by (cases_Bool (is_large rec.size)) (cases_Bool (same_word held spelled))
+  where
+    held : List ℕ
+    held = at (index_home (data_start limits) rec.blocks)
+
+    spelled : List ℕ
+    spelled = index_bytes (numbers_in (blocks_needed rec.size) held)
+
+    by : (is_large rec.size ≡ true) ⊎ (is_large rec.size ≡ false) → (same_word held spelled ≡ true) ⊎ (same_word held spelled ≡ false) → HasIndex limits at rec ⊎ (HasIndex limits at rec → ⊥)
+    by (inr small) same = inl (λ large. absurd (both_ways (is_large rec.size) small large))
+    by (inl large) (inl same) = inl (λ _. (same_word_decides held spelled).0 same)
+    by (inl large) (inr differ) = inr (λ indexed. both_ways (same_word held spelled) differ ((same_word_decides held spelled).1 (indexed large)))
 
 -- ---- axiom slots
 module _ (limits : Limits) (words : Words) (axioms : Axioms) (are : AreFirstWords limits words limits.props) (first : AreFirstAxioms limits words axioms (axiom_slots limits).count) where
@@ -105,9 +79,12 @@ module _ (limits : Limits) (words : Words) (axioms : Axioms) (are : AreFirstWord
           (spelled n (omega (arith, slice_get_within axioms.slots.items n value is, first.count)) ∙ ap axiom_bytes given, axiom_formed n value is);
     }
 
-    -- and no other list is told
-    only_axioms : (others : List AxiomSlot) → AreAxioms limits at others → others ≡ axioms.slots.items
-    only_axioms others are_others = one_array axiom_bytes is_axiom (axiom_slots limits) at others axioms.slots.items axiom_once are_others are_axioms
+-- a fault is one by all words and axioms, whichever lists they are
+pub file_fault_by : (limits : Limits) (at : ℕ → List ℕ) (n : ℕ) (properties : List PropSlot) (axioms : List AxiomSlot) → FileFails limits at n → AreProperties limits at properties → AreAxioms limits at axioms
+    → (file : FileSlot) → IsFile limits at n file → HasFileFault limits at properties axioms n file
+file_fault_by limits at n properties axioms fails words pairs file is =
+    subst (λ xs. HasFileFault limits at properties xs n file) (one_array axiom_bytes is_axiom (axiom_slots limits) at fails.axioms axioms axiom_once fails.pairs pairs)
+    (subst (λ ps. HasFileFault limits at ps fails.axioms n file) (one_array prop_bytes is_prop (property_slots limits) at fails.properties properties prop_once fails.words words) (fails.fault file is))
 
 -- ---- files by their slots
 module _ (limits : Limits) (words : Words) (axioms : Axioms) (files : Files) (end : ℕ) (are : AreFirstWords limits words limits.props) (links : AreFirstAxioms limits words axioms (axiom_slots limits).count) (first : AreFirstFiles limits words axioms files end) where
@@ -130,7 +107,7 @@ module _ (limits : Limits) (words : Words) (axioms : Axioms) (files : Files) (en
   slot_described at numbers f is =
       let has = numbers f.slot f.rec is in
       ap (words_told words.dict) has.are
-      ∙ described_words limits words axioms (axiom_slots limits).count are links f.rec.tags (file_told limits words.dict at f) refl (first.given f.slot f.rec is) has.numbered
+      ∙ described_words limits words axioms (axiom_slots limits).count are links f.rec (bytes_told limits at f.rec) (first.given f.slot f.rec is) has.numbered
 
   module _ (at : ℕ → List ℕ) (told : WordsAreSpelled limits at words limits.props) (pairs : AxiomsAreSpelled limits at axioms (axiom_slots limits).count) (spelled : FilesAreSpelled limits at files end) where
     -- the words that are found in a record's file, and the numbers of what it has by itself
@@ -172,10 +149,14 @@ module _ (limits : Limits) (words : Words) (axioms : Axioms) (files : Files) (en
     description_is : (rec : FileRecord) → list_all (is_assignable_number words) rec.tags ≡ true → list_all (is_numbered words.dict) (in_file rec) ≡ true
         → words_told words.dict (described axioms.taxonomy (own rec)) ≡ description_by limits properties items at rec
     description_is rec given numbered =
-        described_words limits words axioms (axiom_slots limits).count are links rec.tags (file_told limits words.dict at (record { slot = 0; rec = rec })) refl given numbered ∙ file_words_are rec
+        described_words limits words axioms (axiom_slots limits).count are links rec (bytes_told limits at rec) given numbered ∙ file_words_are rec
 
     -- ---- no fault
     module _ (numbers : FilesAreNumbered limits at words axioms files) (blocks : FilesHaveBlocks limits at files) where
+      tag_given : (n : ℕ) (rec : FileRecord) → rec_at files.catalog n ≡ Some rec → (tag : ℕ) → has_number rec.tags tag ≡ true → is_assignable_by words (word_at properties tag) ≡ true
+      tag_given n rec is tag has =
+          ap (is_assignable_by words) (word_at_told limits words are.are are.props tag) ∙ all_among (is_assignable_number words) rec.tags tag (first.given n rec is) (among_from_number rec.tags tag has)
+
       no_fault : (n : ℕ) (rec : FileRecord) → rec_at files.catalog n ≡ Some rec → n < end → FileFault limits at properties items n rec → ⊥
       no_fault n rec is lt (NameTaken earlier other before is_other same) =
           let here = rec_is earlier other (omega arith) is_other in
@@ -183,15 +164,9 @@ module _ (limits : Limits) (words : Words) (axioms : Axioms) (files : Files) (en
           let b = slot_of-rec_at files.catalog earlier other first.catalog here in
           let one = same_Some n earlier (sym a ∙ (ap (slot_of files.catalog) (sym same) ∙ b)) in
           omega (arith, one, before)
-      no_fault n rec is lt (TagUnnumbered tag has none) =
-          let word = assignable_word words (word_of words.dict tag) (all_among (is_assignable_number words) rec.tags tag (first.given n rec is) (among_from_number rec.tags tag has)) in
-          let e = sym none ∙ (word_at_told limits words are.are are.props tag ∙ word.1) in
-          cc
+      no_fault n rec is lt (TagUnnumbered tag has none) = both_ways false refl (ap (is_assignable_by words) (sym none) ∙ tag_given n rec is tag has)
       no_fault n rec is lt (TagUnassignable tag word has named not_given) =
-          let found = assignable_word words (word_of words.dict tag) (all_among (is_assignable_number words) rec.tags tag (first.given n rec is) (among_from_number rec.tags tag has)) in
-          let same = same_Some found.0 word (sym found.1 ∙ (sym (word_at_told limits words are.are are.props tag) ∙ named)) in
-          both_ways (is_assignable (declared_words words) word) (ap (λ ds. is_assignable ds word) (sym (declared_told limits words are.are are.props)) ∙ not_given)
-          (subst (λ w. is_assignable (declared_words words) w ≡ true) same found.2)
+          both_ways (is_assignable (declared_words words) word) (ap (λ ds. is_assignable ds word) (sym (declared_told limits words are.are are.props)) ∙ not_given) (ap (is_assignable_by words) (sym named) ∙ tag_given n rec is tag has)
       no_fault n rec is lt (BlockMissing data_block has past) =
           let below = below_if_taken files.map data_block (blocks.taken n rec data_block is has) in
           omega (arith, below, past, first.blocks)
@@ -213,34 +188,27 @@ module _ (limits : Limits) (words : Words) (axioms : Axioms) (files : Files) (en
           omega (arith, few, short, long, many, ap (length {A = ℕ}) has.are)
 
       file_passes : (n : ℕ) → n < end → FileFails limits at n → ⊥
-      file_passes n lt fails = by (rec_at files.catalog n) refl (fails.fault (record_at files.catalog n) (file_is n lt fails.below))
+      file_passes n lt fails = by (rec_at files.catalog n) refl
+          (file_fault_by limits at n properties items fails (are_told limits words are.are are.props at told) (are_axioms limits words axioms are links at pairs) (record_at files.catalog n) (file_is n lt fails.below))
         where
-          by : (o : Option FileRecord) → rec_at files.catalog n ≡ o → HasFileFault limits at fails.properties fails.axioms n (file_by o) → ⊥
+          by : (o : Option FileRecord) → rec_at files.catalog n ≡ o → HasFileFault limits at properties items n (file_by o) → ⊥
           by None is fault = fault
-          by (Some rec) is fault =
-              no_fault n rec is lt (subst (λ xs. FileFault limits at properties xs n rec) (only_axioms limits words axioms are links at pairs fails.axioms fails.pairs)
-              (subst (λ ps. FileFault limits at ps fails.axioms n rec) (only_told limits words are.are are.props at told fails.properties fails.words) fault))
+          by (Some rec) is fault = no_fault n rec is lt fault
 
-      none_before : (earlier : Spot) → rank earlier ≡ 4 → place earlier < end → Fails limits at earlier → ⊥
-      none_before Super kind lt fails = fails
-      none_before (BadRecord b) kind lt fails = fails
-      none_before (Property n) kind lt fails = omega (arith, kind)
-      none_before (Axiom n) kind lt fails = omega (arith, kind)
-      none_before (FileSpot n) kind lt fails = file_passes n lt fails
-      none_before (Word n) kind lt fails = omega (arith, kind)
-      none_before (Bitmap n) kind lt fails = omega (arith, kind)
-      none_before (Row n) kind lt fails = omega (arith, kind)
+      files_to : (low : ℕ) → ((n : ℕ) → n < low → FileFails limits at n → ⊥) → (spot : Spot) → rank spot ≡ 4 → place spot < low → Fails limits at spot → ⊥
+      files_to low pass Super kind lt fails = fails
+      files_to low pass (BadRecord b) kind lt fails = fails
+      files_to low pass (Property n) kind lt fails = omega (arith, kind)
+      files_to low pass (Axiom n) kind lt fails = omega (arith, kind)
+      files_to low pass (FileSpot n) kind lt fails = pass n lt fails
+      files_to low pass (Word n) kind lt fails = omega (arith, kind)
+      files_to low pass (Bitmap n) kind lt fails = omega (arith, kind)
+      files_to low pass (Row n) kind lt fails = omega (arith, kind)
 
       -- where all slots were read, no check of a file fails
       pub files_pass : end ≡ limits.files → (spot : Spot) → rank spot ≡ 4 → Fails limits at spot → ⊥
-      files_pass all Super kind fails = fails
-      files_pass all (BadRecord b) kind fails = fails
-      files_pass all (Property n) kind fails = omega (arith, kind)
-      files_pass all (Axiom n) kind fails = omega (arith, kind)
-      files_pass all (FileSpot n) kind fails = file_passes n (let below = fails.below in omega (arith, below, all)) fails
-      files_pass all (Word n) kind fails = omega (arith, kind)
-      files_pass all (Bitmap n) kind fails = omega (arith, kind)
-      files_pass all (Row n) kind fails = omega (arith, kind)
+      files_pass all spot kind fails =
+          files_to (place spot + 1) (λ n lt fails. file_passes n (let below = fails.below in omega (arith, below, all)) fails) spot kind (omega arith) fails
 
     -- ---- the fault of a record that is not taken
     name_fault : (rec : FileRecord) → end < limits.files → not (is_some (slot_of files.catalog rec.name)) ≡ false → FileFault limits at properties items end rec
@@ -262,20 +230,14 @@ module _ (limits : Limits) (words : Words) (axioms : Axioms) (files : Files) (en
     block_fault : (rec : FileRecord) → FilesHaveBlocks limits at files → end < limits.files → are_free files.map (blocks_told limits at rec) ≡ false → FileFault limits at properties items end rec
     block_fault rec blocks below fails =
         let found = failing (λ n. nat_lt n (length files.map) && not (is_taken files.map n)) (blocks_told limits at rec) fails in
-        by found.0 (number_from_among (blocks_told limits at rec) found.0 found.1) found.2 (cases_lt found.0 limits.blocks)
+        by found.0 (number_from_among (blocks_told limits at rec) found.0 found.1) (and_cases (nat_lt found.0 (length files.map)) (not (is_taken files.map found.0)) found.2)
       where
-        at_last : (t b : Bool) → b ≡ true → (b && not t) ≡ false → t ≡ true
-        at_last true b is e = refl
-        at_last false true is e = cc
-        at_last false false is e = cc
-
-        by : (n : ℕ) → has_number (blocks_told limits at rec) n ≡ true → (nat_lt n (length files.map) && not (is_taken files.map n)) ≡ false → (n < limits.blocks) ⊎ (limits.blocks ≤ n) → FileFault limits at properties items end rec
-        by n has not_free (inl lt) =
-            let taken = at_last (is_taken files.map n) (nat_lt n (length files.map)) (lt-ltb n (length files.map) (omega (arith, first.blocks))) not_free in
-            let owner = blocks.in_use n taken in
+        by : (n : ℕ) → has_number (blocks_told limits at rec) n ≡ true → (nat_lt n (length files.map) ≡ false) ⊎ (not (is_taken files.map n) ≡ false) → FileFault limits at properties items end rec
+        by n has (inl past) = let none = ltb-false n (length files.map) past in BlockMissing n has (omega (arith, none, first.blocks))
+        by n has (inr held) =
+            let owner = blocks.in_use n (not-false (is_taken files.map n) held) in
             let before : owner.0 < end = slot_read owner.0 owner.1 owner.2 in
             BlockTaken owner.0 owner.1 n before (used_is owner.0 owner.1 (omega (arith, before, below)) owner.2) owner.3 has
-        by n has not_free (inr past) = BlockMissing n has past
 
     -- blocks that are not usable
     blocks_fault : (rec : FileRecord) → FilesHaveBlocks limits at files → end < limits.files → (HasBlocks limits at files.map rec → ⊥) → FileFault limits at properties items end rec
@@ -289,68 +251,49 @@ module _ (limits : Limits) (words : Words) (axioms : Axioms) (files : Files) (en
         by (inl indexed) (inl distinct) (inl free) = absurd (fails (record { indexed = indexed; free = free; distinct = distinct }))
 
     -- a word that the file has by itself is in its description, and so is the head of a valued one
-    found_there : (rec : FileRecord) → list_all (is_assignable_number words) rec.tags ≡ true → (w q : List ℕ) → Among (in_file rec) w → Among (up (declared_words words) (axioms_of (kept_words limits words items)) w) q
-        → has_word (description_by limits properties items at rec) q ≡ true
-    found_there rec given w q m entails =
-        let f : Filed = record { slot = 0; rec = rec } in
-        let file = file_told limits words.dict at f in
-        let here = found_own limits words axioms (axiom_slots limits).count are links rec.tags file refl given w m in
-        let entailed = flat_map (up (declared_words words) (axioms_of (kept_words limits words items))) (own_words (declared_words words) file) in
+    found_there : (rec : FileRecord) (w q : List ℕ) → Among (in_file rec) w → Among (up (declared_words words) (axioms_of (kept_words limits words items)) w) q → has_word (description_by limits properties items at rec) q ≡ true
+    found_there rec w q m entails =
+        let file = file_told limits words.dict at (record { slot = 0; rec = rec }) in
+        let ups = up (declared_words words) (axioms_of (kept_words limits words items)) in
+        let here = found_own limits words are.are.dict rec (bytes_told limits at rec) w m in
         has_word_from_among (description_by limits properties items at rec) q
-        (subst (λ ws. Among ws q) (file_words_are rec)
-        (set_of_among entailed q (flat_map_among (up (declared_words words) (axioms_of (kept_words limits words items))) (own_words (declared_words words) file) w q here entails)))
+        (subst (λ ws. Among ws q) (file_words_are rec) (set_of_among (flat_map ups (own_words (declared_words words) file)) q (flat_map_among ups (own_words (declared_words words) file) w q here entails)))
 
     -- a word without a number is in no slot
-    no_slot : (w : List ℕ) → number_of words.dict w ≡ None → has_word (words_in properties) w ≡ false
-    no_slot w none = by (has_word (words_in properties) w) refl
-      where
-        by : (b : Bool) → has_word (words_in properties) w ≡ b → b ≡ false
-        by true h =
-            let found = word_told limits words are.are are.props w h in
-            absurd (let e = sym none ∙ number_from_word words.dict are.are.dict w found.0 found.1 in cc)
-        by false h = refl
+    no_slot : (w : List ℕ) → is_some (number_of words.dict w) ≡ false → has_word (words_in properties) w ≡ false
+    no_slot w none = false_from_ne_true (has_word (words_in properties) w) (λ h.
+        let found = word_told limits words are.are are.props w h in
+        both_ways (is_some (number_of words.dict w)) none (ap is_some (number_from_word words.dict are.are.dict w found.0 found.1)))
 
-    number_fault : (rec : FileRecord) → list_all (is_assignable_number words) rec.tags ≡ true → list_all (is_numbered words.dict) (in_file rec) ≡ false → FileFault limits at properties items end rec
-    number_fault rec given fails =
+    number_fault : (rec : FileRecord) → list_all (is_numbered words.dict) (in_file rec) ≡ false → FileFault limits at properties items end rec
+    number_fault rec fails =
         let word = failing (is_numbered words.dict) (in_file rec) fails in
-        by word.0 word.1 word.2 (number_of words.dict word.0) refl (is_valued word.0) refl (number_of words.dict (head_bytes word.0)) refl
+        by word.0 word.1 (and_cases (is_some (number_of words.dict word.0)) (not (is_valued word.0) || is_some (number_of words.dict (head_bytes word.0))) word.2)
       where
-        numbered : (w : List ℕ) (n : ℕ) → number_of words.dict w ≡ Some n → (not (is_valued w) || is_some (number_of words.dict (head_bytes w))) ≡ true → is_numbered words.dict w ≡ true
-        numbered w n is head = and_from (is_some (number_of words.dict w)) (not (is_valued w) || is_some (number_of words.dict (head_bytes w))) (ap is_some is) head
-
-        by : (w : List ℕ) → Among (in_file rec) w → is_numbered words.dict w ≡ false → (o : Option ℕ) → number_of words.dict w ≡ o → (v : Bool) → is_valued w ≡ v
-            → (h : Option ℕ) → number_of words.dict (head_bytes w) ≡ h → FileFault limits at properties items end rec
-        by w m fails None is v is_v h is_h =
-            WordUnnumbered w (found_there rec given w w m (up_self (declared_words words) (axioms_of (kept_words limits words items)) w)) (no_slot w is)
-        by w m fails (Some n) is true is_v None is_h =
-            WordUnnumbered (head_bytes w)
-            (found_there rec given w (head_bytes w) m (up_own (declared_words words) (axioms_of (kept_words limits words items)) w (head_bytes w) (links_head (declared_words words) w is_v))) (no_slot (head_bytes w) is_h)
-        by w m fails (Some n) is true is_v (Some h) is_h = absurd (both_ways (is_numbered words.dict w) fails (numbered w n is (or_right (not (is_valued w)) (is_some (number_of words.dict (head_bytes w))) (ap is_some is_h))))
-        by w m fails (Some n) is false is_v h is_h = absurd (both_ways (is_numbered words.dict w) fails (numbered w n is (or_left (not (is_valued w)) (is_some (number_of words.dict (head_bytes w))) (ap not is_v))))
+        by : (w : List ℕ) → Among (in_file rec) w → (is_some (number_of words.dict w) ≡ false) ⊎ ((not (is_valued w) || is_some (number_of words.dict (head_bytes w))) ≡ false) → FileFault limits at properties items end rec
+        by w m (inl none) = WordUnnumbered w (found_there rec w w m (up_self (declared_words words) (axioms_of (kept_words limits words items)) w)) (no_slot w none)
+        by w m (inr headless) =
+            let parts = or_parts (not (is_valued w)) (is_some (number_of words.dict (head_bytes w))) headless in
+            let head = links_head (declared_words words) w (not-false (is_valued w) parts.0) in
+            WordUnnumbered (head_bytes w) (found_there rec w (head_bytes w) m (up_own (declared_words words) (axioms_of (kept_words limits words items)) w (head_bytes w) head)) (no_slot (head_bytes w) parts.1)
 
     long_fault : (rec : FileRecord) → list_all (is_assignable_number words) rec.tags ≡ true → list_all (is_numbered words.dict) (in_file rec) ≡ true → nat_le (length (described axioms.taxonomy (own rec))) 128 ≡ false
         → FileFault limits at properties items end rec
     long_fault rec given numbered many =
         let more = leb-false (length (described axioms.taxonomy (own rec))) 128 many in
-        let long = description_long limits words axioms (axiom_slots limits).count are links rec.tags (file_told limits words.dict at (record { slot = 0; rec = rec })) refl given numbered in
+        let long = description_long limits words axioms (axiom_slots limits).count are links rec (bytes_told limits at rec) given numbered in
         TooManyWords (omega (arith, more, long, ap (length {A = List ℕ}) (description_is rec given numbered)))
 
-    words_fault : (rec : FileRecord) → list_all (is_assignable_number words) rec.tags ≡ true → may_describe words axioms.taxonomy rec (in_file rec) ≡ false → FileFault limits at properties items end rec
-    words_fault rec given fails = by (cases_Bool (list_all (is_numbered words.dict) (in_file rec))) (cases_Bool (nat_le (length (described axioms.taxonomy (own rec))) 128))
+    words_fault : (rec : FileRecord) → may_describe words axioms.taxonomy rec (in_file rec) ≡ false → FileFault limits at properties items end rec
+    words_fault rec fails = by (cases_Bool (list_all (is_numbered words.dict) (in_file rec))) (cases_Bool (list_all (is_assignable_number words) rec.tags)) (cases_Bool (nat_le (length (described axioms.taxonomy (own rec))) 128))
       where
-        by : (list_all (is_numbered words.dict) (in_file rec) ≡ true) ⊎ (list_all (is_numbered words.dict) (in_file rec) ≡ false)
+        by : (list_all (is_numbered words.dict) (in_file rec) ≡ true) ⊎ (list_all (is_numbered words.dict) (in_file rec) ≡ false) → (list_all (is_assignable_number words) rec.tags ≡ true) ⊎ (list_all (is_assignable_number words) rec.tags ≡ false)
             → (nat_le (length (described axioms.taxonomy (own rec))) 128 ≡ true) ⊎ (nat_le (length (described axioms.taxonomy (own rec))) 128 ≡ false) → FileFault limits at properties items end rec
-        by (inr none) few = number_fault rec given none
-        by (inl all) (inr many) = long_fault rec given all many
-        by (inl all) (inl few) = absurd (both_ways (may_describe words axioms.taxonomy rec (in_file rec)) fails
+        by (inr none) given few = number_fault rec none
+        by (inl all) (inr not_given) few = tag_fault rec not_given
+        by (inl all) (inl given) (inr many) = long_fault rec given all many
+        by (inl all) (inl given) (inl few) = absurd (both_ways (may_describe words axioms.taxonomy rec (in_file rec)) fails
             (and_from (list_all (is_numbered words.dict) (in_file rec)) (nat_le (length (described axioms.taxonomy (own rec))) 128) all few))
-
-    given_fault : (rec : FileRecord) → may_describe words axioms.taxonomy rec (in_file rec) ≡ false → FileFault limits at properties items end rec
-    given_fault rec fails = by (cases_Bool (list_all (is_assignable_number words) rec.tags))
-      where
-        by : (list_all (is_assignable_number words) rec.tags ≡ true) ⊎ (list_all (is_assignable_number words) rec.tags ≡ false) → FileFault limits at properties items end rec
-        by (inl given) = words_fault rec given fails
-        by (inr not_given) = tag_fault rec not_given
 
     filing_fault : (rec : FileRecord) → end < limits.files → may_file words files rec ≡ false → FileFault limits at properties items end rec
     filing_fault rec below fails = by (and_cases (not (is_some (slot_of files.catalog rec.name))) (list_all (is_assignable_number words) rec.tags) fails)
@@ -362,7 +305,7 @@ module _ (limits : Limits) (words : Words) (axioms : Axioms) (files : Files) (en
     record_fault : (rec : FileRecord) → FilesHaveBlocks limits at files → end < limits.files → RecordFault limits at words axioms.taxonomy files rec → FileFault limits at properties items end rec
     record_fault rec blocks below (NotFiled fails) = filing_fault rec below fails
     record_fault rec blocks below (NoBlocks fails) = blocks_fault rec blocks below fails
-    record_fault rec blocks below (NotDescribed fails) = given_fault rec fails
+    record_fault rec blocks below (NotDescribed fails) = words_fault rec fails
 
     file_fault : (found : Option FileSlot) → FilesHaveBlocks limits at files → end < limits.files → HasSlotFault limits at words axioms.taxonomy files found
         → IsReadAs file_bytes (is_file limits.version) (file_slots limits) at end found → (file : FileSlot) → IsFile limits at end file → HasFileFault limits at properties items end file
@@ -383,5 +326,5 @@ module _ (limits : Limits) (words : Words) (axioms : Axioms) (files : Files) (en
         fault = file_fault found blocks below fault read;
       };
       is = refl;
-      none_before = none_before numbers blocks;
+      none_before = files_to numbers blocks end (file_passes numbers blocks);
     }

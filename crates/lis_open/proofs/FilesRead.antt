@@ -1,62 +1,35 @@
 -- The files of file slots, read one after another.
 use Rattle.std.proofs.Common.{◌≡◌, ◌⊎◌, ◌∙◌, refl, sym, ap, subst, inl, inr, ℕ, ◌+◌, ◌<◌, ◌≤◌, ◌==◌, nat_lt, nat_le, Bool, true, false, cond, not, ◌&&◌, ◌||◌, is_some, Option, Some, None, List, [], length, replicate, get_or, IsTrue, arith, eq-eqb, length-set, get_or-set_same, get_or-set_other}
 use Rattle.std.specs.Option.{IfSome}
-use Rattle.std.specs.List.{list_all}
-use Rattle.std.proofs.lemmas.Bool.{and_parts, and_from, both_ways, or_cases, or_left, or_right, cases_eq, ne_eqb, lt-ltb, leb-true}
-use Rattle.std.proofs.lemmas.List.{length-replicate}
-use Rattle.std.proofs.lemmas.Option.{same_Some}
-use Rattle.lis_ports.specs.Meaning.{Meaning}
-use Rattle.lis_ports.specs.Calls.{DiskFaultEnds}
-use Rattle.lis_journal.specs.Journal.{Held}
-use Rattle.lis_journal.specs.Images.{Fits}
-use Rattle.lis_journal.specs.Phases.{looked}
-use Rattle.lis_journal.specs.Record.{Entry}
-use Rattle.lis_slots.specs.Slots.{slot}
+use Rattle.lis_open.proofs.Common.{list_all, or_cases, or_left, or_right, cases_eq, ne_eqb, lt-ltb, leb-true, length-replicate, same_Some, Meaning, DiskFaultEnds, Held, Fits, slot, HasShape, is_taken, are_free, are_distinct, are_below, word_of, number_below, number_from_word, rec_at, FileRecord, file_bytes, is_file, is_record, FileSlot, FreeFile, Used, Limits, bytes_told, blocks_told, HasIndex, record_at, file_slots, among_from_number}
+use Rattle.std.proofs.lemmas.Bool.{and_parts, and_from, both_ways}
 use Rattle.lis_bits.specs.Rows.{Rows}
-use Rattle.lis_blockmap.specs.Bitmap.{is_taken}
-use Rattle.lis_content.specs.Content.{are_free, has_number, are_distinct, are_within}
-use Rattle.lis_content.specs.Large.{content_blocks, file_content}
-use Rattle.lis_content.proofs.Numbers.{length-marked, not_true, are_below, below_from_free, within_if_below}
-use Rattle.lis_dict.specs.Dict.{word_of}
-use Rattle.lis_dict.proofs.Laws.{number_below, number_from_word}
-use Rattle.lis_catalog.specs.Catalog.{Catalog, IsCatalog, slot_of, rec_at, with_filed}
+use Rattle.lis_content.specs.Content.{has_number}
+use Rattle.lis_content.proofs.Numbers.{length-marked, not_true, below_from_free}
+use Rattle.lis_catalog.specs.Catalog.{Catalog, IsCatalog, slot_of, with_filed}
 use Rattle.lis_catalog.proofs.Laws.{rec_at-with_filed}
 use Rattle.lis_ext.specs.Ext.{set_of}
-use Rattle.lis_fields.specs.Records.{FileRecord}
-use Rattle.lis_fields.specs.Layouts.{file_bytes, is_file, is_record}
 use Rattle.lis_fields.proofs.Parts.{record_tests}
-use Rattle.lis_fields.specs.declared.slots.FileSlot.{FileSlot}
-use Rattle.lis_fields.specs.declared.slots.FileSlot.TheVariants.{Free as FreeFile, Used}
 use Rattle.lis_laws.proofs.Counts.{all_among, all_weaker}
-use Rattle.lis_model.specs.declared.limits.Limits.{Limits}
-use Rattle.lis_model.specs.Image.{data_start, image_blocks}
-use Rattle.lis_kept.specs.Telling.{bytes_told, blocks_told, HasIndex}
-use Rattle.lis_kept.specs.Kept.{file_by, record_at}
-use Rattle.lis_kept.specs.Areas.{file_slots}
+use Rattle.lis_kept.specs.Kept.{file_by}
 use Rattle.lis_kept.specs.Sound.{is_sound_record}
-use Rattle.lis_kept.proofs.Filing.{among_from_number, entries_longer, catalog_then}
-use Rattle.lis_store.proofs.ReadBack.{read_told}
+use Rattle.lis_kept.proofs.Filing.{entries_longer, catalog_then}
 use Rattle.lis_open.specs.declared.words.Words.{Words}
 use Rattle.lis_open.specs.declared.axioms.Axioms.{Axioms}
 use Rattle.lis_open.specs.declared.files.Files.{Files}
 use Rattle.lis_open.specs.declared.blocks.LastBlock.{LastBlock}
 use Rattle.lis_open.specs.Reading.{OnlyReads, Recalls, IsReadAs}
 use Rattle.lis_open.specs.ReadWords.{AreWords}
-use Rattle.lis_open.specs.ReadFiles.{no_files, described, found_words, is_numbered, HasTests, own_numbers, HasNumbers, AreNumbers, is_assignable_by, is_assignable_number, may_file, AreTold, TakesNumbers, TakesRecord, TakesFile, AreFirstFiles, FilesAreSpelled, FilesAreNumbered, FilesHaveBlocks}
+use Rattle.lis_open.specs.ReadFiles.{no_files, described, found_words, is_numbered, own_numbers, HasNumbers, AreNumbers, is_assignable_by, is_assignable_number, may_file, AreTold, TakesNumbers, TakesRecord, TakesFile, AreFirstFiles, FilesAreSpelled, FilesAreNumbered, FilesHaveBlocks}
 use Rattle.lis_open.proofs.Quiet.{StillRecalls}
+use Rattle.lis_open.proofs.WordPlaces.{assignable_word}
 use Rattle.lis_open.proofs.WordsRead.{new_from, nothing_at}
 use Rattle.lis_open.proofs.Numbers.{is_taken-marked}
 
 -- ---- what may be filed
--- each of two tests that hold together
-pub record MayFile (words : Words) (files : Files) (rec : FileRecord) : Type 0 where
-  pub new : not (is_some (slot_of files.catalog rec.name)) ≡ true
-  pub given : list_all (is_assignable_number words) rec.tags ≡ true
-
-pub tests_of : (words : Words) (files : Files) (rec : FileRecord) → may_file words files rec ≡ true → MayFile words files rec
-tests_of words files rec may =
-    let both = and_parts (not (is_some (slot_of files.catalog rec.name))) (list_all (is_assignable_number words) rec.tags) may in
-    record { new = both.0; given = both.1 }
+-- its name is new, and it may be given its words
+may_parts : (words : Words) (files : Files) (rec : FileRecord) → may_file words files rec ≡ true → (not (is_some (slot_of files.catalog rec.name)) ≡ true) × (list_all (is_assignable_number words) rec.tags ≡ true)
+may_parts words files rec may = and_parts (not (is_some (slot_of files.catalog rec.name))) (list_all (is_assignable_number words) rec.tags) may
 
 -- a number that may be given has a word, and so it is below the limit
 pub assignable_some : (words : Words) (o : Option (List ℕ)) → is_assignable_by words o ≡ true → is_some o ≡ true
@@ -64,33 +37,17 @@ assignable_some words None may = cc
 assignable_some words (Some word) may = refl
 
 number_within : (words : Words) (n : ℕ) → AreWords words → is_assignable_number words n ≡ true → n < words.dict.props
-number_within words n are may = by (word_of words.dict n) refl (assignable_some words (word_of words.dict n) may)
-  where
-    by : (o : Option (List ℕ)) → word_of words.dict n ≡ o → is_some o ≡ true → n < words.dict.props
-    by None is some = absurd cc
-    by (Some word) is some = number_below words.dict are.dict word n (number_from_word words.dict are.dict word n is)
+number_within words n are may =
+    let word = assignable_word words (word_of words.dict n) may in
+    number_below words.dict are.dict word.0 n (number_from_word words.dict are.dict word.0 n word.1)
 
 pub tags_below : (words : Words) (files : Files) (rec : FileRecord) (props : ℕ) → AreWords words → props ≡ words.dict.props → may_file words files rec ≡ true → list_all (λ n. nat_lt n props) rec.tags ≡ true
 tags_below words files rec props are same may =
-    all_weaker (is_assignable_number words) (λ n. nat_lt n props) rec.tags (λ n m is. lt-ltb n props (let below = number_within words n are is in omega (arith, below, same))) (tests_of words files rec may).given
+    all_weaker (is_assignable_number words) (λ n. nat_lt n props) rec.tags (λ n m is. lt-ltb n props (let below = number_within words n are is in omega (arith, below, same))) (may_parts words files rec may).1
 
--- ---- the bytes of a record's file
--- the blocks that its slot numbers are within the image
-pub blocks_within : (limits : Limits) (taken : List Bool) (rec : FileRecord) {seen : FileRecord} (blocks : List ℕ) (start end : ℕ) → start ≡ data_start limits → end ≡ image_blocks limits
-    → length taken ≡ limits.blocks → seen ≡ rec → blocks ≡ seen.blocks → are_free taken rec.blocks ≡ true → are_within start end blocks ≡ true
-blocks_within limits taken rec blocks start end is_start is_end long view same free =
-    ap (are_within start end) (same ∙ ap (λ (r : FileRecord). r.blocks) view)
-    ∙ within_if_below start end (length taken) rec.blocks (omega (arith, is_start, is_end, long)) (below_from_free taken rec.blocks free)
-
--- where nothing is staged, and all its blocks are blocks of the image, what was read are its bytes
-pub read_are_told : (limits : Limits) (taken : List Bool) (rec : FileRecord) {seen : FileRecord} (blocks numbers : List ℕ) (staged : List Entry) (kept : ℕ → List ℕ) (start end : ℕ) (bytes : List ℕ)
-    → start ≡ data_start limits → end ≡ image_blocks limits → length taken ≡ limits.blocks → staged ≡ [] → seen ≡ rec → numbers ≡ seen.blocks → are_free taken blocks ≡ true → blocks ≡ blocks_told limits kept rec
-    → (IsTrue (are_within start end (content_blocks start numbers seen.size (looked staged kept))) → bytes ≡ file_content start numbers seen.size (looked staged kept)) → bytes ≡ bytes_told limits kept rec
-read_are_told limits taken rec {seen} blocks numbers staged kept start end bytes is_start is_end long none view same free told read =
-    let below : are_below limits.blocks (blocks_told limits kept rec) ≡ true =
-    ap (are_below limits.blocks) (sym told) ∙ (ap (λ m. are_below m blocks) (sym long) ∙ below_from_free taken blocks free) in
-    read_told limits rec kept bytes end start seen.size numbers is_end is_start (ap (λ (r : FileRecord). r.size) view) (same ∙ ap (λ (r : FileRecord). r.blocks) view) below
-    (subst (λ (es : List Entry). IsTrue (are_within start end (content_blocks start numbers seen.size (looked es kept))) → bytes ≡ file_content start numbers seen.size (looked es kept)) none read)
+-- free blocks are blocks of the image
+pub free_below : (limits : Limits) (taken : List Bool) (blocks : List ℕ) → length taken ≡ limits.blocks → are_free taken blocks ≡ true → are_below limits.blocks blocks ≡ true
+free_below limits taken blocks long free = ap (λ m. are_below m blocks) (sym long) ∙ below_from_free taken blocks free
 
 -- ---- no file yet
 pub no_files_yet : (limits : Limits) (words : Words) (axioms : Axioms) → AreFirstFiles limits words axioms (no_files limits) 0
@@ -110,18 +67,24 @@ no_files_yet limits words axioms = record {
   settled = refl;
 }
 
-pub none_numbered : (limits : Limits) (words : Words) (axioms : Axioms) (files : Files) (at : ℕ → List ℕ) → files ≡ no_files limits → FilesAreNumbered limits at words axioms files
-unfolding no_files
-none_numbered limits words axioms files at is slot rec there = absurd (let e = ap (λ (f : Files). rec_at f.catalog slot) (sym is) ∙ there in cc)
+-- what blocks tell of the files so far
+pub record AreSoFar (limits : Limits) (at : ℕ → List ℕ) (words : Words) (axioms : Axioms) (files : Files) (end : ℕ) : Type 0 where
+  pub spelled : FilesAreSpelled limits at files end
+  pub numbered : FilesAreNumbered limits at words axioms files
+  pub blocks : FilesHaveBlocks limits at files
 
-pub none_have_blocks : (limits : Limits) (files : Files) (at : ℕ → List ℕ) → files ≡ no_files limits → FilesHaveBlocks limits at files
+pub none_so_far : (limits : Limits) (words : Words) (axioms : Axioms) (files : Files) (at : ℕ → List ℕ) → files ≡ no_files limits → AreSoFar limits at words axioms files 0
 unfolding no_files
-none_have_blocks limits files at is = subst (λ (f : Files). FilesHaveBlocks limits at f) (sym is) (record {
-  indexed = λ slot rec there. absurd cc;
-  distinct = λ slot rec there. absurd cc;
-  taken = λ slot rec n there. absurd cc;
-  in_use = λ n held. absurd (both_ways (get_or (replicate limits.blocks false) n false) (nothing_at limits.blocks n false) held);
-  one_use = λ slot other rec more n there. absurd cc;
+none_so_far limits words axioms files at is = subst (λ (f : Files). AreSoFar limits at words axioms f 0) (sym is) (record {
+  spelled = λ n lt. absurd (omega (arith, lt));
+  numbered = λ slot rec there. absurd cc;
+  blocks = record {
+    indexed = λ slot rec there. absurd cc;
+    distinct = λ slot rec there. absurd cc;
+    taken = λ slot rec n there. absurd cc;
+    in_use = λ n held. absurd (both_ways (get_or (replicate limits.blocks false) n false) (nothing_at limits.blocks n false) held);
+    one_use = λ slot other rec more n there. absurd cc;
+  };
 })
 
 -- ---- one file more
@@ -140,14 +103,14 @@ module _ (limits : Limits) (MayBeKept : (ℕ → List ℕ) → Type 0) (words : 
   described_parts : (list_all (is_numbered words.dict) in_file ≡ true) × (nat_le (length numbers) 128 ≡ true)
   described_parts = and_parts (list_all (is_numbered words.dict) in_file) (nat_le (length numbers) 128) took.describes
 
-  tests : MayFile words files rec
-  tests = tests_of words files rec took.filed
+  tests : (not (is_some (slot_of files.catalog rec.name)) ≡ true) × (list_all (is_assignable_number words) rec.tags ≡ true)
+  tests = may_parts words files rec took.filed
 
   free_slot : rec_at files.catalog number ≡ None
   free_slot = first.rest number (omega arith)
 
   new_name : slot_of files.catalog rec.name ≡ None
-  new_name = new_from (slot_of files.catalog rec.name) tests.new
+  new_name = new_from (slot_of files.catalog rec.name) tests.0
 
   -- each file so far has a slot, so that there is room for it
   catalog_more : IsCatalog (with_filed files.catalog number rec)
@@ -163,15 +126,25 @@ module _ (limits : Limits) (MayBeKept : (ℕ → List ℕ) → Type 0) (words : 
   found_old : (n : ℕ) → (n ≡ number → ⊥) → rec_at next.catalog n ≡ rec_at files.catalog n
   found_old n differ = found_at n ∙ ap (λ b. cond b (Some rec) (rec_at files.catalog n)) (ne_eqb number n (λ e. differ (sym e)))
 
+  set_new : set_of next.ext number ≡ numbers
+  set_new = ap (λ (sets : List (List ℕ)). get_or sets number []) takes.sets ∙ get_or-set_same files.ext.sets number numbers [] (omega (arith, lt, first.count))
+
+  set_old : (n : ℕ) → (n ≡ number → ⊥) → set_of next.ext n ≡ set_of files.ext n
+  set_old n differ = ap (λ (sets : List (List ℕ)). get_or sets n []) takes.sets ∙ get_or-set_other files.ext.sets number n numbers [] differ
+
+  -- what holds of the new file and its numbers, and of what each other slot had, holds of all slots
+  each : (P : ℕ → Option FileRecord → List ℕ → Type 0) → P number (Some rec) numbers → ((n : ℕ) → (n ≡ number → ⊥) → P n (rec_at files.catalog n) (set_of files.ext n)) → (n : ℕ) → P n (rec_at next.catalog n) (set_of next.ext n)
+  each P new old n = by (cases_eq n number)
+    where
+      by : (n ≡ number) ⊎ (n ≡ number → ⊥) → P n (rec_at next.catalog n) (set_of next.ext n)
+      by (inl same) =
+          subst (λ j. P j (rec_at next.catalog j) (set_of next.ext j)) (sym same)
+          (subst (λ o. P number o (set_of next.ext number)) (sym found_new) (subst (λ ns. P number (Some rec) ns) (sym set_new) new))
+      by (inr differ) = subst (λ o. P n o (set_of next.ext n)) (sym (found_old n differ)) (subst (λ ns. P n (rec_at files.catalog n) ns) (sym (set_old n differ)) (old n differ))
+
   -- the file of a slot is the new one, or an old one
   either : (P : ℕ → FileRecord → Type 0) → P number rec → ((n : ℕ) (r : FileRecord) → rec_at files.catalog n ≡ Some r → P n r) → (n : ℕ) (r : FileRecord) → rec_at next.catalog n ≡ Some r → P n r
-  either P new old n r is = by (cases_eq n number)
-    where
-      by : (n ≡ number) ⊎ (n ≡ number → ⊥) → P n r
-      by (inl same) =
-          let one = same_Some rec r (sym found_new ∙ (ap (rec_at next.catalog) (sym same) ∙ is)) in
-          subst (λ k. P k r) (sym same) (subst (λ (x : FileRecord). P number x) one new)
-      by (inr differ) = old n r (sym (found_old n differ) ∙ is)
+  either P new old = each (λ n o ns. (r : FileRecord) → o ≡ Some r → P n r) (λ r is. subst (λ (x : FileRecord). P number x) (same_Some rec r is) new) (λ n differ. old n)
 
   -- an old file stays
   still_there : (n : ℕ) (r : FileRecord) → rec_at files.catalog n ≡ Some r → rec_at next.catalog n ≡ Some r
@@ -181,72 +154,32 @@ module _ (limits : Limits) (MayBeKept : (ℕ → List ℕ) → Type 0) (words : 
       differs same = let none = sym free_slot ∙ (ap (rec_at files.catalog) (sym same) ∙ is) in cc
 
   below : are_below limits.blocks rec.blocks ≡ true
-  below = ap (λ m. are_below m rec.blocks) (sym first.blocks) ∙ below_from_free files.map rec.blocks took.usable.own
+  below = free_below limits files.map rec.blocks first.blocks took.usable.own
 
   sound : is_sound_record limits.version words.dict limits.blocks rec ≡ true
   sound =
       let named = list_all (λ n. is_some (word_of words.dict n)) rec.tags in
       and_from (is_record limits.version rec && named) (list_all (λ n. nat_lt n limits.blocks) rec.blocks)
-      (and_from (is_record limits.version rec) named form (all_weaker (is_assignable_number words) (λ n. is_some (word_of words.dict n)) rec.tags (λ n m is. assignable_some words (word_of words.dict n) is) tests.given)) below
+      (and_from (is_record limits.version rec) named form (all_weaker (is_assignable_number words) (λ n. is_some (word_of words.dict n)) rec.tags (λ n m is. assignable_some words (word_of words.dict n) is) tests.1)) below
 
-  set_new : set_of next.ext number ≡ numbers
-  set_new = ap (λ (sets : List (List ℕ)). get_or sets number []) takes.sets ∙ get_or-set_same files.ext.sets number numbers [] (omega (arith, lt, first.count))
-
-  has_new : HasNumbers words axioms.taxonomy rec in_file (set_of next.ext number)
-  has_new = record { numbered = described_parts.0; are = set_new }
-
-  set_old : (n : ℕ) → (n ≡ number → ⊥) → set_of next.ext n ≡ set_of files.ext n
-  set_old n differ = ap (λ (sets : List (List ℕ)). get_or sets n []) takes.sets ∙ get_or-set_other files.ext.sets number n numbers [] differ
-
-  sets_are : (n : ℕ) → (n ≡ number) ⊎ (n ≡ number → ⊥) → AreNumbers words axioms.taxonomy (rec_at next.catalog n) (set_of next.ext n)
-  sets_are n (inl same) =
-      subst (λ k. AreNumbers words axioms.taxonomy (rec_at next.catalog k) (set_of next.ext k)) (sym same)
-      (subst (λ o. AreNumbers words axioms.taxonomy o (set_of next.ext number)) (sym found_new) (record { bytes = took.bytes; sized = took.sized; has = has_new }))
-  sets_are n (inr differ) =
-      subst (λ o. AreNumbers words axioms.taxonomy o (set_of next.ext n)) (sym (found_old n differ))
-      (subst (λ ns. AreNumbers words axioms.taxonomy (rec_at files.catalog n) ns) (sym (set_old n differ)) (first.sets n))
-
-  -- and by the words that are found in them
-  numbered_more : (at : ℕ → List ℕ) → MayBeKept at → FilesAreNumbered limits at words axioms files → FilesAreNumbered limits at words axioms next
-  numbered_more at may old n r there = by (cases_eq n number)
-    where
-      by : (n ≡ number) ⊎ (n ≡ number → ⊥) → HasNumbers words axioms.taxonomy r (found_words words r.name (bytes_told limits at r)) (set_of next.ext n)
-      by (inl same) =
-          let one = same_Some rec r (sym found_new ∙ (ap (rec_at next.catalog) (sym same) ∙ there)) in
-          subst (λ (x : FileRecord). HasNumbers words axioms.taxonomy x (found_words words x.name (bytes_told limits at x)) (set_of next.ext n)) one
-          (subst (λ k. HasNumbers words axioms.taxonomy rec (found_words words rec.name (bytes_told limits at rec)) (set_of next.ext k)) (sym same)
-          (subst (λ bs. HasNumbers words axioms.taxonomy rec (found_words words rec.name bs) (set_of next.ext number)) (took.told at may).bytes_are has_new))
-      by (inr differ) =
-          subst (λ ns. HasNumbers words axioms.taxonomy r (found_words words r.name (bytes_told limits at r)) ns) (sym (set_old n differ)) (old n r (sym (found_old n differ) ∙ there))
-
-  short_at : (n : ℕ) → (n ≡ number) ⊎ (n ≡ number → ⊥) → length (set_of next.ext n) ≤ 128
-  short_at n (inl same) =
-      let few = leb-true (length numbers) 128 described_parts.1 in
-      omega (arith, few, ap (length {A = ℕ}) (ap (set_of next.ext) same ∙ set_new))
-  short_at n (inr differ) = let few = first.short n in omega (arith, few, ap (length {A = ℕ}) (set_old n differ))
+  has_new : HasNumbers words axioms.taxonomy rec in_file numbers
+  has_new = record { numbered = described_parts.0; are = refl }
 
   files_more : AreFirstFiles limits words axioms next (number + 1)
   files_more = record {
     slots = ap (λ (c : Catalog). c.files) takes.catalog ∙ first.slots;
     catalog = subst IsCatalog (sym takes.catalog) catalog_more;
     records = either (λ slot r. IsTrue (is_sound_record limits.version words.dict limits.blocks r)) sound first.records;
-    given = either (λ slot r. IsTrue (list_all (is_assignable_number words) r.tags)) tests.given first.given;
+    given = either (λ slot r. IsTrue (list_all (is_assignable_number words) r.tags)) tests.1 first.given;
     rest = λ n le. found_old n (λ e. omega arith) ∙ first.rest n (omega arith);
     counted = omega (arith, ap (λ (c : Catalog). length c.entries) takes.catalog, entries_longer files.catalog first.catalog number rec new_name, first.counted);
     blocks = ap (length {A = Bool}) takes.map ∙ (length-marked files.map took.blocks ∙ first.blocks);
     props = takes.props ∙ first.props;
     count = ap (length {A = List ℕ}) takes.sets ∙ (length-set files.ext.sets number numbers ∙ first.count);
-    sets = λ n. sets_are n (cases_eq n number);
-    short = λ n. short_at n (cases_eq n number);
+    sets = each (λ n o ns. AreNumbers words axioms.taxonomy o ns) (record { bytes = took.bytes; sized = took.sized; has = has_new }) (λ n differ. first.sets n);
+    short = each (λ n o ns. length ns ≤ 128) (leb-true (length numbers) 128 described_parts.1) (λ n differ. first.short n);
     settled = takes.settled;
   }
-
-  spelled_more : (at : ℕ → List ℕ) → FilesAreSpelled limits at files number → slot (file_slots limits) at number ≡ file_bytes (Used rec) → FilesAreSpelled limits at next (number + 1)
-  spelled_more at spelled here n less = by (cases_eq n number)
-    where
-      by : (n ≡ number) ⊎ (n ≡ number → ⊥) → slot (file_slots limits) at n ≡ file_bytes (record_at next.catalog n)
-      by (inl same) = subst (λ k. slot (file_slots limits) at k ≡ file_bytes (record_at next.catalog k)) (sym same) (here ∙ ap (λ o. file_bytes (file_by o)) (sym found_new))
-      by (inr differ) = spelled n (omega arith) ∙ ap (λ o. file_bytes (file_by o)) (sym (found_old n differ))
 
   -- ---- their blocks
   taken_is : (n : ℕ) → is_taken next.map n ≡ (has_number took.blocks n || is_taken files.map n)
@@ -258,7 +191,10 @@ module _ (limits : Limits) (MayBeKept : (ℕ → List ℕ) → Type 0) (words : 
       let free = all_among (λ k. nat_lt k (length files.map) && not (is_taken files.map k)) took.blocks n took.usable.free (among_from_number took.blocks n new) in
       not_true (is_taken files.map n) (and_parts (nat_lt n (length files.map)) (not (is_taken files.map n)) free).1
 
-  module _ (at : ℕ → List ℕ) (may : MayBeKept at) (old : FilesHaveBlocks limits at files) where
+  module _ (at : ℕ → List ℕ) (may : MayBeKept at) (so_far : AreSoFar limits at words axioms files number) (here : slot (file_slots limits) at number ≡ file_bytes (Used rec)) where
+    abbrev old : FilesHaveBlocks limits at files
+    old = so_far.blocks
+
     told : AreTold limits at rec took.bytes took.blocks
     told = took.told at may
 
@@ -268,6 +204,13 @@ module _ (limits : Limits) (MayBeKept : (ℕ → List ℕ) → Type 0) (words : 
     -- and so it is that of no old file
     not_both : (n slot : ℕ) (r : FileRecord) → has_number (blocks_told limits at rec) n ≡ true → rec_at files.catalog slot ≡ Some r → has_number (blocks_told limits at r) n ≡ true → ⊥
     not_both n slot r here is there = both_ways (is_taken files.map n) (was_free n (in_new n here)) (old.taken slot r n is there)
+
+    numbered_more : FilesAreNumbered limits at words axioms next
+    numbered_more =
+        each (λ n o ns. (r : FileRecord) → o ≡ Some r → HasNumbers words axioms.taxonomy r (found_words words r.name (bytes_told limits at r)) ns)
+        (λ r is. subst (λ (x : FileRecord). HasNumbers words axioms.taxonomy x (found_words words x.name (bytes_told limits at x)) numbers) (same_Some rec r is)
+        (subst (λ bs. HasNumbers words axioms.taxonomy rec (found_words words rec.name bs) numbers) told.bytes_are has_new))
+        (λ n differ. so_far.numbered n)
 
     blocks_more : FilesHaveBlocks limits at next
     blocks_more = record {
@@ -289,52 +232,36 @@ module _ (limits : Limits) (MayBeKept : (ℕ → List ℕ) → Type 0) (words : 
         used n (inl here) = (number, rec, found_new, ap (λ ns. has_number ns n) (sym told.blocks_are) ∙ here)
         used n (inr was) = let found = old.in_use n was in (found.0, found.1, still_there found.0 found.1 found.2, found.3)
 
+    so_far_more : AreSoFar limits at words axioms next (number + 1)
+    so_far_more = record {
+      spelled = each (λ n o ns. n < number + 1 → slot (file_slots limits) at n ≡ file_bytes (file_by o)) (λ _. here) (λ n differ lt. so_far.spelled n (omega (arith, differ, lt)));
+      numbered = numbered_more;
+      blocks = blocks_more;
+    }
+
 -- ---- one slot more
 module _ (limits : Limits) (MayBeKept : (ℕ → List ℕ) → Type 0) (words : Words) (axioms : Axioms) (files : Files) (number : ℕ) (first : AreFirstFiles limits words axioms files number) (lt : number < limits.files) where
   pub files_on : (found : Option FileSlot) (next : Files) → IfSome found (λ file. IsTrue (is_file limits.version file)) → TakesFile limits MayBeKept words axioms.taxonomy number found files next
       → AreFirstFiles limits words axioms next (number + 1)
   files_on None next form takes = absurd takes
-  files_on (Some FreeFile) next form takes = subst (λ (f : Files). AreFirstFiles limits words axioms f (number + 1)) (sym takes) (record {
-    slots = first.slots;
-    catalog = first.catalog;
-    records = first.records;
-    given = first.given;
-    rest = λ n le. first.rest n (omega arith);
-    counted = omega (arith, first.counted);
-    blocks = first.blocks;
-    props = first.props;
-    count = first.count;
-    sets = first.sets;
-    short = first.short;
-    settled = first.settled;
-  })
+  files_on (Some FreeFile) next form takes =
+      let rest : (n : ℕ) → number + 1 ≤ n → rec_at files.catalog n ≡ None = λ n le. first.rest n (omega arith) in
+      let counted : length files.catalog.entries ≤ number + 1 = omega (arith, first.counted) in
+      subst (λ (f : Files). AreFirstFiles limits words axioms f (number + 1)) (sym takes) (assumption (rest, counted))
   files_on (Some (Used rec)) next form takes = files_more limits MayBeKept words axioms files next number rec first lt form takes
 
-  -- the numbers are those of the descriptions
-  pub numbered_on : (at : ℕ → List ℕ) → MayBeKept at → FilesAreNumbered limits at words axioms files → (found : Option FileSlot) (next : Files) → IfSome found (λ file. IsTrue (is_file limits.version file))
-      → TakesFile limits MayBeKept words axioms.taxonomy number found files next → FilesAreNumbered limits at words axioms next
-  numbered_on at may old None next form takes = absurd takes
-  numbered_on at may old (Some FreeFile) next form takes = subst (λ (f : Files). FilesAreNumbered limits at words axioms f) (sym takes) old
-  numbered_on at may old (Some (Used rec)) next form takes = numbered_more limits MayBeKept words axioms files next number rec first lt form takes at may old
-
-  pub blocks_on : (at : ℕ → List ℕ) → MayBeKept at → FilesHaveBlocks limits at files → (found : Option FileSlot) (next : Files) → IfSome found (λ file. IsTrue (is_file limits.version file))
-      → TakesFile limits MayBeKept words axioms.taxonomy number found files next → FilesHaveBlocks limits at next
-  blocks_on at may old None next form takes = absurd takes
-  blocks_on at may old (Some FreeFile) next form takes = subst (λ (f : Files). FilesHaveBlocks limits at f) (sym takes) old
-  blocks_on at may old (Some (Used rec)) next form takes = blocks_more limits MayBeKept words axioms files next number rec first lt form takes at may old
-
-  pub spelled_on : (at : ℕ → List ℕ) → FilesAreSpelled limits at files number → (found : Option FileSlot) (next : Files) → IfSome found (λ file. IsTrue (is_file limits.version file))
-      → TakesFile limits MayBeKept words axioms.taxonomy number found files next → IsReadAs file_bytes (is_file limits.version) (file_slots limits) at number found → FilesAreSpelled limits at next (number + 1)
-  spelled_on at spelled None next form takes read = absurd takes
-  spelled_on at spelled (Some FreeFile) next form takes read = subst (λ (f : Files). FilesAreSpelled limits at f (number + 1)) (sym takes) (λ n less. by n less (cases_eq n number))
+  pub so_far_on : (at : ℕ → List ℕ) → MayBeKept at → AreSoFar limits at words axioms files number → (found : Option FileSlot) (next : Files) → IfSome found (λ file. IsTrue (is_file limits.version file))
+      → TakesFile limits MayBeKept words axioms.taxonomy number found files next → IsReadAs file_bytes (is_file limits.version) (file_slots limits) at number found → AreSoFar limits at words axioms next (number + 1)
+  so_far_on at may old None next form takes read = absurd takes
+  so_far_on at may old (Some FreeFile) next form takes read =
+      subst (λ (f : Files). AreSoFar limits at words axioms f (number + 1)) (sym takes) (record { spelled = λ n less. by n less (cases_eq n number); numbered = old.numbered; blocks = old.blocks })
     where
-      here : slot (file_slots limits) at number ≡ file_bytes (record_at files.catalog number)
-      here = read.bytes ∙ ap (λ o. file_bytes (file_by o)) (sym (first.rest number (omega arith)))
-
       by : (n : ℕ) → n < number + 1 → (n ≡ number) ⊎ (n ≡ number → ⊥) → slot (file_slots limits) at n ≡ file_bytes (record_at files.catalog n)
-      by n less (inl same) = subst (λ k. slot (file_slots limits) at k ≡ file_bytes (record_at files.catalog k)) (sym same) here
-      by n less (inr differ) = spelled n (omega arith)
-  spelled_on at spelled (Some (Used rec)) next form takes read = spelled_more limits MayBeKept words axioms files next number rec first lt form takes at spelled read.bytes
+      by n less (inl same) =
+          subst (λ k. slot (file_slots limits) at k ≡ file_bytes (record_at files.catalog k)) (sym same)
+          (read.bytes ∙ ap (λ o. file_bytes (file_by o)) (sym (first.rest number (omega arith))))
+      by n less (inr differ) = old.spelled n (omega arith)
+  so_far_on at may old (Some (Used rec)) next form takes read = so_far_more limits MayBeKept words axioms files next number rec first lt form takes at may old read.bytes
 
 -- ---- the loop
 -- the slots below the end were read, by runs that only read
@@ -342,9 +269,7 @@ pub record FilesTurn (journal : Held) (limits : Limits) (words : Words) (axioms 
   pub reads : OnlyReads old now
   pub faults : now.disk_faults ≡ old.disk_faults
   pub first_fault : DiskFaultEnds old now
-  pub rows : HasTests words row
+  pub shape : HasShape row 2 axioms.taxonomy.props
   pub first : AreFirstFiles limits words axioms files end
   pub recalls : StillRecalls journal old last_old last
-  pub spelled : (kept : ℕ → List ℕ) → Fits journal old kept → Recalls last_old kept → FilesAreSpelled limits kept files end
-  pub numbered : (kept : ℕ → List ℕ) → Fits journal old kept → FilesAreNumbered limits kept words axioms files
-  pub blocks : (kept : ℕ → List ℕ) → Fits journal old kept → FilesHaveBlocks limits kept files
+  pub so_far : (kept : ℕ → List ℕ) → Fits journal old kept → Recalls last_old kept → AreSoFar limits kept words axioms files end

@@ -1,73 +1,52 @@
 -- A row of what numbers entail, gathered number by number, and the numbers of the row.
-use Rattle.std.proofs.Common.{◌≡◌, ℕ, ◌+◌, ◌<◌, false, ◌||◌, Option, List, [], ◌∷◌, length, get_or, take, sym, ap, ap₂, ◌∙◌, subst, arith}
+pub use Rattle.lis_open.specs.ReadFiles.{Gathered}
+use Rattle.std.proofs.Common.{◌≡◌, ℕ, ◌<◌, false, ◌||◌, Option, List, [], ◌∷◌, ◌++◌, get_or, sym, ap, ap₂, ◌∙◌, subst, arith}
 use Rattle.std.specs.Prelude.{All}
 use Rattle.std.specs.Ordering.{nat_cmp}
-use Rattle.std.specs.List.Sorted.{IsStrictlySortedBy, IsStrictlyIncreasing}
-use Rattle.std.proofs.Math.Bool.{or-false}
-use Rattle.std.proofs.lemmas.List.{take_more}
+use Rattle.lis_open.proofs.Common.{IsStrictlySortedBy, or-false, Among, among_from_contains, HasShape, get, with_row, Taxonomy, entails}
+use Rattle.std.specs.List.Sorted.{IsStrictlyIncreasing}
+use Rattle.std.proofs.Math.Bool.{or_assoc}
 use Rattle.std.proofs.lemmas.List.Elements.{Contains-get_or}
 use Rattle.std.proofs.lemmas.List.Folds.{list_any-append}
 use Rattle.std.proofs.lemmas.Map.Keys.{IsStrictlyIncreasing-from_sorted}
-use Rattle.lis_graph.proofs.Members.{Among, among_from_contains}
-use Rattle.lis_bits.specs.Rows.{Rows, HasShape, get, with_row, SetsBits}
-use Rattle.lis_bits.proofs.Laws.{bits_set, row_sets}
-use Rattle.lis_taxonomy.specs.Taxonomy.{Taxonomy, entails}
+use Rattle.lis_bits.specs.Rows.{Rows, SetsBits}
+use Rattle.lis_bits.proofs.Laws.{row_sets}
 use Rattle.lis_ext.specs.Numbers.{numbers_where}
 use Rattle.lis_ext.proofs.Numbers.{numbers_same, sorted_where, among_where}
-use Rattle.lis_open.specs.declared.words.Words.{Words}
-use Rattle.lis_open.specs.ReadFiles.{is_described, described, HasTests, AreListed}
+use Rattle.lis_open.specs.ReadFiles.{is_described, described, AreListed}
 
--- the row has what the first k of the numbers entail, and the third row is as it was
-pub record Gathered (t : Taxonomy) (tags : List ℕ) (old row : Rows) (k : ℕ) : Type 0 where
-  pub shape : HasShape row 3 t.props
-  pub bits : (n : ℕ) → n < t.props → get row 0 n ≡ is_described t (take k tags) n
-  pub tests : (n : ℕ) → get row 2 n ≡ get old 2 n
+pub gathered_none : (t : Taxonomy) (row : Rows) → HasShape row 2 t.props → Gathered t row row []
+gathered_none t row shape = record { shape = shape; bits = λ n lt. sym (or-false (get row 0 n)) }
 
-pub gathered_none : (t : Taxonomy) (tags : List ℕ) (old row : Rows) → HasShape old 3 t.props → row ≡ with_row old 0 (λ _. false) → Gathered t tags old row 0
-gathered_none t tags old row shape is =
-    subst (λ (r : Rows). Gathered t tags old r 0) (sym is) (record { shape = set.shape; bits = λ n lt. set.at n lt; tests = λ n. set.others 2 n (λ e. omega (arith, e)) })
-  where
-    set : SetsBits old (with_row old 0 (λ _. false)) 3 t.props 0 (λ _. false)
-    set = bits_set old 3 t.props 0 (λ _. false) shape (omega arith)
-
-pub gathered_more : (t : Taxonomy) (tags : List ℕ) (old row mid new : Rows) (k tag : ℕ) → Gathered t tags old row k → k < length tags → tag ≡ get_or tags k 0 → mid ≡ with_row row 1 (entails t tag)
-    → new ≡ with_row mid 0 (λ bit. get mid 0 bit || get mid 1 bit) → Gathered t tags old new (k + 1)
-gathered_more t tags old row mid new k tag was lt is ups joined =
-    subst (λ (r : Rows). Gathered t tags old r (k + 1)) (sym joined) (record { shape = second.shape; bits = bits; tests = tests })
-  where
-    first : SetsBits row mid 3 t.props 1 (entails t tag)
-    first = row_sets row mid 3 t.props 1 (entails t tag) was.shape (omega arith) ups
-
-    second : SetsBits mid (with_row mid 0 (λ bit. get mid 0 bit || get mid 1 bit)) 3 t.props 0 (λ bit. get mid 0 bit || get mid 1 bit)
-    second = bits_set mid 3 t.props 0 (λ bit. get mid 0 bit || get mid 1 bit) first.shape (omega arith)
-
-    described_more : (n : ℕ) → is_described t (take (k + 1) tags) n ≡ (is_described t (take k tags) n || entails t tag n)
-    described_more n =
-        ap (λ ns. is_described t ns n) (take_more tags k 0 lt)
-        ∙ (list_any-append (λ m. entails t m n) (take k tags) (get_or tags k 0 ∷ [])
-        ∙ ap (λ b. is_described t (take k tags) n || b) (or-false (entails t (get_or tags k 0) n) ∙ ap (λ m. entails t m n) (sym is)))
-
-    bits : (n : ℕ) → n < t.props → get (with_row mid 0 (λ bit. get mid 0 bit || get mid 1 bit)) 0 n ≡ is_described t (take (k + 1) tags) n
-    bits n below =
-        second.at n below
-        ∙ (ap₂ (λ a b. a || b) (first.others 0 n (λ e. omega (arith, e)) ∙ was.bits n below) (first.at n below) ∙ sym (described_more n))
-
-    tests : (n : ℕ) → get (with_row mid 0 (λ bit. get mid 0 bit || get mid 1 bit)) 2 n ≡ get old 2 n
-    tests n = second.others 2 n (λ e. omega (arith, e)) ∙ (first.others 2 n (λ e. omega (arith, e)) ∙ was.tests n)
-
--- rows with the declared tests have as many bits as a taxonomy of these words
-pub as_wide : (words : Words) (props : ℕ) (row : Rows) → props ≡ words.dict.props → HasTests words row → HasShape row 3 props
-as_wide words props row same rows = record { tall = rows.shape.tall; wide = rows.shape.wide ∙ sym same }
-
--- and have them still where the third row stays
-pub still_tests : (words : Words) (props : ℕ) (old row : Rows) → props ≡ words.dict.props → HasTests words old → HasShape row 3 props → ((n : ℕ) → get row 2 n ≡ get old 2 n) → HasTests words row
-still_tests words props old row same was shape stays = record {
-  shape = record { tall = shape.tall; wide = shape.wide ∙ same };
-  tests = λ n lt. stays n ∙ was.tests n lt;
+pub gathered_then : (t : Taxonomy) (old row new : Rows) (ms ns : List ℕ) → Gathered t old row ms → Gathered t row new ns → Gathered t old new (ms ++ ns)
+gathered_then t old row new ms ns first second = record {
+  shape = second.shape;
+  bits = λ n lt.
+      second.bits n lt
+      ∙ (ap (λ b. b || is_described t ns n) (first.bits n lt)
+      ∙ (or_assoc (get old 0 n) (is_described t ms n) (is_described t ns n) ∙ ap (λ b. get old 0 n || b) (sym (list_any-append (λ m. entails t m n) ms ns))));
 }
 
+pub gathered_more : (t : Taxonomy) (old row mid new : Rows) (numbers : List ℕ) (number : ℕ) → Gathered t old row numbers → mid ≡ with_row row 1 (entails t number)
+    → new ≡ with_row mid 0 (λ bit. get mid 0 bit || get mid 1 bit) → Gathered t old new (numbers ++ number ∷ [])
+gathered_more t old row mid new numbers number was ups joined = gathered_then t old row new numbers (number ∷ []) was (record {
+  shape = second.shape;
+  bits = λ n lt. second.at n lt ∙ ap₂ (λ a b. a || b) (first.others 0 n (λ e. omega (arith, e))) (first.at n lt ∙ sym (or-false (entails t number n)));
+})
+  where
+    first : SetsBits row mid 2 t.props 1 (entails t number)
+    first = row_sets row mid 2 t.props 1 (entails t number) was.shape (omega arith) ups
+
+    second : SetsBits mid new 2 t.props 0 (λ bit. get mid 0 bit || get mid 1 bit)
+    second = row_sets mid new 2 t.props 0 (λ bit. get mid 0 bit || get mid 1 bit) first.shape (omega arith) joined
+
+-- the row was cleared before
+pub gathered_all : (t : Taxonomy) (old row new : Rows) (numbers : List ℕ) → HasShape old 2 t.props → row ≡ with_row old 0 (λ _. false) → Gathered t row new numbers → (n : ℕ) → n < t.props → get new 0 n ≡ is_described t numbers n
+gathered_all t old row new numbers shape cleared all n lt =
+    all.bits n lt ∙ ap (λ b. b || is_described t numbers n) ((row_sets old row 2 t.props 0 (λ _. false) shape (omega arith) cleared).at n lt)
+
 -- the numbers of the row are those of the description
-pub listed_are : (t : Taxonomy) (own : List ℕ) (row : Rows) (listed : Option (List ℕ)) → HasShape row 3 t.props → ((n : ℕ) → n < t.props → get row 0 n ≡ is_described t own n)
+pub listed_are : (t : Taxonomy) (own : List ℕ) (row : Rows) (listed : Option (List ℕ)) → HasShape row 2 t.props → ((n : ℕ) → n < t.props → get row 0 n ≡ is_described t own n)
     → AreListed (numbers_where row.bits (get row 0)) listed → AreListed (described t own) listed
 listed_are t own row listed shape bits = subst (λ numbers. AreListed numbers listed) all
   where

@@ -1,3 +1,4 @@
+pub mod Common
 mod Ranges
 mod Zeros
 mod Names
@@ -6,8 +7,11 @@ mod Made
 pub mod Needs
 mod Quiet
 mod Slots
+mod SpotKinds
 mod WordsRead
 mod WordUses
+mod Sides
+mod Reasons
 mod Numbers
 mod Gathering
 mod BlocksRead

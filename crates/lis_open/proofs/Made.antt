@@ -1,16 +1,11 @@
 -- What making leaves of each block, and the blocks that it leaves alone.
-use Rattle.std.proofs.Common.{◌≡◌, ◌⊎◌, inl, inr, ℕ, ◌+◌, ◌*◌, ◌≤◌, List, [], ◌∷◌, refl, ◌∙◌, ap, subst, arith, OnOk, OnErr, Result, Ok, Err}
-use Rattle.lis_ports.specs.Meaning.{Meaning}
-use Rattle.lis_ports.specs.Bytes.{put, Torn}
-use Rattle.lis_ports.specs.Runs.{Leaves, Always, IsSettled}
+use Rattle.std.proofs.Common.{◌≡◌, ◌⊎◌, inl, ℕ, ◌+◌, ◌*◌, ◌≤◌, List, [], ◌∷◌, refl, ◌∙◌, ap, subst, arith, OnOk, OnErr, Result, Ok, Err}
+use Rattle.std.proofs.Math.Logic.{⊎_elim}
+use Rattle.lis_open.proofs.Common.{Meaning, Torn, Leaves, Always, IsSettled, part-torn, block, Spreads, Limits, data_start}
+use Rattle.lis_ports.specs.Bytes.{put}
 use Rattle.lis_ports.proofs.Always.{always_settled}
 use Rattle.lis_ports.proofs.Moments.{leaves_weaken}
-use Rattle.lis_ports.proofs.Parts.{part-torn}
-use Rattle.lis_journal.specs.Record.{block}
-use Rattle.lis_journal.specs.Spreads.{Spreads}
 use Rattle.lis_journal.proofs.Spreading.{leaves_both, spreads_then, spreads_weaken, always_spread}
-use Rattle.lis_model.specs.declared.limits.Limits.{Limits}
-use Rattle.lis_model.specs.Image.{data_start}
 use Rattle.lis_open.specs.Makes.{first_byte, IsWiped, IsWiping, IsSpare, KeepsSpare, IsMaking, InMaking, IsMade, IsSettledAt}
 use Rattle.lis_open.proofs.Wiping.{wiped_super, wiped_named}
 
@@ -19,13 +14,7 @@ pub spare_trans : (limits : Limits) (x y z : List ℕ) → KeepsSpare limits x y
 spare_trans limits x y z xy yz n is = yz n is ∙ xy n is
 
 spare_torn : (limits : Limits) (at n : ℕ) (from image : List ℕ) → (at + n ≤ 8192) ⊎ ((2367488 ≤ at) × (at + n ≤ 4096 * data_start limits)) → Torn at n from image → KeepsSpare limits from image
-spare_torn limits at n from image within torn k is = part-torn at n from image torn (4096 * k) 4096 (by within is)
-  where
-    by : (at + n ≤ 8192) ⊎ ((2367488 ≤ at) × (at + n ≤ 4096 * data_start limits)) → IsSpare limits k → (4096 * k + 4096 ≤ at) ⊎ (at + n ≤ 4096 * k)
-    by (inl low) (inl record_block) = inr (omega (arith, low, record_block.0))
-    by (inl low) (inr past) = inr (omega (arith, low, past))
-    by (inr home) (inl record_block) = inl (omega (arith, home.0, record_block.1))
-    by (inr home) (inr past) = inr (omega (arith, home.1, past))
+spare_torn limits at n from image within torn k is = part-torn at n from image torn (4096 * k) 4096 (grind (arith, within, is))
 
 -- the first byte is in the super block
 pub first_spare : (limits : Limits) (from image : List ℕ) → Torn 0 1 from image → KeepsSpare limits from image
@@ -68,11 +57,7 @@ moments_spare {old} limits settled moments spreads =
 pub spare_spreads : {old new : Meaning} (limits : Limits) (n : ℕ) → Spreads old new (KeepsSpare limits) → IsSpare limits n → IsSettledAt old n → block n new.bytes ≡ block n old.bytes
 spare_spreads {old} limits n spreads is settled =
     let from = spreads.reads.0 in
-    let same : block n from ≡ block n old.bytes = elim spreads.reads.1 as (λ _. block n from ≡ block n old.bytes) [
-      | inl image ↦ settled from image
-      | inr bytes ↦ ap (block n) bytes
-    ] in
-    spreads.reads.2 n is ∙ same
+    spreads.reads.2 n is ∙ ⊎_elim (settled from) (ap (block n)) spreads.reads.1
 
 -- ---- what is made
 made_image : (limits : Limits) (bytes image : List ℕ) → KeepsSpare limits bytes image → IsWiped limits image → first_byte image ≡ 76 → IsMade limits bytes image

@@ -1,11 +1,9 @@
 -- The first byte of an image, and what stands while it is written.
-use Rattle.std.proofs.Common.{◌≡◌, ◌⊎◌, inl, inr, ℕ, ◌≤◌, ◌==◌, Bool, true, false, List, [], ◌∷◌, length, slice_index, refl, sym, ◌∙◌, ap, arith}
-use Rattle.std.proofs.lemmas.Bool.{eqb-true, eqb-false}
-use Rattle.lis_ports.specs.Meaning.{Meaning}
-use Rattle.lis_ports.specs.Bytes.{part, put}
-use Rattle.lis_ports.specs.Runs.{Always, IsSettled}
+use Rattle.std.proofs.Common.{◌≡◌, ◌⊎◌, ℕ, ◌≤◌, ◌==◌, List, [], ◌∷◌, length, slice_index, sym, ◌∙◌, ap, arith}
+use Rattle.lis_open.proofs.Common.{cases_eq, Meaning, part, Always, IsSettled, part-put}
+use Rattle.lis_ports.specs.Bytes.{put}
 use Rattle.lis_ports.proofs.Always.{always_settled}
-use Rattle.lis_ports.proofs.Parts.{part-put, length-part}
+use Rattle.lis_ports.proofs.Parts.{length-part}
 use Rattle.lis_open.specs.Makes.{first_byte, IsNameless}
 
 one_byte : (xs : List ℕ) (b : ℕ) → length xs ≡ 1 → slice_index xs 0 ≡ b → xs ≡ b ∷ []
@@ -20,11 +18,7 @@ pub first-put : (image : List ℕ) (b : ℕ) → 1 ≤ length image → first_by
 first-put image b some = ap (λ xs. slice_index xs 0) (part-put image 0 (b ∷ []) (omega arith))
 
 pub named_or_not : (image : List ℕ) → (first_byte image ≡ 76) ⊎ IsNameless image
-named_or_not image = by (first_byte image == 76) refl
-  where
-    by : (b : Bool) → (first_byte image == 76) ≡ b → (first_byte image ≡ 76) ⊎ IsNameless image
-    by true e = inl (eqb-true (first_byte image) 76 e)
-    by false e = inr (eqb-false (first_byte image) 76 e)
+named_or_not image = cases_eq (first_byte image) 76
 
 pub nameless_zero : (bytes : List ℕ) {m : Meaning} → 1 ≤ length bytes → IsSettled m (put bytes 0 (0 ∷ [])) → Always m IsNameless
 nameless_zero bytes some settled =

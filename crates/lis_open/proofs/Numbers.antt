@@ -1,13 +1,13 @@
 -- Lists of numbers of which none stands twice, and blocks that are taken.
-use Rattle.std.proofs.Common.{◌≡◌, ◌⊎◌, ◌∙◌, refl, sym, ap, subst, inl, inr, ℕ, ◌+◌, ◌<◌, ◌==◌, nat_lt, Bool, true, false, not, ◌&&◌, ◌||◌, List, [], ◌∷◌, ◌++◌, length, get_or, set, drop, eq-eqb, add-one, length-set, get_or-set_same, get_or-set_other, drop-cons}
-use Rattle.std.specs.List.{flat_map}
-use Rattle.std.proofs.Math.Bool.{or-true}
-use Rattle.std.proofs.lemmas.Bool.{and_parts, and_from, both_ways, ne_eqb, cases_eq, ltb-true, false_from_ne_true, not_from_false}
-use Rattle.lis_graph.proofs.Members.{Among, among_left}
-use Rattle.lis_blockmap.specs.Bitmap.{is_taken}
-use Rattle.lis_content.specs.Content.{marked, are_free, has_number, are_distinct}
-use Rattle.lis_content.proofs.Numbers.{not_true, are_below}
-use Rattle.lis_kept.proofs.Filing.{among_from_number, number_from_among}
+use Rattle.std.proofs.Common.{◌≡◌, ◌⊎◌, ◌∙◌, refl, sym, ap, ap₂, subst, inl, inr, ℕ, ◌+◌, ◌<◌, ◌≤◌, nat_lt, Bool, true, false, not, ◌&&◌, ◌||◌, List, [], ◌∷◌, ◌++◌, length, get_or, set, drop, add-one, length-set, get_or-set_other, drop-cons, arith}
+use Rattle.lis_open.proofs.Common.{flat_map, cases_lt, ltb-true, Among, among_left, is_taken, marked, are_free, are_distinct, are_below, among_from_number}
+use Rattle.std.proofs.lemmas.Bool.{and_parts, and_from, both_ways, false_from_ne_true, not_from_false}
+use Rattle.std.proofs.lemmas.List.{get_or_past}
+use Rattle.lis_content.specs.Content.{has_number}
+use Rattle.lis_content.proofs.Numbers.{length-marked, not_true}
+use Rattle.lis_laws.proofs.Counts.{all_among}
+use Rattle.lis_store.proofs.Marks.{taken_after}
+use Rattle.lis_kept.proofs.Filing.{number_from_among}
 
 -- ---- no number twice
 pub apart_first : (n : ℕ) (ns : List ℕ) → are_distinct (n ∷ ns) ≡ true → (Among ns n → ⊥) × (are_distinct ns ≡ true)
@@ -35,19 +35,15 @@ distinct_piece piece (y ∷ ys) x (inr m) distinct = distinct_piece piece ys x m
 
 -- ---- blocks that are taken
 pub is_taken-marked : (taken : List Bool) (ns : List ℕ) (n : ℕ) → are_below (length taken) ns ≡ true → is_taken (marked taken ns) n ≡ (has_number ns n || is_taken taken n)
-is_taken-marked taken [] n below = refl
-is_taken-marked taken (b ∷ ns) n below =
-    let parts = and_parts (nat_lt b (length taken)) (are_below (length taken) ns) below in
-    is_taken-marked (set taken b true) ns n (ap (λ m. are_below m ns) (length-set taken b true) ∙ parts.1)
-    ∙ by (cases_eq b n) (ltb-true b (length taken) parts.0)
+is_taken-marked taken ns n below = by (cases_lt n (length taken))
   where
-    by : (b ≡ n) ⊎ (b ≡ n → ⊥) → b < length taken → (has_number ns n || is_taken (set taken b true) n) ≡ (((b == n) || has_number ns n) || is_taken taken n)
-    by (inl same) lt =
-        let here : is_taken (set taken b true) n ≡ true = ap (λ k. get_or (set taken b true) k false) (sym same) ∙ get_or-set_same taken b true false lt in
-        ap (λ t. has_number ns n || t) here ∙ (or-true (has_number ns n) ∙ sym (ap (λ t. (t || has_number ns n) || is_taken taken n) (eq-eqb b n same)))
-    by (inr differ) lt =
-        ap (λ t. has_number ns n || t) (get_or-set_other taken b n true false (λ e. differ (sym e)))
-        ∙ sym (ap (λ t. (t || has_number ns n) || is_taken taken n) (ne_eqb b n differ))
+    by : (n < length taken) ⊎ (length taken ≤ n) → is_taken (marked taken ns) n ≡ (has_number ns n || is_taken taken n)
+    by (inl lt) = taken_after taken ns n lt
+    by (inr past) =
+        let none = false_from_ne_true (has_number ns n) (λ has.
+        let lt = ltb-true n (length taken) (all_among (λ m. nat_lt m (length taken)) ns n below (among_from_number ns n has)) in
+        omega (arith, lt, past)) in
+        get_or_past (marked taken ns) n false (omega (arith, past, length-marked taken ns)) ∙ sym (ap₂ (λ a b. a || b) none (get_or_past taken n false past))
 
 free_still : (taken : List Bool) (ns : List ℕ) (n : ℕ) → are_free taken ns ≡ true → (Among ns n → ⊥) → are_free (set taken n true) ns ≡ true
 free_still taken [] n free none = refl

@@ -3,23 +3,18 @@ use Rattle.std.proofs.Common.{◌≡◌, ◌⊎◌, ◌∙◌, refl, sym, ap, su
 use Rattle.std.specs.declared.cmp.Ordering.{Ordering}
 use Rattle.std.specs.declared.cmp.Ordering.TheVariants.{Less, Equal, Greater}
 use Rattle.std.specs.Ordering.{match_ordering}
-use Rattle.std.specs.BTreeSet.{insert_key}
+use Rattle.std.proofs.Math.Logic.{⊎_elim}
+use Rattle.lis_open.proofs.Common.{insert_key, flat_map, IsStrictlySortedBy, slice_get_within, Among, Slots, word_cmp, file_cmp, among_place, AreSlots, AllApart}
 use Rattle.std.specs.Cmp.{IsTotalOrder}
-use Rattle.std.specs.List.{flat_map}
-use Rattle.std.specs.List.Sorted.{IsStrictlySortedBy}
 use Rattle.std.proofs.lemmas.Map.Lookups.{CmpEqualImpliesEq}
-use Rattle.std.proofs.lemmas.Option.{slice_get_within, slice_get-get_or}
+use Rattle.std.proofs.lemmas.Option.{slice_get-get_or}
 use Rattle.lis_graph.specs.Graph.{with_more}
-use Rattle.lis_graph.proofs.Members.{Among, among_right, among_insert_key, insert_key_old, insert_key_new, with_more_old, flat_map_among}
+use Rattle.lis_graph.proofs.Members.{among_right, among_insert_key, insert_key_old, insert_key_new, with_more_old, flat_map_among}
 use Rattle.lis_graph.proofs.Sets.{sorted_nil, sorted_insert_key, members_le}
-use Rattle.lis_slots.specs.Slots.{Slots}
-use Rattle.lis_words.specs.Words.{word_cmp}
 use Rattle.lis_laws.proofs.Counts.{insert_key_le}
-use Rattle.lis_model.specs.Sets.{with_word, with_words}
-use Rattle.lis_model.specs.State.{File, file_cmp}
-use Rattle.lis_kept.proofs.Known.{among_place}
-use Rattle.lis_store.specs.Stands.{AreSlots}
-use Rattle.lis_store.proofs.Points.{AllApart}
+use Rattle.lis_model.specs.Sets.{with_words}
+use Rattle.lis_model.specs.State.{File}
+use Rattle.lis_kept.proofs.Filing.{map_insert_key}
 use Rattle.lis_open.specs.Checks.{IsSlot}
 use Rattle.lis_open.proofs.Counts.{more_le}
 
@@ -70,11 +65,8 @@ module _ {K : Type 0} (cmp : K → K → Ordering) (order : IsTotalOrder cmp) (e
   -- a member makes a set no longer
   old_member : (xs : List K) (k : K) → IsStrictlySortedBy cmp xs → Among xs k → length (insert_key cmp xs k) ≤ length xs
   old_member xs k sorted m =
-      members_le cmp order (insert_key cmp xs k) xs (sorted_insert_key cmp order xs k sorted) sorted (λ x in_it. by x (among_insert_key cmp xs k x in_it))
-    where
-      by : (x : K) → (k ≡ x) ⊎ Among xs x → Among xs x
-      by x (inl same) = subst (λ j. Among xs j) same m
-      by x (inr old) = old
+      members_le cmp order (insert_key cmp xs k) xs (sorted_insert_key cmp order xs k sorted) sorted (λ x in_it.
+      ⊎_elim (λ same. subst (λ j. Among xs j) same m) (λ old. old) (among_insert_key cmp xs k x in_it))
 
   apart_from : (xs more : List K) → IsStrictlySortedBy cmp xs → length (with_more cmp xs more) ≡ length xs + length more → AllApart more × ((k : K) → Among more k → Among xs k → ⊥)
   apart_from xs [] sorted full = (tt, λ k there here. there)
@@ -82,18 +74,13 @@ module _ {K : Type 0} (cmp : K → K → Ordering) (order : IsTotalOrder cmp) (e
       let most = more_le cmp (insert_key cmp xs m) more in
       let one = insert_key_le cmp xs m in
       let rest = apart_from (insert_key cmp xs m) more (sorted_insert_key cmp order xs m sorted) (omega (arith, full, most, one)) in
-      let new : Among xs m → ⊥ = λ here. let few = old_member xs m sorted here in omega (arith, full, most, few) in
-      ((λ there. rest.1 m there (insert_key_new cmp exact xs m), rest.0), λ k there here. by k new rest.1 there here)
-    where
-      by : (k : K) → (Among xs m → ⊥) → ((j : K) → Among more j → Among (insert_key cmp xs m) j → ⊥) → (m ≡ k) ⊎ Among more k → Among xs k → ⊥
-      by k new rest (inl same) here = new (subst (λ j. Among xs j) (sym same) here)
-      by k new rest (inr there) here = rest k there (insert_key_old cmp xs m k here)
+      let new : Among xs m → ⊥ = λ here. let few = old_member xs m sorted here in omega (arith, full, most, few) in (
+        (λ there. rest.1 m there (insert_key_new cmp exact xs m), rest.0),
+        λ k there here. ⊎_elim (λ same. new (subst (λ j. Among xs j) (sym same) here)) (λ later. rest.1 k later (insert_key_old cmp xs m k here)) there,
+      )
 
   pub apart_by_count : (more : List K) → length (with_more cmp [] more) ≡ length more → AllApart more
-  apart_by_count more full = (apart_from [] more (sorted_nil cmp order) (full ∙ zero_first (length more))).0
-    where
-      zero_first : (n : ℕ) → n ≡ 0 + n
-      zero_first n = omega arith
+  apart_by_count more full = (apart_from [] more (sorted_nil cmp order) (omega (arith, full))).0
 
 -- ---- files in the order of their names
 -- a file comes into the list, or the list stays as long
@@ -122,24 +109,11 @@ all_there cmp xs (x ∷ more) full k (inr m) =
 
 -- where the list has as many files as were put into it
 pub file_there : (files : List File) (file : File) → length (with_more file_cmp [] files) ≡ length files → Among files file → Among (with_more file_cmp [] files) file
-file_there files file full m = all_there file_cmp [] files (full ∙ zero_first (length files)) file m
-  where
-    zero_first : (n : ℕ) → n ≡ 0 + n
-    zero_first n = omega arith
+file_there files file full m = all_there file_cmp [] files (omega (arith, full)) file m
 
 -- the names of files come into order as the files do
-names-insert : (files : List File) (file : File) → map (λ (f : File). f.name) (insert_key file_cmp files file) ≡ with_word (map (λ (f : File). f.name) files) file.name
-names-insert [] file = refl
-names-insert (f ∷ files) file = by (word_cmp file.name f.name) (names-insert files file)
-  where
-    by : (r : Ordering) → map (λ (g : File). g.name) (insert_key file_cmp files file) ≡ with_word (map (λ (g : File). g.name) files) file.name
-        → map (λ (g : File). g.name) (match_ordering r (file ∷ f ∷ files) (f ∷ files) (f ∷ insert_key file_cmp files file))
-        ≡ match_ordering r (file.name ∷ f.name ∷ map (λ (g : File). g.name) files) (f.name ∷ map (λ (g : File). g.name) files) (f.name ∷ with_word (map (λ (g : File). g.name) files) file.name)
-    by Less more = refl
-    by Equal more = refl
-    by Greater more = ap (λ ns. f.name ∷ ns) more
-
 pub names-more : (files more : List File) → map (λ (f : File). f.name) (with_more file_cmp files more) ≡ with_words (map (λ (f : File). f.name) files) (map (λ (f : File). f.name) more)
 names-more files [] = refl
 names-more files (f ∷ more) =
-    names-more (insert_key file_cmp files f) more ∙ ap (λ ws. with_words ws (map (λ (g : File). g.name) more)) (names-insert files f)
+    names-more (insert_key file_cmp files f) more
+    ∙ ap (λ ws. with_words ws (map (λ (g : File). g.name) more)) (map_insert_key (λ (g : File). g.name) file_cmp word_cmp (λ x y. refl) files f)

@@ -1,31 +1,20 @@
 -- How opening an image ends: the super block, the journal, and the parts behind it.
 use Rattle.std.proofs.Common.{◌≡◌, ◌⊎◌, ◌∙◌, refl, sym, ap, subst, inl, inr, ℕ, ◌*◌, ◌<◌, ◌≤◌, false, List, [], length, Option, Some, None, Result, Ok, Err, IsTrue, IsSomeAnd, arith, Bool, true, cond}
-use Rattle.std.proofs.lemmas.Option.{same_Some}
-use Rattle.lis_ports.specs.Meaning.{Meaning}
-use Rattle.lis_ports.specs.Bytes.{part}
+use Rattle.lis_open.proofs.Common.{same_Some, Meaning, part, IsSettled, Leaves, block, Held, Fits, SpellsSuper, Limits, Spot, Super, BadRecord, Property, Axiom, Word, Row, are_in_range, image_blocks, State, Tells, Stored, IsSound, contents_of}
 use Rattle.lis_ports.specs.Calls.{IsUnchanged}
-use Rattle.lis_ports.specs.Runs.{IsDiskRun, IsSettled, Leaves}
+use Rattle.lis_ports.specs.Runs.{IsDiskRun}
 use Rattle.lis_ports.proofs.Moments.{leaves_weaken, leaves_then}
-use Rattle.lis_journal.specs.Record.{block, has_open, bad_record, replayed, recovered_as, recovered}
-use Rattle.lis_journal.specs.Journal.{Held}
-use Rattle.lis_journal.specs.Images.{StandsFor as KeptBy, Fits, KeepsPast}
+use Rattle.lis_journal.specs.Record.{has_open, bad_record, replayed, recovered_as, recovered}
+use Rattle.lis_journal.specs.Images.{StandsFor as KeptBy, KeepsPast}
 use Rattle.lis_journal.specs.Recovery.{HasMountCause, StandsForReplayed, InRecovery, MountEnded, IsSettledPast}
 use Rattle.lis_journal.specs.declared.journal.JournalFault.{JournalFault}
 use Rattle.lis_journal.specs.declared.journal.JournalFault.TheVariants.{DiskFault as JournalDisk, BadRecord as JournalRecord, NoMemory as JournalMemory}
 use Rattle.lis_journal.proofs.Fitting.{replayed-front}
 use Rattle.lis_content.proofs.Reading.{unchanged_then}
-use Rattle.lis_fields.specs.Layouts.{SpellsSuper}
-use Rattle.lis_model.specs.declared.limits.Limits.{Limits}
-use Rattle.lis_model.specs.declared.spot.Spot.{Spot}
-use Rattle.lis_model.specs.declared.spot.Spot.TheVariants.{Super, BadRecord, Property, Axiom, File, Word, Bitmap, Row}
-use Rattle.lis_model.specs.Ranges.{are_in_range}
-use Rattle.lis_model.specs.Image.{image_blocks}
-use Rattle.lis_model.specs.State.{State}
+use Rattle.lis_model.specs.declared.spot.Spot.TheVariants.{File, Bitmap}
 use Rattle.lis_store.specs.Stands.{Stands}
 use Rattle.lis_kept.specs.Areas.{IsWritten}
-use Rattle.lis_kept.specs.Telling.{Tells}
-use Rattle.lis_store.specs.Stored.{Stored, IsSound}
-use Rattle.lis_store.proofs.Spelled.{contents_of, tells_spells}
+use Rattle.lis_store.proofs.Spelled.{tells_spells}
 use Rattle.lis_open.specs.declared.mounting.OpenFault.{OpenFault}
 use Rattle.lis_open.specs.declared.mounting.OpenFault.TheVariants.{TooShort, Damaged, DiskFault, NoMemory}
 use Rattle.lis_open.specs.Opens.{HasOpenCause, HasSuper, IsNeeded, IsLongEnough, OpenEnded, Recovers, OpenLeft, InOpening, journal_fault}
@@ -106,11 +95,7 @@ no_super_needs old long none need (inl one) = omega (arith, one, long)
 no_super_needs old long none need (inr told) = absurd (none told.0 told.1)
 
 super_first : (image : List ℕ) → ((limits : Limits) → HasSuper limits image → ⊥) → FailsFirst image Super
-super_first image none = record { fails = none; none_before = none_before }
-  where
-    none_before : (earlier : Spot) → IsBefore earlier Super → FailsIn image earlier → ⊥
-    none_before earlier (inl lower) there = omega (arith, lower)
-    none_before earlier (inr same) there = omega (arith, same.1)
+super_first image none = record { fails = none; none_before = λ earlier before fails. omega (arith, before) }
 
 pub no_super_opened : (old new : Meaning) → 4096 ≤ old.len → ((limits : Limits) → HasSuper limits old.bytes → ⊥) → IsUnchanged old new → Opened old new (Err (Damaged Super))
 no_super_opened old new long none same =
@@ -224,20 +209,13 @@ module _ (old : Meaning) (limits : Limits) (super : HasSuper limits old.bytes) (
     where
       none_before : (earlier : Spot) → IsBefore earlier (BadRecord b) → FailsIn old.bytes earlier → ⊥
       none_before Super before fails = fails limits super
-      none_before (BadRecord a) (inl lower) fails = omega (arith, lower)
-      none_before (BadRecord a) (inr same) fails = omega (arith, same.1, one_bad a b fails is)
-      none_before (Property n) (inl lower) fails = omega (arith, lower)
-      none_before (Property n) (inr same) fails = omega (arith, same.0)
-      none_before (Axiom n) (inl lower) fails = omega (arith, lower)
-      none_before (Axiom n) (inr same) fails = omega (arith, same.0)
-      none_before (File n) (inl lower) fails = omega (arith, lower)
-      none_before (File n) (inr same) fails = omega (arith, same.0)
-      none_before (Word n) (inl lower) fails = omega (arith, lower)
-      none_before (Word n) (inr same) fails = omega (arith, same.0)
-      none_before (Bitmap n) (inl lower) fails = omega (arith, lower)
-      none_before (Bitmap n) (inr same) fails = omega (arith, same.0)
-      none_before (Row n) (inl lower) fails = omega (arith, lower)
-      none_before (Row n) (inr same) fails = omega (arith, same.0)
+      none_before (BadRecord a) before fails = let same = one_bad a b fails is in omega (arith, before, same)
+      none_before (Property n) before fails = omega (arith, before)
+      none_before (Axiom n) before fails = omega (arith, before)
+      none_before (File n) before fails = omega (arith, before)
+      none_before (Word n) before fails = omega (arith, before)
+      none_before (Bitmap n) before fails = omega (arith, before)
+      none_before (Row n) before fails = omega (arith, before)
 
   pub memory_opened : (new : Meaning) → IsUnchanged old new → Opened old new (Err NoMemory)
   memory_opened new same =

@@ -1,42 +1,27 @@
 -- The parts that pass their checks, and the first one that fails.
-use Rattle.std.proofs.Common.{◌≡◌, ◌≢◌, ◌⊎◌, ◌∙◌, refl, sym, ap, ap₂, subst, inl, inr, ℕ, ◌+◌, ◌/◌, ◌<◌, ◌≤◌, not, Bool, true, false, cond, is_some, Option, Some, None, List, replicate, IsTrue, arith}
-use Rattle.std.proofs.lemmas.Bool.{and_parts, both_ways, cases_eq, cases_lt, false_from_ne_true, lt-ltb, le-ltb}
-use Rattle.std.proofs.lemmas.List.{length-replicate}
+use Rattle.std.proofs.Common.{◌≡◌, ◌≢◌, ◌⊎◌, ◌∙◌, refl, sym, ap, ap₂, subst, inl, inr, ℕ, ◌+◌, ◌/◌, ◌<◌, ◌≤◌, not, Bool, true, false, is_some, Option, Some, None, List, replicate, IsTrue, arith}
+use Rattle.std.proofs.Math.Logic.{⊎_elim}
+use Rattle.lis_open.proofs.Common.{cases_eq, cases_lt, length-replicate, contains_from_among, bits_bytes, is_taken, has_bit, word_of, Filed, rec_at, has, numbers_at, FileRecord, FreeFile, among_from_has_word, Limits, Spot, Word, Row, are_in_range, bitmap_start, data_start, State, description, known, Kept, record_at, row_slots, AreSound, state_of, is_used, filed_at_slot, Contents, word_at, spelled_state, is_had_by, row_bit, contents_of}
+use Rattle.std.proofs.lemmas.Bool.{and_parts, both_ways, false_from_ne_true}
 use Rattle.std.proofs.lemmas.List.FromFn.{get_or-map-range_with_len}
-use Rattle.lis_graph.proofs.Members.{contains_from_among}
-use Rattle.lis_bits.specs.Bytes.{bits_bytes}
 use Rattle.lis_bits.proofs.Numbers.{bytes_same}
 use Rattle.lis_bits.proofs.Subset.{implied}
-use Rattle.lis_blockmap.specs.Bitmap.{is_taken, has_bit, IsFirstDifference}
+use Rattle.lis_blockmap.specs.Bitmap.{IsFirstDifference}
 use Rattle.lis_content.proofs.Numbers.{not_true}
-use Rattle.lis_dict.specs.Dict.{word_of}
-use Rattle.lis_catalog.specs.Catalog.{Filed, rec_at}
-use Rattle.lis_ext.specs.Ext.{has, set_of as numbers_at}
-use Rattle.lis_fields.specs.Records.{FileRecord}
 use Rattle.lis_fields.specs.Layouts.{zeros}
-use Rattle.lis_fields.specs.declared.slots.FileSlot.TheVariants.{Free as FreeFile}
 use Rattle.lis_words.specs.Words.{has_word}
-use Rattle.lis_laws.proofs.Members.{among_from_has_word, has_word_from_among}
-use Rattle.lis_model.specs.declared.limits.Limits.{Limits}
-use Rattle.lis_model.specs.declared.spot.Spot.{Spot}
-use Rattle.lis_model.specs.declared.spot.Spot.TheVariants.{Super, BadRecord, Property, Axiom, File as FileSpot, Word, Bitmap, Row}
-use Rattle.lis_model.specs.Ranges.{are_in_range}
-use Rattle.lis_model.specs.Image.{bitmap_start, data_start}
-use Rattle.lis_model.specs.State.{State, File, description, known}
-use Rattle.lis_kept.specs.Kept.{Kept, file_by, record_at}
-use Rattle.lis_kept.specs.Areas.{row_slots}
+use Rattle.lis_laws.proofs.Members.{has_word_from_among}
+use Rattle.lis_model.specs.declared.spot.Spot.TheVariants.{Bitmap}
+use Rattle.lis_model.specs.State.{File}
+use Rattle.lis_kept.specs.Kept.{file_by}
 use Rattle.lis_kept.specs.Rows.{row_bytes}
-use Rattle.lis_kept.specs.Sound.{AreSound}
-use Rattle.lis_kept.specs.Telling.{state_of, is_used}
-use Rattle.lis_kept.proofs.Filing.{filed_at_slot}
 use Rattle.lis_kept.proofs.Formed.{some_word}
 use Rattle.lis_kept.proofs.Known.{number_told}
-use Rattle.lis_store.specs.Stands.{Contents, word_at, file_by as file_of_record, spelled_state, is_had_by, row_bit}
-use Rattle.lis_store.proofs.Spelled.{contents_of}
+use Rattle.lis_store.specs.Stands.{file_by as file_of_record}
 use Rattle.lis_open.specs.declared.words.Words.{Words}
 use Rattle.lis_open.specs.declared.axioms.Axioms.{Axioms}
 use Rattle.lis_open.specs.declared.files.Files.{Files}
-use Rattle.lis_open.specs.Checks.{IsUsed, WordFails, BitFails, RowFault, RowFails, Fails, rank, place, IsBefore}
+use Rattle.lis_open.specs.Checks.{IsUsed, WordFails, BitFails, RowFault, RowFails, Fails, rank}
 use Rattle.lis_open.specs.Checks.RowFault.{RowWrong, RestNotZero}
 use Rattle.lis_open.specs.Reading.{IsFirst, IsFirstOfAll}
 use Rattle.lis_open.specs.ReadAll.{AreNoMarks, kept_in, is_stray, IsFirstStray, IsRowSpelled, IsFirstRow, row_place, AreRead}
@@ -44,8 +29,9 @@ use Rattle.lis_open.proofs.AllRead.{HasRead, contents_are, state_read, used_know
 use Rattle.lis_open.proofs.Damage.{one_contents}
 use Rattle.lis_open.proofs.FileFaults.{used_is, rec_is, slot_read}
 use Rattle.lis_open.proofs.Joined.{named, none_past, parts_sound, slots_without}
+use Rattle.lis_open.proofs.SpotKinds.{none_before, none_fails}
 use Rattle.lis_open.proofs.WordsTold.{word_at_told, file_is_told}
-use Rattle.lis_open.proofs.ZeroRows.{no_file_has}
+use Rattle.lis_open.proofs.ZeroRows.{no_file_has, row_place_is}
 
 -- ---- kinds
 -- no check of a kind below this one fails
@@ -53,60 +39,19 @@ abbrev pub PassBelow : Limits → (ℕ → List ℕ) → ℕ → Type 0
 PassBelow limits at kind = (spot : Spot) → rank spot < kind → Fails limits at spot → ⊥
 
 module _ (limits : Limits) (at : ℕ → List ℕ) where
-  pub none_below : PassBelow limits at 2
-  none_below Super lt fails = fails
-  none_below (BadRecord b) lt fails = fails
-  none_below (Property n) lt fails = omega (arith, lt)
-  none_below (Axiom n) lt fails = omega (arith, lt)
-  none_below (FileSpot n) lt fails = omega (arith, lt)
-  none_below (Word n) lt fails = omega (arith, lt)
-  none_below (Bitmap n) lt fails = omega (arith, lt)
-  none_below (Row n) lt fails = omega (arith, lt)
-
   pub pass_more : (kind : ℕ) → PassBelow limits at kind → ((spot : Spot) → rank spot ≡ kind → Fails limits at spot → ⊥) → PassBelow limits at (kind + 1)
-  pass_more kind below here spot lt fails = by (cases_eq (rank spot) kind)
-    where
-      by : (rank spot ≡ kind) ⊎ (rank spot ≡ kind → ⊥) → ⊥
-      by (inl same) = here spot same fails
-      by (inr differ) = below spot (omega arith) fails
+  pass_more kind below here spot lt fails =
+      ⊎_elim (λ same. here spot same fails) (λ (differ : rank spot ≡ kind → ⊥). below spot (omega (arith, lt, differ)) fails) (cases_eq (rank spot) kind)
+
+  pub none_below : PassBelow limits at 2
+  none_below = pass_more 1 (pass_more 0 (λ spot lt. absurd (omega arith)) (none_fails limits at 0 (λ n fails. fails))) (none_fails limits at 1 (λ n fails. fails))
 
   pub first_of_all : (kind : ℕ) (spot : Spot) → PassBelow limits at kind → IsFirst limits at kind spot → IsFirstOfAll limits at spot
-  first_of_all kind spot below first = record { fails = first.fails; none_before = by }
-    where
-      by : (earlier : Spot) → IsBefore earlier spot → Fails limits at earlier → ⊥
-      by earlier (inl lower) fails = below earlier (omega (arith, lower, first.is)) fails
-      by earlier (inr same) fails = first.none_before earlier (same.0 ∙ first.is) same.1 fails
-
-  -- the parts of a kind below a place
-  words_to : (end : ℕ) → ((n : ℕ) → n < end → WordFails limits at n → ⊥) → (spot : Spot) → rank spot ≡ 5 → place spot < end → Fails limits at spot → ⊥
-  words_to end pass Super kind lt fails = fails
-  words_to end pass (BadRecord b) kind lt fails = fails
-  words_to end pass (Property n) kind lt fails = omega (arith, kind)
-  words_to end pass (Axiom n) kind lt fails = omega (arith, kind)
-  words_to end pass (FileSpot n) kind lt fails = omega (arith, kind)
-  words_to end pass (Word n) kind lt fails = pass n lt fails
-  words_to end pass (Bitmap n) kind lt fails = omega (arith, kind)
-  words_to end pass (Row n) kind lt fails = omega (arith, kind)
-
-  bits_to : (end : ℕ) → ((n : ℕ) → n < end → BitFails limits at n → ⊥) → (spot : Spot) → rank spot ≡ 6 → place spot < end → Fails limits at spot → ⊥
-  bits_to end pass Super kind lt fails = fails
-  bits_to end pass (BadRecord b) kind lt fails = fails
-  bits_to end pass (Property n) kind lt fails = omega (arith, kind)
-  bits_to end pass (Axiom n) kind lt fails = omega (arith, kind)
-  bits_to end pass (FileSpot n) kind lt fails = omega (arith, kind)
-  bits_to end pass (Word n) kind lt fails = omega (arith, kind)
-  bits_to end pass (Bitmap n) kind lt fails = pass n lt fails
-  bits_to end pass (Row n) kind lt fails = omega (arith, kind)
-
-  rows_to : (end : ℕ) → ((n : ℕ) → n < end → RowFails limits at n → ⊥) → (spot : Spot) → rank spot ≡ 7 → place spot < end → Fails limits at spot → ⊥
-  rows_to end pass Super kind lt fails = fails
-  rows_to end pass (BadRecord b) kind lt fails = fails
-  rows_to end pass (Property n) kind lt fails = omega (arith, kind)
-  rows_to end pass (Axiom n) kind lt fails = omega (arith, kind)
-  rows_to end pass (FileSpot n) kind lt fails = omega (arith, kind)
-  rows_to end pass (Word n) kind lt fails = omega (arith, kind)
-  rows_to end pass (Bitmap n) kind lt fails = omega (arith, kind)
-  rows_to end pass (Row n) kind lt fails = pass n lt fails
+  first_of_all kind spot below first = record {
+    fails = first.fails;
+    none_before = λ earlier before fails.
+        ⊎_elim (λ lower. below earlier (omega (arith, lower, first.is)) fails) (λ same. first.none_before earlier (same.0 ∙ first.is) same.1 fails) before;
+  }
 
 -- ---- behind words, axioms and files
 -- marks of which none is set
@@ -160,11 +105,11 @@ module _ (limits : Limits) (at : ℕ → List ℕ) (words : Words) (axioms : Axi
   first_stray n first = record {
     fails = stray_fails n first.stray;
     is = refl;
-    none_before = words_to limits at n (λ m lt. word_passes m (first.none_before m lt));
+    none_before = none_before limits at 5 n (λ m lt. word_passes m (first.none_before m lt));
   }
 
   pub words_pass : ((n : ℕ) → is_stray (kept_in limits words axioms files (no_marks limits)) n ≡ false) → (spot : Spot) → rank spot ≡ 5 → Fails limits at spot → ⊥
-  words_pass none spot kind fails = words_to limits at (place spot + 1) (λ n lt. word_passes n (none n)) spot kind (omega arith) fails
+  words_pass none = none_fails limits at 5 (λ n. word_passes n (none n))
 
   -- ---- the bitmap
   used_taken : (n : ℕ) → IsUsed limits at n → is_taken files.map n ≡ true
@@ -184,11 +129,8 @@ module _ (limits : Limits) (at : ℕ → List ℕ) (words : Words) (axioms : Axi
       }
 
   bit_passes : (n : ℕ) → has_bit (at (bitmap_start limits)) n ≡ is_taken files.map n → BitFails limits at n → ⊥
-  bit_passes n same fails = by fails.fault
-    where
-      by : (IsTrue (has_bit (at (bitmap_start limits)) n) × (IsUsed limits at n → ⊥)) ⊎ ((has_bit (at (bitmap_start limits)) n ≡ false) × IsUsed limits at n) → ⊥
-      by (inl more) = more.1 (taken_used n (sym same ∙ more.0))
-      by (inr less) = both_ways (is_taken files.map n) (sym same ∙ less.0) (used_taken n less.1)
+  bit_passes n same fails =
+      ⊎_elim (λ more. more.1 (taken_used n (sym same ∙ more.0))) (λ less. both_ways (is_taken files.map n) (sym same ∙ less.0) (used_taken n less.1)) fails.fault
 
   bit_fails : (n : ℕ) → n < 32768 → has_bit (at (bitmap_start limits)) n ≢ is_taken files.map n → BitFails limits at n
   bit_fails n below differ = record { below = below; fault = by (has_bit (at (bitmap_start limits)) n) (is_taken files.map n) refl refl }
@@ -204,11 +146,11 @@ module _ (limits : Limits) (at : ℕ → List ℕ) (words : Words) (axioms : Axi
   first_difference n first = record {
     fails = bit_fails n first.within first.here;
     is = refl;
-    none_before = bits_to limits at n (λ m lt. bit_passes m (first.none_before m lt));
+    none_before = none_before limits at 6 n (λ m lt. bit_passes m (first.none_before m lt));
   }
 
   pub bits_pass : ((n : ℕ) → n < 32768 → has_bit (at (bitmap_start limits)) n ≡ is_taken files.map n) → (spot : Spot) → rank spot ≡ 6 → Fails limits at spot → ⊥
-  bits_pass same spot kind fails = bits_to limits at (place spot + 1) (λ n lt fails. bit_passes n (same n fails.below) fails) spot kind (omega arith) fails
+  bits_pass same = none_fails limits at 6 (λ n fails. bit_passes n (same n fails.below) fails)
 
   -- ---- rows
   module _ (range : IsTrue (are_in_range limits)) (used : (n : ℕ) → is_stray (kept_in limits words axioms files (no_marks limits)) n ≡ false) where
@@ -267,23 +209,13 @@ module _ (limits : Limits) (at : ℕ → List ℕ) (words : Words) (axioms : Axi
     row_fails p below differs = record { contents = contents; are = contents_are limits at words axioms files (no_marks limits) read; fault = by (cases_lt p limits.props) }
       where
         by : (p < limits.props) ⊎ (limits.props ≤ p) → RowFault limits at contents (row_place limits p)
-        by (inl lt) =
-            subst (λ n. RowFault limits at contents n) (sym (ap (λ b. cond b p limits.props) (lt-ltb p limits.props lt)))
-            (RowWrong lt (λ same. differs (same ∙ sym (row_is p))))
-        by (inr past) =
-            subst (λ n. RowFault limits at contents n) (sym (ap (λ b. cond b p limits.props) (le-ltb p limits.props past)))
-            (RestNotZero refl p past below (λ same. differs (same ∙ sym (rest_is p past))))
-
-    place_low : (p m : ℕ) → m < row_place limits p → (m < p) × (m < limits.props)
-    place_low p m lt = by (cases_lt p limits.props)
-      where
-        by : (p < limits.props) ⊎ (limits.props ≤ p) → (m < p) × (m < limits.props)
-        by (inl low) = let here : m < p = subst (λ n. m < n) (ap (λ b. cond b p limits.props) (lt-ltb p limits.props low)) lt in (here, omega (arith, here, low))
-        by (inr past) = let here : m < limits.props = subst (λ n. m < n) (ap (λ b. cond b p limits.props) (le-ltb p limits.props past)) lt in (omega (arith, here, past), here)
+        by (inl lt) = subst (λ n. RowFault limits at contents n) (omega (arith, row_place_is limits p, lt)) (RowWrong lt (λ same. differs (same ∙ sym (row_is p))))
+        by (inr past) = subst (λ n. RowFault limits at contents n) (omega (arith, row_place_is limits p, past)) (RestNotZero refl p past below (λ same. differs (same ∙ sym (rest_is p past))))
 
     pub first_wrong_row : (p : ℕ) → IsFirstRow limits at files.ext p → IsFirst limits at 7 (Row (row_place limits p))
     first_wrong_row p first = record {
       fails = row_fails p first.below first.differs;
       is = refl;
-      none_before = rows_to limits at (row_place limits p) (λ m lt. let low = place_low p m lt in row_passes m low.1 (first.same_before m low.0));
+      none_before = none_before limits at 7 (row_place limits p) (λ m lt.
+          row_passes m (omega (arith, row_place_is limits p, lt)) (first.same_before m (omega (arith, row_place_is limits p, lt))));
     }

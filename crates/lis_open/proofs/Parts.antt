@@ -1,17 +1,13 @@
 -- How reading the parts one after another ends.
 use Rattle.std.proofs.Common.{◌≡◌, ◌∙◌, sym, ap, subst, ℕ, Bool, false, List, [], None, Result, Ok, Err, replicate, IsTrue, IfSome, OnOk}
-use Rattle.lis_blockmap.specs.Bitmap.{has_bit, bitmap_bytes}
+use Rattle.lis_open.proofs.Common.{has_bit, Limits, Spot, are_in_range, bitmap_start, data_start, Kept}
+use Rattle.lis_blockmap.specs.Bitmap.{bitmap_bytes}
 use Rattle.lis_blockmap.proofs.Laws.{has_bit-bitmap_bytes}
-use Rattle.lis_model.specs.declared.limits.Limits.{Limits}
-use Rattle.lis_model.specs.declared.spot.Spot.{Spot}
-use Rattle.lis_model.specs.Ranges.{are_in_range}
-use Rattle.lis_model.specs.Image.{bitmap_start, data_start}
 use Rattle.lis_open.specs.declared.mounting.OpenFault.{OpenFault}
 use Rattle.lis_open.specs.declared.mounting.OpenFault.TheVariants.{TooShort, Damaged, DiskFault, NoMemory}
 use Rattle.lis_open.specs.declared.words.Words.{Words}
 use Rattle.lis_open.specs.declared.axioms.Axioms.{Axioms}
 use Rattle.lis_open.specs.declared.files.Files.{Files}
-use Rattle.lis_kept.specs.Kept.{Kept}
 use Rattle.lis_open.specs.declared.blocks.LastBlock.{LastBlock}
 use Rattle.lis_open.specs.Reading.{HasPartCause, Recalls, KindFails, IsFirst, PartsFail}
 use Rattle.lis_open.specs.ReadAll.{kept_in, is_stray, HasStray, Differs, RowsChecked, PartsEnded}

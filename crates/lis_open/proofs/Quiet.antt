@@ -1,10 +1,7 @@
 -- Runs that only read, one after another.
 use Rattle.std.proofs.Common.{◌∙◌, ℕ, List, IsTrue}
-use Rattle.lis_ports.specs.Meaning.{Meaning}
-use Rattle.lis_ports.specs.Runs.{IsSettled}
+use Rattle.lis_open.proofs.Common.{Meaning, IsSettled, Held, Fits}
 use Rattle.lis_ports.proofs.Moments.{run_none, run_then, leaves_none, leaves_weaken, leaves_then}
-use Rattle.lis_journal.specs.Journal.{Held}
-use Rattle.lis_journal.specs.Images.{Fits}
 use Rattle.lis_journal.proofs.Fitting.{fits_unchanged}
 use Rattle.lis_content.proofs.Reading.{unchanged_none, unchanged_then}
 use Rattle.lis_open.specs.declared.blocks.LastBlock.{LastBlock}

@@ -1,7 +1,7 @@
 -- Ranges that are torn.
 use Rattle.std.proofs.Common.{◌≡◌, ℕ, ◌+◌, ◌-◌, ◌≤◌, List, take, drop, sym, ◌∙◌, ap, arith}
 use Rattle.std.proofs.lemmas.List.{take-take, drop-drop}
-use Rattle.lis_ports.specs.Bytes.{Torn}
+use Rattle.lis_open.proofs.Common.{Torn}
 
 -- a range within another
 pub torn_wider : (at n low most : ℕ) (from image : List ℕ) → low ≤ at → at + n ≤ low + most → Torn at n from image → Torn low most from image

@@ -1,12 +1,12 @@
 -- Images whose first gate is closed: after a recovery, and where bytes before the gates change.
 use Rattle.std.proofs.Common.{◌≡◌, refl, sym, ap, ◌∙◌, subst, ℕ, ◌+◌, ◌*◌, ◌<◌, ◌≤◌, ◌==◌, ◌||◌, Bool, true, false, cond, Option, Some, None, is_some, IsSomeAnd, List, [], ◌∷◌, ◌++◌, length, take, drop, get_or, replicate, inl, inr, arith, length-append, length-drop, get_or-take}
-use Rattle.std.specs.List.{list_any}
+use Rattle.lis_open.proofs.Common.{list_any, part, Torn, part-torn, part-put, block, Keeps}
 use Rattle.std.proofs.lemmas.List.{length-take}
 use Rattle.std.proofs.lemmas.List.Sums.{prefix_len_is}
-use Rattle.lis_ports.specs.Bytes.{part, put, Torn}
-use Rattle.lis_ports.proofs.Parts.{part-torn, part-put, part-put_other}
-use Rattle.lis_journal.specs.Record.{block, gates, is_open, has_open, open_count, first_bad, all_recorded, apply, bad_record, replayed, gates_closed, recovered_as, recovered}
-use Rattle.lis_journal.specs.Images.{Keeps, StandsFor}
+use Rattle.lis_ports.specs.Bytes.{put}
+use Rattle.lis_ports.proofs.Parts.{part-put_other}
+use Rattle.lis_journal.specs.Record.{gates, is_open, has_open, open_count, first_bad, all_recorded, apply, bad_record, replayed, gates_closed, recovered_as, recovered}
+use Rattle.lis_journal.specs.Images.{StandsFor}
 use Rattle.lis_journal.proofs.Fitting.{replayed_parts}
 
 -- ---- the first gate

@@ -4,14 +4,9 @@ use Rattle.std.proofs.Math.Nat.{mul-le-mul_left}
 use Rattle.std.specs.Option.{IfSome}
 use Rattle.lis_journal.specs.Record.{Entry}
 use Rattle.lis_journal.specs.Phases.{looked}
-use Rattle.lis_slots.specs.Slots.{Slots, slot}
-use Rattle.lis_fields.specs.declared.slots.PropSlot.{PropSlot}
-use Rattle.lis_fields.specs.declared.slots.FileSlot.{FileSlot}
-use Rattle.lis_fields.proofs.OneSpelling.{prop_once, file_once}
-use Rattle.lis_model.specs.declared.limits.Limits.{Limits}
-use Rattle.lis_model.specs.Ranges.{are_in_range}
-use Rattle.lis_model.specs.Image.{image_blocks}
-use Rattle.lis_kept.proofs.InArea.{few_files, few_properties, few_blocks as few_data}
+use Rattle.lis_open.proofs.Common.{Slots, slot, PropSlot, FileSlot, prop_once, Limits, are_in_range, image_blocks, few_properties}
+use Rattle.lis_fields.proofs.OneSpelling.{file_once}
+use Rattle.lis_kept.proofs.InArea.{few_files, few_blocks as few_data}
 use Rattle.lis_open.specs.Checks.{IsProperty, IsFile}
 use Rattle.lis_open.specs.Reading.{IsReadAs}
 

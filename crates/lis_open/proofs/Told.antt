@@ -1,46 +1,33 @@
 -- What was read and checked tells a state.
 use Rattle.std.proofs.Common.{◌≡◌, ◌∙◌, refl, sym, ap, ap₂, subst, ℕ, zero, suc, ◌+◌, ◌-◌, ◌<◌, ◌≤◌, nat_le, ◌&&◌, Bool, true, List, [], ◌∷◌, length, map, sum, Option, Some, None, slice_get, IsTrue, arith, length-append}
 use Rattle.std.specs.Option.{option_to_list}
-use Rattle.std.specs.List.{list_all, flat_map, Contains}
+use Rattle.lis_open.proofs.Common.{list_all, flat_map, Contains, same_Some, Among, among_from_contains, contains_from_among, among_flat_map, is_taken, are_distinct, Dict, word_of, Filed, rec_at, numbers_at, SpellsSuper, is_prop, AxiomSlot, FreeAxiom, Pair, word_cmp, is_plain_word, sorted_set_of, Limits, are_in_range, data_start, State, description, known, is_assignable, is_nameable, file_cmp, WellFormed, Kept, property_by, AreSound, words_told, pair_by, pairs_told, bytes_told, blocks_told, file_told, state_of, Tells, among_from_number, filed_rec, filed_at_slot, Stored}
 use Rattle.std.proofs.lemmas.Bool.{and_from, le-leb}
 use Rattle.std.proofs.lemmas.List.{length-map}
 use Rattle.std.proofs.lemmas.List.Folds.{list_all-map}
-use Rattle.std.proofs.lemmas.Option.{same_Some}
 use mathlib.Core.List.{map-map}
 use Rattle.lis_graph.specs.Graph.{is_rising}
-use Rattle.lis_graph.proofs.Members.{Among, among_from_contains, contains_from_among, among_flat_map}
 use Rattle.lis_graph.proofs.Sets.{sorted_nil, sorted_with_more}
-use Rattle.lis_blockmap.specs.Bitmap.{is_taken}
-use Rattle.lis_content.specs.Content.{has_number, are_distinct}
+use Rattle.lis_content.specs.Content.{has_number}
 use Rattle.lis_content.specs.Large.{content_blocks}
 use Rattle.lis_content.proofs.Numbers.{below_if_taken}
-use Rattle.lis_dict.specs.Dict.{Dict, words as words_of, word_of}
-use Rattle.lis_catalog.specs.Catalog.{Filed, rec_at}
-use Rattle.lis_ext.specs.Ext.{set_of as numbers_at}
-use Rattle.lis_fields.specs.Layouts.{SpellsSuper, is_prop}
-use Rattle.lis_fields.specs.declared.slots.AxiomSlot.{AxiomSlot}
-use Rattle.lis_fields.specs.declared.slots.AxiomSlot.TheVariants.{Free as FreeAxiom, Pair}
+use Rattle.lis_dict.specs.Dict.{words as words_of}
 use Rattle.lis_fields.proofs.Parts.{IsFileRecord, few_tags}
-use Rattle.lis_words.specs.Words.{word_cmp, has_word, is_plain_word, is_file_name}
-use Rattle.lis_laws.proofs.Members.{word_order, pair_order, sorted_set_of, has_word_from_among}
+use Rattle.lis_words.specs.Words.{has_word, is_file_name}
+use Rattle.lis_laws.proofs.Members.{word_order, pair_order, has_word_from_among}
 use Rattle.lis_laws.proofs.Counts.{all_from, rising_from_sorted}
 use Rattle.lis_laws.proofs.Steps.{taken_le}
-use Rattle.lis_model.specs.declared.limits.Limits.{Limits}
-use Rattle.lis_model.specs.Ranges.{are_in_range}
-use Rattle.lis_model.specs.Image.{data_start}
-use Rattle.lis_model.specs.State.{State, File, description, known, is_declarable, is_assignable, is_nameable, pair_cmp, file_cmp, file_limit, blocks_taken, used_blocks, AxiomsAreFormed, FilesAreFormed, WellFormed}
-use Rattle.lis_kept.specs.Kept.{Kept, property_by}
+use Rattle.lis_model.specs.State.{File, is_declarable, pair_cmp, file_limit, blocks_taken, used_blocks, AxiomsAreFormed, FilesAreFormed}
 use Rattle.lis_kept.specs.Areas.{IsWritten}
 use Rattle.lis_kept.specs.Areas.Area.{Properties, Axioms as AxiomArea, Files as FileArea, Rows, Bitmap}
-use Rattle.lis_kept.specs.Sound.{AreSound, FreeSlotsAreEmpty}
-use Rattle.lis_kept.specs.Telling.{words_told, pair_by, pairs_told, bytes_told, blocks_told, file_told, state_of, AreUsed, Tells}
-use Rattle.lis_kept.proofs.Filing.{among_from_number, number_from_among as has_from_among, same_distinct, filed_rec, filed_at_slot}
+use Rattle.lis_kept.specs.Sound.{FreeSlotsAreEmpty}
+use Rattle.lis_kept.specs.Telling.{AreUsed}
+use Rattle.lis_kept.proofs.Filing.{number_from_among as has_from_among, same_distinct}
 use Rattle.lis_kept.proofs.Known.{declared_set, declared_has_number, among_axiom, words_known, among_word}
 use Rattle.lis_kept.proofs.Dropped.{record_in_form}
 use Rattle.lis_store.proofs.FileBlocks.{told_counted}
 use Rattle.lis_store.proofs.Marks.{distinct_pieces}
 use Rattle.lis_store.proofs.Relates.{told_few}
-use Rattle.lis_store.specs.Stored.{Stored}
 use Rattle.lis_open.specs.declared.words.Words.{Words}
 use Rattle.lis_open.specs.declared.axioms.Axioms.{Axioms}
 use Rattle.lis_open.specs.declared.files.Files.{Files}

@@ -1,25 +1,16 @@
 -- A state of version 1 and what memory keeps of it, in another version: the same in all but the limits.
-use Rattle.std.proofs.Common.{◌≡◌, sym, ap, ◌∙◌, subst, ℕ, ◌+◌, ◌≤◌, ◌&&◌, nat_lt, nat_le, true, is_some, List, length, map, sum, IsTrue, arith}
-use Rattle.std.specs.List.{list_all, Contains}
-use Rattle.std.proofs.lemmas.Bool.{and_parts, and_from, cond-false, leb-true, le-leb}
-use Rattle.lis_graph.proofs.Members.{among_from_contains}
-use Rattle.lis_catalog.specs.Catalog.{Filed}
-use Rattle.lis_content.specs.Content.{has_number, are_distinct}
+use Rattle.std.proofs.Common.{◌≡◌, sym, ap, ◌∙◌, subst, ℕ, ◌+◌, ◌≤◌, ◌&&◌, nat_lt, nat_le, true, is_some, Some, List, length, map, slice_get, sum, IsTrue, arith}
+use Rattle.lis_open.proofs.Common.{list_all, Contains, leb-true, among_from_contains, Filed, rec_at, are_distinct, Dict, word_of, FileRecord, SpellsSuper, is_record, Pair, Used, data_start, State, blocks_needed, description, WellFormed, Kept, AreSound, blocks_told, Tells}
+use Rattle.std.proofs.lemmas.Bool.{and_parts, and_from, cond-false, le-leb}
+use Rattle.lis_content.specs.Content.{has_number}
 use Rattle.lis_content.proofs.Indexes.{small_size}
-use Rattle.lis_dict.specs.Dict.{Dict, word_of}
-use Rattle.lis_fields.specs.Records.{FileRecord}
-use Rattle.lis_fields.specs.Layouts.{SpellsSuper, is_record}
-use Rattle.lis_fields.specs.declared.slots.FileSlot.TheVariants.{Used}
 use Rattle.lis_fields.proofs.Parts.{file_upgraded}
 use Rattle.lis_fields.proofs.Supers.{upgraded_in_range}
 use Rattle.lis_laws.proofs.Counts.{all_among, all_weaker}
-use Rattle.lis_model.specs.Image.{data_start}
-use Rattle.lis_model.specs.State.{State, File, file_limit, blocks_needed, blocks_taken, description, WellFormed}
-use Rattle.lis_kept.specs.Kept.{Kept}
+use Rattle.lis_model.specs.State.{File, file_limit, blocks_taken}
 use Rattle.lis_kept.specs.Areas.{IsWritten}
 use Rattle.lis_kept.specs.Areas.Area.{Properties, Axioms, Files, Rows, Bitmap}
-use Rattle.lis_kept.specs.Sound.{is_sound_record, AreSound}
-use Rattle.lis_kept.specs.Telling.{blocks_told, Tells}
+use Rattle.lis_kept.specs.Sound.{is_sound_record, IsSoundAxiom}
 use Rattle.lis_kept.proofs.Filing.{map_all}
 use Rattle.lis_store.proofs.Elsewhere.{AreFilesSame, blocks_there, index_there, file_there, state_there, written_there}
 
@@ -59,30 +50,11 @@ longer files short =
 
 pub formed_upgraded : (s : State) → s.limits.version ≡ 1 → WellFormed s → WellFormed (state_in 2 s)
 formed_upgraded s one formed =
-    let files = formed.files in
-    let short : are_short 65536 s.files = subst (λ version. are_short (file_limit version) s.files) one files.short in
-    record {
-      limits = upgraded_in_range s.limits formed.limits;
-      declared_set = formed.declared_set;
-      axiom_set = formed.axiom_set;
-      file_set = formed.file_set;
-      declared = formed.declared;
-      axioms = record { rights = formed.axioms.rights; lefts = formed.axioms.lefts; acyclic = formed.axioms.acyclic };
-      files = record {
-        names = files.names;
-        assigned_sets = files.assigned_sets;
-        assigned = files.assigned;
-        few_assigned = files.few_assigned;
-        few_words = files.few_words;
-        short = longer s.files short;
-      };
-      few_files = formed.few_files;
-      few_known = formed.few_known;
-      few_axioms = formed.few_axioms;
-      few_blocks =
-          subst (λ n. n ≤ s.limits.blocks) (sym (used_alike s.files short))
-          (subst (λ version. sum (map (λ (file : File). blocks_taken version (length file.bytes)) s.files) ≤ s.limits.blocks) one formed.few_blocks);
-    }
+    let short : are_short 65536 s.files = subst (λ version. are_short (file_limit version) s.files) one formed.files.short in
+    let few : sum (map (λ (file : File). blocks_taken 2 (length file.bytes)) s.files) ≤ s.limits.blocks =
+    subst (λ n. n ≤ s.limits.blocks) (sym (used_alike s.files short))
+    (subst (λ version. sum (map (λ (file : File). blocks_taken version (length file.bytes)) s.files) ≤ s.limits.blocks) one formed.few_blocks) in
+    assumption (upgraded_in_range s.limits formed.limits, longer s.files short, few)
 
 -- ---- what memory keeps
 record_upgraded : (dict : Dict) (blocks : ℕ) (rec : FileRecord) → IsTrue (is_sound_record 1 dict blocks rec) → IsTrue (is_sound_record 2 dict blocks rec)
@@ -94,29 +66,14 @@ record_upgraded dict blocks rec sound =
     and_from (is_record 2 rec && tagged) within (and_from (is_record 2 rec) tagged (file_upgraded (Used rec) two.0) two.1) all.1
 
 pub sound_upgraded : (k : Kept) → k.limits.version ≡ 1 → AreSound k → AreSound (kept_in 2 k)
-sound_upgraded k one sound = record {
-  range = upgraded_in_range k.limits sound.range;
-  numbers = sound.numbers;
-  dict = sound.dict;
-  heads = sound.heads;
-  bits = sound.bits;
-  flagged = sound.flagged;
-  properties = sound.properties;
-  axiom_count = sound.axiom_count;
-  axioms = λ slot left right is.
-      let was = sound.axioms slot left right is in
-      record { below = was.below; left = was.left; right = was.right; plain = was.plain };
-  slots = sound.slots;
-  catalog = sound.catalog;
-  records = λ slot rec is.
-      record_upgraded k.dict k.limits.blocks rec (subst (λ version. IsTrue (is_sound_record version k.dict k.limits.blocks rec)) one (sound.records slot rec is));
-  blocks = sound.blocks;
-  rows = sound.rows;
-  files = sound.files;
-  named = sound.named;
-  settled = sound.settled;
-  marks = sound.marks;
-}
+sound_upgraded k one sound = assumption (upgraded_in_range k.limits sound.range, axioms, records)
+  where
+    axioms : (slot left right : ℕ) → slice_get k.axioms slot ≡ Some (Pair left right) → IsSoundAxiom (kept_in 2 k) slot left right
+    axioms slot left right is = assumption (sound.axioms slot left right is)
+
+    records : (slot : ℕ) (rec : FileRecord) → rec_at k.catalog slot ≡ Some rec → IsTrue (is_sound_record 2 k.dict k.limits.blocks rec)
+    records slot rec is =
+        record_upgraded k.dict k.limits.blocks rec (subst (λ version. IsTrue (is_sound_record version k.dict k.limits.blocks rec)) one (sound.records slot rec is))
 
 -- ---- what is told and what is written, where all home blocks are the same and the super block tells the version
 module _ (version : ℕ) (k : Kept) (at there : ℕ → List ℕ) (sound : AreSound k) (same : (n : ℕ) → 578 ≤ n → there n ≡ at n) where

@@ -1,27 +1,20 @@
 -- The gate of an image's version is written: each image of meanwhile stands for the state as before or in version 2, and the last one for that.
-use Rattle.std.proofs.Common.{◌≡◌, ◌⊎◌, refl, sym, ap, ap₂, ◌∙◌, subst, inl, inr, ℕ, ◌*◌, ◌≤◌, false, List, [], ◌∷◌, ◌++◌, length, take, drop, get_or, Result, Ok, Err, arith, get_or-take, get_or-drop, if◌then◌else◌, eq-eqb}
-use Rattle.std.proofs.lemmas.Bool.{ne_eqb}
-use Rattle.std.proofs.lemmas.List.{drop-take, drop_more}
-use Rattle.lis_ports.specs.Meaning.{Meaning}
-use Rattle.lis_ports.specs.Bytes.{part, put, Torn}
-use Rattle.lis_ports.specs.Runs.{Always, IsSettled, Leaves}
+use Rattle.std.proofs.Common.{◌≡◌, ◌⊎◌, refl, sym, ap, ap₂, ◌∙◌, subst, inl, inr, ℕ, ◌*◌, ◌≤◌, ◌==◌, Bool, true, false, List, [], ◌∷◌, ◌++◌, length, take, drop, Result, Ok, Err, arith, if◌then◌else◌, eq-eqb}
+use Rattle.std.proofs.Math.Logic.{⊎_map}
+use Rattle.lis_open.proofs.Common.{ne_eqb, Meaning, part, Torn, Always, IsSettled, Leaves, part-torn, part-put, block, Keeps, Spreads, SpellsSuper, Limits, image_blocks, State, WellFormed, AreSound, Stored, IsSound}
+use Rattle.std.proofs.lemmas.List.{drop-take, drop-drop, take-append-drop}
+use Rattle.lis_ports.specs.Bytes.{put}
 use Rattle.lis_ports.proofs.Always.{always_settled}
 use Rattle.lis_ports.proofs.Moments.{leaves_then, leaves_weaken}
-use Rattle.lis_ports.proofs.Parts.{part-torn, part-part, part-put, torn-put, length-part}
-use Rattle.lis_journal.specs.Record.{block, is_open, replayed, recovered}
-use Rattle.lis_journal.specs.Images.{Keeps, KeepsPast}
-use Rattle.lis_journal.specs.Spreads.{Spreads}
+use Rattle.lis_ports.proofs.Parts.{part-part, torn-put, length-part}
+use Rattle.lis_journal.specs.Record.{is_open, replayed, recovered}
+use Rattle.lis_journal.specs.Images.{KeepsPast}
 use Rattle.lis_journal.proofs.Fitting.{fits_stand}
 use Rattle.lis_journal.proofs.Spreading.{leaves_spread}
-use Rattle.lis_fields.specs.Layouts.{SpellsSuper}
 use Rattle.lis_fields.proofs.Widths.{joined}
 use Rattle.lis_fields.proofs.Supers.{super_torn, super_upgraded}
-use Rattle.lis_model.specs.declared.limits.Limits.{Limits}
-use Rattle.lis_model.specs.Image.{image_blocks}
-use Rattle.lis_model.specs.State.{State, WellFormed}
-use Rattle.lis_kept.specs.Sound.{AreSound}
 use Rattle.lis_store.specs.Stands.{Stands}
-use Rattle.lis_store.specs.Stored.{Stored, IsSound, StoreFits}
+use Rattle.lis_store.specs.Stored.{StoreFits}
 use Rattle.lis_store.proofs.OneState.{one_state}
 use Rattle.lis_store.proofs.Standing.{change_stands, fitting_stands}
 use Rattle.lis_open.specs.declared.mounting.OpenFault.{OpenFault}
@@ -95,40 +88,26 @@ module _ (k : Stored) (m : Meaning) (s : State) (sound : IsSound k) (fits : Stor
     stands_upgraded super = stands_in 2 super (sound_upgraded k.parts kept_one sound.parts) (formed_upgraded s one fits.tells.formed)
 
     pub torn_stands : Stands image s ⊎ Stands image (upgraded s)
-    torn_stands = elim super_then as (λ _. Stands image s ⊎ Stands image (upgraded s)) [
-      | inl before ↦ inl (stands_before before)
-      | inr after ↦ inr (stands_upgraded after)
-    ]
-      where
-        super_then : SpellsSuper s.limits (block 0 image) ⊎ SpellsSuper (record s.limits { version = 2 }) (block 0 image)
-        super_then =
-            super_torn s.limits (block 0 m.bytes) (block 0 image) one super_before
-            (length-part 0 4096 image whole ∙ sym (length-part 0 4096 m.bytes (omega (arith, whole, torn.len)))) front behind
+    torn_stands =
+        ⊎_map stands_before stands_upgraded (super_torn s.limits (block 0 m.bytes) (block 0 image) one super_before
+        (length-part 0 4096 image whole ∙ sym (length-part 0 4096 m.bytes (omega (arith, whole, torn.len)))) front behind)
 
     -- where the byte is a 2
     pub written_stands : part 24 1 image ≡ 2 ∷ [] → Stands image (upgraded s)
     written_stands gate_is =
         stands_upgraded (subst (λ bytes. SpellsSuper (record s.limits { version = 2 }) bytes) (sym new) (super_upgraded s.limits (block 0 m.bytes) super_before))
       where
-        gate : get_or (block 0 image) 24 0 ≡ 2
-        gate =
-            get_or-take 4096 image 24 0 (omega arith)
-            ∙ (sym (get_or-drop 24 image 0 0)
-            ∙ (sym (get_or-take 1 (drop 24 image) 0 0 (omega arith)) ∙ ap (λ (bytes : List ℕ). get_or bytes 0 0) gate_is))
-
         new : block 0 image ≡ take 24 (block 0 m.bytes) ++ (2 ∷ drop 25 (block 0 m.bytes))
         new =
             joined 24 (block 0 image) (take 24 (block 0 m.bytes)) (2 ∷ drop 25 (block 0 m.bytes)) front
-            (drop_more (block 0 image) 24 0 (omega (arith, length-part 0 4096 image whole)) ∙ ap₂ (λ x xs. x ∷ xs) gate behind)
+            (sym (take-append-drop 1 (drop 24 (block 0 image)))
+            ∙ ap₂ (λ xs ys. xs ++ ys) (part-part 24 1 0 4096 image (omega arith) ∙ gate_is) (drop-drop 1 24 (block 0 image) ∙ behind))
 
 -- ---- runs
 pub opening_moments : {old mid : Meaning} (t : State) → Leaves old mid (λ image. old.images image ⊎ Stands image t)
     → Leaves old mid (λ image. old.images image ⊎ (Stands image t ⊎ Stands image (upgraded t)))
-opening_moments {old} t moments = leaves_weaken (λ image. old.images image ⊎ (Stands image t ⊎ Stands image (upgraded t))) moments by
-  where
-    by : (image : List ℕ) → old.images image ⊎ Stands image t → old.images image ⊎ (Stands image t ⊎ Stands image (upgraded t))
-    by image (inl is) = inl is
-    by image (inr stands) = inr (inl stands)
+opening_moments {old} t moments =
+    leaves_weaken (λ image. old.images image ⊎ (Stands image t ⊎ Stands image (upgraded t))) moments (λ image. ⊎_map (λ is. is) (λ stands. inl stands))
 
 module _ (old mid : Meaning) (k : Stored) (sound : IsSound k) (ended : OpenEnded old mid (Ok k)) (left : OpenLeft old mid (Ok k)) where
   abbrev s : State
@@ -158,11 +137,15 @@ module _ (old mid : Meaning) (k : Stored) (sound : IsSound k) (ended : OpenEnded
   version_told =
       ap (λ (l : Limits). l.version) (one_limits old.bytes left.0 s.limits left.1 (has_super old.bytes s stood)) ∙ sym (ap (λ (l : Limits). l.version) limits_are)
 
+  abbrev after : List ℕ
+  after = recovered (image_blocks left.0) old.bytes
+
+  gate_left : {new : Meaning} (is_second : Bool) → (left.0.version == 2) ≡ is_second → IsSettled new (if is_second then after else put after 24 (2 ∷ [])) → GateLeft old new
+  gate_left {new} is_second is settled = (left.0, left.1, subst (λ b. IsSettled new (if b then after else put after 24 (2 ∷ []))) (sym is) settled)
+
   -- what opening left of an image of version 2 stays
   pub second_left : k.parts.limits.version ≡ 2 → GateLeft old mid
-  second_left two =
-      let after : List ℕ = recovered (image_blocks left.0) old.bytes in
-      (left.0, left.1, subst (λ is_second. IsSettled mid (if is_second then after else put after 24 (2 ∷ []))) (sym (eq-eqb left.0.version 2 (version_told ∙ two))) left.2)
+  second_left two = gate_left true (eq-eqb left.0.version 2 (version_told ∙ two)) left.2
 
   -- of version 2 it is what it becomes
   pub second_stands : k.parts.limits.version ≡ 2 → Always mid (λ image. Stands image (upgraded s))
@@ -176,23 +159,16 @@ module _ (old mid : Meaning) (k : Stored) (sound : IsSound k) (ended : OpenEnded
 
     shut : is_open 0 mid.bytes ≡ false
     unfolding Stands
-    shut = subst (λ bytes. is_open 0 bytes ≡ false) (sym left.2.reads) (by stood)
-      where
-        by : Stands old.bytes s → is_open 0 (recovered (image_blocks left.0) old.bytes) ≡ false
-        by stands =
-            let same = one_limits old.bytes left.0 s.limits left.1 (has_super old.bytes s stands) in
-            recovered_shut (image_blocks left.0) old.bytes stands.replay (ap (λ (l : Limits). replayed (image_blocks l) old.bytes) same ∙ stands.replays)
-            (omega (arith, fits.journal.reads.holds.enough, fits.journal.reads.holds.long, ap length left.2.reads))
+    shut =
+        let same = one_limits old.bytes left.0 s.limits left.1 (has_super old.bytes s stood) in
+        subst (λ bytes. is_open 0 bytes ≡ false) (sym left.2.reads) (recovered_shut (image_blocks left.0) old.bytes stood.replay
+        (ap (λ (l : Limits). replayed (image_blocks l) old.bytes) same ∙ stood.replays)
+        (omega (arith, fits.journal.reads.holds.enough, fits.journal.reads.holds.long, ap length left.2.reads)))
 
     -- and of an image of version 1 its gate is put
     pub first_left : {new : Meaning} → IsSettled new (put mid.bytes 24 (2 ∷ [])) → GateLeft old new
     first_left {new} written =
-        let after : List ℕ = recovered (image_blocks left.0) old.bytes in (
-          left.0,
-          left.1,
-          subst (λ is_second. IsSettled new (if is_second then after else put after 24 (2 ∷ []))) (sym (ne_eqb left.0.version 2 (λ e. omega (arith, e, version_told, one))))
-              (subst (λ bytes. IsSettled new (put bytes 24 (2 ∷ []))) left.2.reads written),
-        )
+        gate_left false (ne_eqb left.0.version 2 (λ e. omega (arith, e, version_told, one))) (subst (λ bytes. IsSettled new (put bytes 24 (2 ∷ []))) left.2.reads written)
 
     -- at each moment it stands for the state as before, or in version 2
     gate_moments : {new : Meaning} → Spreads mid new (Torn 24 1) → Leaves mid new (λ image. Stands image s ⊎ Stands image (upgraded s))

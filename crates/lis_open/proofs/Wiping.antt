@@ -1,28 +1,23 @@
 -- All of an empty image but its first byte, and the image with it.
-use Rattle.std.proofs.Common.{◌≡◌, ◌⊎◌, inl, inr, ℕ, ◌+◌, ◌-◌, ◌*◌, ◌≤◌, true, false, None, List, [], ◌∷◌, ◌++◌, length, drop, slice_index, IsTrue, refl, sym, ◌∙◌, ap, ap₂, subst, arith, length-drop}
+use Rattle.std.proofs.Common.{◌≡◌, ◌⊎◌, inl, inr, ℕ, ◌+◌, ◌-◌, ◌*◌, ◌≤◌, ◌==◌, List, [], ◌∷◌, ◌++◌, length, drop, slice_index, IsTrue, refl, sym, ◌∙◌, ap, ap₂, subst, arith, length-drop}
+use Rattle.std.proofs.Math.Logic.{⊎_map}
 use Rattle.std.proofs.Math.Seq.{take-add}
-use Rattle.lis_ports.specs.Meaning.{Meaning}
-use Rattle.lis_ports.specs.Bytes.{part, put, Torn}
-use Rattle.lis_ports.specs.Runs.{Leaves, Always, IsSettled}
+use Rattle.lis_open.proofs.Common.{Meaning, part, Torn, Leaves, Always, IsSettled, part-put, part-torn, block, Spreads, SpellsSuper, Limits, data_start, image_blocks, are_in_range}
+use Rattle.lis_ports.specs.Bytes.{put}
 use Rattle.lis_ports.proofs.Always.{always_settled}
 use Rattle.lis_ports.proofs.Moments.{leaves_weaken}
-use Rattle.lis_ports.proofs.Parts.{part-put, part-part, part-torn, torn-put, length-put}
-use Rattle.lis_journal.specs.Record.{block}
-use Rattle.lis_journal.specs.Spreads.{Spreads}
+use Rattle.lis_ports.proofs.Parts.{part-part, torn-put, length-put}
 use Rattle.lis_journal.proofs.Spreading.{leaves_spread}
-use Rattle.lis_fields.specs.Layouts.{zeros, version_gate, super_with, super_bytes, SpellsSuper}
+use Rattle.lis_fields.specs.Layouts.{zeros, version_gate, super_with, super_bytes}
 use Rattle.lis_fields.proofs.Supers.{length_super, super_spells}
-use Rattle.lis_model.specs.declared.limits.Limits.{Limits}
-use Rattle.lis_model.specs.Image.{data_start, image_blocks}
 use Rattle.lis_model.specs.State.{empty_state}
-use Rattle.lis_model.specs.Ranges.{are_in_range}
 use Rattle.lis_store.specs.Stands.{Stands}
 use Rattle.lis_store.specs.Stored.{empty_stored}
-use Rattle.lis_store.proofs.Empty.{zeros-part, empty_sound, no_state}
-use Rattle.lis_store.proofs.EmptyStore.{empty_fits}
-use Rattle.lis_store.proofs.Standing.{fitting_stands}
+use Rattle.lis_store.proofs.Empty.{zeros-part, empty_sound, tells_empty, written_empty, no_state}
+use Rattle.lis_store.proofs.Standing.{change_stands}
 use Rattle.lis_open.specs.Makes.{first_byte, IsNameless, IsSpared, AreZeros, rest_of_super, IsWiped, IsWiping, IsMaking}
 use Rattle.lis_open.proofs.Names.{first_is, first-put, named_or_not}
+use Rattle.lis_open.proofs.Shut.{shut_stands}
 use Rattle.lis_open.proofs.Zeros.{zeros_are}
 
 pub rest_is : (limits : Limits) (bytes rest : List ℕ) → bytes ≡ super_bytes limits → rest ≡ drop 1 bytes → rest ≡ rest_of_super limits
@@ -77,37 +72,20 @@ wiped_super limits image is first =
     let some : 1 ≤ length image = omega (arith, is.blank.long) in
     take-add 1 4095 (drop 0 image) ∙ (ap₂ (λ xs ys. xs ++ ys) (first_is image 76 some first) is.rest ∙ whole_super limits)
 
--- a disk of one image
-abbrev holding : List ℕ → Meaning
-holding image = record {
-  is_honest = true;
-  len = length image;
-  bytes = image;
-  images = λ other. other ≡ image;
-  clock = 0;
-  is_recorded = false;
-  moments = λ since other shown. ⊥;
-  shown = None;
-  disk_faults = 0;
-  show_faults = 0;
-  behind = 0;
-}
-
 pub wiped_stands : (limits : Limits) (image : List ℕ) → IsTrue (are_in_range limits) → IsWiped limits image → first_byte image ≡ 76 → Stands image (empty_state limits)
 wiped_stands limits image range is first =
-    let room : data_start limits ≤ data_start limits = omega arith in
+    let blocks = data_start limits in
+    let room : blocks ≤ blocks = omega arith in
+    let sound = empty_sound limits blocks range room in
     let super : SpellsSuper limits (block 0 image) =
     subst (λ bytes. SpellsSuper limits bytes) (sym (wiped_super limits image is first)) (super_spells limits range) in
-    let fits = empty_fits (holding image) limits (data_start limits) image range room refl (record { reads = refl; only = λ other is. is }) super is.blank in
-    (fitting_stands (holding image) (empty_stored limits (data_start limits)) (empty_state limits) (empty_sound limits (data_start limits) range room) fits).reads
+    change_stands (empty_stored limits blocks) (image_blocks limits) (λ n. block n image) (empty_state limits) sound.parts sound.free sound.pairs
+    (tells_empty limits blocks image range is.blank super) (written_empty limits blocks image range is.blank) refl image
+    (shut_stands (image_blocks limits) image (ap (λ gate. slice_index gate 0 == 1) is.blank.gates) is.blank.long)
 
 -- ---- the moments of each part
 pub spared_moments : {old new : Meaning} (limits : Limits) (bytes : List ℕ) → Leaves old new (IsSpared bytes) → Leaves old new (IsMaking limits bytes)
-spared_moments limits bytes moments = leaves_weaken (IsMaking limits bytes) moments (λ image is. by image is)
-  where
-    by : (image : List ℕ) → IsSpared bytes image → IsMaking limits bytes image
-    by image (inl same) = inl same
-    by image (inr none) = inr (inr (λ s. no_state image s none))
+spared_moments limits bytes moments = leaves_weaken (IsMaking limits bytes) moments (λ image. ⊎_map (λ same. same) (λ none. inr (λ s. no_state image s none)))
 
 nameless_wiping : (limits : Limits) (from image : List ℕ) → IsNameless from → IsWiping limits from image → IsNameless image
 nameless_wiping limits from image none wiping =
@@ -119,11 +97,8 @@ wiping_moments limits bytes all spreads =
 
 pub naming_moments : {old new : Meaning} (limits : Limits) (bytes : List ℕ) → IsTrue (are_in_range limits) → Always old (IsWiped limits) → Spreads old new (Torn 0 1) → Leaves old new (IsMaking limits bytes)
 naming_moments limits bytes range all spreads =
-    leaves_spread (Torn 0 1) (IsMaking limits bytes) all spreads (λ from image is torn. by image (wiped_torn limits from image is torn) (named_or_not image))
-  where
-    by : (image : List ℕ) → IsWiped limits image → (first_byte image ≡ 76) ⊎ IsNameless image → IsMaking limits bytes image
-    by image is (inl named) = inr (inl (wiped_stands limits image range is named))
-    by image is (inr none) = inr (inr (λ s. no_state image s none))
+    leaves_spread (Torn 0 1) (IsMaking limits bytes) all spreads (λ from image is torn.
+    inr (⊎_map (wiped_stands limits image range (wiped_torn limits from image is torn)) (λ none s. no_state image s none) (named_or_not image)))
 
 -- with the first byte it is whole
 pub wiped_named : (limits : Limits) (bytes : List ℕ) → IsWiped limits bytes → IsWiped limits (put bytes 0 (76 ∷ [])) × (first_byte (put bytes 0 (76 ∷ [])) ≡ 76)

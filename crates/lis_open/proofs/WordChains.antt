@@ -2,32 +2,24 @@
 -- and so each word here has a number, and its head too.
 use Rattle.std.proofs.Common.{◌≡◌, ◌⊎◌, ◌∙◌, refl, sym, ap, ap₂, subst, inl, inr, ℕ, zero, suc, ◌==◌, true, false, not, ◌||◌, is_some, List, [], Option, Some, None, slice_get, eq-eqb}
 use Rattle.std.specs.FinSet as set
-use Rattle.std.proofs.lemmas.Bool.{and_parts, and_from, or_cases, or_left, or_right, eqb-true}
-use Rattle.std.proofs.lemmas.Option.{same_Some}
-use Rattle.lis_graph.specs.Graph.{Linked, Chain}
-use Rattle.lis_graph.proofs.Members.{Among, among_from_contains, contains_from_among, among_from_any, any_from_among, among_flat_map, flat_map_among, among_with_more, with_more_new}
-use Rattle.lis_dict.specs.Dict.{IsDict, number_of, word_of}
-use Rattle.lis_dict.proofs.Laws.{number_from_word, word_from_number}
-use Rattle.lis_taxonomy.specs.Taxonomy.{Taxonomy, no_links, Entails as Leads}
-use Rattle.lis_fields.specs.declared.slots.AxiomSlot.{AxiomSlot}
-use Rattle.lis_fields.specs.declared.slots.AxiomSlot.TheVariants.{Free as FreeAxiom, Pair}
-use Rattle.lis_words.specs.Words.{is_valued, head_bytes}
-use Rattle.lis_laws.proofs.Apart.{plain_not_valued, test_not_valued}
-use Rattle.lis_laws.proofs.Chains.{OwnLink, own_link, weaker_tests_are, head_not_valued, up_from_entails, entails_from_up}
+use Rattle.std.proofs.Math.Logic.{⊎_elim}
+use Rattle.lis_open.proofs.Common.{or_cases, or_left, or_right, eqb-true, same_Some, Chain, Among, among_from_contains, contains_from_among, among_from_any, among_flat_map, IsDict, number_of, word_of, number_from_word, word_from_number, Taxonomy, no_links, Leads, AxiomSlot, FreeAxiom, Pair, is_valued, head_bytes, plain_not_valued, head_not_valued, among_from_has_word, Limits, up, Kept, pair_by, pair_told, pairs_told, axioms_of, has_pair, some_number, placed_at, among_place}
+use Rattle.std.proofs.lemmas.Bool.{and_parts, and_from}
+use Rattle.lis_graph.specs.Graph.{Linked}
+use Rattle.lis_graph.proofs.Members.{any_from_among, flat_map_among, among_with_more, with_more_new}
+use Rattle.lis_laws.proofs.Apart.{test_not_valued}
+use Rattle.lis_laws.proofs.Chains.{OwnLink, own_link, weaker_tests_are, up_from_entails, entails_from_up}
 use Rattle.lis_laws.proofs.Chains.OwnLink.{Head, Weaker}
-use Rattle.lis_laws.proofs.Members.{pair_exact, among_from_has_word, has_word_from_among}
-use Rattle.lis_model.specs.declared.limits.Limits.{Limits}
-use Rattle.lis_model.specs.State.{pair_cmp, links, up}
-use Rattle.lis_kept.specs.Kept.{Kept}
-use Rattle.lis_kept.specs.Telling.{pair_by, pair_told, pairs_told, axioms_of}
-use Rattle.lis_kept.specs.Links.{is_pair, has_pair, is_own_link, is_linked, TellsLinks}
-use Rattle.lis_kept.proofs.Known.{some_number, only_pair, placed_at, among_place}
+use Rattle.lis_laws.proofs.Members.{pair_exact, has_word_from_among}
+use Rattle.lis_model.specs.State.{pair_cmp, links}
+use Rattle.lis_kept.specs.Links.{is_pair, is_own_link, is_linked, TellsLinks}
+use Rattle.lis_kept.proofs.Known.{only_pair}
 use Rattle.lis_open.specs.declared.words.Words.{Words}
 use Rattle.lis_open.specs.ReadWords.{declared_words, kept_words}
 use Rattle.lis_kept.proofs.Entailed.{edge_among, edge_of}
 use Rattle.lis_open.proofs.WordPlaces.{valued_headed, declared_numbered}
 use Rattle.lis_open.proofs.Owned.{IsNumbered, bare_numbered}
-use Rattle.lis_open.proofs.Joined.{Sides}
+use Rattle.lis_open.proofs.Sides.{Sides}
 
 module _ (limits : Limits) (words : Words) (dict : IsDict words.dict) (axioms : List AxiomSlot)
     (sides : (slot left right : ℕ) → slice_get axioms slot ≡ Some (Pair left right) → Sides words left right) where
@@ -51,7 +43,8 @@ module _ (limits : Limits) (words : Words) (dict : IsDict words.dict) (axioms : 
       here a b is_a is_b = subst (λ o. Among (pair_by o b) (l, r)) (sym is_a) (subst (λ o. Among (pair_by (Some l) o) (l, r)) (sym is_b) (inl refl))
 
   pub among_pair : (e : List ℕ × List ℕ) → Among (axioms_of k) e → (slot : ℕ) × (p : ℕ) × (q : ℕ) × (slice_get axioms slot ≡ Some (Pair p q)) × (word_of words.dict p ≡ Some e.0) × (word_of words.dict q ≡ Some e.1)
-  among_pair e m = by (among_with_more pair_cmp [] (pairs_told words.dict axioms) e m)
+  among_pair e m =
+      ⊎_elim (λ none. absurd none) (λ some. let found = among_flat_map (pair_told words.dict) axioms e some in at found.0 found.1 found.2) (among_with_more pair_cmp [] (pairs_told words.dict axioms) e m)
     where
       at : (a : AxiomSlot) → Among axioms a → Among (pair_told words.dict a) e → (slot : ℕ) × (p : ℕ) × (q : ℕ) × (slice_get axioms slot ≡ Some (Pair p q)) × (word_of words.dict p ≡ Some e.0) × (word_of words.dict q ≡ Some e.1)
       at FreeAxiom there is = absurd is
@@ -59,10 +52,6 @@ module _ (limits : Limits) (words : Words) (dict : IsDict words.dict) (axioms : 
           let place = placed_at axioms (Pair p q) there in
           let both = only_pair (word_of words.dict p) (word_of words.dict q) e is in
           (place.0, p, q, place.1, both.0, both.1)
-
-      by : Among {K = List ℕ × List ℕ} [] e ⊎ Among (pairs_told words.dict axioms) e → (slot : ℕ) × (p : ℕ) × (q : ℕ) × (slice_get axioms slot ≡ Some (Pair p q)) × (word_of words.dict p ≡ Some e.0) × (word_of words.dict q ≡ Some e.1)
-      by (inl none) = absurd none
-      by (inr some) = let found = among_flat_map (pair_told words.dict) axioms e some in at found.0 found.1 found.2
 
   -- the sides of an axiom have numbers, with their heads
   pub left_numbered : (slot p q : ℕ) (l : List ℕ) → slice_get axioms slot ≡ Some (Pair p q) → word_of words.dict p ≡ Some l → IsNumbered words p l
@@ -122,7 +111,10 @@ module _ (limits : Limits) (words : Words) (dict : IsDict words.dict) (axioms : 
       }
 
   link_named : (n m : ℕ) (p : List ℕ) → word_of words.dict n ≡ Some p → is_linked k n m ≡ true → (r : List ℕ) × (word_of words.dict m ≡ Some r) × WordLink p r
-  link_named n m p is linked = by (or_cases (is_own_link (declared_words words) (word_of words.dict n) (word_of words.dict m)) (has_pair axioms n m) linked)
+  link_named n m p is linked =
+      ⊎_elim (λ h. own (word_of words.dict m) refl (ap (λ o. is_own_link (declared_words words) o (word_of words.dict m)) (sym is) ∙ h))
+      (λ h. let found = among_from_any (is_pair n m) axioms h in pair found.0 found.1 found.2)
+      (or_cases (is_own_link (declared_words words) (word_of words.dict n) (word_of words.dict m)) (has_pair axioms n m) linked)
     where
       own : (o : Option (List ℕ)) → word_of words.dict m ≡ o → is_own_link (declared_words words) (Some p) o ≡ true → (r : List ℕ) × (word_of words.dict m ≡ Some r) × WordLink p r
       own None named h = absurd cc
@@ -139,10 +131,6 @@ module _ (limits : Limits) (words : Words) (dict : IsDict words.dict) (axioms : 
             ap (word_of words.dict) (sym (eqb-true b m both.1)) ∙ to.is,
             inr (contains_from_among (axioms_of k) (p, to.word) (pair_among place.0 a b p to.word place.1 left to.is)),
           )
-
-      by : (is_own_link (declared_words words) (word_of words.dict n) (word_of words.dict m) ≡ true) ⊎ (has_pair axioms n m ≡ true) → (r : List ℕ) × (word_of words.dict m ≡ Some r) × WordLink p r
-      by (inl h) = own (word_of words.dict m) refl (ap (λ o. is_own_link (declared_words words) o (word_of words.dict m)) (sym is) ∙ h)
-      by (inr h) = let found = among_from_any (is_pair n m) axioms h in pair found.0 found.1 found.2
 
   -- ---- chains
   module _ (t : Taxonomy) (tells : TellsLinks (kept_words limits words axioms) t) where

@@ -1,15 +1,11 @@
 -- What the words of numbers may stand for.
 use Rattle.std.proofs.Common.{◌≡◌, ◌∙◌, refl, sym, ap, subst, ℕ, ◌||◌, not, Bool, true, false, List, Option, Some, None, is_some, IsSome}
 use Rattle.std.proofs.lemmas.Bool.{and_parts, both_ways}
-use Rattle.lis_graph.proofs.Members.{Among, among_filter, among_map}
-use Rattle.lis_blockmap.specs.Bitmap.{is_taken}
-use Rattle.lis_dict.specs.Dict.{IsDict, words as words_of, number_of, word_of}
-use Rattle.lis_dict.proofs.Laws.{number_from_among, number_from_word}
-use Rattle.lis_words.specs.Words.{is_plain_word, is_valued, has_word, head_bytes}
-use Rattle.lis_laws.proofs.Members.{among_from_has_word}
-use Rattle.lis_model.specs.declared.limits.Limits.{Limits}
-use Rattle.lis_model.specs.State.{is_assignable, is_nameable}
-use Rattle.lis_kept.specs.Telling.{bit_of}
+use Rattle.lis_open.proofs.Common.{Among, among_map, is_taken, IsDict, number_of, word_of, number_from_word, is_plain_word, is_valued, head_bytes, among_from_has_word, Limits, is_assignable, is_nameable, bit_of}
+use Rattle.lis_graph.proofs.Members.{among_filter}
+use Rattle.lis_dict.specs.Dict.{words as words_of}
+use Rattle.lis_dict.proofs.Laws.{number_from_among}
+use Rattle.lis_words.specs.Words.{has_word}
 use Rattle.lis_open.specs.declared.words.Words.{Words}
 use Rattle.lis_open.specs.ReadWords.{declared_words, is_left, is_right}
 use Rattle.lis_open.specs.ReadFiles.{is_assignable_by}

@@ -1,38 +1,24 @@
 -- The words of property slots, read one after another.
-use Rattle.std.proofs.Common.{◌≡◌, ◌⊎◌, ◌∙◌, refl, sym, ap, ap₂, subst, inl, inr, ℕ, ◌+◌, ◌<◌, ◌≤◌, Bool, true, false, not, cond, is_some, Option, Some, None, List, replicate, get_or, IsTrue, IsSome, arith, eq-eqb}
+use borrow.Author.Count.{below_more}
+use Rattle.std.proofs.Common.{◌≡◌, ◌⊎◌, ◌∙◌, refl, sym, ap, subst, inl, inr, ℕ, ◌+◌, ◌<◌, ◌≤◌, Bool, true, false, not, cond, is_some, Option, Some, None, List, replicate, get_or, IsTrue, IsSome, arith, eq-eqb}
+use Rattle.std.proofs.Math.Logic.{⊎_elim}
 use Rattle.std.specs.Option.{IfSome}
-use Rattle.std.proofs.lemmas.Bool.{cases_eq, cases_lt, ne_eqb, both_ways, not-true, not-false}
-use Rattle.std.proofs.lemmas.List.{length-replicate, get_or-replicate, get_or_past, length-set, get_or-set_same, get_or-set_other}
-use Rattle.std.proofs.lemmas.Option.{same_Some}
-use Rattle.lis_ports.specs.Meaning.{Meaning}
-use Rattle.lis_ports.specs.Calls.{DiskFaultEnds}
-use Rattle.lis_journal.specs.Journal.{Held}
-use Rattle.lis_journal.specs.Images.{Fits}
-use Rattle.lis_slots.specs.Slots.{slot}
-use Rattle.lis_blockmap.specs.Bitmap.{is_taken}
-use Rattle.lis_dict.specs.Dict.{IsDict, number_of, word_of}
-use Rattle.lis_dict.proofs.Laws.{word_from_number, number_from_word, number_below, word_of-with_entry, length-with_entry, kept_with_entry}
-use Rattle.lis_fields.specs.Layouts.{prop_bytes, is_prop}
+use Rattle.lis_open.proofs.Common.{cases_eq, cases_lt, ne_eqb, length-replicate, same_Some, Meaning, DiskFaultEnds, Held, Fits, slot, is_taken, number_of, word_of, word_from_number, number_from_word, number_below, prop_bytes, is_prop, PropSlot, FreeProp, are_in_range, Limits, Property, property_by, property_slots, few_properties, some_number, word_in}
+use Rattle.std.proofs.lemmas.Bool.{both_ways, not-true, not-false}
+use Rattle.std.proofs.lemmas.List.{get_or-replicate, get_or_past, length-set, get_or-set_same, get_or-set_other}
+use Rattle.lis_dict.proofs.Laws.{word_of-with_entry, length-with_entry, kept_with_entry}
 use Rattle.lis_fields.proofs.Parts.{undeclared_word, declarable_word}
-use Rattle.lis_fields.specs.declared.slots.PropSlot.{PropSlot}
-use Rattle.lis_fields.specs.declared.slots.PropSlot.TheVariants.{Free as FreeProp, Known, Declared}
+use Rattle.lis_fields.specs.declared.slots.PropSlot.TheVariants.{Known, Declared}
 use Rattle.lis_words.specs.Words.{is_property}
-use Rattle.lis_model.specs.Ranges.{are_in_range}
-use Rattle.lis_model.specs.declared.limits.Limits.{Limits}
-use Rattle.lis_model.specs.declared.spot.Spot.{Spot}
-use Rattle.lis_model.specs.declared.spot.Spot.TheVariants.{Super, BadRecord, Property, Axiom, File, Word, Bitmap, Row}
-use Rattle.lis_kept.specs.Kept.{property_by, property_at}
-use Rattle.lis_kept.specs.Areas.{property_slots}
-use Rattle.lis_kept.proofs.InArea.{few_properties}
-use Rattle.lis_kept.proofs.Known.{some_number}
-use Rattle.lis_store.specs.Stands.{word_in}
+use Rattle.lis_kept.specs.Kept.{property_at}
 use Rattle.lis_store.proofs.Admitted.{none_there}
 use Rattle.lis_store.proofs.Spelled.{word_by}
 use Rattle.lis_open.specs.declared.blocks.LastBlock.{LastBlock}
 use Rattle.lis_open.specs.declared.words.Words.{Words}
-use Rattle.lis_open.specs.Checks.{IsProperty, HasWord, HasWordBefore, PropertyFails, Fails, rank, place}
+use Rattle.lis_open.specs.Checks.{IsProperty, HasWord, HasWordBefore, PropertyFails}
 use Rattle.lis_open.specs.Reading.{OnlyReads, Recalls, IsReadAs, IsFirst, Passes}
 use Rattle.lis_open.specs.ReadWords.{no_words, with_word, may_take_property, with_property, AreWords, AreFirstWords, WordsAreSpelled}
+use Rattle.lis_open.proofs.SpotKinds.{none_before, none_fails}
 use Rattle.lis_open.proofs.Quiet.{StillRecalls}
 use Rattle.lis_open.proofs.Slots.{one_property}
 
@@ -54,92 +40,75 @@ module _ (words : Words) (number : ℕ) (word : List ℕ) (is_declared : Bool) (
   word_there : (m : ℕ) → (m ≡ number → ⊥) → word_of with_it.dict m ≡ word_of words.dict m
   word_there m differ = word_of-with_entry words.dict word number new free m ∙ ap (λ b. cond b (Some word) (word_of words.dict m)) (ne_eqb number m (λ e. differ (sym e)))
 
-  slot_here : property_at with_it.dict with_it.declared number ≡ property_by (Some word) is_declared
-  slot_here = ap₂ property_by word_here (get_or-set_same words.declared number is_declared false (omega (arith, are.long, below)))
-
-  bit_there : (m : ℕ) → (m ≡ number → ⊥) → is_taken with_it.declared m ≡ is_taken words.declared m
-  bit_there m differ = get_or-set_other words.declared number m is_declared false differ
-
-  slot_there : (m : ℕ) → (m ≡ number → ⊥) → property_at with_it.dict with_it.declared m ≡ property_at words.dict words.declared m
-  slot_there m differ = ap₂ property_by (word_there m differ) (bit_there m differ)
-
-  are_more : IsDict with_it.dict → IsTrue (is_prop (property_by (Some word) is_declared)) → AreWords with_it
-  are_more kept form = record {
-    dict = kept;
-    few = are.few;
-    long = length-set words.declared number is_declared ∙ are.long;
-    forms = λ m. by m (cases_eq m number);
-    flagged = λ m bit. has m bit (cases_eq m number);
-  }
+  -- what holds of the word, and of each other number as it was, holds of each number
+  at_each : (P : ℕ → Option (List ℕ) → Bool → Type 0) → P number (Some word) is_declared → ((m : ℕ) → (m ≡ number → ⊥) → P m (word_of words.dict m) (is_taken words.declared m))
+      → (m : ℕ) → P m (word_of with_it.dict m) (is_taken with_it.declared m)
+  at_each P here there m = by (cases_eq m number)
     where
-      by : (m : ℕ) → (m ≡ number) ⊎ (m ≡ number → ⊥) → IsTrue (is_prop (property_at with_it.dict with_it.declared m))
-      by m (inl same) = ap (λ k. is_prop (property_at with_it.dict with_it.declared k)) same ∙ (ap is_prop slot_here ∙ form)
-      by m (inr differ) = ap is_prop (slot_there m differ) ∙ are.forms m
-
-      has : (m : ℕ) → is_taken with_it.declared m ≡ true → (m ≡ number) ⊎ (m ≡ number → ⊥) → IsSome (word_of with_it.dict m)
-      has m bit (inl same) = ap (λ k. is_some (word_of with_it.dict k)) same ∙ ap is_some word_here
-      has m bit (inr differ) = ap is_some (word_there m differ) ∙ are.flagged m (sym (bit_there m differ) ∙ bit)
-
-  -- each word so far has a slot, so that there is room for it
-  dict_more : (limits : Limits) → AreFirstWords limits words number → IsTrue (is_property word) → IsDict with_it.dict
-  dict_more limits first form = kept_with_entry words.dict word number new are.dict form below free (omega (arith, length-with_entry words.dict word number new, first.counted, below))
-
-  first_more : (limits : Limits) → AreFirstWords limits words number → IsTrue (is_property word) → IsTrue (is_prop (property_by (Some word) is_declared)) → AreFirstWords limits with_it (number + 1)
-  first_more limits first form here = record {
-    are = are_more (dict_more limits first form) here;
-    props = first.props;
-    rest = λ n le. word_there n (λ e. omega arith) ∙ first.rest n (omega arith);
-    counted = omega (arith, length-with_entry words.dict word number new, first.counted);
-  }
-
-  spelled_more : (limits : Limits) (at : ℕ → List ℕ) → WordsAreSpelled limits at words number → slot (property_slots limits) at number ≡ prop_bytes (property_by (Some word) is_declared) → WordsAreSpelled limits at with_it (number + 1)
-  spelled_more limits at spelled here n lt = by (cases_eq n number)
-    where
-      by : (n ≡ number) ⊎ (n ≡ number → ⊥) → slot (property_slots limits) at n ≡ prop_bytes (property_at with_it.dict with_it.declared n)
+      by : (m ≡ number) ⊎ (m ≡ number → ⊥) → P m (word_of with_it.dict m) (is_taken with_it.declared m)
       by (inl same) =
-          ap (slot (property_slots limits) at) same
-          ∙ (here ∙ (ap prop_bytes (sym slot_here) ∙ ap (λ k. prop_bytes (property_at with_it.dict with_it.declared k)) (sym same)))
-      by (inr differ) = spelled n (omega arith) ∙ ap prop_bytes (sym (slot_there n differ))
+          subst (λ n. P n (word_of with_it.dict n) (is_taken with_it.declared n)) (sym same)
+          (subst (λ o. P number o (is_taken with_it.declared number)) (sym word_here)
+          (subst (P number (Some word)) (sym (get_or-set_same words.declared number is_declared false (omega (arith, are.long, below)))) here))
+      by (inr differ) =
+          subst (λ o. P m o (is_taken with_it.declared m)) (sym (word_there m differ))
+          (subst (P m (word_of words.dict m)) (sym (get_or-set_other words.declared number m is_declared false differ)) (there m differ))
+
+  module _ (limits : Limits) (first : AreFirstWords limits words number) where
+    -- each word so far has a slot, so that there is room for it
+    first_more : IsTrue (is_property word) → IsTrue (is_prop (property_by (Some word) is_declared)) → AreFirstWords limits with_it (number + 1)
+    first_more form here = record {
+      are = record {
+        dict = kept_with_entry words.dict word number new are.dict form below free (omega (arith, length-with_entry words.dict word number new, first.counted, below));
+        few = are.few;
+        long = length-set words.declared number is_declared ∙ are.long;
+        forms = at_each (λ m o bit. IsTrue (is_prop (property_by o bit))) here (λ m differ. are.forms m);
+        flagged = at_each (λ m o bit. bit ≡ true → IsSome o) (λ bit. refl) (λ m differ. are.flagged m);
+      };
+      props = first.props;
+      rest = λ n le. word_there n (λ e. omega arith) ∙ first.rest n (omega arith);
+      counted = omega (arith, length-with_entry words.dict word number new, first.counted);
+    }
+
+    spelled_more : (at : ℕ → List ℕ) → WordsAreSpelled limits at words number → slot (property_slots limits) at number ≡ prop_bytes (property_by (Some word) is_declared) → WordsAreSpelled limits at with_it (number + 1)
+    spelled_more at spelled here =
+        at_each (λ n o bit. n < number + 1 → slot (property_slots limits) at n ≡ prop_bytes (property_by o bit)) (λ lt. here) (λ n differ lt. spelled n (omega arith))
 
 -- ---- one slot more
 module _ (limits : Limits) (words : Words) (number : ℕ) (first : AreFirstWords limits words number) (below : number < limits.props) where
-  in_dict : number < words.dict.props
-  in_dict = omega (arith, first.props, below)
-
   free : word_of words.dict number ≡ None
   free = first.rest number (omega arith)
 
-  pub first_on : (found : Option PropSlot) (next : Words) → IfSome found (λ property. IsTrue (is_prop property)) → may_take_property words found ≡ true → next ≡ with_property words number found
+  -- the words with what a slot has, which is spelled where the slots before are
+  abbrev AreMore : Words → PropSlot → Type 0
+  AreMore next property =
+      AreFirstWords limits next (number + 1)
+      × ((at : ℕ → List ℕ) → WordsAreSpelled limits at words number → IsProperty limits at number property → WordsAreSpelled limits at next (number + 1))
+
+  word_on : (w : List ℕ) (is_declared : Bool) → IsTrue (is_property w) → IsTrue (is_prop (property_by (Some w) is_declared)) → not (is_some (number_of words.dict w)) ≡ true
+      → AreMore (with_word words number w is_declared) (property_by (Some w) is_declared)
+  word_on w is_declared form here may =
+      let in_dict : number < words.dict.props = omega (arith, first.props, below) in
+      let new = new_from (number_of words.dict w) may in (
+        first_more words number w is_declared first.are in_dict free new limits first form here,
+        λ at spelled read. spelled_more words number w is_declared first.are in_dict free new limits first at spelled read.bytes,
+      )
+
+  free_on : AreMore words FreeProp
+  free_on = (
+    record { are = first.are; props = first.props; rest = λ n le. first.rest n (omega arith); counted = omega (arith, first.counted) },
+    λ at spelled read.
+        below_more (λ n. slot (property_slots limits) at n ≡ prop_bytes (property_at words.dict words.declared n)) number spelled
+        (read.bytes ∙ ap (λ o. prop_bytes (property_by o (is_taken words.declared number))) (sym free)),
+  )
+
+  pub slot_on : (found : Option PropSlot) (next : Words) → IfSome found (λ property. IsTrue (is_prop property)) → may_take_property words found ≡ true → next ≡ with_property words number found
       → AreFirstWords limits next (number + 1)
-  first_on None next form may is = absurd cc
-  first_on (Some FreeProp) next form may is =
-      subst (λ (w : Words). AreFirstWords limits w (number + 1)) (sym is) (record { are = first.are; props = first.props; rest = λ n le. first.rest n (omega arith); counted = omega (arith, first.counted) })
-  first_on (Some (Known w)) next form may is =
-      subst (λ (w : Words). AreFirstWords limits w (number + 1)) (sym is)
-      (first_more words number w false first.are in_dict free (new_from (number_of words.dict w) may) limits first (undeclared_word w form) form)
-  first_on (Some (Declared w)) next form may is =
-      subst (λ (w : Words). AreFirstWords limits w (number + 1)) (sym is)
-      (first_more words number w true first.are in_dict free (new_from (number_of words.dict w) may) limits first (declarable_word w form) form)
-
-  module _ (at : ℕ → List ℕ) (spelled : WordsAreSpelled limits at words number) where
-    pub spelled_on : (found : Option PropSlot) (next : Words) → may_take_property words found ≡ true → next ≡ with_property words number found → IsReadAs prop_bytes is_prop (property_slots limits) at number found
-        → WordsAreSpelled limits at next (number + 1)
-    spelled_on None next may is read = absurd cc
-    spelled_on (Some FreeProp) next may is read =
-        subst (λ (w : Words). WordsAreSpelled limits at w (number + 1)) (sym is) (λ n lt. by n lt (cases_eq n number))
-      where
-        here : slot (property_slots limits) at number ≡ prop_bytes (property_at words.dict words.declared number)
-        here = read.bytes ∙ ap (λ o. prop_bytes (property_by o (is_taken words.declared number))) (sym free)
-
-        by : (n : ℕ) → n < number + 1 → (n ≡ number) ⊎ (n ≡ number → ⊥) → slot (property_slots limits) at n ≡ prop_bytes (property_at words.dict words.declared n)
-        by n lt (inl same) = subst (λ k. slot (property_slots limits) at k ≡ prop_bytes (property_at words.dict words.declared k)) (sym same) here
-        by n lt (inr differ) = spelled n (omega arith)
-    spelled_on (Some (Known w)) next may is read =
-        subst (λ (w : Words). WordsAreSpelled limits at w (number + 1)) (sym is)
-        (spelled_more words number w false first.are in_dict free (new_from (number_of words.dict w) may) limits at spelled read.bytes)
-    spelled_on (Some (Declared w)) next may is read =
-        subst (λ (w : Words). WordsAreSpelled limits at w (number + 1)) (sym is)
-        (spelled_more words number w true first.are in_dict free (new_from (number_of words.dict w) may) limits at spelled read.bytes)
+      × ((at : ℕ → List ℕ) → WordsAreSpelled limits at words number → IsReadAs prop_bytes is_prop (property_slots limits) at number found → WordsAreSpelled limits at next (number + 1))
+  slot_on None next form may is = absurd cc
+  slot_on (Some FreeProp) next form may is = subst (λ (w : Words). AreMore w FreeProp) (sym is) free_on
+  slot_on (Some (Known w)) next form may is = subst (λ (x : Words). AreMore x (Known w)) (sym is) (word_on w false (undeclared_word w form) form may)
+  slot_on (Some (Declared w)) next form may is = subst (λ (x : Words). AreMore x (Declared w)) (sym is) (word_on w true (declarable_word w form) form may)
 
 -- ---- the checks of slots
 module _ (limits : Limits) (at : ℕ → List ℕ) (words : Words) (end : ℕ) (first : AreFirstWords limits words end) (spelled : WordsAreSpelled limits at words end) where
@@ -149,11 +118,7 @@ module _ (limits : Limits) (at : ℕ → List ℕ) (words : Words) (end : ℕ) (
 
   -- a number that has a word is below the end
   number_read : (n : ℕ) (w : List ℕ) → word_of words.dict n ≡ Some w → n < end
-  number_read n w is = by (cases_lt n end)
-    where
-      by : (n < end) ⊎ (end ≤ n) → n < end
-      by (inl lt) = lt
-      by (inr past) = absurd (let none = sym (first.rest n past) ∙ is in cc)
+  number_read n w is = ⊎_elim (λ lt. lt) (λ past. absurd (let none = sym (first.rest n past) ∙ is in cc)) (cases_lt n end)
 
   pub has_word : (n : ℕ) (w : List ℕ) → word_of words.dict n ≡ Some w → HasWord limits at n w
   has_word n w is =
@@ -177,52 +142,31 @@ module _ (limits : Limits) (at : ℕ → List ℕ) (words : Words) (end : ℕ) (
       let same : n ≡ found.earlier = same_Some n found.earlier (sym here ∙ there) in
       omega (arith, found.before, same)
 
-  none_before : (earlier : Spot) → rank earlier ≡ 2 → place earlier < end → Fails limits at earlier → ⊥
-  none_before Super kind lt fails = fails
-  none_before (BadRecord b) kind lt fails = fails
-  none_before (Property n) kind lt fails = property_passes n lt fails
-  none_before (Axiom n) kind lt fails = omega (arith, kind)
-  none_before (File n) kind lt fails = omega (arith, kind)
-  none_before (Word n) kind lt fails = omega (arith, kind)
-  none_before (Bitmap n) kind lt fails = omega (arith, kind)
-  none_before (Row n) kind lt fails = omega (arith, kind)
-
-  old_word : (w : List ℕ) (property : PropSlot) (n : ℕ) → number_of words.dict w ≡ Some n → word_in property ≡ Some w → HasWordBefore limits at end property
-  old_word w property n old has =
-      let is = word_from_number words.dict first.are.dict w n old in
-      record { word = w; has = has; earlier = n; before = number_read n w is; there = has_word n w is }
+  old_word : (w : List ℕ) (property : PropSlot) → not (is_some (number_of words.dict w)) ≡ false → word_in property ≡ Some w → HasWordBefore limits at end property
+  old_word w property may has =
+      let old = old_from (number_of words.dict w) may in
+      let is = word_from_number words.dict first.are.dict w old.0 old.1 in
+      record { word = w; has = has; earlier = old.0; before = number_read old.0 w is; there = has_word old.0 w is }
 
   taken_before : (found : Option PropSlot) → may_take_property words found ≡ false → IsReadAs prop_bytes is_prop (property_slots limits) at end found → (property : PropSlot) → IsProperty limits at end property → HasWordBefore limits at end property
   taken_before None may read property is = absurd (read property is)
   taken_before (Some FreeProp) may read property is = absurd cc
-  taken_before (Some (Known w)) may read property is =
-      let old = old_from (number_of words.dict w) may in
-      old_word w property old.0 old.1 (ap word_in (sym (one_property limits at end (Known w) property read is)))
-  taken_before (Some (Declared w)) may read property is =
-      let old = old_from (number_of words.dict w) may in
-      old_word w property old.0 old.1 (ap word_in (sym (one_property limits at end (Declared w) property read is)))
+  taken_before (Some (Known w)) may read property is = old_word w property may (ap word_in (sym (one_property limits at end (Known w) property read is)))
+  taken_before (Some (Declared w)) may read property is = old_word w property may (ap word_in (sym (one_property limits at end (Declared w) property read is)))
 
   pub property_fails : (found : Option PropSlot) → end < limits.props → may_take_property words found ≡ false → IsReadAs prop_bytes is_prop (property_slots limits) at end found → IsFirst limits at 2 (Property end)
   property_fails found below may read = record {
     fails = record { below = below; fault = taken_before found may read };
     is = refl;
-    none_before = none_before;
+    none_before = none_before limits at 2 end property_passes;
   }
 
--- no check of this kind fails
-pub words_pass : (limits : Limits) (at : ℕ → List ℕ) (words : Words) → AreFirstWords limits words limits.props → WordsAreSpelled limits at words limits.props
-    → Passes limits at 2 (WordsAreSpelled limits at words limits.props)
-words_pass limits at words first spelled = record { none = none; is = spelled }
-  where
-    none : (spot : Spot) → rank spot ≡ 2 → Fails limits at spot → ⊥
-    none Super kind fails = fails
-    none (BadRecord b) kind fails = fails
-    none (Property n) kind fails = property_passes limits at words limits.props first spelled n fails.below fails
-    none (Axiom n) kind fails = omega (arith, kind)
-    none (File n) kind fails = omega (arith, kind)
-    none (Word n) kind fails = omega (arith, kind)
-    none (Bitmap n) kind fails = omega (arith, kind)
-    none (Row n) kind fails = omega (arith, kind)
+  -- no check of this kind fails
+  pub words_pass : end ≡ limits.props → Passes limits at 2 (WordsAreSpelled limits at words limits.props)
+  words_pass all = record {
+    none = none_fails limits at 2 (λ n fails. property_passes n (omega (arith, all, fails.below)) fails);
+    is = subst (λ n. WordsAreSpelled limits at words n) all spelled;
+  }
 
 -- ---- the loop
 pub record WordsTurn (journal : Held) (limits : Limits) (old now : Meaning) (before last : LastBlock) (words : Words) (end : ℕ) : Type 0 where
@@ -235,11 +179,8 @@ pub record WordsTurn (journal : Held) (limits : Limits) (old now : Meaning) (bef
 
 -- a list of one value has it everywhere, and past its end
 pub nothing_at : {X : Type 0} (n k : ℕ) (x : X) → get_or (replicate n x) k x ≡ x
-nothing_at n k x = by (cases_lt k n)
-  where
-    by : (k < n) ⊎ (n ≤ k) → get_or (replicate n x) k x ≡ x
-    by (inl lt) = get_or-replicate n k x x lt
-    by (inr past) = get_or_past (replicate n x) k x (omega (arith, past, length-replicate n x))
+nothing_at n k x =
+    ⊎_elim (get_or-replicate n k x x) (λ past. get_or_past (replicate n x) k x (omega (arith, past, length-replicate n x))) (cases_lt k n)
 
 no_words_yet : (limits : Limits) → IsTrue (are_in_range limits) → AreFirstWords limits (no_words limits) 0
 unfolding no_words

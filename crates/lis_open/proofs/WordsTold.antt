@@ -1,38 +1,26 @@
 -- The property slots that words spell, and what they tell.
-use Rattle.std.proofs.Common.{◌≡◌, ◌⊎◌, ◌∙◌, refl, sym, ap, ap₂, subst, inl, inr, ℕ, ◌<◌, ◌≤◌, Bool, true, Option, Some, None, option_to_list, List, [], map, IsTrue, arith}
-use Rattle.std.specs.BTreeSet.{insert_key}
-use Rattle.std.specs.List.{fold, range_with_len}
-use Rattle.std.proofs.lemmas.Bool.{cases_lt}
+use Rattle.std.proofs.Common.{◌≡◌, ◌⊎◌, ◌∙◌, refl, sym, ap, ap₂, subst, inl, ℕ, ◌<◌, ◌≤◌, Bool, true, Option, Some, None, option_to_list, List, [], map, IsTrue, arith}
+use Rattle.std.proofs.Math.Logic.{⊎_elim}
+use Rattle.lis_open.proofs.Common.{insert_key, fold, cases_lt, Among, among_map, map_among, among_flat_map, is_taken, number_of, word_of, number_from_word, word_from_number, number_below, Filed, prop_bytes, is_prop, PropSlot, FreeProp, AxiomSlot, FreeAxiom, Pair, prop_once, among_from_has_word, among_set_of, sorted_set_of, Limits, Kept, property_by, property_slots, bit_of, pair_by, pair_told, axioms_of, bytes_told, file_told, declared_there, there_declared, word_in, words_in, word_at, one_array}
+use Rattle.std.specs.List.{range_with_len}
 use Rattle.std.proofs.lemmas.List.{get_or_past}
 use Rattle.std.proofs.lemmas.List.FromFn.{length-map-range_with_len, get_or-map-range_with_len}
-use Rattle.lis_graph.proofs.Members.{Among, among_map, map_among, among_flat_map, flat_map_among}
+use Rattle.lis_graph.proofs.Members.{flat_map_among}
 use Rattle.lis_graph.proofs.Ranges.{range_among}
-use Rattle.lis_blockmap.specs.Bitmap.{is_taken}
-use Rattle.lis_dict.specs.Dict.{number_of, word_of}
-use Rattle.lis_dict.proofs.Laws.{number_from_word, word_from_number, number_below}
-use Rattle.lis_catalog.specs.Catalog.{Filed}
-use Rattle.lis_fields.specs.Layouts.{prop_bytes, is_prop}
-use Rattle.lis_fields.specs.declared.slots.PropSlot.{PropSlot}
-use Rattle.lis_fields.specs.declared.slots.PropSlot.TheVariants.{Free as FreeProp, Declared}
-use Rattle.lis_fields.specs.declared.slots.AxiomSlot.{AxiomSlot}
-use Rattle.lis_fields.specs.declared.slots.AxiomSlot.TheVariants.{Free as FreeAxiom, Pair}
-use Rattle.lis_fields.proofs.OneSpelling.{prop_once}
+use Rattle.lis_fields.specs.declared.slots.PropSlot.TheVariants.{Declared}
 use Rattle.lis_words.specs.Words.{has_word}
-use Rattle.lis_laws.proofs.Members.{among_from_has_word, has_word_from_among, among_set_of, set_of_among, sorted_set_of, same_words}
-use Rattle.lis_model.specs.declared.limits.Limits.{Limits}
+use Rattle.lis_laws.proofs.Members.{has_word_from_among, set_of_among, same_words}
 use Rattle.lis_model.specs.Sets.{set_of}
 use Rattle.lis_model.specs.State.{File, pair_cmp}
-use Rattle.lis_kept.specs.Kept.{Kept, property_by, property_at}
-use Rattle.lis_kept.specs.Areas.{property_slots}
-use Rattle.lis_kept.specs.Telling.{bit_of, pair_by, pair_told, axioms_of, bytes_told, file_told}
+use Rattle.lis_kept.specs.Kept.{property_at}
 use Rattle.lis_kept.proofs.Known.{only_word}
-use Rattle.lis_kept.proofs.WordMore.{declared_there, there_declared, sorted_declared, flat_all}
-use Rattle.lis_store.specs.Stands.{word_in, declared_in, words_in, all_declared, word_at, pair_in, file_by}
+use Rattle.lis_kept.proofs.WordMore.{sorted_declared, flat_all}
+use Rattle.lis_store.specs.Stands.{declared_in, all_declared, pair_in, file_by}
 use Rattle.lis_store.proofs.SlotOrder.{given_at}
-use Rattle.lis_store.proofs.OneState.{one_array}
 use Rattle.lis_store.proofs.Spelled.{word_by, declared_by as declared_by_slot}
 use Rattle.lis_open.specs.declared.words.Words.{Words}
 use Rattle.lis_open.specs.Checks.{AreProperties, declared_by, axioms_by}
+use Rattle.lis_open.proofs.WordUses.{no_word_past}
 use Rattle.lis_open.specs.ReadWords.{AreWords, WordsAreSpelled, declared_words, kept_words}
 
 -- the property slots of all numbers
@@ -63,17 +51,11 @@ module _ (limits : Limits) (words : Words) (are : AreWords words) (same : words.
   number_among n w is = let below = number_within n w is in range_among 0 limits.props n (omega arith) (omega arith)
 
   pub word_at_told : (n : ℕ) → word_at (told_properties limits words) n ≡ word_of words.dict n
-  word_at_told n = by (cases_lt n limits.props)
-    where
-      unnamed : (o : Option (List ℕ)) → limits.props ≤ n → word_of words.dict n ≡ o → o ≡ None
-      unnamed None past is = refl
-      unnamed (Some w) past is = absurd (let lt = number_within n w is in omega (arith, lt, past))
-
-      by : (n < limits.props) ⊎ (limits.props ≤ n) → word_at told n ≡ word_of words.dict n
-      by (inl lt) = ap word_in (get_or-map-range_with_len property 0 limits.props n n FreeProp lt (omega arith)) ∙ word_by (word_of words.dict n) (is_taken words.declared n)
-      by (inr past) =
-          ap word_in (get_or_past told n FreeProp (omega (arith, past, length-map-range_with_len property 0 limits.props)))
-          ∙ sym (unnamed (word_of words.dict n) past refl)
+  word_at_told n =
+      ⊎_elim (λ lt. ap word_in (get_or-map-range_with_len property 0 limits.props n n FreeProp lt (omega arith)) ∙ word_by (word_of words.dict n) (is_taken words.declared n))
+      (λ past.
+      ap word_in (get_or_past told n FreeProp (omega (arith, past, length-map-range_with_len property 0 limits.props)))
+      ∙ sym (no_word_past words.dict are.dict n (omega (arith, past, same)))) (cases_lt n limits.props)
 
   -- ---- words
   slot_declared : (w : List ℕ) → Among (all_declared told) w → Among (declared_words words) w

@@ -1,21 +1,16 @@
 -- Rows of which no bit is set.
-use Rattle.std.proofs.Common.{◌≡◌, ◌⊎◌, ◌∙◌, sym, ap, ap₂, inl, inr, ℕ, ◌*◌, ◌/◌, ◌<◌, ◌≤◌, ◌==◌, min, Bool, false, cond, List, [], length, IsTrue, ◌↔◌, arith}
-use Rattle.std.specs.List.{list_all}
-use Rattle.std.proofs.lemmas.Bool.{cases_lt, both_ways, lt-ltb, le-ltb}
-use Rattle.std.proofs.lemmas.List.{length-replicate}
-use Rattle.lis_bits.specs.Bytes.{bits_bytes}
+use Rattle.std.proofs.Common.{◌≡◌, ◌⊎◌, ◌∙◌, sym, ap, ap₂, ℕ, ◌*◌, ◌/◌, ◌<◌, ◌≤◌, ◌==◌, min, Bool, false, List, [], length, IsTrue, ◌↔◌, arith}
+use Rattle.lis_open.proofs.Common.{list_all, length-replicate, bits_bytes, has, Limits, slot, Row, row_slots}
+use Rattle.std.proofs.lemmas.Bool.{both_ways}
+use Rattle.std.proofs.lemmas.Bool.Decides.{nat_tests}
 use Rattle.lis_bits.proofs.Numbers.{bytes_same}
 use Rattle.lis_content.specs.Content.{has_number}
-use Rattle.lis_ext.specs.Ext.{Ext, has, empty_ext}
+use Rattle.lis_ext.specs.Ext.{Ext, empty_ext}
 use Rattle.lis_fields.specs.Layouts.{zeros}
 use Rattle.lis_fields.proofs.Widths.{zeros_pass, zeros_of}
-use Rattle.lis_model.specs.declared.limits.Limits.{Limits}
 use Rattle.lis_model.specs.Image.{rows_start}
-use Rattle.lis_slots.specs.Slots.{slot}
-use Rattle.lis_model.specs.declared.spot.Spot.TheVariants.{Row}
 use Rattle.lis_open.specs.ReadAll.{IsRowSpelled, IsFirstRow, row_place}
 use Rattle.lis_open.proofs.WordsRead.{nothing_at}
-use Rattle.lis_kept.specs.Areas.{row_slots}
 use Rattle.lis_kept.specs.Rows.{row_bytes}
 use Rattle.lis_kept.proofs.RowBytes.{row_bytes_none}
 
@@ -57,12 +52,14 @@ row_read limits kept ext p first width buf same start wide read test =
 abbrev pub SameBelow : Limits → (ℕ → List ℕ) → Ext → ℕ → Type 0
 SameBelow limits kept ext end = (q : ℕ) → q < end → IsRowSpelled limits kept ext q
 
+pub row_place_is : (limits : Limits) (p : ℕ) → row_place limits p ≡ min p limits.props
+row_place_is limits p = grind (arith, nat_tests)
+
 -- the first row that is spelled otherwise
 pub first_row : (limits : Limits) (kept : ℕ → List ℕ) (ext : Ext) (p place : ℕ) (same : Bool) → p < (row_slots limits).count → place ≡ min p limits.props → (IsTrue same ↔ IsRowSpelled limits kept ext p) → same ≡ false
     → SameBelow limits kept ext p → (q : ℕ) × (Row place ≡ Row (row_place limits q)) × IsFirstRow limits kept ext q
-first_row limits kept ext p place same below is test differs before =
-    (p, ap Row (is ∙ by (cases_lt p limits.props)), record { below = below; differs = λ spelled. both_ways same differs (test.1 spelled); same_before = before })
-  where
-    by : (p < limits.props) ⊎ (limits.props ≤ p) → min p limits.props ≡ row_place limits p
-    by (inl lt) = let least : min p limits.props ≡ p = omega (arith, lt) in least ∙ sym (ap (λ b. cond b p limits.props) (lt-ltb p limits.props lt))
-    by (inr ge) = let least : min p limits.props ≡ limits.props = omega (arith, ge) in least ∙ sym (ap (λ b. cond b p limits.props) (le-ltb p limits.props ge))
+first_row limits kept ext p place same below is test differs before = (
+  p,
+  ap Row (is ∙ sym (row_place_is limits p)),
+  record { below = below; differs = λ spelled. both_ways same differs (test.1 spelled); same_before = before },
+)

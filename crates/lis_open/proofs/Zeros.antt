@@ -1,12 +1,10 @@
 -- Filling blocks with zeros, one call of the disk after another.
 use Rattle.std.proofs.Common.{◌≡◌, ℕ, ◌+◌, ◌-◌, ◌*◌, ◌<◌, ◌≤◌, Bool, true, false, eqb, cond, List, length, replicate, IsTrue, refl, ◌∙◌, ap, arith}
 use Rattle.std.proofs.lemmas.Bool.{eqb-false}
-use Rattle.lis_ports.specs.Meaning.{Meaning}
-use Rattle.lis_ports.specs.Bytes.{put, Torn}
+use Rattle.lis_open.proofs.Common.{Meaning, Torn, DiskFaultEnds, block, Spreads}
+use Rattle.lis_ports.specs.Bytes.{put}
 use Rattle.lis_ports.specs.Runs.{IsDiskRun}
-use Rattle.lis_ports.specs.Calls.{Elapses, IsTorn, IsWritten, DiskFaultEnds}
-use Rattle.lis_journal.specs.Record.{block}
-use Rattle.lis_journal.specs.Spreads.{Spreads}
+use Rattle.lis_ports.specs.Calls.{Elapses, IsTorn, IsWritten}
 use Rattle.lis_journal.proofs.Entries.{block-put}
 use Rattle.lis_journal.proofs.Spreading.{spreads_torn, spreads_then, torn_trans}
 use Rattle.lis_fields.specs.Layouts.{zeros}

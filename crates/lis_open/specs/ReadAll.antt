@@ -6,6 +6,7 @@ use Rattle.lis_blockmap.specs.Bitmap.{bitmap_bytes, IsFirstDifference}
 use Rattle.lis_dict.specs.Dict.{word_of}
 use Rattle.lis_ext.specs.Ext.{Ext}
 use Rattle.lis_model.specs.declared.limits.Limits.{Limits}
+use Rattle.lis_model.specs.declared.spot.Spot.{Spot}
 use Rattle.lis_model.specs.declared.spot.Spot.TheVariants.{Word, Bitmap, Row}
 use Rattle.lis_model.specs.Image.{bitmap_start, data_start}
 use Rattle.lis_model.specs.State.{State}
@@ -20,6 +21,7 @@ use Rattle.lis_open.specs.declared.words.Words.{Words}
 use Rattle.lis_open.specs.declared.axioms.Axioms.{Axioms}
 use Rattle.lis_open.specs.declared.files.Files.{Files}
 use Rattle.lis_open.specs.declared.room.Room.{Room}
+use Rattle.lis_open.specs.Checks.{Fails, rank}
 use Rattle.lis_open.specs.Reading.{PartsFail}
 use Rattle.lis_open.specs.ReadWords.{no_words, AreNoAxioms, AreFirstWords, AreFirstAxioms, WordsAreSpelled, AxiomsAreSpelled}
 use Rattle.lis_open.specs.ReadFiles.{no_files, AreFirstFiles, FilesAreTold}
@@ -35,7 +37,7 @@ pub record IsEmptyRoom (limits : Limits) (room : Room) : Type 0 where
   pub words : room.words ≡ no_words limits
   pub axioms : AreNoAxioms limits room.axioms
   pub files : room.files ≡ no_files limits
-  pub row : HasShape room.row 3 limits.props
+  pub row : HasShape room.row 2 limits.props
   pub marks : AreNoMarks limits room.marks
 
 -- what memory keeps of what was read
@@ -99,6 +101,31 @@ RowsChecked limits at ext (Ok done) = (p : ℕ) → p < (row_slots limits).count
 RowsChecked limits at ext (Err fault) = RowDiffers limits at ext fault
 
 -- ---- all parts
+-- words, axioms and files of all slots
+pub record AreSlotsRead (limits : Limits) (words : Words) (axioms : Axioms) (files : Files) : Type 0 where
+  pub words_are : AreFirstWords limits words limits.props
+  pub axioms_are : AreFirstAxioms limits words axioms (axiom_slots limits).count
+  pub files_are : AreFirstFiles limits words axioms files limits.files
+
+-- and the slots are spelled by them
+pub record HasRead (limits : Limits) (at : ℕ → List ℕ) (words : Words) (axioms : Axioms) (files : Files) : Type 0 where
+  pub words_are : AreFirstWords limits words limits.props
+  pub axioms_are : AreFirstAxioms limits words axioms (axiom_slots limits).count
+  pub files_are : AreFirstFiles limits words axioms files limits.files
+  pub properties : WordsAreSpelled limits at words limits.props
+  pub pairs : AxiomsAreSpelled limits at axioms (axiom_slots limits).count
+  pub records : FilesAreTold limits at words axioms files
+
+-- and no check of a slot fails
+pub record ArePassed (limits : Limits) (at : ℕ → List ℕ) (words : Words) (axioms : Axioms) (files : Files) : Type 0 where
+  pub read : HasRead limits at words axioms files
+  pub none : (spot : Spot) → rank spot < 5 → Fails limits at spot → ⊥
+
+-- how reading the slots ended
+abbrev pub SlotsEnded : {T : Type 0} → Limits → (ℕ → List ℕ) → Words → Axioms → Files → Result T OpenFault → Type 0
+SlotsEnded limits at words axioms files (Ok done) = ArePassed limits at words axioms files
+SlotsEnded limits at words axioms files (Err fault) = PartsFail limits at fault
+
 -- words, axioms and files of all slots, and each word is in use
 pub record AreRead (limits : Limits) (words : Words) (axioms : Axioms) (files : Files) (marks : List Bool) : Type 0 where
   pub words_are : AreFirstWords limits words limits.props

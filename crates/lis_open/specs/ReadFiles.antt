@@ -28,7 +28,7 @@ use Rattle.lis_kept.specs.Telling.{words_told, bytes_told, blocks_told, HasIndex
 use Rattle.lis_open.specs.declared.words.Words.{Words}
 use Rattle.lis_open.specs.declared.axioms.Axioms.{Axioms}
 use Rattle.lis_open.specs.declared.files.Files.{Files}
-use Rattle.lis_open.specs.ReadWords.{declared_words, kept_words, is_test_number, is_met_number}
+use Rattle.lis_open.specs.ReadWords.{declared_words, kept_words}
 
 unfoldable pub no_files : Limits → Files
 no_files limits = record {
@@ -45,6 +45,11 @@ is_described t own n = list_any (λ m. entails t m n) own
 abbrev pub described : Taxonomy → List ℕ → List ℕ
 described t own = numbers_where t.props (is_described t own)
 
+-- the row has what it had, and what these numbers entail
+pub record Gathered (t : Taxonomy) (old row : Rows) (numbers : List ℕ) : Type 0 where
+  pub shape : HasShape row 2 t.props
+  pub bits : (n : ℕ) → n < t.props → get row 0 n ≡ (get old 0 n || is_described t numbers n)
+
 -- the word has a number, and so has its head where it is valued
 abbrev pub is_numbered : Dict → List ℕ → Bool
 is_numbered dict word = is_some (number_of dict word) && (not (is_valued word) || is_some (number_of dict (head_bytes word)))
@@ -55,15 +60,6 @@ numbers_of dict words = flat_map (λ word. option_to_list (number_of dict word))
 -- the words that are found in a file of this name and these bytes: those that are derived from it, and the declared tests that it meets
 abbrev pub found_words : Words → List ℕ → List ℕ → List (List ℕ)
 found_words words name bytes = derived_words name bytes ++ met_tests (declared_words words) (length bytes)
-
--- the numbers of the declared tests that so many bytes meet
-abbrev pub met_numbers : Words → ℕ → List ℕ
-met_numbers words size = numbers_where words.dict.props (is_met_number words size)
-
--- Rows for a description: the first two are for what its numbers entail, and the third one has the numbers of the declared tests.
-pub record HasTests (words : Words) (row : Rows) : Type 0 where
-  pub shape : HasShape row 3 words.dict.props
-  pub tests : (n : ℕ) → n < words.dict.props → get row 2 n ≡ is_test_number words n
 
 -- The numbers of what a file has by itself: those that it was given, and those of the words that are found in it.
 unfoldable pub own_numbers : Dict → List ℕ → List (List ℕ) → List ℕ

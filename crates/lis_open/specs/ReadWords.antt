@@ -13,13 +13,12 @@ use Rattle.lis_fields.specs.Layouts.{prop_bytes, is_prop, axiom_bytes}
 use Rattle.lis_words.specs.Words.{is_plain_word, is_valued, head_bytes, has_word}
 use Rattle.lis_model.specs.declared.limits.Limits.{Limits}
 use Rattle.lis_model.specs.State.{Acyclic, is_nameable}
-use Rattle.lis_model.specs.Tests.{is_met}
 use Rattle.lis_kept.specs.Kept.{Kept, kept_of, property_at, axiom_at}
 use Rattle.lis_kept.specs.Areas.{property_slots, axiom_slots}
 use Rattle.lis_kept.specs.Edges.{head_number}
 use Rattle.lis_kept.specs.Telling.{bit_of, axioms_of, is_head_by}
 use Rattle.lis_kept.specs.Links.{TellsLinks}
-use Rattle.lis_kept.specs.TestEdges.{declared_test, is_test_link}
+use Rattle.lis_kept.specs.TestEdges.{LinksWhere, LinksSome}
 use Rattle.lis_open.specs.declared.words.Words.{Words}
 use Rattle.lis_open.specs.declared.axioms.Axioms.{Axioms}
 
@@ -94,25 +93,13 @@ pub record LinksHeads (words : Words) (end : ℕ) (t : Taxonomy) : Type 0 where
   pub props : t.props ≡ words.dict.props
   pub edges : (p q : ℕ) → has_edge t p q ≡ (nat_lt p end && is_head_by (word_of words.dict p) (word_of words.dict q))
 
--- the edges are all those to heads, and those from the declared tests of the numbers below the end to weaker ones
-pub record LinksTests (words : Words) (end : ℕ) (t : Taxonomy) : Type 0 where
-  pub props : t.props ≡ words.dict.props
-  pub edges : (p q : ℕ) → has_edge t p q ≡ (is_head_by (word_of words.dict p) (word_of words.dict q) || (nat_lt p end && is_test_link words.dict words.declared p q))
+-- with edges from all declared tests to weaker ones
+abbrev pub LinksTests : Words → Taxonomy → Taxonomy → Type 0
+LinksTests words t u = LinksWhere (λ p q. true) words.dict words.declared t u
 
--- the same, and some edges from other declared tests to weaker ones
-pub record LinksMoreTests (words : Words) (end : ℕ) (t : Taxonomy) : Type 0 where
-  pub more : ℕ → ℕ → Bool
-  pub props : t.props ≡ words.dict.props
-  pub edges : (p q : ℕ) → has_edge t p q ≡ (is_head_by (word_of words.dict p) (word_of words.dict q) || ((nat_lt p end || more p q) && is_test_link words.dict words.declared p q))
-
--- ---- tests
--- the number has a declared test
-abbrev pub is_test_number : Words → ℕ → Bool
-is_test_number words n = is_some {T = Bool × ℕ} (declared_test words.dict words.declared n)
-
--- the number has a declared test that so many bytes meet
-abbrev pub is_met_number : Words → ℕ → ℕ → Bool
-is_met_number words size n = is_met (declared_test words.dict words.declared n) size
+-- with some of them
+abbrev pub LinksSomeTests : Words → Taxonomy → Taxonomy → Type 0
+LinksSomeTests words t u = LinksSome words.dict words.declared t u
 
 -- ---- axioms
 -- Axiom slots that are free, and no links yet.
@@ -120,15 +107,21 @@ pub record AreNoAxioms (limits : Limits) (axioms : Axioms) : Type 0 where
   pub slots : axioms.slots.items ≡ replicate (axiom_slots limits).count FreeAxiom
   pub taxonomy : axioms.taxonomy ≡ empty_taxonomy limits.props
 
--- an axiom may lead to the word
-abbrev pub is_right : Words → Option (List ℕ) → Bool
-is_right words None = false
-is_right words (Some word) = is_plain_word word && has_word (declared_words words) word
+-- an axiom may lead to the word, where these are declared
+abbrev pub is_right_by : List (List ℕ) → Option (List ℕ) → Bool
+is_right_by declared None = false
+is_right_by declared (Some word) = is_plain_word word && has_word declared word
 
--- an axiom may name the word on its left, and the head of a valued one has a number
+abbrev pub is_right : Words → Option (List ℕ) → Bool
+is_right words o = is_right_by (declared_words words) o
+
+-- it may name the word on its left, and the head of a valued one has a number
+abbrev pub is_left_by : List (List ℕ) → (List ℕ → Bool) → Option (List ℕ) → Bool
+is_left_by declared is_numbered None = false
+is_left_by declared is_numbered (Some word) = is_nameable declared word && (not (is_valued word) || is_numbered (head_bytes word))
+
 abbrev pub is_left : Words → Option (List ℕ) → Bool
-is_left words None = false
-is_left words (Some word) = is_nameable (declared_words words) word && (not (is_valued word) || is_some (number_of words.dict (head_bytes word)))
+is_left words o = is_left_by (declared_words words) (λ word. is_some (number_of words.dict word)) o
 
 -- the sides of an axiom are words that it may have
 abbrev pub are_sides : Words → ℕ → ℕ → Bool

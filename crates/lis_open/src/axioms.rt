@@ -12,7 +12,7 @@ ghost use Rattle.lis_model.specs.Image.{image_blocks};
 ghost use Rattle.lis_kept.specs.Areas.{axiom_slots};
 ghost use Rattle.lis_kept.specs.Edges.{with_edge_to};
 ghost use Rattle.lis_open.specs.Reading.{OnlyReads, HasPartCause, Recalls, IsReadAs, Ends};
-ghost use Rattle.lis_open.specs.ReadWords.{AreNoAxioms, AreWords, AreFirstWords, WordsAreSpelled, head_by, LinksHeads, LinksTests, LinksMoreTests, are_sides, TakesPair, TakesAxiom, RefusesPair, RefusesAxiom, AreFirstAxioms, AxiomsAreSpelled};
+ghost use Rattle.lis_open.specs.ReadWords.{AreNoAxioms, AreWords, AreFirstWords, WordsAreSpelled, head_by, LinksHeads, LinksTests, LinksSomeTests, are_sides, TakesPair, TakesAxiom, RefusesPair, RefusesAxiom, AreFirstAxioms, AxiomsAreSpelled};
 
 use crate::blocks::LastBlock;
 use crate::mounting::OpenFault;
@@ -99,7 +99,7 @@ fn link_nearest_tests(limits: &Limits, words: &Words, taxonomy: &mut Taxonomy)
     requires range { IsTrue (are_in_range limits.now) }
     requires words { AreFirstWords limits.now words.now limits.now.props }
     requires heads { LinksHeads words.now limits.now.props taxonomy.old }
-    ensures { LinksMoreTests words.now 0 taxonomy.new }
+    ensures { LinksSomeTests words.now taxonomy.old taxonomy.new }
 {
     for number in 0..limits.props {
         link_nearest(&words.dict, &words.declared, taxonomy, limits.props, number);
@@ -111,7 +111,7 @@ fn link_tests(limits: &Limits, words: &Words, taxonomy: &mut Taxonomy)
     requires range { IsTrue (are_in_range limits.now) }
     requires words { AreFirstWords limits.now words.now limits.now.props }
     requires heads { LinksHeads words.now limits.now.props taxonomy.old }
-    ensures { LinksTests words.now limits.now.props taxonomy.new }
+    ensures { LinksTests words.now taxonomy.old taxonomy.new }
 {
     link_nearest_tests(limits, words, taxonomy);
     for number in 0..limits.props {
@@ -176,9 +176,9 @@ fn take_pair(
     if !are_sides(words, left, right) {
         return false;
     }
-    if axioms.taxonomy.add(left, right).is_err() {
+    let Ok(()) = axioms.taxonomy.add(left, right) else {
         return false;
-    }
+    };
     axioms.slots[k as usize] = AxiomSlot::Pair(left, right);
     true
 }

@@ -1,6 +1,6 @@
 //! What else must hold of an image: that each word is in use, what the bitmap tells, and what the rows tell.
 
-ghost use Rattle.std.specs.Prelude.{◌≡◌, ◌↔◌, ◌*◌, ◌/◌, ◌<◌, ◌≤◌, ◌||◌, ◌&&◌, not, is_some, ℕ, Bool, List, [], length, true, false, IsTrue, IfOk};
+ghost use Rattle.std.specs.Prelude.{◌≡◌, ◌↔◌, ◌*◌, ◌/◌, ◌<◌, ◌≤◌, ◌||◌, ◌&&◌, not, is_some, ℕ, Bool, List, [], length, false, Some, slice_get, IsTrue, IfOk};
 ghost use Rattle.std.specs.List.{list_any};
 ghost use Rattle.lis_ports.specs.Calls.{HasCause, DiskFaultEnds};
 ghost use Rattle.lis_journal.specs.Images.{Fits};
@@ -8,6 +8,7 @@ ghost use Rattle.lis_bits.specs.Rows.{HasShape, get};
 ghost use Rattle.lis_blockmap.specs.Bitmap.{is_taken};
 ghost use Rattle.lis_dict.specs.Dict.{word_of};
 ghost use Rattle.lis_ext.specs.Ext.{has};
+ghost use Rattle.lis_fields.specs.declared.slots.AxiomSlot.TheVariants.{Pair};
 ghost use Rattle.lis_model.specs.Ranges.{are_in_range};
 ghost use Rattle.lis_model.specs.Image.{bitmap_start, image_blocks};
 ghost use Rattle.lis_kept.specs.Areas.{axiom_slots, row_slots};
@@ -40,22 +41,17 @@ const MAX_ROW: usize = 512;
 // Marks the left side of an axiom, and its head where it is valued.
 fn mark_left(words: &Words, row: &mut Rows, slot: AxiomSlot)
     requires words { AreWords words.now }
-    requires shape { HasShape row.old 3 words.now.dict.props }
-    ensures shape { HasShape row.new 3 words.now.dict.props }
-    ensures bits { (n : ℕ) → n < words.now.dict.props → is_some (word_of words.now.dict n) ≡ true
+    requires left { (left right : ℕ) → slot ≡ Pair left right → left < words.now.dict.props }
+    requires shape { HasShape row.old 2 words.now.dict.props }
+    ensures shape { HasShape row.new 2 words.now.dict.props }
+    ensures bits { (n : ℕ) → n < words.now.dict.props
         → get row.new 0 n ≡ (get row.old 0 n || (is_left_of n slot || is_left_head_of words.now.dict n slot)) }
 {
     let AxiomSlot::Pair(left, _) = slot else {
         return;
     };
-    let Ok(number) = u16::try_from(left) else {
-        return;
-    };
-    if words.dict.word_of(number).is_none() {
-        return;
-    }
     row.put(0, left, true);
-    let Some(head) = head_number(words, number) else {
+    let Some(head) = head_number(words, left as u16) else {
         return;
     };
     row.put(0, u32::from(head), true);
@@ -64,9 +60,10 @@ fn mark_left(words: &Words, row: &mut Rows, slot: AxiomSlot)
 // Makes a row of the left sides of axioms, and of the heads of those that are valued.
 fn mark_lefts(words: &Words, axioms: &Axioms, row: &mut Rows)
     requires words { AreWords words.now }
-    requires shape { HasShape row.old 3 words.now.dict.props }
-    ensures shape { HasShape row.new 3 words.now.dict.props }
-    ensures bits { (n : ℕ) → n < words.now.dict.props → is_some (word_of words.now.dict n) ≡ true
+    requires lefts { (k left right : ℕ) → slice_get axioms.now.slots.items k ≡ Some (Pair left right) → left < words.now.dict.props }
+    requires shape { HasShape row.old 2 words.now.dict.props }
+    ensures shape { HasShape row.new 2 words.now.dict.props }
+    ensures bits { (n : ℕ) → n < words.now.dict.props
         → get row.new 0 n ≡ list_any (λ slot. is_left_of n slot || is_left_head_of words.now.dict n slot) axioms.now.slots.items }
 {
     row.fill(0, false);
@@ -79,7 +76,7 @@ fn mark_lefts(words: &Words, axioms: &Axioms, row: &mut Rows)
 fn is_stray(words: &Words, ext: &Ext, lefts: &Rows, number: u16) -> bool
     requires words { AreWords words.now }
     requires props { ext.now.props ≡ words.now.dict.props }
-    requires shape { HasShape lefts.now 3 words.now.dict.props }
+    requires shape { HasShape lefts.now 2 words.now.dict.props }
     requires below { number < words.now.dict.props }
     ensures { result ≡ (is_some (word_of words.now.dict number)
         && not (is_taken words.now.declared number || is_had ext.now number || get lefts.now 0 number)) }
@@ -109,7 +106,7 @@ pub fn check_words(
     requires words { AreFirstWords limits.now words.now limits.now.props }
     requires axioms { AreFirstAxioms limits.now words.now axioms.now (axiom_slots limits.now).count }
     requires files { AreFirstFiles limits.now words.now axioms.now files.now limits.now.files }
-    requires shape { HasShape row.old 3 limits.now.props }
+    requires shape { HasShape row.old 2 limits.now.props }
     ensures { (marks : List Bool) → WordsChecked (kept_in limits.now words.now axioms.now files.now marks) result }
 {
     mark_lefts(words, axioms, row);

@@ -10,22 +10,27 @@ ghost use Rattle.lis_journal.specs.Images.{Fits};
 ghost use Rattle.lis_bits.specs.Rows.{HasShape, get};
 ghost use Rattle.lis_blockmap.specs.Bitmap.{is_taken};
 ghost use Rattle.lis_content.specs.Content.{marked, are_free, are_distinct};
+ghost use Rattle.lis_dict.specs.Dict.{number_of};
 ghost use Rattle.lis_catalog.specs.Catalog.{slot_of, rec_at};
 ghost use Rattle.lis_ext.specs.Ext.{set_of};
 ghost use Rattle.lis_ext.specs.Numbers.{numbers_where};
 ghost use Rattle.lis_fields.specs.Layouts.{file_bytes, is_file, is_record};
+ghost use Rattle.lis_words.specs.Words.{test_of};
+ghost use Rattle.lis_model.specs.Tests.{is_met, met_tests};
 ghost use Rattle.lis_model.specs.Ranges.{are_in_range};
 ghost use Rattle.lis_model.specs.Image.{image_blocks};
 ghost use Rattle.lis_kept.specs.Areas.{file_slots, axiom_slots};
+ghost use Rattle.lis_kept.specs.Telling.{bit_of, bytes_told};
+ghost use Rattle.lis_store.specs.Contents.{AreContentsWithin};
 ghost use Rattle.lis_open.specs.Reading.{OnlyReads, HasPartCause, Recalls, IsReadAs, Ends};
-ghost use Rattle.lis_open.specs.ReadWords.{AreWords, AreFirstWords, AreFirstAxioms, WordsAreSpelled, AxiomsAreSpelled};
-ghost use Rattle.lis_open.specs.ReadFiles.{no_files, is_described, AreListed, found_words, met_numbers, HasTests, is_numbered, own_numbers, AreDescribed, may_file, TakesNumbers, TakesRecord, TakesFile, RecordFault, HasSlotFault, AreFirstFiles, FilesAreTold};
+ghost use Rattle.lis_open.specs.ReadWords.{AreWords, declared_words, AreFirstWords, AreFirstAxioms, WordsAreSpelled, AxiomsAreSpelled};
+ghost use Rattle.lis_open.specs.ReadFiles.{no_files, Gathered, AreListed, found_words, numbers_of, is_numbered, AreDescribed, may_file, TakesNumbers, TakesRecord, TakesFile, RecordFault, HasSlotFault, AreFirstFiles, FilesAreTold};
 
 use crate::axioms::Axioms;
 use crate::blocks::LastBlock;
 use crate::indexes::free_blocks;
 use crate::mounting::OpenFault;
-use crate::naming::{are_assignable, is_met_number, is_test_number, numbered};
+use crate::naming::{are_assignable, numbered};
 use crate::words::Words;
 use arrayvec::ArrayVec;
 use lis_bits::Rows;
@@ -39,9 +44,11 @@ use lis_journal::Journal;
 use lis_kept::{data_start, files_start};
 use lis_model::derived::Derived;
 use lis_model::limits::Limits;
+use lis_model::met::is_met;
 use lis_model::spot::Spot;
 use lis_ports::{Disk, Failed};
 use lis_taxonomy::Taxonomy;
+use lis_words::{Word, test_of};
 use std::alloc::{AllocError, Global};
 
 /// The most words of a description.
@@ -106,54 +113,68 @@ fn mark_all(map: &mut BlockMap, blocks: &[u16])
     }
 }
 
-// Makes the third row one of the declared tests.
-fn mark_tests(words: &Words, row: &mut Rows)
+// Whether a word of that number is a declared test that so many bytes meet. Few words are tests, so that is asked first.
+fn is_met_word(words: &Words, word: &Word, number: u16, size: u64) -> bool
     requires are { AreWords words.now }
-    requires shape { HasShape row.old 3 words.now.dict.props }
-    ensures { HasTests words.now row.new }
+    requires number { number_of words.now.dict word.now ≡ Some number }
+    ensures { result ≡ (is_met (test_of word.now) size && bit_of words.now.declared (number_of words.now.dict word.now)) }
 {
-    for number in 0..words.declared.len() {
-        row.put(2, number, is_test_number(words, number));
-    }
+    is_met(test_of(word), size) && words.declared.get(u32::from(number))
 }
 
-// Makes a row of all that the numbers entail. The row behind it is for what one of them entails.
-fn gather(taxonomy: &Taxonomy, tags: &[u16], row: &mut Rows)
-    requires shape { HasShape row.old 3 taxonomy.now.props }
-    requires below { IsTrue (list_all (λ n. nat_lt n taxonomy.now.props) tags.now) }
-    ensures shape { HasShape row.new 3 taxonomy.now.props }
-    ensures bits { (n : ℕ) → n < taxonomy.now.props → get row.new 0 n ≡ is_described taxonomy.now tags.now n }
-    ensures tests { (n : ℕ) → get row.new 2 n ≡ get row.old 2 n }
+// Adds to the row all that the numbers entail. The row behind it is for what one of them entails.
+fn gather(taxonomy: &Taxonomy, numbers: &[u16], row: &mut Rows)
+    requires shape { HasShape row.old 2 taxonomy.now.props }
+    requires below { IsTrue (list_all (λ n. nat_lt n taxonomy.now.props) numbers.now) }
+    ensures { Gathered taxonomy.now row.old row.new numbers.now }
 {
-    row.fill(0, false);
-    for tag in tags {
-        taxonomy.ups(u32::from(*tag), row, 1);
+    for number in numbers {
+        taxonomy.ups(u32::from(*number), row, 1);
         row.or(0, 1);
     }
 }
 
-// Adds to the row all that the declared tests that so many bytes meet entail. The row behind it is for what one of them entails, and the
-// third one says which numbers are to be looked at.
+// Adds to the row all that the derived words entail, and answers whether each of them, and its head, has a number.
+fn gather_derived(words: &Words, taxonomy: &Taxonomy, derived: &Derived, row: &mut Rows) -> bool
+    requires are { AreWords words.now }
+    requires props { taxonomy.now.props ≡ words.now.dict.props }
+    requires shape { HasShape row.old 2 taxonomy.now.props }
+    ensures all { result ≡ list_all (is_numbered words.now.dict) derived.now }
+    ensures shape { HasShape row.new 2 taxonomy.now.props }
+    ensures gathered { OnTrue result (Gathered taxonomy.now row.old row.new (numbers_of words.now.dict derived.now)) }
+{
+    for word in derived.as_slice() {
+        let Some(number) = numbered(words, word) else {
+            return false;
+        };
+        taxonomy.ups(u32::from(number), row, 1);
+        row.or(0, 1);
+    }
+    true
+}
+
+// Adds to the row all that the declared tests that so many bytes meet entail. The row behind it is for what one of them entails.
 fn gather_met(words: &Words, taxonomy: &Taxonomy, size: u64, row: &mut Rows)
     requires are { AreWords words.now }
     requires props { taxonomy.now.props ≡ words.now.dict.props }
-    requires rows { HasTests words.now row.old }
-    ensures rows { HasTests words.now row.new }
-    ensures bits { (n : ℕ) → n < taxonomy.now.props → get row.new 0 n ≡ (get row.old 0 n || is_described taxonomy.now (met_numbers words.now size) n) }
+    requires shape { HasShape row.old 2 taxonomy.now.props }
+    ensures { Gathered taxonomy.now row.old row.new (numbers_of words.now.dict (met_tests (declared_words words.now) size)) }
 {
-    let mut start = 0;
-    while let Some(number) = row.next(2, start) {
-        if is_met_number(words, number, size) {
-            taxonomy.ups(number, row, 1);
+    let (start, end) = words.dict.tests();
+    for k in start..end {
+        let Some((word, number)) = words.dict.word_at(k) else {
+            unreachable!()
+        };
+        if is_met_word(words, &word, number, size) {
+            taxonomy.ups(u32::from(number), row, 1);
             row.or(0, 1);
         }
-        start = number + 1;
     }
 }
 
 // The numbers of the row, as they rise. None comes where there are more than a description may have.
 fn list_numbers(row: &Rows) -> Option<ArrayVec<u16, MAX_WORDS>>
-    requires shape { HasShape row.now 3 row.now.bits }
+    requires shape { HasShape row.now 2 row.now.bits }
     requires few { row.now.bits ≤ 8192 }
     ensures { AreListed (numbers_where row.now.bits (get row.now 0)) (option_map (λ listed. listed.items) result) }
 {
@@ -169,34 +190,6 @@ fn list_numbers(row: &Rows) -> Option<ArrayVec<u16, MAX_WORDS>>
     Some(numbers)
 }
 
-// Copies the numbers of the words that a file was given, with room for those of derived words.
-fn copy_tags(tags: &[u16]) -> ArrayVec<u16, 64>
-    requires { length tags.now ≤ 16 }
-    ensures { result.items ≡ tags.now }
-{
-    let mut numbers = ArrayVec::new();
-    numbers.try_extend_from_slice(tags).unwrap();
-    numbers
-}
-
-// The numbers of the words that a file was given, and of those that are derived from it. None comes where a derived word, or its head,
-// has no number.
-fn own_numbers(words: &Words, tags: &[u16], derived: &Derived) -> Option<ArrayVec<u16, 64>>
-    requires are { AreWords words.now }
-    requires few { length tags.now ≤ 16 }
-    ensures { MatchOption result (list_all (is_numbered words.now.dict) derived.now ≡ false)
-        (λ numbers. (list_all (is_numbered words.now.dict) derived.now ≡ true) × (numbers.items ≡ own_numbers words.now.dict tags.now derived.now)) }
-{
-    let mut numbers = copy_tags(tags);
-    for word in derived.as_slice() {
-        let Some(number) = numbered(words, word) else {
-            return None;
-        };
-        numbers.push(number);
-    }
-    Some(numbers)
-}
-
 // The numbers of a file's description: all that its own words entail. None comes where one of them has no number, or where there are
 // more than a description may have.
 fn describe(
@@ -207,20 +200,20 @@ fn describe(
     row: &mut Rows,
 ) -> Option<ArrayVec<u16, MAX_WORDS>>
     requires are { AreWords words.now }
-    requires given { length rec.now.tags ≤ 16 }
     requires props { taxonomy.now.props ≡ words.now.dict.props }
     requires few { taxonomy.now.props ≤ 8192 }
-    requires rows { HasTests words.now row.old }
+    requires shape { HasShape row.old 2 taxonomy.now.props }
     requires below { IsTrue (list_all (λ n. nat_lt n taxonomy.now.props) rec.now.tags) }
-    ensures rows { HasTests words.now row.new }
+    ensures shape { HasShape row.new 2 taxonomy.now.props }
     ensures described { AreDescribed words.now taxonomy.now rec.now (found_words words.now rec.now.name bytes.now)
         (option_map (λ listed. listed.items) result) }
 {
     let derived = derive_words(&rec.name, bytes);
-    let Some(own) = own_numbers(words, rec.tags.as_slice(), &derived) else {
+    row.fill(0, false);
+    gather(taxonomy, rec.tags.as_slice(), row);
+    if !gather_derived(words, taxonomy, &derived, row) {
         return None;
-    };
-    gather(taxonomy, own.as_slice(), row);
+    }
     gather_met(words, taxonomy, bytes.len() as u64, row);
     list_numbers(row)
 }
@@ -264,6 +257,37 @@ struct Known<'a> {
     axioms: &'a Axioms,
 }
 
+// Reads the bytes of a record's file.
+fn read_bytes<D: Disk>(
+    disk: &mut D,
+    journal: &Journal,
+    limits: &Limits,
+    rec: &FileRec,
+    bytes: &mut Buffer,
+) -> Result<(), Failed>
+    requires range { IsTrue (are_in_range limits.now) }
+    requires form { IsTrue (is_record limits.now.version rec.now) }
+    requires below { IsTrue (list_all (λ n. nat_lt n limits.now.blocks) rec.now.blocks) }
+    requires image { journal.now.blocks ≡ image_blocks limits.now }
+    requires clean { journal.now.staged ≡ [] }
+    requires unbroken { journal.now.is_broken ≡ false }
+    requires long { 4096 * journal.now.blocks ≤ (D.meaning disk.old).len }
+    ensures reads { OnlyReads (D.meaning disk.old) (D.meaning disk.new) }
+    ensures cause { HasCause (D.meaning disk.old).disk_faults (D.meaning disk.new).disk_faults result }
+    ensures first_fault { DiskFaultEnds (D.meaning disk.old) (D.meaning disk.new) }
+    ensures size { OnOk result (length bytes.new ≡ rec.now.size) }
+    ensures read { OnOk result ((kept : ℕ → List ℕ) → Fits journal.now (D.meaning disk.old) kept
+        → AreContentsWithin limits.now kept rec.now → bytes.new ≡ bytes_told limits.now kept rec.now) }
+{
+    bytes.read(
+        journal,
+        disk,
+        data_start(limits),
+        rec.blocks.as_slice(),
+        rec.size,
+    )
+}
+
 // Takes the file of a record where it may be taken, and answers whether it is so. Its bytes are read where nothing else speaks
 // against it.
 fn take_record<D: Disk>(
@@ -285,7 +309,7 @@ fn take_record<D: Disk>(
     requires props { known.axioms.now.taxonomy.props ≡ known.words.now.dict.props }
     requires ext { files.old.ext.props ≡ known.words.now.dict.props }
     requires map { length files.old.map ≡ known.limits.now.blocks }
-    requires rows { HasTests known.words.now row.old }
+    requires shape { HasShape row.old 2 known.axioms.now.taxonomy.props }
     requires below { slot < files.old.catalog.files }
     requires free { rec_at files.old.catalog slot ≡ None }
     requires undescribed { set_of files.old.ext slot ≡ [] }
@@ -293,7 +317,7 @@ fn take_record<D: Disk>(
     ensures reads { OnlyReads (D.meaning disk.old) (D.meaning disk.new) }
     ensures cause { HasCause (D.meaning disk.old).disk_faults (D.meaning disk.new).disk_faults result }
     ensures first_fault { DiskFaultEnds (D.meaning disk.old) (D.meaning disk.new) }
-    ensures rows { HasTests known.entry.words.now row.new }
+    ensures shape { HasShape row.new 2 known.entry.axioms.now.taxonomy.props }
     ensures taken { IfOk result (λ taken. OnTrue taken
         (TakesRecord known.entry.limits.now (Fits known.entry.journal.now (D.meaning disk.old)) known.entry.words.now known.entry.axioms.now.taxonomy slot rec files.old files.new)) }
     ensures refused { IfOk result (λ taken. OnFalse taken ((files.new ≡ files.old)
@@ -306,13 +330,7 @@ fn take_record<D: Disk>(
     let Some(blocks) = free_blocks(disk, known.journal, known.limits, &files.map, &rec)? else {
         return Ok(false);
     };
-    bytes.read(
-        known.journal,
-        disk,
-        data_start(known.limits),
-        rec.blocks.as_slice(),
-        rec.size,
-    )?;
+    read_bytes(disk, known.journal, known.limits, &rec, bytes)?;
     match describe(
         known.words,
         &known.axioms.taxonomy,
@@ -348,7 +366,7 @@ fn take_file<D: Disk>(
     requires props { known.axioms.now.taxonomy.props ≡ known.words.now.dict.props }
     requires ext { files.old.ext.props ≡ known.words.now.dict.props }
     requires map { length files.old.map ≡ known.limits.now.blocks }
-    requires rows { HasTests known.words.now row.old }
+    requires shape { HasShape row.old 2 known.axioms.now.taxonomy.props }
     requires below { slot < files.old.catalog.files }
     requires free { rec_at files.old.catalog slot ≡ None }
     requires undescribed { set_of files.old.ext slot ≡ [] }
@@ -356,7 +374,7 @@ fn take_file<D: Disk>(
     ensures reads { OnlyReads (D.meaning disk.old) (D.meaning disk.new) }
     ensures cause { HasCause (D.meaning disk.old).disk_faults (D.meaning disk.new).disk_faults result }
     ensures first_fault { DiskFaultEnds (D.meaning disk.old) (D.meaning disk.new) }
-    ensures rows { HasTests known.entry.words.now row.new }
+    ensures shape { HasShape row.new 2 known.entry.axioms.now.taxonomy.props }
     ensures taken { IfOk result (λ taken. OnTrue taken
         (TakesFile known.entry.limits.now (Fits known.entry.journal.now (D.meaning disk.old)) known.entry.words.now known.entry.axioms.now.taxonomy slot found files.old files.new)) }
     ensures refused { IfOk result (λ taken. OnFalse taken ((files.new ≡ files.old)
@@ -386,12 +404,12 @@ pub fn read_files<D: Disk>(
     requires words { AreFirstWords limits.now words.now limits.now.props }
     requires axioms { AreFirstAxioms limits.now words.now axioms.now (axiom_slots limits.now).count }
     requires none { files.old ≡ no_files limits.now }
-    requires shape { HasShape row.old 3 limits.now.props }
+    requires shape { HasShape row.old 2 limits.now.props }
     requires image { journal.now.blocks ≡ image_blocks limits.now }
     requires clean { journal.now.staged ≡ [] }
     requires unbroken { journal.now.is_broken ≡ false }
     requires long { 4096 * journal.now.blocks ≤ (D.meaning disk.old).len }
-    ensures shape { HasShape row.new 3 limits.now.props }
+    ensures shape { HasShape row.new 2 limits.now.props }
     ensures reads { OnlyReads (D.meaning disk.old) (D.meaning disk.new) }
     ensures cause { HasPartCause (D.meaning disk.old).disk_faults (D.meaning disk.new).disk_faults result }
     ensures first_fault { DiskFaultEnds (D.meaning disk.old) (D.meaning disk.new) }
@@ -402,7 +420,6 @@ pub fn read_files<D: Disk>(
         → AxiomsAreSpelled limits.now kept axioms.now (axiom_slots limits.now).count
         → Ends limits.now kept 4 (FilesAreTold limits.now kept words.now axioms.now files.new) result }
 {
-    mark_tests(words, row);
     let known = Known {
         journal,
         limits,

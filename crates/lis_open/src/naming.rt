@@ -1,16 +1,14 @@
 //! What the words of an image may be used for.
 
-ghost use Rattle.std.specs.Prelude.{◌≡◌, ◌<◌, ◌||◌, not, is_some, true, false, Some, MatchOption};
+ghost use Rattle.std.specs.Prelude.{◌≡◌, ◌<◌, ◌||◌, ◌&&◌, not, is_some, true, false, Some, MatchOption};
 ghost use Rattle.std.specs.List.{list_all};
 ghost use Rattle.lis_dict.specs.Dict.{number_of, word_of};
-ghost use Rattle.lis_words.specs.Words.{has_word, is_valued, head_bytes};
+ghost use Rattle.lis_words.specs.Words.{has_word, is_plain_word, is_test, is_valued, head_bytes};
 ghost use Rattle.lis_model.specs.State.{is_assignable, is_nameable, is_known_head};
-ghost use Rattle.lis_kept.specs.TestEdges.{declared_test};
-ghost use Rattle.lis_open.specs.ReadWords.{AreWords, declared_words, is_test_number, is_met_number, is_left, is_right};
+ghost use Rattle.lis_open.specs.ReadWords.{AreWords, declared_words, is_left, is_right};
 ghost use Rattle.lis_open.specs.ReadFiles.{is_assignable_number, is_numbered};
 
 use crate::words::Words;
-use lis_model::met::is_met;
 use lis_words::{Word, head_of, is_builtin, is_head, is_plain_word, test_of};
 
 // Whether the word is declared.
@@ -35,18 +33,52 @@ fn is_known_head(words: &Words, word: &Word) -> bool
     is_declared(words, word) || is_builtin(word)
 }
 
+// Whether the word is plain or a test.
+fn is_plain_or_test(word: &Word) -> bool
+    ensures { result ≡ (is_plain_word word.now || is_test word.now) }
+{
+    if is_plain_word(word.bytes()) {
+        return true;
+    }
+    test_of(word).is_some()
+}
+
+// Whether the word is a declared one that is plain or a test.
+fn is_named(words: &Words, word: &Word) -> bool
+    requires { AreWords words.now }
+    ensures { result ≡ ((is_plain_word word.now || is_test word.now) && has_word (declared_words words.now) word.now) }
+{
+    is_plain_or_test(word) && is_declared(words, word)
+}
+
+// Whether the word is valued, and its head is declared or built in.
+fn has_known_head(words: &Words, word: &Word) -> bool
+    requires { AreWords words.now }
+    ensures { result ≡ (is_valued word.now && is_known_head (declared_words words.now) (head_bytes word.now)) }
+{
+    match head_of(word) {
+        None => false,
+        Some(head) => is_known_head(words, &head),
+    }
+}
+
 // Whether an axiom may name the word.
 fn is_nameable(words: &Words, word: &Word) -> bool
     requires { AreWords words.now }
     ensures { result ≡ is_nameable (declared_words words.now) word.now }
 {
-    if let Some(head) = head_of(word) {
-        return is_known_head(words, &head);
+    is_named(words, word) || is_known_head(words, word) || has_known_head(words, word)
+}
+
+// Whether the word is valued, and its head is declared.
+fn has_declared_head(words: &Words, word: &Word) -> bool
+    requires { AreWords words.now }
+    ensures { result ≡ (is_valued word.now && has_word (declared_words words.now) (head_bytes word.now)) }
+{
+    match head_of(word) {
+        None => false,
+        Some(head) => is_declared(words, &head),
     }
-    if is_head(word.bytes()) {
-        return is_known_head(words, word);
-    }
-    is_declared(words, word)
 }
 
 // Whether files may be given the word.
@@ -54,10 +86,7 @@ fn is_assignable(words: &Words, word: &Word) -> bool
     requires { AreWords words.now }
     ensures { result ≡ is_assignable (declared_words words.now) word.now }
 {
-    match head_of(word) {
-        None => is_plain_word(word.bytes()) && is_declared(words, word),
-        Some(head) => is_declared(words, &head),
-    }
+    (is_plain_word(word.bytes()) && is_declared(words, word)) || has_declared_head(words, word)
 }
 
 // The word that has a number.
@@ -120,37 +149,6 @@ pub fn is_left(words: &Words, number: u32) -> bool
         None => false,
         Some(word) => is_nameable(words, &word) && has_its_head(words, &word),
     }
-}
-
-// The test that the word of a number is, where this is declared.
-fn declared_test(words: &Words, number: u32) -> Option<(bool, u64)>
-    requires are { AreWords words.now }
-    requires number { number < words.now.dict.props }
-    ensures { result ≡ declared_test words.now.dict words.now.declared number }
-{
-    if !words.declared.get(number) {
-        return None;
-    }
-    let word = word_at(words, number)?;
-    test_of(&word)
-}
-
-/// Whether a number has a declared test.
-pub fn is_test_number(words: &Words, number: u32) -> bool
-    requires are { AreWords words.now }
-    requires number { number < words.now.dict.props }
-    ensures { result ≡ is_test_number words.now number }
-{
-    declared_test(words, number).is_some()
-}
-
-/// Whether a number has a declared test that so many bytes meet.
-pub fn is_met_number(words: &Words, number: u32, size: u64) -> bool
-    requires are { AreWords words.now }
-    requires number { number < words.now.dict.props }
-    ensures { result ≡ is_met_number words.now size number }
-{
-    is_met(declared_test(words, number), size)
 }
 
 // Whether the number is that of a word that files may be given.

@@ -19,7 +19,7 @@ pub struct Room {
     pub words: Words,
     pub axioms: Axioms,
     pub files: Files,
-    /// Three rows of numbers. Files are read with the declared tests in the third one; else each reader uses them as it likes.
+    /// Two rows of numbers. Each reader uses them as it likes.
     pub row: Rows,
     /// The bytes of the file that is read.
     pub bytes: Buffer,
@@ -34,7 +34,7 @@ pub fn take_room(alloc: Global, limits: &Limits) -> Result<Room, AllocError>
     ensures { IfOk result (IsEmptyRoom limits.now) }
 {
     Ok(Room {
-        row: Rows::new(alloc, 3, limits.props)?,
+        row: Rows::new(alloc, 2, limits.props)?,
         bytes: Buffer::new(alloc)?,
         marks: Flags::new(alloc, 64 * data_start(limits).div_ceil(64))?,
         axioms: no_axioms(alloc, limits)?,

@@ -1,5 +1,4 @@
-use Rattle.lis_fields.specs.Layouts.{axiom_bytes, is_axiom}
-use Rattle.lis_kept.specs.Areas.{axiom_slots}
+use Rattle.lis_open.proofs.Common.{axiom_bytes, is_axiom, axiom_slots}
 use Rattle.lis_open.proofs.Slots.{few_blocks, read_as}
 use Rattle.lis_open.proofs.axioms.read_axiom_slot.Goals as goal
 

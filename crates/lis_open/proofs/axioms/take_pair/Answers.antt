@@ -1,5 +1,7 @@
 use Rattle.std.proofs.Common.{◌∙◌, refl, sym}
-use Rattle.lis_open.proofs.AxiomsRead.{right_below, pair_taken}
+use Rattle.std.proofs.lemmas.Bool.{false_from_ne_true}
+use Rattle.lis_open.proofs.Common.{has_edge}
+use Rattle.lis_open.proofs.AxiomsRead.{right_below}
 use Rattle.lis_open.proofs.axioms.take_pair.Goals as goal
 
 pub add-requires-clause-q : goal.add-requires-clause-q
@@ -8,6 +10,11 @@ add-requires-clause-q c =
     (sym c.are_sides.ensures ∙ c.if-not-are_sides.false)
 
 pub returns-clause-taken : goal.returns-clause-taken
-returns-clause-taken c =
-    pair_taken c.args.limits.now c.args.words.now c.args.k c.args.left c.args.right c.args.axioms.now _ c.add.result c.if-k-limits.false (sym c.are_sides.ensures ∙ c.if-not-are_sides.false)
-    (sym c.is_err.ensures.value ∙ c.if-is_err.false) c.add.ensures.present c.add.ensures.cycle c.add.ensures.ok refl
+returns-clause-taken c = record {
+  below = c.if-k-limits.false;
+  sides = sym c.are_sides.ensures ∙ c.if-not-are_sides.false;
+  absent = false_from_ne_true (has_edge c.args.axioms.now.taxonomy c.args.left c.args.right) (λ h. absurd (let is = sym c.in-Ok.is ∙ c.add.ensures.present.1 h in cc));
+  open_end = λ leads. absurd (let is = sym c.in-Ok.is ∙ c.add.ensures.cycle.1 leads in cc);
+  slots = refl;
+  taxonomy = c.in-Ok.ensures.ok;
+}

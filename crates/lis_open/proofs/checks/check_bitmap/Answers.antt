@@ -2,7 +2,7 @@ use Rattle.std.proofs.Common.{◌≡◌, ◌∙◌, refl, sym, ap, subst, ℕ, L
 use Rattle.lis_blockmap.specs.Bitmap.{IsFirstDifference}
 use Rattle.lis_journal.specs.Images.{look}
 use Rattle.lis_journal.specs.Record.{Entry}
-use Rattle.lis_model.specs.Image.{bitmap_start}
+use Rattle.lis_open.proofs.Common.{bitmap_start}
 use Rattle.lis_open.proofs.checks.check_bitmap.Goals as goal
 
 -- a block that is read where nothing is staged

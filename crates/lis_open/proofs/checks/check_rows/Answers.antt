@@ -1,6 +1,5 @@
 use Rattle.std.proofs.Common.{◌∙◌, ◌<◌, subst, below_more}
-use Rattle.lis_ports.proofs.Ending.{ends_then}
-use Rattle.lis_kept.specs.Areas.{row_slots}
+use Rattle.lis_open.proofs.Common.{ends_then, row_slots}
 use Rattle.lis_open.proofs.Quiet.{reads_then, fits_after}
 use Rattle.lis_open.proofs.ZeroRows.{first_row}
 use Rattle.lis_open.proofs.checks.check_rows.Goals as goal

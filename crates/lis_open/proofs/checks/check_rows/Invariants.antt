@@ -1,6 +1,5 @@
 use Rattle.std.proofs.Common.{◌≡◌, ℕ, ◌<◌, List}
-use Rattle.lis_ports.specs.Calls.{DiskFaultEnds}
-use Rattle.lis_journal.specs.Images.{Fits}
+use Rattle.lis_open.proofs.Common.{DiskFaultEnds, Fits}
 use Rattle.lis_open.specs.Reading.{OnlyReads, Recalls}
 use Rattle.lis_open.specs.ReadAll.{IsRowSpelled}
 use Rattle.lis_open.proofs.checks.check_rows.Given as goal

@@ -1,9 +1,15 @@
 use Rattle.std.proofs.Common.{◌≡◌, ◌⊎◌, ◌∙◌, refl, sym, inl, inr, ℕ, ◌<◌, ◌≤◌, Bool, false, List, [], below_more, arith}
-use Rattle.std.proofs.lemmas.Bool.{cases_lt}
-use Rattle.lis_bits.specs.Rows.{get}
+use Rattle.lis_open.proofs.Common.{cases_lt, get, number_from_word, number_below}
 use Rattle.lis_open.specs.ReadAll.{kept_in, is_stray}
+use Rattle.lis_open.proofs.Sides.{sides}
 use Rattle.lis_open.proofs.Lefts.{stray_by_row, no_stray_past}
 use Rattle.lis_open.proofs.checks.check_words.Goals as goal
+
+pub mark_lefts-requires-clause-lefts : goal.mark_lefts-requires-clause-lefts
+mark_lefts-requires-clause-lefts c = λ k left right is.
+    let dict = c.requires.words.are.dict in
+    let from = (sides c.args.limits.now c.args.words.now c.args.axioms.now dict _ c.requires.axioms k left right is).from in
+    number_below c.args.words.now.dict dict from.word left (number_from_word c.args.words.now.dict dict from.word left from.is)
 
 pub returns-then-is_stray : goal.returns-then-is_stray
 returns-then-is_stray c = λ marks.
@@ -13,7 +19,7 @@ returns-then-is_stray c = λ marks.
       refl,
       record {
         below = c.loop-number-test.true;
-        stray = sym (stray_by_row k l.number (get c.mark_lefts.new.row 0 l.number) (λ some. c.mark_lefts.ensures.bits l.number (omega (arith, c.loop-number-test.true, c.requires.words.props)) some))
+        stray = sym (stray_by_row k l.number (get c.mark_lefts.new.row 0 l.number) (c.mark_lefts.ensures.bits l.number (omega (arith, c.loop-number-test.true, c.requires.words.props))))
             ∙ (sym c.is_stray.ensures ∙ c.if-is_stray.true);
         none_before = l.invariant;
       },
@@ -24,7 +30,7 @@ loop-number-preserved c =
     let l = c.loop-number in
     let k = kept_in c.args.limits.now c.args.words.now c.args.axioms.now c.args.files.now [] in
     below_more _ _ l.invariant
-    (sym (stray_by_row k l.number (get c.mark_lefts.new.row 0 l.number) (λ some. c.mark_lefts.ensures.bits l.number (omega (arith, c.loop-number-test.true, c.requires.words.props)) some))
+    (sym (stray_by_row k l.number (get c.mark_lefts.new.row 0 l.number) (c.mark_lefts.ensures.bits l.number (omega (arith, c.loop-number-test.true, c.requires.words.props))))
     ∙ (sym c.is_stray.ensures ∙ c.if-is_stray.false))
 
 pub returns : goal.returns

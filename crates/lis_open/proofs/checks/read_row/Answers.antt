@@ -1,5 +1,5 @@
 use Rattle.std.proofs.Common.{arith}
-use Rattle.std.proofs.lemmas.List.{length-take-le}
+use Rattle.lis_open.proofs.Common.{length-take-le}
 use Rattle.lis_kept.proofs.InArea.{few_files}
 use Rattle.lis_open.proofs.Slots.{few_blocks}
 use Rattle.lis_open.proofs.ZeroRows.{row_read}

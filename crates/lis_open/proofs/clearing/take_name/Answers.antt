@@ -1,5 +1,5 @@
 use Rattle.std.proofs.Common.{◌∙◌, arith}
-use Rattle.std.proofs.lemmas.Result.{on_ok_weaker}
+use Rattle.lis_open.proofs.Common.{on_ok_weaker}
 use Rattle.lis_open.proofs.Names.{nameless_zero}
 use Rattle.lis_open.proofs.clearing.take_name.Goals as goal
 

@@ -1,8 +1,7 @@
 use Rattle.std.proofs.Common.{◌≡◌, inl, inr, ◌-◌, ◌*◌, ◌≤◌, ◌∙◌, length, subst, sym, arith}
-use Rattle.std.proofs.lemmas.Result.{on_ok_weaker}
+use Rattle.lis_open.proofs.Common.{on_ok_weaker, data_start, image_blocks}
 use Rattle.lis_ports.proofs.Always.{always_settled, settled_synced}
 use Rattle.lis_journal.proofs.Spreading.{spreads_then, spreads_sync}
-use Rattle.lis_model.specs.Image.{data_start, image_blocks}
 use Rattle.lis_open.specs.Makes.{IsWiped, IsWiping}
 use Rattle.lis_open.proofs.Wiping.{wiped}
 use Rattle.lis_open.proofs.Made.{wiping_refl, wiping_trans, spreads_wiping}

@@ -1,6 +1,6 @@
 use Rattle.std.proofs.Common.{◌≡◌, ◌∙◌, length, ap, arith}
-use Rattle.std.proofs.lemmas.Result.{on_ok_weaker}
-use Rattle.lis_ports.specs.Bytes.{put, Torn}
+use Rattle.lis_open.proofs.Common.{on_ok_weaker, Torn}
+use Rattle.lis_ports.specs.Bytes.{put}
 use Rattle.lis_journal.proofs.Spreading.{spreads_torn}
 use Rattle.lis_open.proofs.Ranges.{torn_wider}
 use Rattle.lis_open.proofs.Wiping.{rest_is, length-rest}

@@ -1,5 +1,6 @@
+use Rattle.std.proofs.Common.{take}
 use Rattle.lis_open.proofs.Gathering.{Gathered}
 use Rattle.lis_open.proofs.files.gather.Given as goal
 
-abbrev pub invariant-loop-tag : goal.invariant-loop-tag
-invariant-loop-tag l = Gathered l.taxonomy l.tags l.fn.row l.row l.tag-index
+abbrev pub invariant-loop-number : goal.invariant-loop-number
+invariant-loop-number l = Gathered l.taxonomy l.fn.row l.row (take l.number-index l.numbers)

@@ -1,35 +1,55 @@
-use Rattle.std.proofs.Common.{sym, subst, ◌+◌, ◌<◌, ◌∙◌, arith}
-use Rattle.lis_open.proofs.MetTests.{MetSoFar, met_none, met_past, met_not, met_more, met_all}
+use Rattle.std.proofs.Common.{◌≡◌, ◌∙◌, ℕ, ◌+◌, Some, sym, ap, subst, arith}
+use Rattle.std.specs.List.{slice_get}
+use Rattle.lis_open.proofs.Common.{with_row, number_below, among_place, entails}
+use Rattle.lis_dict.proofs.Laws.{number_from_among}
+use Rattle.lis_eval.proofs.Members.{past_end}
+use Rattle.lis_open.proofs.MetTests.{MetSoFar, met_none, met_not, met_more, met_all}
 use Rattle.lis_open.proofs.files.gather_met.Goals as goal
-use Rattle.lis_open.proofs.files.gather_met.Goals.{then-is_met_number, else-is_met_number}
+use Rattle.lis_open.proofs.files.gather_met.Goals.{then-is_met_word, else-is_met_word}
 
-pub loop-number-init : goal.loop-number-init
-loop-number-init c = met_none c.args.words.now c.args.taxonomy.now c.args.size c.requires.props c.args.row.now c.requires.rows
+pub loop-k-init : goal.loop-k-init
+loop-k-init c =
+    let tests = c.tests-start.ensures in
+    met_none c.args.words.now c.args.taxonomy.now c.args.size c.args.row.now c.tests-start.result.0 c.requires.shape (omega (arith, tests.rise, tests.within)) tests.before
 
-pub loop-number-preserved : goal.loop-number-preserved
-loop-number-preserved c =
-    let l = c.loop-number in
+pub unreachable-requires : goal.unreachable-requires
+unreachable-requires c =
+    let past = past_end c.args.words.now.dict.entries c.loop-k.k (sym c.word_at.ensures ∙ c.in_default.is) in
+    omega (arith, past, c.loop-k-test.true, c.tests-start.ensures.within)
+
+pub is_met_word-requires-clause-number : goal.is_met_word-requires-clause-number
+is_met_word-requires-clause-number c =
+    let dict = c.args.words.now.dict in
+    number_from_among dict c.requires.are.dict c.in-Some.word c.in-Some.number (among_place dict.entries c.loop-k.k (c.in-Some.word, c.in-Some.number) (sym c.word_at.ensures ∙ c.in-Some.is))
+
+pub ups-requires-clause-p : goal.ups-requires-clause-p
+ups-requires-clause-p c =
+    let dict = c.args.words.now.dict in
+    let named = number_from_among dict c.requires.are.dict c.in-Some.word c.in-Some.number (among_place dict.entries c.loop-k.k (c.in-Some.word, c.in-Some.number) (sym c.word_at.ensures ∙ c.in-Some.is)) in
+    omega (arith, number_below dict c.requires.are.dict c.in-Some.word c.in-Some.number named, c.requires.props, c.from.ensures)
+
+pub loop-k-preserved : goal.loop-k-preserved
+loop-k-preserved c =
+    let l = c.loop-k in
     let words = c.args.words.now in
     let t = c.args.taxonomy.now in
-    let size = c.args.size in
     let old = c.args.row.now in
-    let number = c.in-Some.number in
-    let next = c.in-Some.ensures in
-    let below : number < words.dict.props = omega (arith, next.in_row, l.invariant.rows.shape.wide) in
-    let here = met_past words t size c.requires.props old l.row l.start number l.invariant next.from_start (omega (arith, below)) next.least in
-    elim c.if-is_met_number.branch [
-      | then-is_met_number w ↦
-          subst (λ row. MetSoFar words t size old row (number + 1)) (sym w.row-is)
-          (met_more words t size c.requires.props old l.row w.ups.new.to w.or.new.self number here below (sym c.is_met_number.ensures ∙ w.if-is_met_number.true) w.ups.ensures.row w.or.ensures)
-      | else-is_met_number w ↦
-          subst (λ row. MetSoFar words t size old row (number + 1)) (sym w.row-is)
-          (met_not words t size c.requires.props old l.row number here below (sym c.is_met_number.ensures ∙ w.if-is_met_number.false))
+    let here : slice_get words.dict.entries l.k ≡ Some (c.in-Some.word, c.in-Some.number) = sym c.word_at.ensures ∙ c.in-Some.is in
+    let named = number_from_among words.dict c.requires.are.dict c.in-Some.word c.in-Some.number (among_place words.dict.entries l.k (c.in-Some.word, c.in-Some.number) here) in
+    elim c.if-is_met_word.branch [
+      | then-is_met_word w ↦
+          subst (λ row. MetSoFar words t c.args.size old row (l.k + 1)) (sym w.row-is)
+          (met_more words t c.args.size old l.k c.in-Some.word c.in-Some.number here l.row l.invariant w.ups.new.to w.or.new.self named (sym c.is_met_word.ensures ∙ w.if-is_met_word.true)
+          (w.ups.ensures.row ∙ ap (λ n. with_row l.row 1 (entails t n)) w.from.ensures) w.or.ensures)
+      | else-is_met_word w ↦
+          subst (λ row. MetSoFar words t c.args.size old row (l.k + 1)) (sym w.row-is)
+          (met_not words t c.args.size old l.k c.in-Some.word c.in-Some.number here l.row l.invariant (sym c.is_met_word.ensures ∙ w.if-is_met_word.false))
     ]
 
 pub returns : goal.returns
 returns c =
-    let l = c.loop-number in
-    record {
-      rows = l.invariant.rows;
-      bits = met_all c.args.words.now c.args.taxonomy.now c.args.size c.requires.props c.args.row.now l.row l.start l.invariant c.in_default.ensures.none;
-    }
+    let tests = c.tests-start.ensures in
+    let words = c.args.words.now in
+    let end : c.loop-k.k ≡ c.tests-start.result.1 = omega (arith, c.loop-k-test.false, c.loop-k.auto.k-end, tests.rise) in
+    let was = subst (λ k. MetSoFar words c.args.taxonomy.now c.args.size c.args.row.now c.loop-k.row k) end c.loop-k.invariant in
+    met_all words c.args.taxonomy.now c.args.size c.args.row.now c.loop-k.row c.tests-start.result.1 was tests.within tests.behind

@@ -1,6 +1,5 @@
 use Rattle.std.proofs.Common.{arith}
-use Rattle.lis_fields.specs.Layouts.{file_bytes, is_file}
-use Rattle.lis_kept.specs.Areas.{file_slots}
+use Rattle.lis_open.proofs.Common.{file_bytes, is_file, file_slots}
 use Rattle.lis_kept.proofs.InArea.{whole_files}
 use Rattle.lis_open.proofs.Slots.{few_blocks, read_as}
 use Rattle.lis_open.proofs.files.read_slot.Goals as goal

@@ -1,28 +1,14 @@
 use Rattle.std.proofs.Common.{◌≡◌, refl, sym, ap, subst, ◌∙◌, length, false}
-use Rattle.lis_content.specs.Content.{are_free, are_distinct}
-use Rattle.lis_fields.specs.Records.{FileRecord}
-use Rattle.lis_fields.proofs.Parts.{record_tests, few_tags}
+use Rattle.lis_open.proofs.Common.{are_free, are_distinct, are_below}
 use Rattle.lis_open.specs.ReadFiles.{found_words, own_numbers, may_describe, TakesNumbers}
 use Rattle.lis_open.specs.ReadFiles.RecordFault.{NoBlocks, NotDescribed}
-use Rattle.lis_open.proofs.BlocksRead.{size_of_form, slot_of_form}
-use Rattle.lis_open.proofs.FilesRead.{tags_below, blocks_within, read_are_told}
+use Rattle.lis_open.proofs.FilesRead.{tags_below, free_below}
 use Rattle.lis_open.proofs.Gathering.{described_rise, described_in}
-use Rattle.lis_open.proofs.Quiet.{reads_then, fits_after}
+use Rattle.lis_open.proofs.Quiet.{fits_after}
 use Rattle.lis_open.proofs.files.take_record.Goals as goal
 
-pub read-requires-clause-within : goal.read-requires-clause-within
-read-requires-clause-within g c =
-    blocks_within c.args.known.limits.now c.args.files.now.map c.args.rec c.as_slice.result.now c.data_start.result _ c.data_start.ensures.start c.requires.image c.requires.map c.rec.view_is
-    c.as_slice.ensures.value (rw c.in-Some.is at c.in_ok-blocks.ensures.usable).own
-
-pub read-requires-clause-short : goal.read-requires-clause-short
-read-requires-clause-short g c = size_of_form c.args.known.limits.now.version c.args.rec c.requires.form c.rec.view_is
-
-pub read-requires-clause-count : goal.read-requires-clause-count
-read-requires-clause-count g c = slot_of_form c.args.known.limits.now.version c.args.rec c.as_slice.result.now c.requires.form c.rec.view_is c.as_slice.ensures.value
-
-pub describe-requires-clause-given : goal.describe-requires-clause-given
-describe-requires-clause-given g c = few_tags c.args.rec.tags (record_tests c.args.known.limits.now.version c.args.rec c.requires.form).tags
+pub read_bytes-requires-clause-below : goal.read_bytes-requires-clause-below
+read_bytes-requires-clause-below g c = free_below c.args.known.limits.now c.args.files.now.map _ c.requires.map (rw c.in-Some.is at c.in_ok-blocks.ensures.usable).own
 
 pub describe-requires-clause-below : goal.describe-requires-clause-below
 describe-requires-clause-below g c =
@@ -30,21 +16,16 @@ describe-requires-clause-below g c =
 
 pub file-requires-clause-rise : goal.file-requires-clause-rise
 file-requires-clause-rise g c =
-    described_rise c.args.known.axioms.now.taxonomy (own_numbers c.args.known.words.now.dict c.args.rec.tags (found_words c.args.known.words.now c.args.rec.name c.bytes.result.now)) c.as_slice-in-Some-describe.result.now
-    (c.as_slice-in-Some-describe.ensures.value ∙ c.in-Some-describe.ensures.described.1)
+    described_rise c.args.known.axioms.now.taxonomy (own_numbers c.args.known.words.now.dict c.args.rec.tags (found_words c.args.known.words.now c.args.rec.name c.bytes.result.now)) c.as_slice.result.now
+    (c.as_slice.ensures.value ∙ c.in-Some-describe.ensures.described.1)
 
 pub file-requires-clause-in_range : goal.file-requires-clause-in_range
 file-requires-clause-in_range g c =
-    described_in c.args.known.axioms.now.taxonomy (own_numbers c.args.known.words.now.dict c.args.rec.tags (found_words c.args.known.words.now c.args.rec.name c.bytes.result.now)) c.as_slice-in-Some-describe.result.now
-    c.args.files.now.ext.props (c.requires.ext ∙ sym c.requires.props) (c.as_slice-in-Some-describe.ensures.value ∙ c.in-Some-describe.ensures.described.1)
+    described_in c.args.known.axioms.now.taxonomy (own_numbers c.args.known.words.now.dict c.args.rec.tags (found_words c.args.known.words.now c.args.rec.name c.bytes.result.now)) c.as_slice.result.now
+    c.args.files.now.ext.props (c.requires.ext ∙ sym c.requires.props) (c.as_slice.ensures.value ∙ c.in-Some-describe.ensures.described.1)
 
 pub returns-in_default-clause-refused : goal.returns-in_default-clause-refused
 returns-in_default-clause-refused g c = (refl, λ kept fits. NoBlocks (rw c.in_default.is at (c.in_ok-blocks.ensures.found kept fits)))
-
-pub returns-in-None-clause-reads : goal.returns-in-None-clause-reads
-returns-in-None-clause-reads g c =
-    let read = c.in_ok-read.ensures in
-    reads_then c.in_ok-blocks.ensures.reads (record { run = read.run; same = read.same; moments = read.any_moment })
 
 pub returns-in-None-clause-refused : goal.returns-in-None-clause-refused
 returns-in-None-clause-refused g c =
@@ -55,16 +36,10 @@ returns-in-None-clause-refused g c =
       refl,
       λ kept fits.
           let found = rw c.in-Some.is at (c.in_ok-blocks.ensures.found kept fits) in
-          let told = read_are_told limits c.args.files.now.map rec _ c.as_slice.result.now c.args.known.journal.now.staged kept c.data_start.result _ c.read.new.self
-          c.data_start.ensures.start c.requires.image c.requires.map c.requires.clean c.rec.view_is c.as_slice.ensures.value usable.free found.1
-          (c.in_ok-read.ensures.read kept (fits_after c.args.known.journal.now kept c.in_ok-blocks.ensures.reads fits)) in
+          let within = ap (are_below limits.blocks) (sym found.1) ∙ free_below limits c.args.files.now.map _ c.requires.map usable.free in
+          let told = c.in_ok-read_bytes.ensures.read kept (fits_after c.args.known.journal.now kept c.in_ok-blocks.ensures.reads fits) within in
           NotDescribed (subst (λ bytes. may_describe words c.args.known.axioms.now.taxonomy rec (found_words words rec.name bytes) ≡ false) (c.bytes.ensures.bytes ∙ told) c.in-None.ensures.described),
     )
-
-pub returns-in-Some-describe-clause-reads : goal.returns-in-Some-describe-clause-reads
-returns-in-Some-describe-clause-reads g c =
-    let read = c.in_ok-read.ensures in
-    reads_then c.in_ok-blocks.ensures.reads (record { run = read.run; same = read.same; moments = read.any_moment })
 
 pub returns-in-Some-describe-clause-taken : goal.returns-in-Some-describe-clause-taken
 returns-in-Some-describe-clause-taken g c =
@@ -74,22 +49,20 @@ returns-in-Some-describe-clause-taken g c =
     let blocks = c.deref.result.now in
     let same = c.deref.ensures.0 in
     let usable = rw c.in-Some.is at c.in_ok-blocks.ensures.usable in
-    let numbers = c.as_slice-in-Some-describe.ensures.value ∙ c.in-Some-describe.ensures.described.1 in
+    let numbers = c.as_slice.ensures.value ∙ c.in-Some-describe.ensures.described.1 in
     record {
       bytes = c.bytes.result.now;
       blocks = blocks;
-      sized = ap length c.bytes.ensures.bytes ∙ (c.in_ok-read.ensures.size ∙ ap (λ (r : FileRecord). r.size) c.rec.view_is);
+      sized = ap length c.bytes.ensures.bytes ∙ c.in_ok-read_bytes.ensures.size;
       filed = sym c.if-not-may_file.ensures;
       describes = c.in-Some-describe.ensures.described.0;
       usable = record { own = usable.own; free = ap (are_free files.map) same ∙ usable.free; distinct = ap are_distinct same ∙ usable.distinct };
       takes = subst (λ ns. TakesNumbers c.args.slot rec blocks ns files c.file.new.files) numbers c.file.ensures;
       told = λ kept fits.
           let found = rw c.in-Some.is at (c.in_ok-blocks.ensures.found kept fits) in
+          let within = ap (are_below limits.blocks) (sym found.1) ∙ free_below limits files.map _ c.requires.map usable.free in
           record {
-            bytes_are = c.bytes.ensures.bytes ∙
-                read_are_told limits files.map rec _ c.as_slice.result.now c.args.known.journal.now.staged kept c.data_start.result _ c.read.new.self
-                c.data_start.ensures.start c.requires.image c.requires.map c.requires.clean c.rec.view_is c.as_slice.ensures.value usable.free found.1
-                (c.in_ok-read.ensures.read kept (fits_after c.args.known.journal.now kept c.in_ok-blocks.ensures.reads fits));
+            bytes_are = c.bytes.ensures.bytes ∙ c.in_ok-read_bytes.ensures.read kept (fits_after c.args.known.journal.now kept c.in_ok-blocks.ensures.reads fits) within;
             indexed = found.0;
             blocks_are = same ∙ found.1;
           };

@@ -1,5 +1,5 @@
 use Rattle.std.proofs.Common.{◌≡◌, drop}
-use Rattle.lis_content.specs.Content.{are_distinct}
+use Rattle.lis_open.proofs.Common.{are_distinct}
 use Rattle.lis_open.proofs.indexes.are_distinct.Given as goal
 
 abbrev pub invariant-loop-k : goal.invariant-loop-k

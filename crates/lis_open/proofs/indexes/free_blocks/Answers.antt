@@ -1,5 +1,5 @@
 use Rattle.std.proofs.Common.{◌∙◌, sym, ap, Some, None}
-use Rattle.lis_content.specs.Content.{are_free, are_distinct}
+use Rattle.lis_open.proofs.Common.{are_free, are_distinct}
 use Rattle.lis_open.proofs.BlocksRead.{size_of_form, slot_of_form, free_within, read_of, not_own, not_indexed, not_free, not_distinct}
 use Rattle.lis_open.proofs.indexes.free_blocks.Goals as goal
 

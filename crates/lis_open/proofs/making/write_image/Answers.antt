@@ -1,7 +1,8 @@
-use Rattle.std.proofs.Common.{refl, sym, ◌∙◌}
-use Rattle.std.proofs.lemmas.Result.{err_from_is_err_and, IfErr-at_err, on_ok_weaker}
+use Rattle.std.proofs.Common.{rules, refl, sym, ◌∙◌, IsTrue, OnOk}
+use Rattle.lis_open.proofs.Common.{err_from_is_err_and, on_ok_weaker, Always}
+use Rattle.std.proofs.lemmas.Result.{IfErr-at_err}
 use Rattle.lis_ports.proofs.Moments.{leaves_then}
-use Rattle.lis_open.specs.Makes.{IsSettledAt}
+use Rattle.lis_open.specs.Makes.{IsMade, IsSettledAt}
 use Rattle.lis_open.proofs.Wiping.{spared_moments, wiping_moments, naming_moments, named_stands}
 use Rattle.lis_open.proofs.Made.{named_spreads, wiped_spreads, made_spreads, moments_spare, spare_spreads, made_all, spare_either}
 use Rattle.lis_open.proofs.making.write_image.Goals as goal
@@ -38,45 +39,34 @@ returns-in_err-wipe-clause-spare g c = λ n honest is settled.
     spare_spreads limits n (wiped_spreads limits (c.take_name.ensures.spreads honest) (c.wipe.ensures.spreads honest1)) is
     (IfErr-at_err (λ _. IsSettledAt (g.D.Disk.meaning c.args.disk.now) n) p.1 settled)
 
-pub returns-clause-made : goal.returns-clause-made
-returns-clause-made g c = on_ok_weaker c.write_first.result (λ written. λ honest.
-    let honest1 = c.take_name.ensures.run.honest ∙ honest in
-    let honest2 = c.wipe.ensures.run.honest ∙ honest1 in
-    named_stands c.args.limits.now c.requires.range (c.in_ok-wipe.ensures.wiped honest1) (written honest2))
-    c.write_first.ensures.settled
-
-pub returns-clause-any_moment : goal.returns-clause-any_moment
-returns-clause-any_moment g c = λ honest settled.
+pub returns : goal.returns
+returns g c =
     let limits = c.args.limits.now in
-    let bytes = (g.D.Disk.meaning c.args.disk.now).bytes in
-    let honest1 = c.take_name.ensures.run.honest ∙ honest in
-    let honest2 = c.wipe.ensures.run.honest ∙ honest1 in
-    moments_spare limits settled
-    (leaves_then (spared_moments limits bytes (c.take_name.ensures.any_moment honest settled))
-    (leaves_then (wiping_moments limits bytes (c.in_ok-take_name.ensures.nameless honest) (c.wipe.ensures.spreads honest1))
-    (naming_moments limits bytes c.requires.range (c.in_ok-wipe.ensures.wiped honest1) (c.write_first.ensures.spreads honest2))))
-    (made_spreads limits (c.take_name.ensures.spreads honest) (c.wipe.ensures.spreads honest1) (c.write_first.ensures.spreads honest2))
-
-pub returns-clause-left : goal.returns-clause-left
-returns-clause-left g c = on_ok_weaker c.write_first.result (λ written. λ honest.
-    let honest1 = c.take_name.ensures.run.honest ∙ honest in
-    let honest2 = c.wipe.ensures.run.honest ∙ honest1 in
-    made_all c.args.limits.now (g.D.Disk.meaning c.args.disk.now).bytes (c.in_ok-take_name.ensures.torn honest) (c.wipe.ensures.spreads honest1)
-    (c.in_ok-wipe.ensures.wiped honest1) (written honest2) (c.write_first.ensures.spreads honest2))
-    c.write_first.ensures.settled
-
-pub returns-clause-settled : goal.returns-clause-settled
-returns-clause-settled g c = on_ok_weaker c.write_first.result (λ written. λ honest.
-    let settled = written (c.wipe.ensures.run.honest ∙ (c.take_name.ensures.run.honest ∙ honest)) in
-    record { reads = refl; only = λ image is. settled.only image is ∙ sym settled.reads })
-    c.write_first.ensures.settled
-
-pub returns-clause-spare : goal.returns-clause-spare
-returns-clause-spare g c = λ n honest.
-    let limits = c.args.limits.now in
-    let honest1 = c.take_name.ensures.run.honest ∙ honest in
-    let honest2 = c.wipe.ensures.run.honest ∙ honest1 in
-    spare_either limits n c.write_first.result
-    (on_ok_weaker c.write_first.result (λ written. made_all limits (g.D.Disk.meaning c.args.disk.now).bytes (c.in_ok-take_name.ensures.torn honest) (c.wipe.ensures.spreads honest1)
-    (c.in_ok-wipe.ensures.wiped honest1) (written honest2) (c.write_first.ensures.spreads honest2)) c.write_first.ensures.settled)
-    (made_spreads limits (c.take_name.ensures.spreads honest) (c.wipe.ensures.spreads honest1) (c.write_first.ensures.spreads honest2))
+    let old = g.D.Disk.meaning c.args.disk.now in
+    let one = λ (honest : IsTrue old.is_honest). c.take_name.ensures.run.honest ∙ honest in
+    let two = λ (honest : IsTrue old.is_honest). c.wipe.ensures.run.honest ∙ one honest in
+    let spreads = λ (honest : IsTrue old.is_honest).
+    made_spreads limits (c.take_name.ensures.spreads honest) (c.wipe.ensures.spreads (one honest)) (c.write_first.ensures.spreads (two honest)) in
+    let made : OnOk c.write_first.result (IsTrue old.is_honest → Always (g.D.Disk.meaning c.write_first.new.disk) (IsMade limits old.bytes)) =
+    on_ok_weaker c.write_first.result (λ written. λ honest.
+    made_all limits old.bytes (c.in_ok-take_name.ensures.torn honest) (c.wipe.ensures.spreads (one honest)) (c.in_ok-wipe.ensures.wiped (one honest)) (written (two honest)) (c.write_first.ensures.spreads (two honest)))
+    c.write_first.ensures.settled in
+    record {
+      run = search rules;
+      cause = search rules;
+      first_fault = search rules;
+      made = on_ok_weaker c.write_first.result (λ written. λ honest. named_stands limits c.requires.range (c.in_ok-wipe.ensures.wiped (one honest)) (written (two honest)))
+          c.write_first.ensures.settled;
+      any_moment = λ honest settled.
+          moments_spare limits settled
+          (leaves_then (spared_moments limits old.bytes (c.take_name.ensures.any_moment honest settled))
+          (leaves_then (wiping_moments limits old.bytes (c.in_ok-take_name.ensures.nameless honest) (c.wipe.ensures.spreads (one honest)))
+          (naming_moments limits old.bytes c.requires.range (c.in_ok-wipe.ensures.wiped (one honest)) (c.write_first.ensures.spreads (two honest)))))
+          (spreads honest);
+      left = made;
+      settled = on_ok_weaker c.write_first.result (λ written. λ honest.
+          let settled = written (two honest) in
+          record { reads = refl; only = λ image is. settled.only image is ∙ sym settled.reads })
+          c.write_first.ensures.settled;
+      spare = λ n honest. spare_either limits n c.write_first.result (on_ok_weaker c.write_first.result (λ is. is honest) made) (spreads honest);
+    }

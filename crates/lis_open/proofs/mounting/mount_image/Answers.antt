@@ -1,16 +1,11 @@
-use Rattle.std.proofs.Common.{◌≡◌, ◌⊎◌, ℕ, List, ◌∙◌, sym, ap, subst, Err, Result, IfOk, false, arith}
-use Rattle.std.proofs.lemmas.Result.{err_from_is_err_and}
-use Rattle.lis_journal.specs.Record.{block, recovered}
-use Rattle.lis_journal.specs.Images.{KeepsPast}
-use Rattle.lis_journal.specs.Journal.{Held}
-use Rattle.lis_journal.specs.Recovery.{InRecovery, MountEnded, IsSettledPast}
+use Rattle.std.proofs.Common.{rules, ◌≡◌, ◌⊎◌, ℕ, List, ◌∙◌, sym, ap, subst, Err, Result, IfOk, false, arith}
+use Rattle.lis_open.proofs.Common.{err_from_is_err_and, block, Held, Leaves, IsSettled, image_blocks, Stored, IsSound}
+use Rattle.lis_journal.specs.Record.{recovered}
+use Rattle.lis_journal.specs.Recovery.{InRecovery, MountEnded}
 use Rattle.lis_journal.specs.declared.journal.JournalFault.{JournalFault}
 use Rattle.lis_journal.specs.declared.journal.JournalFault.TheVariants.{DiskFault as JournalDisk}
 use Rattle.lis_content.proofs.Reading.{unchanged_none}
-use Rattle.lis_ports.specs.Runs.{Leaves, IsSettled}
 use Rattle.lis_ports.specs.Calls.{IsUnchanged}
-use Rattle.lis_model.specs.Image.{image_blocks}
-use Rattle.lis_store.specs.Stored.{Stored, IsSound}
 use Rattle.lis_open.specs.declared.mounting.OpenFault.{OpenFault}
 use Rattle.lis_open.proofs.Opening.{one_fault, memory_opened, journal_cause, journal_enough, journal_opened, journal_moments, store_opened, store_moments}
 use Rattle.lis_open.specs.Opens.{journal_fault}
@@ -22,40 +17,28 @@ returns-in_err-room-clause-opened g c = λ honest.
     let p = err_from_is_err_and c.from_residual.result c.from_residual.ensures.1 in
     rw (p.1, p.2) (memory_opened old c.args.limits (c.requires.begins honest) c.requires.long old (unchanged_none old))
 
-pub returns-in_err-journal-clause-cause : goal.returns-in_err-journal-clause-cause
-returns-in_err-journal-clause-cause g c =
-    let p = err_from_is_err_and c.from_residual-in_err-journal.result c.from_residual-in_err-journal.ensures.1 in
-    rw (p.1, p.2) (journal_cause Stored _ _ c.in_err-journal.field-0.0 c.in_err-journal.ensures.cause)
-
-pub returns-in_err-journal-clause-fits_disk : goal.returns-in_err-journal-clause-fits_disk
-returns-in_err-journal-clause-fits_disk g c =
-    let p = err_from_is_err_and c.from_residual-in_err-journal.result c.from_residual-in_err-journal.ensures.1 in
-    journal_enough c.from_residual-in_err-journal.result p.0 c.in_err-journal.field-0.0 p.1 p.2
-
-pub returns-in_err-journal-clause-opened : goal.returns-in_err-journal-clause-opened
-returns-in_err-journal-clause-opened g c = λ honest.
+pub returns-in_err-journal : goal.returns-in_err-journal
+returns-in_err-journal g c =
     let old = g.D.Disk.meaning c.args.disk.now in
     let new = g.D.Disk.meaning c.mount.new.disk in
+    let fault = c.in_err-journal.field-0.0 in
     let p = err_from_is_err_and c.from_residual-in_err-journal.result c.from_residual-in_err-journal.ensures.1 in
-    let ended = subst (λ b. MountEnded b old new c.mount.result) c.image_blocks.ensures.blocks (c.mount.ensures.ended honest) in
-    rw (p.1, p.2) (journal_opened old c.args.limits (c.requires.begins honest) c.requires.long new c.mount.result c.in_err-journal.field-0.0 c.in_err-journal.was ended
-    (λ memory. subst (λ d. IsUnchanged old (g.D.Disk.meaning d)) (sym (c.mount.ensures.memory memory)) (unchanged_none old)))
-
-pub returns-in_err-journal-clause-any_moment : goal.returns-in_err-journal-clause-any_moment
-returns-in_err-journal-clause-any_moment g c = λ honest.
-    let old = g.D.Disk.meaning c.args.disk.now in
-    let new = g.D.Disk.meaning c.mount.new.disk in
-    journal_moments old c.args.limits (c.requires.begins honest) c.requires.long new
-    (subst (λ b. Leaves old new (λ image. old.images image ⊎ InRecovery b old.bytes image)) c.image_blocks.ensures.blocks (c.mount.ensures.any_moment honest))
-
-pub returns-in_err-journal-clause-past : goal.returns-in_err-journal-clause-past
-returns-in_err-journal-clause-past g c = λ honest settled.
-    let old = g.D.Disk.meaning c.args.disk.now in
-    let new = g.D.Disk.meaning c.mount.new.disk in
-    let p = err_from_is_err_and c.from_residual-in_err-journal.result c.from_residual-in_err-journal.ensures.1 in
-    let failed : c.mount.result ≡ Err JournalDisk → c.in_err-journal.field-0.0 ≡ JournalDisk = λ is. one_fault (sym c.in_err-journal.was ∙ is) in
-    subst (λ b. KeepsPast b old new) c.image_blocks.ensures.blocks
-    (c.mount.ensures.past honest (λ is. subst (λ b. IsSettledPast b old) (sym c.image_blocks.ensures.blocks) (settled (p.1 ∙ ap Err (p.2 ∙ ap journal_fault (failed is))))))
+    let mounted = rw c.image_blocks.ensures.blocks at c.mount.ensures in
+    let failed : c.mount.result ≡ Err JournalDisk → fault ≡ JournalDisk = λ is. one_fault (sym c.in_err-journal.was ∙ is) in
+    record {
+      run = search rules;
+      cause = rw (p.1, p.2) (journal_cause Stored _ _ fault c.in_err-journal.ensures.cause);
+      first_fault = search rules;
+      fits_disk = journal_enough c.from_residual-in_err-journal.result p.0 fault p.1 p.2;
+      opened = λ honest.
+          rw (p.1, p.2) (journal_opened old c.args.limits (c.requires.begins honest) c.requires.long new c.mount.result fault c.in_err-journal.was (mounted.ended honest)
+          (λ memory. subst (λ d. IsUnchanged old (g.D.Disk.meaning d)) (sym (mounted.memory memory)) (unchanged_none old)));
+      sound = search rules;
+      ready = search rules;
+      long = search rules;
+      any_moment = λ honest. journal_moments old c.args.limits (c.requires.begins honest) c.requires.long new (mounted.any_moment honest);
+      past = λ honest settled. mounted.past honest (λ is. settled (p.1 ∙ ap Err (p.2 ∙ ap journal_fault (failed is))));
+    }
 
 pub returns-clause-opened : goal.returns-clause-opened
 returns-clause-opened g c = λ honest.

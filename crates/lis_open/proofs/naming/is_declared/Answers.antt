@@ -1,6 +1,5 @@
 use Rattle.std.proofs.Common.{◌∙◌, sym, ap, arith}
-use Rattle.lis_dict.proofs.Laws.{number_below}
-use Rattle.lis_kept.specs.Telling.{bit_of}
+use Rattle.lis_open.proofs.Common.{number_below, bit_of}
 use Rattle.lis_open.proofs.WordUses.{declared_bit}
 use Rattle.lis_open.proofs.naming.is_declared.Goals as goal
 

@@ -1,9 +1,7 @@
 use Rattle.std.proofs.Common.{◌∙◌, sym, ap, subst, false}
-use Rattle.std.proofs.lemmas.Result.{err_from_is_err_and}
-use Rattle.lis_kept.specs.Kept.{Kept}
-use Rattle.lis_store.specs.Stored.{Stored, IsSound}
-use Rattle.lis_open.proofs.Joined.{parts_held, store_sound}
-use Rattle.lis_open.proofs.TestsMet.{parts_tests}
+use Rattle.lis_open.proofs.Common.{err_from_is_err_and, Kept, Stored, IsSound}
+use Rattle.lis_open.proofs.Joined.{parts_held}
+use Rattle.lis_open.proofs.TestsMet.{store_sound}
 use Rattle.lis_open.proofs.Told.{store_told}
 use Rattle.lis_open.proofs.reading.read_store.Goals as goal
 
@@ -21,7 +19,6 @@ pub join-requires : goal.join-requires
 join-requires g c =
     let limits = c.args.limits in
     let sound = store_sound limits c.read_parts.new.words c.read_parts.new.axioms c.read_parts.new.files c.args.room.marks (c.in_ok-read_parts.ensures.read c.args.room.marks) c.requires.range c.requires.room.marks
-    (parts_tests limits c.read_parts.new.words c.read_parts.new.axioms c.read_parts.new.files c.args.room.marks (c.in_ok-read_parts.ensures.read c.args.room.marks) c.requires.range c.requires.room.marks)
     c.args.journal c.requires.image c.requires.unbroken c.requires.clean c.requires.unplaced in
     subst (λ (k : Kept). IsSound (record { parts = k; journal = c.args.journal; is_broken = false })) (sym c.join-parts.ensures) sound
 
@@ -29,7 +26,6 @@ pub returns-clause-sound : goal.returns-clause-sound
 returns-clause-sound g c =
     let limits = c.args.limits in
     let sound = store_sound limits c.read_parts.new.words c.read_parts.new.axioms c.read_parts.new.files c.args.room.marks (c.in_ok-read_parts.ensures.read c.args.room.marks) c.requires.range c.requires.room.marks
-    (parts_tests limits c.read_parts.new.words c.read_parts.new.axioms c.read_parts.new.files c.args.room.marks (c.in_ok-read_parts.ensures.read c.args.room.marks) c.requires.range c.requires.room.marks)
     c.args.journal c.requires.image c.requires.unbroken c.requires.clean c.requires.unplaced in
     subst IsSound (sym c.join.ensures) (subst (λ (k : Kept). IsSound (record { parts = k; journal = c.args.journal; is_broken = false })) (sym c.join-parts.ensures) sound)
 

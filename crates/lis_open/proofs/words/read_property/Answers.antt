@@ -1,6 +1,5 @@
 use Rattle.std.proofs.Common.{arith}
-use Rattle.lis_fields.specs.Layouts.{prop_bytes, is_prop}
-use Rattle.lis_kept.specs.Areas.{property_slots}
+use Rattle.lis_open.proofs.Common.{prop_bytes, is_prop, property_slots}
 use Rattle.lis_kept.proofs.InArea.{whole_properties}
 use Rattle.lis_open.proofs.Slots.{few_blocks, read_as}
 use Rattle.lis_open.proofs.words.read_property.Goals as goal

@@ -1,8 +1,7 @@
-use Rattle.std.proofs.Common.{◌≡◌, refl, sym, subst, ◌∙◌, arith}
-use Rattle.lis_ports.proofs.Ending.{ends_none, ends_then}
-use Rattle.lis_open.specs.ReadWords.{AreFirstWords, WordsAreSpelled}
+use Rattle.std.proofs.Common.{◌≡◌, refl, sym, ◌∙◌, arith}
+use Rattle.lis_open.proofs.Common.{ends_none, ends_then}
 use Rattle.lis_open.proofs.Quiet.{reads_none, reads_then, fits_after}
-use Rattle.lis_open.proofs.WordsRead.{first_on, spelled_on, property_fails, words_pass, first_words}
+use Rattle.lis_open.proofs.WordsRead.{slot_on, property_fails, words_pass, first_words}
 use Rattle.lis_open.proofs.words.read_words.Goals as goal
 
 pub loop-number-init : goal.loop-number-init
@@ -25,25 +24,21 @@ pub loop-number-preserved : goal.loop-number-preserved
 loop-number-preserved g c =
     let l = c.loop-number in
     let limits = c.args.limits.now in
-    let may = sym c.if-not-take_property.ensures.answer in
-    let next = c.take_property.new.words in
+    let more = slot_on limits l.words l.number l.invariant.first c.loop-number-test.true c.in_ok-found.found c.take_property.new.words c.in_ok-found.ensures.form (sym c.if-not-take_property.ensures.answer)
+    c.if-not-take_property.ensures.taken in
     record {
       reads = reads_then l.invariant.reads c.read_property.ensures.reads;
       faults = c.in_ok-found.ensures.cause.stays ∙ l.invariant.faults;
       first_fault = ends_then l.invariant.first_fault l.invariant.faults c.in_ok-found.ensures.first_fault;
-      first = first_on limits l.words l.number l.invariant.first c.loop-number-test.true c.in_ok-found.found next c.in_ok-found.ensures.form may
-          c.if-not-take_property.ensures.taken;
+      first = more.0;
       recalls = λ kept fits recalled.
           c.read_property.ensures.recalls kept (fits_after c.args.journal.now kept l.invariant.reads fits) (l.invariant.recalls kept fits recalled);
       spelled = λ kept fits recalled.
-          spelled_on limits l.words l.number l.invariant.first c.loop-number-test.true kept (l.invariant.spelled kept fits recalled) c.in_ok-found.found next may c.if-not-take_property.ensures.taken
+          more.1 kept (l.invariant.spelled kept fits recalled)
           (c.in_ok-found.ensures.read kept (fits_after c.args.journal.now kept l.invariant.reads fits) (l.invariant.recalls kept fits recalled));
     }
 
 pub returns-clause-ended : goal.returns-clause-ended
 returns-clause-ended g c = λ kept fits recalled.
     let l = c.loop-number in
-    let limits = c.args.limits.now in
-    let end : l.number ≡ limits.props = omega (arith, c.loop-number-test.false, l.auto.number-end) in
-    words_pass limits kept l.words (subst (λ n. AreFirstWords limits l.words n) end l.invariant.first)
-    (subst (λ n. WordsAreSpelled limits kept l.words n) end (l.invariant.spelled kept fits recalled))
+    words_pass c.args.limits.now kept l.words l.number l.invariant.first (l.invariant.spelled kept fits recalled) (omega (arith, c.loop-number-test.false, l.auto.number-end))
