@@ -52,6 +52,10 @@ pub record MakeKeeps (limits : Limits) (unmoved : Type 0) (old new : Meaning) (s
 abbrev pub RunKeeps : Type 0 → Type 0 → Option (List ℕ) → Option (List ℕ) → Meaning → Meaning → Status → Type 0
 RunKeeps untouched unmoved left left_after old new status = ImageKeeps running untouched unmoved left left_after old new status
 
+-- `load`: the same, with many changes to a commit
+abbrev pub LoadKeeps : Type 0 → Type 0 → Option (List ℕ) → Option (List ℕ) → Meaning → Meaning → Status → Type 0
+LoadKeeps untouched unmoved left left_after old new status = ImageKeeps loading untouched unmoved left left_after old new status
+
 -- the work that each task on an image is, where these are the words; what it keeps is `ImageKeeps` of it
 abbrev pub work_of : List (List ℕ) → ImageTask → Work
 work_of words Run = running

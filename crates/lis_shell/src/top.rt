@@ -12,10 +12,11 @@ ghost use Rattle.lis_model.specs.State.{State};
 ghost use Rattle.lis_session.specs.Item.{IsSameStation};
 ghost use Rattle.lis_session.specs.Session.{root_of, EachMoment, OpenedMoment, Headline, FullHeadline};
 ghost use Rattle.lis_grow.specs.Session.{grow_items};
+ghost use Rattle.lis_load.specs.Load.{FullLoadHeadline};
 ghost use Rattle.lis_shell.specs.Words.{task_of};
 ghost use Rattle.lis_shell.specs.declared.words.Task.TheVariants.{Try, Make, Upgrade, OnImage};
 ghost use Rattle.lis_shell.specs.declared.words.ImageTask.{ImageTask as WorkNamed};
-ghost use Rattle.lis_shell.specs.declared.words.ImageTask.TheVariants.{Run, Grow};
+ghost use Rattle.lis_shell.specs.declared.words.ImageTask.TheVariants.{Run, Load, Grow};
 ghost use Rattle.lis_shell.specs.Causes.{counts, HasStatusCause, NoFault};
 ghost use Rattle.lis_shell.specs.Runs.{Entry, IsComplete};
 ghost use Rattle.lis_shell.specs.Grows.{GrowHeadline, GrowEntry, IsGrown};
@@ -190,6 +191,11 @@ pub fn lisfs<S: Source, T: Station>(
     ensures works { (task : WorkNamed) → task_of (map string_bytes words.now) ≡ Some (OnImage task)
         → ImageKeeps (work_of (map string_bytes words.now) task) (input.new ≡ input.old) (station.new ≡ station.old) (S.left input.old) (S.left input.new)
         (T.meaning station.old) (T.meaning station.new) result × ((work_of (map string_bytes words.now) task).takes_input ≡ false → input.new ≡ input.old) }
+    // `load` on an image of which nothing is unsynced: each moment is one of the load, with no exception.
+    ensures load_settled { task_of (map string_bytes words.now) ≡ Some (OnImage Load) → (state : State) (bytes : List ℕ)
+        → Entry (T.meaning station.old) (S.left input.old) state bytes
+        → ((image : List ℕ) → (T.meaning station.old).images image → image ≡ (T.meaning station.old).bytes)
+        → FullLoadHeadline (root_of state) (script bytes (2 ^ 40)) (T.meaning station.old) (T.meaning station.new) }
     ensures completes { (task : WorkNamed) → task_of (map string_bytes words.now) ≡ Some (OnImage task) → (state : State) (bytes : List ℕ)
         → EntryWith (T.meaning station.old) (Told (work_of (map string_bytes words.now) task).takes_input (S.left input.old) bytes) state
         → NoFault (counts (T.meaning station.old) (S.faults input.old)) (counts (T.meaning station.new) (S.faults input.new))

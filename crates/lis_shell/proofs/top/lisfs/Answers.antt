@@ -1,12 +1,15 @@
-use Rattle.std.proofs.Common.{[], Some, None, map}
+use Rattle.std.proofs.Common.{List, ℕ, [], Some, None, map, sym, subst}
 use Rattle.std.specs.String.{string_bytes}
 use Rattle.lis_model.specs.Step.{step}
 use Rattle.lis_model.specs.Script.{script}
 use Rattle.lis_session.specs.Session.{root_of, SessionMoment}
-use Rattle.lis_session.proofs.Whole.{headline, headline_settled, complete, no_limit}
+use Rattle.lis_session.proofs.Whole.{headline, no_exception, headline_settled, complete, no_limit}
 use Rattle.lis_grow.specs.Session.{grow_items, GrowMoment}
+use Rattle.lis_load.specs.Load.{LoadMoment}
+use Rattle.lis_load.proofs.Moments.{load_none}
+use Rattle.lis_store.specs.Stands.{Stands}
 use Rattle.lis_shell.specs.declared.words.Task.TheVariants.{Try, Make, Upgrade, OnImage}
-use Rattle.lis_shell.specs.declared.words.ImageTask.TheVariants.{Run, Grow}
+use Rattle.lis_shell.specs.declared.words.ImageTask.TheVariants.{Run, Load, Grow}
 use Rattle.lis_shell.specs.Runs.{running}
 use Rattle.lis_shell.specs.Grows.{growing}
 use Rattle.lis_shell.specs.Keeps.{work_of}
@@ -32,6 +35,11 @@ returns-clause-headline g c = λ is state bytes entry.
 pub returns-clause-headline_settled : goal.returns-clause-headline_settled
 returns-clause-headline_settled g c = λ is state bytes entry settled.
     headline_settled step (root_of state) (script bytes 1099511627776) entry.stands settled (g.met.T.Disk.only_now c.args.station.now) ((kept_by (Some (OnImage Run)) c.carry_task.ensures.keeps is).0.runs state bytes entry).moments
+
+pub returns-clause-load_settled : goal.returns-clause-load_settled
+returns-clause-load_settled g c = λ is state bytes entry settled.
+    no_exception (LoadMoment (root_of state) (script bytes 1099511627776)) (λ image had. load_none (root_of state) (script bytes 1099511627776) image (subst (λ xs. Stands xs state) (sym (settled image had)) entry.stands))
+    (g.met.T.Disk.only_now c.args.station.now) ((kept_by (Some (OnImage Load)) c.carry_task.ensures.keeps is).0.runs state bytes entry).moments
 
 pub returns-clause-complete : goal.returns-clause-complete
 returns-clause-complete g c = λ is state bytes entry short none.
