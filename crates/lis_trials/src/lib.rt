@@ -15,8 +15,6 @@ mod images;
 #[cfg(test)]
 mod limit;
 #[cfg(test)]
-mod openings;
-#[cfg(test)]
 mod parts;
 #[cfg(test)]
 mod tests;

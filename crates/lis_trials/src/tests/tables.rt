@@ -661,10 +661,10 @@ pub static EDITS: [(&str, u64); 10] = [
     // The first file keeps its word of an empty one, so that the second gets another number.
     ("create e;create f;write f 1;x;", 6),
     ("mkdir a;mkdir b;create x a;cd a;mv x /b;", 5),
-    // An axiom gives its word to all files at once.
+    // An axiom gives its word to each file that lacks it, and takes it from each that has no other reason for it.
     (
         "mkdir a;mkdir b;mkdir c;create f a;create g a c;axiom a b;axiom c b;unaxiom a b;unaxiom c b;",
-        10,
+        11,
     ),
     // A declared test comes to the files that meet it, with the word of the place, and goes with its declaration alone.
     (

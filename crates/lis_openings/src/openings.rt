@@ -1,6 +1,5 @@
 //! What making an image leaves, and what opening answers to each kind of damage.
 
-use crate::entry;
 use lis_memdisk::MemStation;
 use lis_model::limits::Limits;
 use lis_model::spot::Spot;
@@ -245,10 +244,9 @@ fn making(disk: &mut MemStation) -> Result<(), MakeFault> {
 }
 
 fn empty_image(alloc: Global) -> Result<MemStation, Fail> {
-    match entry::empty_image(alloc, &LIMITS, 0)? {
-        None => Err("no image was made".into()),
-        Some(disk) => Ok(disk),
-    }
+    let mut disk = disk_of(alloc, 0, IMAGE_LEN)?;
+    making(&mut disk)?;
+    Ok(disk)
 }
 
 fn put(disk: &mut MemStation, at: u64, bytes: &[u8]) -> Result<(), Fail> {
