@@ -23,16 +23,6 @@ pub fn and_row(from: &Rows, row: u32, to: &mut Rows, at: u32)
     to.join_with(at, from, row, |a, b| a & b);
 }
 
-/// Adds to a row the bits that are true in a row of other rows.
-pub fn or_row(from: &Rows, row: u32, to: &mut Rows, at: u32)
-    requires row { row < length from.now.rows }
-    requires at { at < length to.old.rows }
-    requires bits { from.now.bits ≡ to.old.bits }
-    ensures { to.new ≡ with_row to.old at (λ bit. get to.old at bit || get from.now row bit) }
-{
-    to.join_with(at, from, row, |a, b| a | b);
-}
-
 /// Takes from a row the bits that are true in a row of other rows.
 pub fn and_not_row(from: &Rows, row: u32, to: &mut Rows, at: u32)
     requires row { row < length from.now.rows }

@@ -8,6 +8,6 @@ mod rows;
 mod tests;
 mod words;
 
-pub use across::{and_not_row, and_row, copy_row, meets, or_row, within};
+pub use across::{and_not_row, and_row, copy_row, meets, within};
 pub use flags::Flags;
 pub use rows::Rows;

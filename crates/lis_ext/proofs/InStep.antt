@@ -1,12 +1,11 @@
 -- The rows of files as they are changed with the rows of numbers.
-use Rattle.std.proofs.Common.{◌≡◌, ◌⊎◌, ℕ, ◌+◌, ◌<◌, ◌≤◌, ◌==◌, Bool, true, false, ◌&&◌, ◌||◌, nat_lt, if◌then◌else◌, List, length, get_or, take, refl, sym, ap, ◌∙◌, inl, inr, arith, eq-eqb, tests}
+use Rattle.std.proofs.Common.{◌≡◌, ◌⊎◌, ℕ, ◌+◌, ◌<◌, ◌==◌, Bool, true, false, if◌then◌else◌, List, length, get_or, take, refl, sym, ap, ◌∙◌, inl, inr, eq-eqb}
 use Rattle.std.proofs.lemmas.Bool.{cases_eq, ne_eqb}
 use Rattle.lis_bits.specs.Rows.{Rows, HasShape, get, with_row}
 use Rattle.lis_bits.proofs.Laws.{get-with_row_other, shaped, new_row}
 use Rattle.lis_ext.specs.Numbers.{has_number}
 use Rattle.lis_ext.specs.Inside.{HasSets}
 use Rattle.lis_ext.proofs.Changes.{next_has, other_has}
-use Rattle.lis_ext.proofs.Widened.{before, after, other, all_before, or_false}
 
 -- one file's row is set
 sets_more : (now : Rows) (props files file : ℕ) (value value' : ℕ → ℕ → Bool) (f : ℕ → Bool) → HasSets now props files value → file < files → ((p : ℕ) → p < props → f p ≡ value' file p)
@@ -34,17 +33,3 @@ module _ (old : Rows) (props files file : ℕ) (numbers : List ℕ) (file_in : f
       at : (p : ℕ) → p < props → (p ≡ q) ⊎ (p ≡ q → ⊥) → (if p == q then true else get now file p) ≡ has_number (take (k + 1) numbers) p
       at p p_in (inl same) = rw (eq-eqb p q same) (sym (ap (λ n. has_number (take (k + 1) numbers) n) (same ∙ next) ∙ next_has numbers k lt))
       at p p_in (inr differ) = rw (ne_eqb p q differ) (h.bits file p file_in p_in ∙ rw (eq-eqb file file refl) (sym (other_has numbers k lt p (λ e. differ (e ∙ sym next)))))
-
--- ---- the files that pass a test get more numbers
-module _ (old : Rows) (props files : ℕ) (left ups : ℕ → Bool) where
-  pub none_widened : HasShape old files props → HasSets old props files (λ i p. get old i p || ((nat_lt i 0 && left i) && ups p))
-  none_widened shape = record { shape = shape; bits = λ i p i_in p_in. let t : nat_lt i 0 ≡ false = grind (arith, tests) in rw t (sym (or_false (get old i p))) }
-
-  pub one_widened : (now : Rows) (start file : ℕ) → start ≤ file → file < files → left file ≡ true → ((i : ℕ) → start ≤ i → i < file → left i ≡ false) → HasSets now props files (λ i p. get old i p || ((nat_lt i start && left i) && ups p))
-      → HasSets (with_row now file (λ p. get now file p || ups p)) props files (λ i p. get old i p || ((nat_lt i (file + 1) && left i) && ups p))
-  one_widened now start file le file_in set least h = sets_more now props files file (λ i p. get old i p || ((nat_lt i start && left i) && ups p)) (λ i p. get old i p || ((nat_lt i (file + 1) && left i) && ups p)) (λ p. get now file p || ups p) h file_in
-      (λ p p_in. rw (after start file left le set least, h.bits file p file_in p_in, before start file left le set least) (ap (λ b. b || ups p) (or_false (get old file p))))
-      (λ i p i_in differ. ap (λ b. get old i p || (b && ups p)) (other start file left le set least i differ))
-
-  pub all_widened : (now : Rows) (start : ℕ) → ((i : ℕ) → start ≤ i → i < files → left i ≡ false) → HasSets now props files (λ i p. get old i p || ((nat_lt i start && left i) && ups p)) → HasSets now props files (λ i p. get old i p || (left i && ups p))
-  all_widened now start none h = record { shape = h.shape; bits = λ i p i_in p_in. h.bits i p i_in p_in ∙ ap (λ b. get old i p || (b && ups p)) (sym (all_before start files left none i i_in)) }

@@ -1,5 +1,4 @@
 pub mod Numbers
 mod Changes
-mod Widened
 mod InStep
 pub mod Seen

@@ -1,17 +1,17 @@
 -- What a contract sees of the rows, and of the rows that the loops leave.
-use Rattle.std.proofs.Common.{◌≡◌, ◌⊎◌, ℕ, ◌+◌, ◌<◌, ◌≤◌, Bool, true, false, not, ◌&&◌, ◌||◌, ◌==◌, if◌then◌else◌, List, [], ◌∷◌, length, map, get_or, set, replicate, refl, sym, ap, subst, ◌∙◌, inl, inr, arith, eq-eqb, length-set, get_or-set_same, get_or-set_other}
-use Rattle.std.specs.List.{range_with_len, list_any, All}
+use Rattle.std.proofs.Common.{◌≡◌, ◌⊎◌, ℕ, ◌+◌, ◌<◌, ◌≤◌, Bool, true, false, not, ◌&&◌, ◌||◌, ◌==◌, if◌then◌else◌, List, [], length, map, get_or, set, replicate, refl, sym, ap, subst, ◌∙◌, inl, inr, arith, eq-eqb, length-set, get_or-set_same, get_or-set_other}
+use Rattle.std.specs.List.{range_with_len, All}
 use Rattle.std.specs.List.Sorted.{IsStrictlyIncreasing}
 use Rattle.std.proofs.lemmas.Bool.{cases_eq, ne_eqb}
-use Rattle.std.proofs.lemmas.List.{get_or-replicate, length-replicate, get_or-map, length-map, get_or_default}
+use Rattle.std.proofs.lemmas.List.{get_or-replicate, length-replicate, get_or_default}
 use Rattle.std.proofs.lemmas.List.FromFn.{fill_by_all, length-map-range_with_len, get_or-map-range_with_len}
 use Rattle.std.proofs.lemmas.Map.Keys.{IsStrictlyIncreasing-from_sorted}
 use Rattle.lis_graph.proofs.Members.{Among, among_from_contains, contains_from_among}
 use Rattle.lis_bits.specs.Rows.{HasShape, Rows, get, with_row, empty_rows}
 use Rattle.lis_bits.proofs.Laws.{get-with_row_same, get-empty_rows}
 use Rattle.lis_ext.specs.Numbers.{has_number, numbers_where, differs}
-use Rattle.lis_ext.specs.Ext.{Ext, empty_ext, is_lacked}
-use Rattle.lis_ext.specs.Inside.{AddsNumbers, DropsNumbers, Widens, HasSets, lacks, sets_of, seen}
+use Rattle.lis_ext.specs.Ext.{empty_ext}
+use Rattle.lis_ext.specs.Inside.{AddsNumbers, DropsNumbers, HasSets, sets_of, seen}
 use Rattle.lis_ext.proofs.Numbers.{among_where, sorted_where, has-numbers_where, numbers_same, numbers_of, numbers_none, numbers_apart}
 
 module _ (rows : Rows) (props files : ℕ) where
@@ -114,48 +114,3 @@ module _ (old mid new old_marks mid_marks marks : Rows) (props files file : ℕ)
       apart : (x y : Bool) → (x && not y) ≡ true → (y && not x) ≡ false
       apart true y e = and_false y
       apart false y e = absurd cc
-
--- ---- the sets that have a number are widened
-module _ (old new old_marks marks : Rows) (props files left : ℕ) (ups : ℕ → Bool) (left_in : left < props) (h : Widens old new old_marks marks props files left ups) where
-  abbrev pub before : Ext
-  before = seen old old_marks props files
-
-  abbrev pub widen_set : List ℕ → List ℕ
-  widen_set numbers = if has_number numbers left then numbers_where props (λ p. has_number numbers p || ups p) else numbers
-
-  widened_at : (i : ℕ) → i < files → (b : Bool) → get old left i ≡ b → widen_set (numbers_where props (λ p. get old p i)) ≡ numbers_where props (λ p. get new p i)
-  widened_at i lt true e = rw (has-numbers_where props (λ p. get old p i) left left_in, e)
-      (numbers_same props (λ p. has_number (numbers_where props (λ p. get old p i)) p || ups p) (λ p. get new p i) (λ p p_in. rw (has-numbers_where props (λ p. get old p i) p p_in) (sym (h.bits p i p_in lt ∙ rw (e, and_true (ups p))))))
-  widened_at i lt false e = rw (has-numbers_where props (λ p. get old p i) left left_in, e)
-      (numbers_same props (λ p. get old p i) (λ p. get new p i) (λ p p_in. sym (h.bits p i p_in lt ∙ rw (e, and_false (ups p)) (or_false (get old p i)))))
-
-  pub sets_widened : sets_of new props files ≡ map widen_set (sets_of old props files)
-  unfolding sets_of
-  sets_widened = sym (fill_by_all (λ i. numbers_where props (λ p. get new p i)) (map widen_set (sets_of old props files)) files [] (length-map (sets_of old props files) widen_set ∙ length-sets_of old props files)
-      (λ k lt. get_or-map widen_set (sets_of old props files) k [] [] (omega (arith, length-sets_of old props files)) ∙ (ap widen_set (set-sets_of old props files k lt) ∙ widened_at k lt (get old left k) refl)))
-
-  pub in_step_widened : (sets sets' : Rows) → HasSets sets props files (λ i p. get old p i) → HasSets sets' props files (λ i p. get sets i p || (get old left i && ups p)) → HasSets sets' props files (λ i p. get new p i)
-  in_step_widened sets sets' was now = record {
-    shape = now.shape;
-    bits = λ i p i_in p_in. now.bits i p i_in p_in ∙ (ap (λ b. b || (get old left i && ups p)) (was.bits i p i_in p_in) ∙ (ap (λ b. get old p i || b) (either_way (get old left i) (ups p)) ∙ sym (h.bits p i p_in i_in)));
-  }
-    where
-      either_way : (x y : Bool) → (x && y) ≡ (y && x)
-      either_way true y = sym (and_true y)
-      either_way false y = sym (and_false y)
-
-  any_same : {A : Type 0} (f : ℕ → A) (t : A → Bool) (u : ℕ → Bool) (xs : List ℕ) → ((x : ℕ) → Among xs x → t (f x) ≡ u x) → list_any t (map f xs) ≡ list_any u xs
-  any_same f t u [] same = refl
-  any_same f t u (x ∷ xs) same = rw (same x (inl refl), any_same f t u xs (λ y m. same y (inr m)))
-
-  lacked_same : (p : ℕ) → p < props → list_any (λ numbers. has_number numbers left && not (has_number numbers p)) (sets_of old props files) ≡ lacks old files left p
-  unfolding sets_of
-  lacked_same p p_in = any_same (λ i. numbers_where props (λ p. get old p i)) (λ numbers. has_number numbers left && not (has_number numbers p)) (λ i. get old left i && not (get old p i)) (range_with_len 0 files)
-      (λ i m. rw (has-numbers_where props (λ p. get old p i) left left_in, has-numbers_where props (λ p. get old p i) p p_in))
-
-  pub marks_widened : numbers_where props (get marks 0) ≡ numbers_where props (λ p. has_number (numbers_where props (get old_marks 0)) p || (ups p && is_lacked before left p))
-  marks_widened = numbers_same props (get marks 0) (λ p. has_number (numbers_where props (get old_marks 0)) p || (ups p && is_lacked before left p))
-      (λ p lt. h.marks p lt ∙ sym (rw (has-numbers_where props (get old_marks 0) p lt, lacked_same p lt)))
-
-  pub edits_widened : new.edits ≤ old.edits + length (numbers_where props (λ p. ups p && is_lacked before left p))
-  edits_widened = let same = numbers_same props (λ p. ups p && lacks old files left p) (λ p. ups p && is_lacked before left p) (λ p lt. ap (λ b. ups p && b) (sym (lacked_same p lt))) in omega (arith, h.edits, ap length same)

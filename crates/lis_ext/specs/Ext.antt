@@ -1,6 +1,5 @@
 -- What a contract sees of an `Ext`.
-use Rattle.std.specs.Prelude.{ℕ, Bool, not, ◌&&◌, ◌||◌, List, [], map, replicate, slice_index_or, if◌then◌else◌}
-use Rattle.std.specs.List.{list_any}
+use Rattle.std.specs.Prelude.{ℕ, Bool, ◌||◌, List, [], replicate, slice_index_or}
 use Rattle.lis_ext.specs.Numbers.{has_number, numbers_where}
 
 -- numbers below `props`, the set of each file as a rising list, the numbers whose rows are marked as changed, in
@@ -25,11 +24,3 @@ empty_ext props files = record { props = props; sets = replicate files []; marks
 -- the marks, with those of the numbers that pass a test
 abbrev pub with_marks : Ext → (ℕ → Bool) → List ℕ
 with_marks e test = numbers_where e.props (λ p. has_number e.marks p || test p)
-
--- some file that has the left number lacks the other one
-abbrev pub is_lacked : Ext → ℕ → ℕ → Bool
-is_lacked e left p = list_any (λ numbers. has_number numbers left && not (has_number numbers p)) e.sets
-
--- the numbers that pass a test are added to each set that has the left number
-abbrev pub widened : Ext → ℕ → (ℕ → Bool) → List (List ℕ)
-widened e left ups = map (λ numbers. if has_number numbers left then numbers_where e.props (λ p. has_number numbers p || ups p) else numbers) e.sets

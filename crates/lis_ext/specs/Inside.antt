@@ -1,6 +1,6 @@
 -- The rows of an `Ext`, and what the functions over them do. No public clause cites this module.
 use Rattle.std.specs.Prelude.{◌≡◌, ℕ, ◌+◌, ◌<◌, ◌≤◌, Bool, not, ◌&&◌, ◌||◌, ◌==◌, if◌then◌else◌, List, length, map}
-use Rattle.std.specs.List.{range_with_len, list_any}
+use Rattle.std.specs.List.{range_with_len}
 use Rattle.lis_bits.specs.Rows.{Rows, HasShape, get}
 use Rattle.lis_ext.specs.Numbers.{has_number, numbers_where}
 use Rattle.lis_ext.specs.Ext.{Ext}
@@ -26,15 +26,6 @@ abbrev pub DropsNumbers : Rows → Rows → Rows → Rows → ℕ → ℕ → �
 DropsNumbers old new old_marks new_marks props files file numbers kept =
     Changes old new old_marks new_marks props files (λ p. has_number numbers p && not (has_number kept p))
     (λ p i. if i == file then get old p file && not (has_number numbers p && not (has_number kept p)) else get old p i)
-
--- some file that has the left number lacks the other one
-abbrev pub lacks : Rows → ℕ → ℕ → ℕ → Bool
-lacks rows files left p = list_any (λ i. get rows left i && not (get rows p i)) (range_with_len 0 files)
-
--- each file that has the left number has also those that pass the test
-abbrev pub Widens : Rows → Rows → Rows → Rows → ℕ → ℕ → ℕ → (ℕ → Bool) → Type 0
-Widens old new old_marks new_marks props files left ups =
-    Changes old new old_marks new_marks props files (λ p. ups p && lacks old files left p) (λ p i. get old p i || (ups p && get old left i))
 
 -- each file's row has these bits
 pub record HasSets (sets : Rows) (props files : ℕ) (value : ℕ → ℕ → Bool) : Type 0 where

@@ -36,7 +36,7 @@ impl Model for Ext {
 }
 
 impl Ext {
-    ghost use Rattle.lis_ext.specs.Ext.{has, set_of, empty_ext, with_marks, is_lacked, widened};
+    ghost use Rattle.lis_ext.specs.Ext.{has, set_of, empty_ext, with_marks};
 
     /// Empty sets of so many files.
     pub fn new(alloc: Global, props: u32, files: u32) -> Result<Ext, AllocError>
@@ -87,41 +87,6 @@ impl Ext {
             new,
         );
         tables::put_set(&mut self.sets, self.props, self.files, file, new);
-    }
-
-    /// Adds the numbers of a row to the set of each file that has the left number, and marks those of them that
-    /// some such file lacked. Each set was in range, as always.
-    pub fn add_up(&mut self, left: u32, ups: &Rows, row: u32)
-        requires left { left < self.old.props }
-        requires row { row < length ups.now.rows }
-        requires bits { ups.now.bits ≡ self.old.props }
-        ensures in_range { (i : ℕ) → i < length self.old.sets → All (λ p. p < self.old.props) (set_of self.old i) }
-        ensures props { self.new.props ≡ self.old.props }
-        ensures sets { self.new.sets ≡ widened self.old left (get ups.now row) }
-        ensures marks { self.new.marks
-            ≡ with_marks self.old (λ p. get ups.now row p && is_lacked self.old left p) }
-        ensures edits { self.new.edits ≤ self.old.edits
-            + length (numbers_where self.old.props (λ p. get ups.now row p && is_lacked self.old left p)) }
-        ensures no_fewer { self.old.edits ≤ self.new.edits }
-    {
-        tables::widen_sets(
-            &mut self.sets,
-            &self.rows,
-            self.props,
-            self.files,
-            left,
-            ups,
-            row,
-        );
-        tables::widen(
-            &mut self.rows,
-            &mut self.marks,
-            self.props,
-            self.files,
-            left,
-            ups,
-            row,
-        );
     }
 
     /// Whether a file has a number.

@@ -2,9 +2,9 @@ ghost use Rattle.std.specs.Prelude.{◌≡◌, ℕ, ◌+◌, ◌<◌, ◌≤◌,
 ghost use Rattle.std.specs.List.Sorted.{IsStrictlyIncreasing};
 ghost use Rattle.lis_bits.specs.Rows.{HasShape, get};
 ghost use Rattle.lis_ext.specs.Numbers.{has_number, numbers_where};
-ghost use Rattle.lis_ext.specs.Inside.{AddsNumbers, DropsNumbers, Widens, HasSets};
+ghost use Rattle.lis_ext.specs.Inside.{AddsNumbers, DropsNumbers, HasSets};
 
-use lis_bits::{Rows, or_row};
+use lis_bits::Rows;
 
 // Whether the number is one of those that rise.
 fn is_among(numbers: &[u16], number: u16) -> bool
@@ -76,58 +76,6 @@ pub(crate) fn put_set(sets: &mut Rows, props: u32, files: u32, file: u32, number
     sets.fill(file, false);
     for number in numbers {
         sets.put(file, u32::from(*number), true);
-    }
-}
-
-// Adds the numbers of a row of `ups` to the row of each file that has the left number.
-pub(crate) fn widen_sets(
-    sets: &mut Rows,
-    rows: &Rows,
-    props: u32,
-    files: u32,
-    left: u32,
-    ups: &Rows,
-    row: u32,
-)
-    requires shape { HasShape sets.old files props }
-    requires rows_shape { HasShape rows.now props files }
-    requires left { left < props }
-    requires row { row < length ups.now.rows }
-    requires bits { ups.now.bits ≡ props }
-    ensures { HasSets sets.new props files
-        (λ i p. get sets.old i p || (get rows.now left i && get ups.now row p)) }
-{
-    let mut start = 0;
-    while let Some(file) = rows.next(left, start) {
-        or_row(ups, row, sets, file);
-        start = file + 1;
-    }
-}
-
-// Adds the row of the left number to the row of each number of `ups` that lacks a file of it, and marks these rows.
-pub(crate) fn widen(
-    rows: &mut Rows,
-    marks: &mut Rows,
-    props: u32,
-    files: u32,
-    left: u32,
-    ups: &Rows,
-    row: u32,
-)
-    requires rows_shape { HasShape rows.old props files }
-    requires marks_shape { HasShape marks.old 1 props }
-    requires left { left < props }
-    requires row { row < length ups.now.rows }
-    requires bits { ups.now.bits ≡ props }
-    ensures { Widens rows.old rows.new marks.old marks.new props files left (get ups.now row) }
-{
-    let mut start = 0;
-    while let Some(prop) = ups.next(row, start) {
-        if !rows.subset(left, prop) {
-            rows.or(prop, left);
-            marks.put(0, prop, true);
-        }
-        start = prop + 1;
     }
 }
 

@@ -7,10 +7,8 @@ ghost use Rattle.lis_blockmap.specs.Bitmap.{free_count};
 ghost use Rattle.lis_kept.specs.Behind.{rights_of, is_behind};
 ghost use Rattle.lis_kept.specs.Linking.{is_filled};
 ghost use Rattle.lis_kept.specs.Telling.{axioms_of};
-ghost use Rattle.lis_model.specs.Changes.{has_axiom};
 ghost use Rattle.lis_store.specs.Stored.{IsSound};
 
-use crate::relating::axiom_numbers;
 use crate::store::Store;
 use lis_words::Word;
 
@@ -39,13 +37,6 @@ impl Store {
             axioms: parts.axiom_count(),
             free: parts.free_blocks(),
         }
-    }
-
-    /// Whether there is an axiom between two words.
-    pub fn has_axiom(&self, left: &Word, right: &Word) -> bool
-        ensures { result ≡ has_axiom (axioms_of self.now.parts) (left.now, right.now) }
-    {
-        axiom_numbers(self.parts(), left, right).is_some()
     }
 
     /// Of the words to which axioms lead from a word, the first in byte order that comes behind the last one, where one is given: so

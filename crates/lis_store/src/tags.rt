@@ -1,6 +1,6 @@
 //! The words that a file was given.
 
-ghost use Rattle.std.specs.Prelude.{◌≡◌, slice_get, IsSome, IsSomeAnd};
+ghost use Rattle.std.specs.Prelude.{◌≡◌, IsSome, IsSomeAnd};
 ghost use Rattle.lis_catalog.specs.Catalog.{rec_at};
 ghost use Rattle.lis_fields.specs.Records.{FileRecord};
 ghost use Rattle.lis_kept.specs.Telling.{words_told};
@@ -18,18 +18,5 @@ impl Store {
             (λ (rec : FileRecord). result.items ≡ words_told self.now.parts.dict rec.tags) }
     {
         assigned_in(self.parts(), slot)
-    }
-
-    /// The k-th word, in byte order, that the file in a slot was given.
-    pub fn tag_at(&self, slot: u16, k: u32) -> Option<Word>
-        requires { IsSome (rec_at self.now.parts.catalog slot) }
-        ensures { IsSomeAnd (rec_at self.now.parts.catalog slot)
-            (λ (rec : FileRecord). result ≡ slice_get (words_told self.now.parts.dict rec.tags) k) }
-    {
-        let words = self.tags(slot);
-        match words.as_slice().get(k as usize) {
-            None => None,
-            Some(word) => Some(word.copied()),
-        }
     }
 }
