@@ -7,7 +7,7 @@ ghost use Rattle.lis_catalog.specs.Catalog.{slot_of, rec_at};
 ghost use Rattle.lis_fields.specs.Records.{FileRecord};
 ghost use Rattle.lis_model.specs.Changes.{file_of};
 ghost use Rattle.lis_model.specs.State.{State};
-ghost use Rattle.lis_store.specs.Stored.{IsSound, StoreFits};
+ghost use Rattle.lis_store.specs.Stored.{IsSound, StoreFits, IsIndex};
 
 use lis_line::reader::Payload;
 use lis_ports::{Disk, Failed};
@@ -15,6 +15,34 @@ use lis_store::Store;
 
 /// How many bytes a data block has.
 const BLOCK_LEN: usize = 4_096;
+
+// Reads the index block of the file in the slot, which has so many bytes, where it has one.
+fn read_index<D: Disk>(
+    store: &Store,
+    slot: u16,
+    size: u32,
+    index: &mut [u8],
+    disk: &mut D,
+) -> Result<(), Failed>
+    requires size { IsSomeAnd (rec_at store.now.parts.catalog slot) (λ (rec : FileRecord). size ≡ rec.size) }
+    requires whole { length index.old ≡ 4096 }
+    requires unbroken { store.now.is_broken ≡ false }
+    requires long { 4096 * store.now.journal.blocks ≤ (D.meaning disk.old).len }
+    ensures held { OnOk result (IsTrue (D.meaning disk.old).is_honest → IsIndex store.now (D.meaning disk.old).bytes slot index.new) }
+    ensures len { length index.new ≡ 4096 }
+    ensures run { IsDiskRun (D.meaning disk.old) (D.meaning disk.new) }
+    ensures cause { HasCause (D.meaning disk.old).disk_faults (D.meaning disk.new).disk_faults result }
+    ensures first_fault { DiskFaultEnds (D.meaning disk.old) (D.meaning disk.new) }
+    ensures same { IsTrue (D.meaning disk.old).is_honest → IsUnchanged (D.meaning disk.old) (D.meaning disk.new) }
+    ensures any_moment { IsTrue (D.meaning disk.old).is_honest
+        → Leaves (D.meaning disk.old) (D.meaning disk.new) (D.meaning disk.old).images }
+    ensures fits { (s : State) → StoreFits store.now (D.meaning disk.old) s → StoreFits store.now (D.meaning disk.new) s }
+{
+    if size == 0 {
+        return Ok(());
+    }
+    store.index(disk, slot, index)
+}
 
 /// Reads the bytes of the file in the slot, which has so many.
 pub fn load<D: Disk>(
@@ -39,9 +67,11 @@ pub fn load<D: Disk>(
     ensures fits { (s : State) → StoreFits store.now (D.meaning disk.old) s → StoreFits store.now (D.meaning disk.new) s }
 {
     bytes.clear();
+    let mut index = [0; BLOCK_LEN];
+    read_index(store, slot, size, &mut index, disk)?;
     let mut block = [0; BLOCK_LEN];
     for n in 0..size.div_ceil(BLOCK_LEN as u32) {
-        store.content(disk, slot, n, &mut block)?;
+        store.content_by(disk, slot, &index, n, &mut block)?;
         let rest = size as usize - BLOCK_LEN * n as usize;
         bytes.append(&block[..rest.min(BLOCK_LEN)]);
     }

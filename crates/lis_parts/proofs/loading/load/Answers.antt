@@ -1,17 +1,22 @@
-use Rattle.std.proofs.Common.{Ok, ◌*◌, ◌<◌, ◌≤◌, arith}
+use Rattle.std.proofs.Common.{Ok, ◌*◌, ◌<◌, ◌≤◌, subst, sym, arith}
+use Rattle.lis_store.specs.Stored.{IsIndex}
 use Rattle.lis_parts.proofs.Loaded.{reading_then, loaded_more, loaded_all}
 use Rattle.lis_parts.proofs.loading.load.Goals as goal
 
 pub loop-n-preserved : goal.loop-n-preserved
 loop-n-preserved g c =
     let was = c.loop-n.invariant in
-    let e = c.in_ok-content.ensures in
+    let e = c.in_ok-content_by.ensures in
     let within : 4096 * c.loop-n.n < c.args.size = omega arith in
     record {
       reading = reading_then tt (Ok tt) was.reading (record { run = e.run; cause = e.cause; first_fault = e.first_fault; same = e.same; any_moment = e.any_moment; fits = e.fits });
       whole = e.len;
-      loaded = loaded_more c.args.slot c.args.size c.loop-n.n c.requires.sound c.requires.size was.loaded c.content.new.buf c.min.result within e.len c.min.ensures
-          (λ s name fits is_slot. e.read s name (was.reading.fits s fits) is_slot) c.append.ensures;
+      loaded = loaded_more c.args.slot c.args.size c.loop-n.n c.requires.sound c.requires.size was.loaded c.content_by.new.buf c.min.result within e.len c.min.ensures
+          (λ s name fits is_slot.
+          let same = was.reading.same fits.journal.honest in
+          e.read s name (was.reading.fits s fits) is_slot (subst (λ xs. IsIndex c.args.store.now xs c.args.slot c.read_index.new.index) (sym same.bytes) (was.held fits.journal.honest))) c.append.ensures;
+      index = was.index;
+      held = was.held;
     }
 
 pub returns-clause-loads : goal.returns-clause-loads
