@@ -1,6 +1,5 @@
 mod Order
 mod Places
 pub mod Slots
-mod Held
-mod Indexed
 pub mod Laws
+mod Held

@@ -1,5 +1,5 @@
 -- The place of a name among files in the order of their names.
-use Rattle.std.proofs.Common.{◌≡◌, ℕ, zero, suc, ◌<◌, ◌≤◌, Bool, cond, List, [], ◌∷◌, length, get_or, Some, None, Result, Ok, Err, MatchResult, refl, sym, ap, subst, ◌∙◌, arith}
+use Rattle.std.proofs.Common.{◌≡◌, ℕ, zero, suc, ◌<◌, ◌≤◌, Bool, cond, List, [], ◌∷◌, length, get_or, map, Some, None, Result, Ok, Err, MatchResult, refl, sym, ap, subst, ◌∙◌, arith}
 use Rattle.std.specs.declared.cmp.Ordering.TheVariants.{Less, Equal, Greater}
 use Rattle.std.specs.Ordering.{ordering_index, match_ordering}
 use Rattle.std.specs.BTreeSet.{insert_key}
@@ -8,51 +8,54 @@ use Rattle.std.specs.List.Sorted.{IsStrictlySortedBy, IsSearchInRange, IsBinaryS
 use Rattle.lis_graph.proofs.Sets.{below_tail, sorted_tail}
 use Rattle.lis_words.specs.Words.{word_cmp, same_word}
 use Rattle.lis_catalog.specs.Catalog.{Filed, filed_cmp}
-use Rattle.lis_catalog.specs.Inside.{FoundAt, PlaceFor}
+use Rattle.lis_catalog.specs.Inside.{no_record, FoundAt, PlaceFor}
 use Rattle.lis_catalog.proofs.Order.{word_exact, filed_order, turned_less, turned_equal, turned_greater, lower, is_same, not_same, step}
 
 pub no_file : Filed
-no_file = record { slot = 0; rec = record { name = []; size = 0; tags = []; blocks = [] } }
+no_file = record { slot = 0; rec = no_record }
 
-below_at : (P : Filed → Type 0) (xs : List Filed) (k : ℕ) (d : Filed) → AllByRecursion P xs → k < length xs → P (get_or xs k d)
-below_at P [] k d all lt = absurd (omega arith)
-below_at P (x ∷ xs) zero d all lt = all.0
-below_at P (x ∷ xs) (suc k) d all lt = let less : k < length xs = omega (arith, lt) in below_at P xs k d all.1 less
+-- ---- a search among slots, of which each has its file
+module _ (filed : ℕ → Filed) where
+  below_at : (P : Filed → Type 0) (order : List ℕ) (k d : ℕ) → AllByRecursion P (map filed order) → k < length order → P (filed (get_or order k d))
+  below_at P [] k d all lt = absurd (omega arith)
+  below_at P (n ∷ ns) zero d all lt = all.0
+  below_at P (n ∷ ns) (suc k) d all lt = let less : k < length ns = omega (arith, lt) in below_at P ns k d all.1 less
 
--- ---- a search
-rises : (name : List ℕ) (es : List Filed) → IsStrictlySortedBy filed_cmp es → IsNonDecreasingBy (λ y. ordering_index (word_cmp y.rec.name name)) es
-rises name [] s i j d le lt = absurd (omega arith)
-rises name (x ∷ xs) s zero zero d le lt = omega arith
-rises name (x ∷ xs) s zero (suc j) d le lt =
-    let less : j < length xs = omega (arith, lt) in
-    step x.rec.name (get_or xs j d).rec.name name (below_at (λ y. filed_cmp x y ≡ Less) xs j d (below_tail filed_cmp filed_order x xs s) less)
-rises name (x ∷ xs) s (suc i) zero d le lt = absurd (omega (arith, le))
-rises name (x ∷ xs) s (suc i) (suc j) d le lt =
-    let less : j < length xs = omega (arith, lt) in
-    let same : i ≤ j = omega (arith, le) in
-    rises name xs (sorted_tail filed_cmp filed_order x xs s) i j d same less
+  module _ (name : List ℕ) where
+    rises : (order : List ℕ) → IsStrictlySortedBy filed_cmp (map filed order) → IsNonDecreasingBy (λ n. ordering_index (word_cmp (filed n).rec.name name)) order
+    rises [] s i j d le lt = absurd (omega arith)
+    rises (n ∷ ns) s zero zero d le lt = omega arith
+    rises (n ∷ ns) s zero (suc j) d le lt =
+        let less : j < length ns = omega (arith, lt) in
+        step (filed n).rec.name (filed (get_or ns j d)).rec.name name (below_at (λ y. filed_cmp (filed n) y ≡ Less) ns j d (below_tail filed_cmp filed_order (filed n) (map filed ns) s) less)
+    rises (n ∷ ns) s (suc i) zero d le lt = absurd (omega (arith, le))
+    rises (n ∷ ns) s (suc i) (suc j) d le lt =
+        let less : j < length ns = omega (arith, lt) in
+        let same : i ≤ j = omega (arith, le) in
+        rises ns (sorted_tail filed_cmp filed_order (filed n) (map filed ns) s) i j d same less
 
-found_at : (name : List ℕ) (k : ℕ) (es : List Filed) (d : Filed) → IsStrictlySortedBy filed_cmp es → k < length es → word_cmp (get_or es k d).rec.name name ≡ Equal → FoundAt name k es
-found_at name k [] d s lt e = absurd (omega arith)
-found_at name zero (x ∷ xs) d s lt e = turned_equal x.rec.name name e
-found_at name (suc k) (x ∷ xs) d s lt e =
-    let less : k < length xs = omega (arith, lt) in
-    let here : word_cmp x.rec.name (get_or xs k d).rec.name ≡ Less = below_at (λ y. filed_cmp x y ≡ Less) xs k d (below_tail filed_cmp filed_order x xs s) less in
-    (turned_less x.rec.name name (subst (λ n. word_cmp x.rec.name n ≡ Less) (word_exact (get_or xs k d).rec.name name e) here), found_at name k xs d (sorted_tail filed_cmp filed_order x xs s) less e)
+    found_at : (k : ℕ) (order : List ℕ) → IsStrictlySortedBy filed_cmp (map filed order) → k < length order → word_cmp (filed (get_or order k 0)).rec.name name ≡ Equal → FoundAt name k (map filed order)
+    found_at k [] s lt e = absurd (omega arith)
+    found_at zero (n ∷ ns) s lt e = turned_equal (filed n).rec.name name e
+    found_at (suc k) (n ∷ ns) s lt e =
+        let less : k < length ns = omega (arith, lt) in
+        let here : filed_cmp (filed n) (filed (get_or ns k 0)) ≡ Less = below_at (λ y. filed_cmp (filed n) y ≡ Less) ns k 0 (below_tail filed_cmp filed_order (filed n) (map filed ns) s) less in
+        (turned_less (filed n).rec.name name (subst (λ other. word_cmp (filed n).rec.name other ≡ Less) (word_exact (filed (get_or ns k 0)).rec.name name e) here), found_at k ns (sorted_tail filed_cmp filed_order (filed n) (map filed ns) s) less e)
 
-place_for : (name : List ℕ) (k : ℕ) (es : List Filed) (d : Filed) → k ≤ length es → ((j : ℕ) → j < k → word_cmp (get_or es j d).rec.name name ≡ Less) → (k < length es → word_cmp (get_or es k d).rec.name name ≡ Greater) → PlaceFor name k es
-place_for name zero [] d le below above = tt
-place_for name zero (x ∷ xs) d le below above = turned_greater x.rec.name name (above (omega arith))
-place_for name (suc k) [] d le below above = absurd (omega (arith, le))
-place_for name (suc k) (x ∷ xs) d le below above =
-    let less : k ≤ length xs = omega (arith, le) in
-    (turned_less x.rec.name name (below zero (omega arith)), place_for name k xs d less (λ j h. let more : suc j < suc k = omega (arith, h) in below (suc j) more) (λ h. let more : suc k < suc (length xs) = omega (arith, h) in above more))
+    place_for : (k : ℕ) (order : List ℕ) → k ≤ length order → ((j : ℕ) → j < k → word_cmp (filed (get_or order j 0)).rec.name name ≡ Less) → (k < length order → word_cmp (filed (get_or order k 0)).rec.name name ≡ Greater) → PlaceFor name k (map filed order)
+    place_for zero [] le below above = tt
+    place_for zero (n ∷ ns) le below above = turned_greater (filed n).rec.name name (above (omega arith))
+    place_for (suc k) [] le below above = absurd (omega (arith, le))
+    place_for (suc k) (n ∷ ns) le below above =
+        let less : k ≤ length ns = omega (arith, le) in
+        (turned_less (filed n).rec.name name (below zero (omega arith)), place_for k ns less (λ j h. let more : suc j < suc k = omega (arith, h) in below (suc j) more) (λ h. let more : suc k < suc (length ns) = omega (arith, h) in above more))
 
-pub searched : (name : List ℕ) (es : List Filed) (r : Result ℕ ℕ) → IsStrictlySortedBy filed_cmp es → IsSearchInRange r (length es) → IsBinarySearchResult (λ y. word_cmp y.rec.name name) es r → MatchResult r (λ k. FoundAt name k es) (λ k. PlaceFor name k es)
-searched name es (Ok k) s within at = found_at name k es no_file s within (at no_file)
-searched name es (Err k) s within parted =
-    let parts = parted (rises name es s) in
-    place_for name k es no_file within (λ j h. parts.0 j no_file (omega arith) h) (λ h. parts.1 k no_file (omega arith) h)
+    pub searched : (order : List ℕ) (r : Result ℕ ℕ) → IsStrictlySortedBy filed_cmp (map filed order) → IsSearchInRange r (length order) → IsBinarySearchResult (λ n. word_cmp (filed n).rec.name name) order r
+        → MatchResult r (λ k. FoundAt name k (map filed order)) (λ k. PlaceFor name k (map filed order))
+    searched order (Ok k) s within at = found_at k order s within (at 0)
+    searched order (Err k) s within parted =
+        let parts = parted (rises order s) in
+        place_for k order within (λ j h. parts.0 j 0 (omega arith) h) (λ h. parts.1 k 0 (omega arith) h)
 
 -- ---- what is found
 abbrev pub is_named : List ℕ → Filed → Bool

@@ -1,11 +1,10 @@
 -- Files by their slots, and lists of files with one more or one fewer.
-use Rattle.std.proofs.Common.{◌≡◌, ℕ, zero, suc, ◌<◌, Bool, true, false, not, cond, ◌||◌, ◌==◌, nat_lt, List, [], ◌∷◌, length, get_or, map, filter, Option, Some, None, slice_get, refl, sym, ap, subst, ◌∙◌, arith}
+use Rattle.std.proofs.Common.{◌≡◌, ℕ, zero, suc, Bool, true, false, not, cond, ◌||◌, ◌==◌, nat_lt, List, [], ◌∷◌, length, map, filter, Option, Some, None, slice_get, eq-eqb, refl, sym, ap, subst, ◌∙◌}
 use Rattle.std.specs.List.{find, list_any, list_all, insert, remove, position, position_or_len}
 use Rattle.std.specs.Option.{option_map}
-use Rattle.std.proofs.lemmas.Bool.{and_parts, and_from, or_parts, or_from, not-true, not_from_false, eqb-true, eqb-false, ne_eqb, ltb-false}
-use Rattle.std.proofs.lemmas.List.Folds.{find_at}
-use Rattle.std.proofs.lemmas.List.Quantifiers.{position-Some}
-use Rattle.std.proofs.lemmas.Option.{slice_get_past}
+use Rattle.std.proofs.lemmas.Bool.{and_parts, and_from, or_parts, or_from, not-true, not_from_false, eqb-false, ne_eqb, ltb-false}
+use Rattle.std.proofs.lemmas.List.Folds.{find_at, list_any_at}
+use Rattle.std.proofs.lemmas.Option.{slice_get_past, slice_get_within, get_or_from_slice_get}
 use Rattle.std.proofs.lemmas.Map.Views.{any-filter_same}
 use Rattle.lis_fields.specs.Layouts.{are_distinct}
 use Rattle.lis_catalog.specs.Catalog.{Filed}
@@ -37,28 +36,12 @@ module _ {X : Type 0} (p : X → Bool) where
       let parts = or_parts (p x) (list_any p xs) h in
       ap (λ b. cond b (Some x) (find p xs)) parts.0 ∙ any_none xs parts.1
 
-  first_found : (xs : List X) (i : ℕ) (d : X) → i < length xs → p (get_or xs i d) ≡ true → ((k : ℕ) → k < i → p (get_or xs k d) ≡ false) → find p xs ≡ Some (get_or xs i d)
-  first_found [] i d lt here before = absurd (omega arith)
-  first_found (x ∷ xs) zero d lt here before = ap (λ b. cond b (Some x) (find p xs)) here
-  first_found (x ∷ xs) (suc i) d lt here before =
-      let less : i < length xs = omega (arith, lt) in
-      ap (λ b. cond b (Some x) (find p xs)) (before zero (omega arith))
-      ∙ first_found xs i d less here (λ k h. let more : suc k < suc i = omega (arith, h) in before (suc k) more)
-
   pub none_found : (xs : List X) → position p xs ≡ None → find p xs ≡ None
   none_found xs h = find_at p xs ∙ by (nat_lt (position_or_len p xs) (length xs)) refl h
     where
       by : (b : Bool) → nat_lt (position_or_len p xs) (length xs) ≡ b → cond b (Some (position_or_len p xs)) None ≡ None → slice_get xs (position_or_len p xs) ≡ None
       by true e some = absurd cc
       by false e some = slice_get_past xs (position_or_len p xs) (ltb-false (position_or_len p xs) (length xs) e)
-
-  pub found_there : (xs : List X) (i : ℕ) (d : X) → Some i ≡ position p xs → find p xs ≡ Some (get_or xs i d)
-  found_there xs i d h = let found = position-Some p xs i d (sym h) in first_found xs i d found.0 found.1 found.2
-
-  pub all_get : (xs : List X) (i : ℕ) (d : X) → list_all p xs ≡ true → i < length xs → p (get_or xs i d) ≡ true
-  all_get [] i d all lt = absurd (omega arith)
-  all_get (x ∷ xs) zero d all lt = (and_parts (p x) (list_all p xs) all).0
-  all_get (x ∷ xs) (suc i) d all lt = let less : i < length xs = omega (arith, lt) in all_get xs i d (and_parts (p x) (list_all p xs) all).1 less
 
   pub all_insert : (k : ℕ) (xs : List X) (x : X) → list_all p xs ≡ true → p x ≡ true → list_all p (insert xs k x) ≡ true
   all_insert zero [] x all here = and_from (p x) true here refl
@@ -136,6 +119,11 @@ apart_filter keep (x ∷ xs) apart = by (keep x) (apart_parts x xs apart).0 (apa
     by true none rest = apart_from x (filter keep xs) (any_filter (λ (g : Filed). g.slot == x.slot) keep xs none) rest
     by false none rest = rest
 
+pub has_there : (es : List Filed) (k : ℕ) (f : Filed) → slice_get es k ≡ Some f → has_slot es f.slot ≡ true
+has_there es k f at =
+    list_any_at (λ (g : Filed). g.slot == f.slot) es k f (slice_get_within es k f at)
+    (ap (λ (g : Filed). g.slot == f.slot) (get_or_from_slice_get es k f f at) ∙ eq-eqb f.slot f.slot refl)
+
 -- ---- the files without that of a slot
 module _ (s : ℕ) where
   abbrev pub is_other : Filed → Bool
@@ -144,19 +132,14 @@ module _ (s : ℕ) where
   pub slot_gone : (es : List Filed) → has_slot (filter is_other es) s ≡ false
   slot_gone es = any-filter_same (λ (f : Filed). f.slot == s) is_other false (λ f e. ap not e) es
 
-  pub slot_stays : (n : ℕ) (es : List Filed) → (n ≡ s → ⊥) → has_slot (filter is_other es) n ≡ has_slot es n
-  slot_stays n es ne =
-      any-filter_same (λ (f : Filed). f.slot == n) is_other true
-      (λ f e. ap not (ne_eqb f.slot s (λ same. ne (sym (eqb-true f.slot n e) ∙ same)))) es
-
-  pub removed : (es : List Filed) (i : ℕ) (d : Filed) → i < length es → ((get_or es i d).slot == s) ≡ true → ((k : ℕ) → k < i → ((get_or es k d).slot == s) ≡ false) → are_distinct (slot_list es) ≡ true
-      → filter is_other es ≡ remove es i
-  removed [] i d lt here before apart = absurd (omega arith)
-  removed (x ∷ xs) zero d lt here before apart =
+  pub removed : (es : List Filed) (i : ℕ) (f : Filed) → slice_get es i ≡ Some f → f.slot ≡ s → are_distinct (slot_list es) ≡ true → filter is_other es ≡ remove es i
+  removed [] i f at here apart = absurd cc
+  removed (x ∷ xs) zero f at here apart =
+      let same : x ≡ f = cc in
+      let there : x.slot ≡ s = ap (λ (g : Filed). g.slot) same ∙ here in
+      ap (λ b. cond (not b) (x ∷ filter is_other xs) (filter is_other xs)) (eq-eqb x.slot s there)
+      ∙ filter_none (λ (g : Filed). g.slot == s) xs (subst (λ n. has_slot xs n ≡ false) there (apart_parts x xs apart).0)
+  removed (x ∷ xs) (suc i) f at here apart =
       let parts = apart_parts x xs apart in
-      ap (λ b. cond (not b) (x ∷ filter is_other xs) (filter is_other xs)) here
-      ∙ filter_none (λ (f : Filed). f.slot == s) xs (subst (λ n. has_slot xs n ≡ false) (eqb-true x.slot s here) parts.0)
-  removed (x ∷ xs) (suc i) d lt here before apart =
-      let less : i < length xs = omega (arith, lt) in
-      ap (λ b. cond (not b) (x ∷ filter is_other xs) (filter is_other xs)) (before zero (omega arith))
-      ∙ ap (λ ys. x ∷ ys) (removed xs i d less here (λ k h. let more : suc k < suc i = omega (arith, h) in before (suc k) more) (apart_parts x xs apart).1)
+      let differs : (x.slot == s) ≡ false = ne_eqb x.slot s (λ same. let some = has_there xs i f at in let none = subst (λ n. has_slot xs n ≡ false) (same ∙ sym here) parts.0 in absurd cc) in
+      ap (λ b. cond (not b) (x ∷ filter is_other xs) (filter is_other xs)) differs ∙ ap (λ ys. x ∷ ys) (removed xs i f at here parts.1)

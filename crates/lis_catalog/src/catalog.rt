@@ -1,13 +1,11 @@
-ghost use Rattle.std.specs.Prelude.{◌≡◌, ℕ, ◌<◌, ◌≤◌, ◌==◌, [], not, false, length, List, None, Some, replicate, slice_get, slice_index, IsTrue, IsSome, IfOk, MatchResult, MatchOption};
-ghost use Rattle.std.specs.List.{position};
+ghost use Rattle.std.specs.Prelude.{◌≡◌, ℕ, ◌<◌, ◌==◌, [], length, None, Some, is_none, replicate, slice_get, slice_index_or, position, IsTrue, IsSome, IfSome, IfNone, IfOk, MatchOption, MatchResult};
 ghost use Rattle.std.specs.Option.{option_map};
-ghost use Rattle.lis_graph.specs.Graph.{is_rising};
-ghost use Rattle.lis_words.specs.Words.{word_cmp, is_file_name};
+ghost use Rattle.std.specs.List.Sorted.{IsSearchInRange};
+ghost use Rattle.lis_words.specs.Words.{is_file_name};
 ghost use Rattle.lis_model.specs.Ranges.{is_files_limit};
-ghost use Rattle.lis_fields.specs.Layouts.{are_distinct};
-ghost use Rattle.lis_catalog.specs.Catalog.{Filed, names, slot_of, rec_at, with_filed, without_slot, IsCatalog};
+ghost use Rattle.lis_catalog.specs.Catalog.{Filed, slots, slot_of, rec_at, with_filed, without_slot, IsCatalog};
 ghost use Rattle.lis_catalog.specs.Calls.{Adds, Replaces};
-ghost use Rattle.lis_catalog.specs.Inside.{FoundAt, PlaceFor, slot_list, TellsPlaces};
+ghost use Rattle.lis_catalog.specs.Inside.{record_in, FoundAt, PlaceFor};
 
 use lis_fields::FileRec;
 use lis_words::Name;
@@ -24,39 +22,14 @@ pub enum CatalogFault {
     NoFileRoom,
 }
 
-// A file's slot, and its record.
-#[derive(Drop)]
-struct Entry {
-    slot: u16,
-    rec: FileRec,
-}
-
-impl Model for Entry {
-    ghost use Rattle.lis_catalog.specs.Catalog.{Filed};
-
-    ghost Value = { Filed };
-
-    ghost view = { λ e. record { slot = e.slot; rec = e.rec } };
-}
-
-impl Entry {
-    fn name(&self) -> &[u8]
-        ensures { result.now ≡ self.now.rec.name }
-    {
-        self.rec.name.bytes()
-    }
-}
-
 /// The file records of an image, by name and by slot. All memory is taken by `new`.
 #[derive(Drop)]
 pub struct Catalog {
     files: u32,
-    // In the order of the names.
-    entries: Vec<Entry>,
-    // For each slot, whether a file is in it.
-    used: Vec<bool>,
-    // For each slot that a file is in, the file's place among the entries.
-    places: Vec<u16>,
+    // For each slot, the record of the file in it.
+    records: Vec<Option<FileRec>>,
+    // The slots that have a record, in the order of the names.
+    order: Vec<u16>,
 }
 
 impl Model for Catalog {
@@ -65,49 +38,45 @@ impl Model for Catalog {
 
     ghost Value = { Filing };
 
-    ghost use Rattle.lis_catalog.specs.Inside.{IsIndexed};
+    ghost use Rattle.lis_catalog.specs.Inside.{catalog_of, IsHeld};
 
-    ghost view = { λ c. record { files = c.files; entries = c.entries.items } };
+    ghost view = { λ c. catalog_of c.files c.records.items c.order.items };
 
-    ghost invariant = { λ c. IsIndexed c.files c.entries.items (vec_capacity c.entries) c.used.items c.places.items };
+    ghost invariant = { λ c. IsHeld c.files c.records.items c.order.items (vec_capacity c.order) };
 }
 
-// The place of a name where it is there, or else the place that it would have.
-fn find(entries: &[Entry], name: &Name) -> Result<usize, usize>
-    requires { IsTrue (is_rising word_cmp (names (record { files = 0; entries = entries.now }))) }
-    ensures bound { MatchResult result (λ k. k < length entries.now) (λ k. k ≤ length entries.now) }
-    ensures place { MatchResult result (λ k. FoundAt name.now k entries.now) (λ k. PlaceFor name.now k entries.now) }
-    ensures name { IsTrue (is_file_name name.now) }
+// The record in the slot.
+fn record_at(records: &[Option<FileRec>], slot: u16) -> Option<&FileRec>
+    ensures { MatchOption result (slice_index_or records.now slot None ≡ None) (λ rec. slice_index_or records.now slot None ≡ Some rec.now) }
 {
-    let bytes = name.bytes();
-    entries.binary_search_by(|entry| entry.name().cmp(bytes))
+    records.get(usize::from(slot))?.as_ref()
 }
 
-// Notes the places of the files from a place on.
-fn note_places(entries: &[Entry], places: &mut [u16], start: usize)
-    requires few { length entries.now ≤ 4096 }
-    requires below { (k : ℕ) → k < length entries.now → slice_index (slot_list entries.now) k < length places.old }
-    requires apart { IsTrue (are_distinct (slot_list entries.now)) }
-    requires before { TellsPlaces entries.now places.old start }
-    ensures { TellsPlaces entries.now places.new (length entries.now) }
+// The name of the file in the slot, or no bytes.
+fn name_at(records: &[Option<FileRec>], slot: u16) -> &[u8]
+    ensures { result.now ≡ (record_in records.now slot).name }
 {
-    for k in start..entries.len() {
-        let entry = &entries[k];
-        places[usize::from(entry.slot)] = k as u16;
+    match record_at(records, slot) {
+        Some(rec) => rec.name.bytes(),
+        None => b"".as_slice(),
     }
 }
 
 // The first slot that no file is in.
-fn free_slot(used: &[bool]) -> Option<usize>
-    ensures { result ≡ position not used.now }
+fn free_slot(records: &[Option<FileRec>]) -> Option<usize>
+    ensures { result ≡ position is_none records.now }
 {
-    used.iter().position(|used| !*used)
+    records.iter().position(|held| held.is_none())
 }
 
-fn all_free(alloc: Global, files: u32) -> Result<Vec<bool>, AllocError>
-    ensures { IfOk result (λ used. used.items ≡ replicate files false) }
+fn all_free(alloc: Global, files: u32) -> Result<Vec<Option<FileRec>>, AllocError>
+    ensures { IfOk result (λ records. records.items ≡ replicate files None) }
 {
-    vec![in alloc; false; files as usize]
+    let mut records = Vec::with_capacity(alloc, files as usize)?;
+    for _ in 0..files {
+        records.push(None)?;
+    }
+    Ok(records)
 }
 
 impl Catalog {
@@ -118,9 +87,8 @@ impl Catalog {
     {
         Ok(Catalog {
             files,
-            entries: Vec::with_capacity(alloc, files as usize)?,
-            used: all_free(alloc, files)?,
-            places: vec![in alloc; 0; files as usize]?,
+            records: all_free(alloc, files)?,
+            order: Vec::with_capacity(alloc, files as usize)?,
         })
     }
 
@@ -129,7 +97,7 @@ impl Catalog {
         ensures value { result ≡ length self.now.entries }
         ensures kept { IsCatalog self.now }
     {
-        self.entries.len() as u32
+        self.order.len() as u32
     }
 
     /// The slot of the file that has the name, which is in the form of names.
@@ -146,18 +114,31 @@ impl Catalog {
         ensures name { IsTrue (is_file_name name.now) }
         ensures kept { IsCatalog self.now }
     {
-        match find(&self.entries, name) {
-            Ok(place) => Some(self.entries[place].slot),
+        match self.find(name) {
+            Ok(place) => Some(self.order[place]),
             Err(_) => None,
         }
+    }
+
+    // The place of a name where it is there, or else the place that it would have.
+    fn find(&self, name: &Name) -> Result<usize, usize>
+        ensures bound { IsSearchInRange result (length self.now.entries) }
+        ensures place { MatchResult result (λ k. FoundAt name.now k self.now.entries) (λ k. PlaceFor name.now k self.now.entries) }
+        ensures name { IsTrue (is_file_name name.now) }
+        ensures kept { IsCatalog self.now }
+    {
+        let bytes = name.bytes();
+        let records = self.records.as_slice();
+        self.order
+            .binary_search_by(|slot| name_at(records, *slot).cmp(bytes))
     }
 
     /// The k-th name in byte order, and its file's slot.
     pub fn file_at(&self, k: u32) -> Option<(Name, u16)>
         ensures { result ≡ option_map (λ (f : Filed). (f.rec.name, f.slot)) (slice_get self.now.entries k) }
     {
-        let entry = self.entries.get(k as usize)?;
-        Some((entry.rec.name.copied(), entry.slot))
+        let (slot, rec) = self.entry(k)?;
+        Some((rec.name.copied(), slot))
     }
 
     /// The k-th file in the order of names: its slot, and its record with the name.
@@ -165,30 +146,27 @@ impl Catalog {
         ensures { MatchOption result (slice_get self.now.entries k ≡ None)
             (λ file. slice_get self.now.entries k ≡ Some (record { slot = file.0; rec = file.1.now })) }
     {
-        let entry = self.entries.get(k as usize)?;
-        Some((entry.slot, &entry.rec))
-    }
-
-    // The place of the file in a slot.
-    fn place_of(&self, slot: u16) -> Option<usize>
-        ensures { result ≡ position (λ (f : Filed). f.slot == slot) self.now.entries }
-    {
-        let slot = usize::from(slot);
-        if slot >= self.used.len() {
-            return None;
-        }
-        if !self.used[slot] {
-            return None;
-        }
-        Some(usize::from(self.places[slot]))
+        let slot = *self.order.get(k as usize)?;
+        Some((slot, record_at(&self.records, slot)?))
     }
 
     /// The record of the file in the slot.
     pub fn rec(&self, slot: u16) -> Option<&FileRec>
         ensures { MatchOption result (rec_at self.now slot ≡ None) (λ rec. rec_at self.now slot ≡ Some rec.now) }
     {
-        let place = self.place_of(slot)?;
-        Some(&self.entries[place].rec)
+        record_at(&self.records, slot)
+    }
+
+    // The place of the file in the slot, by its name.
+    fn place_of(&self, slot: u16) -> Option<usize>
+        ensures none { IfNone result (rec_at self.now slot ≡ None) }
+        ensures place { IfSome result (λ k. slice_get (slots self.now) k ≡ Some slot) }
+    {
+        let rec = self.rec(slot)?;
+        let Ok(place) = self.find(&rec.name) else {
+            unreachable!()
+        };
+        Some(place)
     }
 
     /// Adds a file in a free slot, and answers the slot.
@@ -198,7 +176,7 @@ impl Catalog {
         if self.slot_of(&rec.name).is_some() {
             return Err(CatalogFault::NameTaken);
         }
-        let Some(slot) = free_slot(&self.used) else {
+        let Some(slot) = free_slot(&self.records) else {
             return Err(CatalogFault::NoFileRoom);
         };
         let slot = slot as u16;
@@ -227,10 +205,8 @@ impl Catalog {
         ensures gone { self.new ≡ without_slot self.old slot }
     {
         let place = self.place_of(slot)?;
-        self.used[usize::from(slot)] = false;
-        let entry = self.entries.remove(place);
-        note_places(&self.entries, &mut self.places, place);
-        Some(entry.rec)
+        self.order.remove(place);
+        self.records[usize::from(slot)].take()
     }
 
     /// Adds a file in this slot.
@@ -240,13 +216,12 @@ impl Catalog {
         requires new { slot_of self.old rec.name ≡ None }
         ensures { self.new ≡ with_filed self.old slot rec }
     {
-        let Err(place) = find(&self.entries, &rec.name) else {
+        let Err(place) = self.find(&rec.name) else {
             unreachable!()
         };
-        self.used[usize::from(slot)] = true;
-        let Ok(()) = self.entries.insert(place, Entry { slot, rec }) else {
+        self.records[usize::from(slot)] = Some(rec);
+        let Ok(()) = self.order.insert(place, slot) else {
             unreachable!()
         };
-        note_places(&self.entries, &mut self.places, place);
     }
 }

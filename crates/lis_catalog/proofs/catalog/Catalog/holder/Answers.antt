@@ -1,22 +1,17 @@
-use Rattle.std.proofs.Common.{List, Some, sym, ◌∙◌, ap, subst}
-use Rattle.std.specs.Option.{option_map}
-use Rattle.lis_catalog.specs.Catalog.{Filed, slot_of}
-use Rattle.lis_catalog.specs.Inside.{FoundAt, PlaceFor}
-use Rattle.lis_catalog.proofs.Held.{sorted}
-use Rattle.lis_catalog.proofs.Places.{found_name, no_name}
+use Rattle.std.proofs.Common.{◌<◌, length, sym, ap, ◌∙◌, refl, slice_get, arith}
+use Rattle.std.proofs.lemmas.Option.{slice_get_read}
+use Rattle.lis_catalog.proofs.Held.{named_at, none_named, seen_order, seen_length}
 use Rattle.lis_catalog.proofs.catalog.Catalog.holder.Goals as goal
 
 pub returns-in-Ok-clause-slot : goal.returns-in-Ok-clause-slot
 returns-in-Ok-clause-slot c =
-    let es = c.self.inside.entries.items in
-    let place : FoundAt c.args.name.now c.in-Ok.place es = subst (λ (xs : List Filed). FoundAt c.args.name.now c.in-Ok.place xs) c.deref.ensures.value c.in-Ok.ensures.place in
-    let found = found_name c.args.name.now c.in-Ok.place es c.index.result.now place in
-    ap (λ (f : Filed). Some f.slot) (c.behind-self.view_is ∙ c.index.ensures)
-    ∙ (sym (ap (option_map (λ (f : Filed). f.slot)) found) ∙ ap (λ s. slot_of s c.args.name.now) c.self.view_is)
+    let i = c.self.inside in
+    let seen = c.args.self.now in
+    let k = c.in-Ok.place in
+    let low : k < length i.order.items = omega (arith, c.in-Ok.ensures.bound, seen_length i.files i.records.items i.order.items seen c.self.view_is) in
+    sym (named_at seen c.args.name.now k c.in-Ok.ensures.bound c.in-Ok.ensures.place
+    ∙ (ap (λ ns. slice_get ns k) (seen_order i.files i.records.items i.order.items seen c.self.view_is)
+    ∙ slice_get_read i.order.items (length i.order.items) k c.index.result.now refl low c.index.ensures))
 
 pub returns-in-Err-clause-slot : goal.returns-in-Err-clause-slot
-returns-in-Err-clause-slot c =
-    let es = c.self.inside.entries.items in
-    let place : PlaceFor c.args.name.now c.in-Err.field-0 es = subst (λ (xs : List Filed). PlaceFor c.args.name.now c.in-Err.field-0 xs) c.deref.ensures.value c.in-Err.ensures.place in
-    let none = no_name c.args.name.now c.in-Err.field-0 es (sorted c.self.inside.files _ es c.self.inside.used.items c.self.invariant.held) place in
-    sym (ap (option_map (λ (f : Filed). f.slot)) none) ∙ ap (λ s. slot_of s c.args.name.now) c.self.view_is
+returns-in-Err-clause-slot c = sym (none_named c.args.self.now c.args.name.now c.in-Err.field-0 c.in-Err.ensures.kept c.in-Err.ensures.place)
