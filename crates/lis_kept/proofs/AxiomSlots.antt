@@ -1,8 +1,7 @@
 -- A list with another element in one place.
-use Rattle.std.proofs.Common.{◌≡◌, ◌⊎◌, ℕ, zero, suc, ◌+◌, ◌*◌, ◌/◌, ◌<◌, ◌≤◌, ◌==◌, ◌||◌, cond, Bool, true, false, Option, Some, None, slice_get, List, [], ◌∷◌, length, set, get_or, refl, sym, ap, ap₂, ◌∙◌, subst, inl, inr, arith}
-use Rattle.lis_kept.proofs.Common.{list_any, cases_eq, cases_lt, and_parts, eqb-true, lt-ltb, same_Some, slice_get_within, get_or_from_slice_get, among_from_any, AxiomSlot, FreeAxiom, Pair, Limits}
+use Rattle.std.proofs.Common.{arith}
+use Rattle.lis_kept.proofs.Common.{rules, ◌≡◌, ◌⊎◌, ℕ, zero, suc, ◌<◌, ◌≤◌, ◌||◌, cond, Bool, true, false, Some, None, slice_get, List, [], ◌∷◌, length, set, get_or, refl, sym, ap, ◌∙◌, subst, inl, inr, list_any, cases_lt, and_parts, eqb-true, lt-ltb, same_Some, slice_get_within, get_or_from_slice_get, among_from_any, AxiomSlot, FreeAxiom, Pair, Limits, both_ways}
 use Rattle.std.specs.List.{position, position_or_len}
-use Rattle.std.proofs.lemmas.Bool.{both_ways}
 use Rattle.std.proofs.lemmas.List.Sums.{fails_before_first}
 use Rattle.std.proofs.lemmas.Option.{slice_get-get_or}
 use Rattle.std.proofs.lemmas.List.Quantifiers.{position-Some}
@@ -31,11 +30,7 @@ set_there (z ∷ xs) (suc i) y (suc k) differ = set_there xs i y k (λ same. dif
 -- what stands in each place then
 pub set_cases : {X : Type 0} (xs : List X) (i : ℕ) (x y : X) → slice_get xs i ≡ Some x → (k : ℕ) (z : X) → slice_get (set xs i y) k ≡ Some z
     → ((k ≡ i) × (y ≡ z)) ⊎ ((k ≡ i → ⊥) × (slice_get xs k ≡ Some z))
-set_cases xs i x y at k z is = by (cases_eq k i)
-  where
-    by : (k ≡ i) ⊎ (k ≡ i → ⊥) → ((k ≡ i) × (y ≡ z)) ⊎ ((k ≡ i → ⊥) × (slice_get xs k ≡ Some z))
-    by (inl same) = inl (same, same_Some y z (sym (set_here xs i x y at) ∙ (ap (slice_get (set xs i y)) (sym same) ∙ is)))
-    by (inr differ) = inr (differ, sym (set_there xs i y k differ) ∙ is)
+set_cases xs i x y at k z is = search (rules, same_Some, set_here, set_there)
 
 or_around : (a b c : Bool) → a ≡ false → (b || c) ≡ (b || (a || c))
 or_around a b c none = ap (λ x. b || (x || c)) (sym none)
@@ -52,10 +47,7 @@ first_place test xs d i is = let found = position-Some test xs i d is in (slice_
 
 -- an axiom slot of a number is one of the slots of whole blocks
 pub axiom_within : (limits : Limits) (slot : ℕ) → slot < limits.props → slot < (axiom_slots limits).count
-axiom_within limits slot lt = within limits.props slot lt
-  where
-    within : (props n : ℕ) → n < props → n < 512 * ((props + 511) / 512)
-    within props n below = omega arith
+axiom_within limits slot lt = search (rules)
 
 -- what stood there comes back
 pub set_back : {X : Type 0} (xs : List X) (i : ℕ) (x y : X) → slice_get xs i ≡ Some x → set (set xs i y) i x ≡ xs
@@ -83,23 +75,16 @@ first_found test xs i x at passes =
         by (inr le) = le
 
 pub first_is_some : {X : Type 0} (test : X → Bool) (xs : List X) (i : ℕ) (x : X) → slice_get xs i ≡ Some x → test x ≡ true → position test xs ≡ None → ⊥
-first_is_some test xs i x at passes none =
-    let both : ◌≡◌ {A = Option ℕ} None (Some (position_or_len test xs)) = sym none ∙ (first_found test xs i x at passes).0 in cc
+first_is_some test xs i x at passes none = search (rules, first_found)
 
 pub first_no_later : {X : Type 0} (test : X → Bool) (xs : List X) (i k : ℕ) (x : X) → slice_get xs i ≡ Some x → test x ≡ true → position test xs ≡ Some k → k ≤ i
-first_no_later test xs i k x at passes is =
-    let found = first_found test xs i x at passes in
-    omega (arith, found.1, same_Some (position_or_len test xs) k (sym found.0 ∙ is))
+first_no_later test xs i k x at passes is = search (rules, first_found, same_Some)
 
 free_is : (a : AxiomSlot) → is_free a ≡ true → a ≡ FreeAxiom
-free_is FreeAxiom is = refl
-free_is (Pair left right) is = absurd cc
+free_is a is = search (rules)
 
 pub pair_is : (left right : ℕ) (a : AxiomSlot) → is_pair left right a ≡ true → a ≡ Pair left right
-pair_is left right FreeAxiom is = absurd cc
-pair_is left right (Pair x y) is =
-    let parts = and_parts (x == left) (y == right) is in
-    ap₂ (λ (a b : ℕ). Pair a b) (eqb-true x left parts.0) (eqb-true y right parts.1)
+pair_is left right a is = search (rules, and_parts, eqb-true)
 
 pub free_place : (axioms : List AxiomSlot) (k : ℕ) → position is_free axioms ≡ Some k → slice_get axioms k ≡ Some FreeAxiom
 free_place axioms k is = let found = first_place is_free axioms FreeAxiom k is in found.0 ∙ ap Some (free_is (get_or axioms k FreeAxiom) found.1)
@@ -109,11 +94,7 @@ pair_place axioms left right k is = let found = first_place (is_pair left right)
 
 -- a pair that is there is first somewhere; `seen` are the axioms as a call sees them, and `x` and `y` the numbers
 pub pair_found : (axioms seen : List AxiomSlot) (left right x y : ℕ) → seen ≡ axioms → x ≡ left → y ≡ right → has_pair axioms left right ≡ true → position (is_pair x y) seen ≡ None → ⊥
-pair_found axioms seen left right x y are lefts rights has none =
-    let found = among_from_any (is_pair left right) axioms has in
-    let at = slot_at axioms found.0 found.1 in
-    first_is_some (is_pair left right) axioms at.0 found.0 at.1 found.2
-    (subst (λ n. position (is_pair left n) axioms ≡ None) rights (subst (λ n. position (is_pair n y) axioms ≡ None) lefts (ap (position (is_pair x y)) (sym are) ∙ none)))
+pair_found axioms seen left right x y are lefts rights has none = search (rules, among_from_any, slot_at, first_is_some)
 
 pub pair_placed : (axioms seen : List AxiomSlot) (left right x y k : ℕ) → seen ≡ axioms → x ≡ left → y ≡ right → position (is_pair x y) seen ≡ Some k → slice_get axioms k ≡ Some (Pair left right)
 pair_placed axioms seen left right x y k are lefts rights is =
@@ -126,7 +107,4 @@ InSlot axioms left right = (slot : ℕ) × (slice_get axioms slot ≡ Some (Pair
 
 -- how many slots there are
 pub few_slots : (k : Kept) → AreSound k → length k.axioms ≤ 8192
-few_slots k sound = few k.limits.props (length k.axioms) (few_properties k.limits sound.range) sound.axiom_count
-  where
-    few : (props count : ℕ) → props ≤ 8192 → count ≡ 512 * ((props + 511) / 512) → count ≤ 8192
-    few props count most is = omega (arith, most, is)
+few_slots k sound = search (rules, few_properties)

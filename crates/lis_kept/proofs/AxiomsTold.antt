@@ -1,11 +1,8 @@
 -- The axioms that memory tells, by their slots.
-use Rattle.std.proofs.Common.{◌≡◌, ◌⊎◌, ℕ, zero, suc, ◌+◌, ◌<◌, ◌≤◌, ◌==◌, ◌&&◌, Bool, true, false, cond, Some, List, [], ◌∷◌, ◌++◌, length, slice_get, count_by, IsSome, refl, sym, ap, ap₂, ◌∙◌, subst, inl, inr, arith, eq-eqb}
-use Rattle.lis_kept.proofs.Common.{Ordering, Less, Equal, Greater, match_ordering, insert_key, fold, list_any, eqb-true, same_Some, sum_by-cons, Among, among_right, among_from_any, among_flat_map, among_insert_key, Dict, word_of, AxiomSlot, FreeAxiom, Pair, same_word, same_pair, pair_exact, same_word_decides}
-use Rattle.std.proofs.lemmas.Bool.{both_ways}
-use Rattle.lis_graph.proofs.Members.{any_from_among}
+use Rattle.std.proofs.Common.{arith, eq-eqb}
+use Rattle.lis_kept.proofs.Common.{rules, ◌≡◌, ◌⊎◌, ℕ, zero, suc, ◌+◌, ◌<◌, ◌≤◌, ◌==◌, ◌&&◌, Bool, true, false, cond, Some, List, [], ◌∷◌, ◌++◌, length, slice_get, count_by, IsSome, refl, sym, ap, ap₂, ◌∙◌, subst, inl, inr, Ordering, Less, Equal, Greater, match_ordering, insert_key, fold, list_any, eqb-true, same_Some, sum_by-cons, Among, among_right, among_from_any, among_flat_map, among_insert_key, Dict, word_of, AxiomSlot, FreeAxiom, Pair, same_word, same_pair, pair_exact, same_word_decides, both_ways, any_from_among, same_tests}
 use Rattle.lis_model.specs.State.{pair_cmp}
 use Rattle.lis_model.specs.Changes.{has_axiom}
-use Rattle.lis_laws.proofs.Locals.{same_tests}
 use Rattle.lis_kept.specs.Kept.{Kept}
 use Rattle.lis_kept.specs.Sound.{AreSound}
 use Rattle.lis_kept.specs.Links.{is_pair, has_pair}
@@ -98,9 +95,7 @@ module _ (d : Dict) (one : (m n : ℕ) (w : List ℕ) → word_of d m ≡ Some w
   -- nor is it one of those before, which none of the others is
   no_other : (acc : List (List ℕ × List ℕ)) (x y : ℕ) (axioms : List AxiomSlot) → AreApart d (Pair x y ∷ axioms) → ((e : List ℕ × List ℕ) → Among (pairs_told d (Pair x y ∷ axioms)) e → Among acc e → ⊥)
       → (l : (w : List ℕ) × (word_of d x ≡ Some w)) (r : (w : List ℕ) × (word_of d y ≡ Some w)) (e : List ℕ × List ℕ) → Among (pairs_told d axioms) e → (◌≡◌ {A = List ℕ × List ℕ} (l.0, r.0) e) ⊎ Among acc e → ⊥
-  no_other acc x y axioms are new l r e m (inl same) =
-      first_apart x y axioms e are (l.1 ∙ ap (λ (z : List ℕ × List ℕ). Some z.0) same) (r.1 ∙ ap (λ (z : List ℕ × List ℕ). Some z.1) same) m
-  no_other acc x y axioms are new l r e m (inr old) = new e (among_right (pair_told d (Pair x y)) (pairs_told d axioms) e m) old
+  no_other acc x y axioms are new l r e = search (rules, first_apart, among_right)
 
   counted : (acc : List (List ℕ × List ℕ)) (axioms : List AxiomSlot) → AreApart d axioms → ((e : List ℕ × List ℕ) → Among (pairs_told d axioms) e → Among acc e → ⊥)
       → length (fold (insert_key pair_cmp) acc (pairs_told d axioms)) ≡ length acc + count axioms

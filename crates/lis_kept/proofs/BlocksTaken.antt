@@ -1,13 +1,12 @@
 -- Blocks that are taken for a content, or given back.
-use Rattle.std.proofs.Common.{◌≡◌, refl, sym, ap, ◌∙◌, subst, ℕ, zero, suc, ◌+◌, ◌^◌, ◌<◌, ◌≤◌, ◌==◌, ◌&&◌, if◌then◌else◌, nat_lt, not, Bool, true, false, List, [], ◌∷◌, length, drop, set, Result, Ok, Err, MatchResult, arith, length-set}
-use Rattle.lis_kept.proofs.Common.{list_all, and_parts, ltb-true, lt-ltb, Held, are_distinct, slot_count, FileRecord, slot_blocks, slots_distinct, Taxonomy, bitmap_start, data_start, all_among}
-use Rattle.std.proofs.lemmas.Bool.{and_from, cond-true, cond-false, eq-eqb, ltb-false}
+use Rattle.std.proofs.Common.{MatchResult, arith}
+use Rattle.lis_kept.proofs.Common.{rules, ◌≡◌, refl, sym, ap, ◌∙◌, subst, ℕ, zero, suc, ◌<◌, ◌≤◌, nat_lt, not, Bool, true, false, List, [], ◌∷◌, length, drop, set, Result, Ok, Err, length-set, list_all, and_parts, ltb-true, lt-ltb, Held, are_distinct, slot_count, FileRecord, Taxonomy, bitmap_start, data_start, all_among, and_from, all_from}
+use Rattle.std.proofs.lemmas.Bool.{cond-true, cond-false, eq-eqb, ltb-false}
 use Rattle.lis_ports.specs.Meaning.{Meaning}
 use Rattle.lis_ports.specs.Runs.{Leaves}
 use Rattle.lis_ports.proofs.Moments.{leaves_none}
-use Rattle.lis_journal.specs.Journal.{OpenRecords}
 use Rattle.lis_journal.specs.Record.{Entry}
-use Rattle.lis_journal.specs.Images.{look, is_among, StandsBut, FitsAt, Fits}
+use Rattle.lis_journal.specs.Images.{look, is_among, StandsBut, Fits}
 use Rattle.lis_journal.specs.Phases.{looked}
 use Rattle.lis_blockmap.specs.Bitmap.{free_count}
 use Rattle.lis_content.specs.Content.{given, are_free, are_within, has_number}
@@ -23,10 +22,8 @@ use Rattle.lis_content.proofs.Laying.{among_homes}
 use Rattle.lis_fields.specs.Layouts.{are_short, are_blocks}
 use Rattle.lis_model.specs.Image.{image_blocks}
 use Rattle.lis_model.specs.State.{file_limit, blocks_needed, blocks_taken}
-use Rattle.lis_laws.proofs.Counts.{all_from}
 use Rattle.lis_kept.specs.Kept.{Kept}
 use Rattle.lis_kept.specs.Areas.{Area, slots_of, block_of, spelled}
-use Rattle.lis_kept.specs.Areas.Area.{Properties, Axioms, Files, Rows, Bitmap}
 use Rattle.lis_kept.specs.Sound.{is_sound_record}
 use Rattle.lis_kept.specs.Links.{AreHeld}
 use Rattle.lis_kept.specs.Changes.{Takes, Gives, Fills, Lands, Puts, PutTorn}
@@ -42,11 +39,7 @@ module _ (k p : Kept) (t : Taxonomy) (taken marks : List Bool) (is : p ≡ k) (h
   retaken = record p { taken = taken; marks = marks }
 
   spelled_before : (area : Area) (n : ℕ) → n < (slots_of p.limits area).count → (block_of p.limits area n ≡ bitmap_start p.limits → ⊥) → spelled retaken area n ≡ spelled p area n
-  spelled_before Properties n lt apart = refl
-  spelled_before Axioms n lt apart = refl
-  spelled_before Files n lt apart = refl
-  spelled_before Rows n lt apart = refl
-  spelled_before Bitmap n lt apart = absurd (apart (omega (arith, lt)))
+  spelled_before area n lt apart = search (rules)
 
   pub takes : AreHeld retaken t × Takes taken k retaken
   takes = (
@@ -81,31 +74,19 @@ module _ (p : Kept) (t : Taxonomy) (held : AreHeld p t) (numbers : List ℕ) (fr
   free_below = ap (λ m. are_below m numbers) (sym held.sound.blocks) ∙ below_from_free p.taken numbers free
 
   free_short : are_short numbers ≡ true
-  free_short = all_from (λ n. nat_lt n (2 ^ 16)) numbers (λ n m.
-      lt-ltb n (2 ^ 16) (omega (arith, ltb-true n p.limits.blocks (all_among (λ i. nat_lt i p.limits.blocks) numbers n free_below m), few_blocks p.limits held.sound.range)))
+  free_short = search (rules, all_from, lt-ltb, ltb-true, all_among, free_below, few_blocks)
 
   free_in_form : (size : ℕ) → size ≤ file_limit p.limits.version → length numbers ≡ slot_count size → are_distinct numbers ≡ true → are_blocks p.limits.version size numbers ≡ true
-  free_in_form size few counted apart =
-      let as_many = counted ∙ sym (slot_blocks_counted p.limits.version size few) in
-      and_from ((length numbers == slot_blocks p.limits.version size) && are_short numbers) (slots_distinct numbers)
-      (and_from (length numbers == slot_blocks p.limits.version size) (are_short numbers) (eq-eqb (length numbers) (slot_blocks p.limits.version size) as_many) free_short)
-      (same_distinct numbers ∙ apart)
+  free_in_form size few counted apart = search (rules, slot_blocks_counted, and_from, eq-eqb, free_short, same_distinct)
 
 -- ---- a content that is placed
 placed_fills : (p : Kept) (taken : List Bool) (old : Held) (before after : Meaning) (blocks : List ℕ) → Places (data_start p.limits) p.taken taken old before after blocks → Fills blocks p old before after
-placed_fills p taken old before after blocks places = record {
-  distinct = places.distinct;
-  were_free = places.were_free;
-  moments = places.moments;
-  past = places.past;
-}
+placed_fills p taken old before after blocks places = assumption
 
 module _ (p : Kept) (t : Taxonomy) (held : AreHeld p t) (bytes numbers : List ℕ) (taken : List Bool) (old new : Held) (before after : Meaning) (few : length bytes ≤ file_limit p.limits.version)
     (unstaged : old.staged ≡ []) (large : is_large (length bytes) ≡ true) (placed : IsPlaced (data_start p.limits) bytes p.taken taken old new before after numbers) where
   slot_apart : are_distinct numbers ≡ true
-  slot_apart =
-      subst (λ ns. are_distinct ns ≡ true) (sym (placed.slot_is ∙ cond-true (is_large (length bytes)) _ placed.blocks large))
-      (distinct_behind placed.blocks (blocks_needed (length bytes)) placed.lays.places.distinct)
+  slot_apart = search (rules, cond-true, distinct_behind)
 
   staged_same : new.staged ≡ old.staged
   staged_same = ap (λ (h : Held). h.staged) placed.lays.journal
@@ -154,11 +135,7 @@ module _ (p : Kept) (t : Taxonomy) (held : AreHeld p t) (bytes numbers : List �
   counted = put.count ∙ sym (cond-false (is_large (length bytes)) 1 (blocks_needed (length bytes)) small)
 
   staged_fits : (kept : ℕ → List ℕ) → Fits old m kept → Fits new m kept
-  staged_fits kept fits =
-      let B : ℕ → Type 0 = λ b. FitsAt b old.records old.placed m kept in
-      let R : OpenRecords → Type 0 = λ rs. FitsAt new.blocks rs old.placed m kept in
-      let P : List ℕ → Type 0 = λ ns. FitsAt new.blocks new.records ns m kept in
-      subst P (sym put.placed) (subst R (sym put.records) (subst B (sym put.image) fits))
+  staged_fits kept fits = search (rules)
 
   abbrev staged_lands : (kept : ℕ → List ℕ) → Fits old m kept → Lands p.limits bytes numbers numbers (looked old.staged kept) new m
   staged_lands kept fits = record {
@@ -204,11 +181,7 @@ pub record PutEnds {T : Type 0} (items : T → List ℕ) (bytes : List ℕ) (k q
 
 -- as many blocks are taken in each version as in version 2, since what is large is of that version
 taken_counted : (version size : ℕ) → size ≤ file_limit version → blocks_taken version size ≡ blocks_taken 2 size
-taken_counted version size few = by (version == 2) few
-  where
-    by : (two : Bool) → size ≤ (if two then 1048576 else 65536) → (if two && nat_lt 16 (blocks_needed size) then blocks_needed size + 1 else blocks_needed size) ≡ blocks_taken 2 size
-    by true le = refl
-    by false le = sym (cond-false (is_large size) _ (blocks_needed size) (small_size size le))
+taken_counted version size few = search (rules, cond-false, small_size)
 
 -- what is asked of a put
 pub record MayPut (k : Kept) (bytes : List ℕ) (old : Held) : Type 0 where
@@ -284,8 +257,7 @@ ended_err P Q put fault is ended = subst (λ r. MatchResult r P Q) is ended
 -- the homes of the blocks that a slot numbers are blocks of the image
 pub slot_within : (k : Kept) (rec : FileRecord) (base blocks : ℕ) (numbers : List ℕ) → is_sound_record k.limits.version k.dict k.limits.blocks rec ≡ true → base ≡ data_start k.limits
     → blocks ≡ image_blocks k.limits → numbers ≡ rec.blocks → are_within base blocks numbers ≡ true
-slot_within k rec base blocks numbers sound from image are =
-    within_if_below base blocks k.limits.blocks numbers (omega (arith, from, image)) (ap (are_below k.limits.blocks) are ∙ (record_parts k.limits.version k.dict k.limits.blocks rec sound).2)
+slot_within k rec base blocks numbers sound from image are = search (rules, within_if_below, are_below, record_parts)
 
 pub gives : (k p : Kept) (t : Taxonomy) (rec : FileRecord) (journal : Held) (m : Meaning) (base size : ℕ) (numbers : List ℕ) (taken marks : List Bool) → p ≡ k → AreHeld p t → length taken ≡ length p.taken
     → marks ≡ set p.marks (bitmap_start p.limits) true → base ≡ data_start p.limits → numbers ≡ rec.blocks → size ≡ rec.size

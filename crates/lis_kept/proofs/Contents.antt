@@ -1,12 +1,10 @@
 -- The bytes and the blocks of a file, and where other blocks change.
-use Rattle.std.proofs.Common.{◌≡◌, refl, sym, ◌∙◌, subst, ℕ, ◌+◌, ◌≤◌, ◌==◌, ◌&&◌, if◌then◌else◌, nat_lt, Bool, true, false, List, length}
-use Rattle.lis_kept.proofs.Common.{eqb-true, Among, among_from_any, among_right, slot_count, Dict, FileRecord, slot_blocks, Limits, data_start}
+use Rattle.lis_kept.proofs.Common.{rules, ◌≡◌, ℕ, ◌+◌, ◌≤◌, true, List, length, eqb-true, Among, among_from_any, among_right, slot_count, Dict, FileRecord, slot_blocks, Limits, data_start}
 use Rattle.std.proofs.lemmas.Bool.{cond-false}
-use Rattle.lis_content.specs.Large.{is_large, numbers_in, index_home}
 use Rattle.lis_content.proofs.Indexes.{large_blocks, small_blocks, small_size}
 use Rattle.lis_content.proofs.Files.{AreSame, same_file as same_in_content}
 use Rattle.lis_fields.proofs.Parts.{few_blocks}
-use Rattle.lis_model.specs.State.{file_limit, blocks_needed}
+use Rattle.lis_model.specs.State.{file_limit}
 use Rattle.lis_kept.specs.Sound.{is_sound_record}
 use Rattle.lis_kept.specs.Telling.{bytes_told, blocks_told, HasIndex}
 use Rattle.lis_kept.proofs.Dropped.{record_in_form}
@@ -14,16 +12,10 @@ use Rattle.lis_kept.proofs.Dropped.{record_in_form}
 -- ---- how many numbers a slot has
 -- as many in each version as the size asks for
 pub slot_blocks_counted : (version size : ℕ) → size ≤ file_limit version → slot_blocks version size ≡ slot_count size
-slot_blocks_counted version size few = by (version == 2) few
-  where
-    by : (two : Bool) → size ≤ (if two then 1048576 else 65536) → (if two && nat_lt 16 (blocks_needed size) then 1 else blocks_needed size) ≡ slot_count size
-    by true le = refl
-    by false le = sym (cond-false (is_large size) 1 (blocks_needed size) (small_size size le))
+slot_blocks_counted version size few = search (rules, cond-false, small_size)
 
 pub slot_counted : (version : ℕ) (dict : Dict) (blocks : ℕ) (rec : FileRecord) → is_sound_record version dict blocks rec ≡ true → length rec.blocks ≡ slot_count rec.size
-slot_counted version dict blocks rec sound =
-    let form = record_in_form version dict blocks rec sound in
-    few_blocks version rec.size rec.blocks form.blocks ∙ slot_blocks_counted version rec.size form.small
+slot_counted version dict blocks rec sound = search (rules, record_in_form, few_blocks, slot_blocks_counted)
 
 -- ---- a file where other blocks change
 -- A file stays where its blocks hold the same. Its index block is among them.
@@ -35,16 +27,8 @@ same_file limits rec at there counted same =
     (file.reads, file.blocks, file.index)
   where
     at_homes : AreSame (data_start limits) (blocks_told limits at rec) at there
-    at_homes n has =
-        let found = among_from_any (λ b. data_start limits + b == n) (blocks_told limits at rec) has in
-        subst (λ k. there k ≡ at k) (eqb-true (data_start limits + found.0) n found.2) (same found.0 found.1)
+    at_homes n has = search (rules, among_from_any, eqb-true)
 
 -- ---- the blocks that a slot numbers
 pub slot_blocks_told : (limits : Limits) (at : ℕ → List ℕ) (rec : FileRecord) (b : ℕ) → Among rec.blocks b → Among (blocks_told limits at rec) b
-slot_blocks_told limits at rec b of_slot = by (is_large rec.size) refl
-  where
-    by : (large : Bool) → is_large rec.size ≡ large → Among (blocks_told limits at rec) b
-    by true large =
-        let front = numbers_in (blocks_needed rec.size) (at (index_home (data_start limits) rec.blocks)) in
-        subst (λ ns. Among ns b) (sym (large_blocks (data_start limits) rec.blocks rec.size at large)) (among_right front rec.blocks b of_slot)
-    by false small = subst (λ ns. Among ns b) (sym (small_blocks (data_start limits) rec.blocks rec.size at small)) of_slot
+slot_blocks_told limits at rec b of_slot = search (rules, large_blocks, among_right, small_blocks)

@@ -1,13 +1,10 @@
 -- A file slot that gets other numbers.
-use Rattle.std.proofs.Common.{◌≡◌, ◌⊎◌, ℕ, ◌+◌, ◌<◌, ◌≤◌, ◌&&◌, ◌||◌, not, nat_lt, nat_eq, Bool, true, false, List, [], length, get_or, set, map, is_some, IsSome, refl, sym, ap, ◌∙◌, subst, inl, inr, arith, length-set, get_or-set_same, get_or-set_other}
-use Rattle.lis_kept.proofs.Common.{list_all, Contains-get_or, cases_eq, lt-ltb, eqb-true, and_parts, or_cases, Among, among_from_any, among_from_contains, length-marked, word_of, rec_at, Ext, has, Taxonomy, all_among, filter_le, among_where}
+use Rattle.std.proofs.Common.{arith}
+use Rattle.lis_kept.proofs.Common.{common_steps, rules, ◌≡◌, ◌⊎◌, ℕ, ◌+◌, ◌<◌, ◌≤◌, ◌||◌, nat_lt, Bool, true, false, List, [], length, get_or, set, map, is_some, IsSome, refl, sym, ap, ◌∙◌, subst, inl, inr, length-set, get_or-set_same, get_or-set_other, list_all, cases_eq, lt-ltb, eqb-true, and_parts, or_cases, among_from_any, among_from_contains, length-marked, word_of, rec_at, Ext, has, Taxonomy, all_among, filter_le, among_where, both_ways, false_from_ne_true, marked, all_from}
 use Rattle.std.specs.List.{All, range_with_len}
-use Rattle.std.proofs.lemmas.Bool.{both_ways, false_from_ne_true}
 use Rattle.std.proofs.lemmas.List.FromFn.{length-range_with_len}
-use Rattle.lis_content.specs.Content.{marked}
 use Rattle.lis_ext.specs.Ext.{set_of, with_marks}
 use Rattle.lis_ext.specs.Numbers.{has_number, differs, numbers_where}
-use Rattle.lis_laws.proofs.Counts.{all_from}
 use Rattle.lis_kept.specs.Kept.{Kept}
 use Rattle.lis_kept.specs.Areas.{block_of}
 use Rattle.lis_kept.specs.Areas.Area.{Rows}
@@ -15,14 +12,11 @@ use Rattle.lis_kept.specs.Sound.{AreSound}
 use Rattle.lis_kept.specs.Links.{AreHeld}
 use Rattle.lis_kept.specs.Changes.{Marks, Describes}
 use Rattle.lis_kept.proofs.Formed.{held_files, named_below, AreWithin, had_within}
-use Rattle.lis_kept.proofs.RowsMarked.{rows_marked}
+use Rattle.lis_kept.proofs.Marking.{rows_marked}
 
 -- ---- numbers
 same_numbers : (old new : List ℕ) (n : ℕ) → differs old new n ≡ false → has_number new n ≡ has_number old n
-same_numbers old new n same = by (has_number old n) (has_number new n) same
-  where
-    by : (a b : Bool) → ((b && not a) || (a && not b)) ≡ false → b ≡ a
-    by a b is = grind arith
+same_numbers old new n same = search (rules)
 
 -- with nothing marked before, what differs is marked
 pub marks_differ : (e : Ext) (old new : List ℕ) → e.marks ≡ [] → with_marks e (differs old new) ≡ numbers_where e.props (differs old new)
@@ -36,8 +30,7 @@ pub few_where : (props : ℕ) (test : ℕ → Bool) (ns : List ℕ) → ns ≡ n
 few_where props test ns is = omega (arith, ap length is, where_le props test)
 
 pub where_below : (props limit : ℕ) (test : ℕ → Bool) (ns : List ℕ) → ns ≡ numbers_where props test → props ≡ limit → list_all (λ n. nat_lt n limit) ns ≡ true
-where_below props limit test ns is same =
-    all_from (λ n. nat_lt n limit) ns (λ n m. lt-ltb n limit (omega (arith, same, (among_where props test n (subst (λ l. Among l n) is m)).0)))
+where_below props limit test ns is same = search (rules, all_from, lt-ltb, among_where)
 
 module _ (p : Kept) (t : Taxonomy) (held : AreHeld p t) (slot : ℕ) (old new : List ℕ) (e : Ext) (marks : List Bool)
     (within : AreWithin p.ext) (below : slot < p.limits.files) (is_old : set_of p.ext slot ≡ old) (named : list_all (λ n. is_some (word_of p.dict n)) new ≡ true)
@@ -55,19 +48,14 @@ module _ (p : Kept) (t : Taxonomy) (held : AreHeld p t) (slot : ℕ) (old new : 
   set_at s differ = ap (λ ss. get_or ss s []) sets ∙ get_or-set_other p.ext.sets slot s new [] differ
 
   new_named : (n : ℕ) → has_number new n ≡ true → IsSome (word_of p.dict n)
-  new_named n has_it =
-      let found = among_from_any (λ m. nat_eq m n) new has_it in
-      subst (λ m. IsSome (word_of p.dict m)) (eqb-true found.0 n found.2) (all_among (λ m. is_some (word_of p.dict m)) new found.0 named found.1)
+  new_named n has_it = search (rules, among_from_any, eqb-true, all_among)
 
   -- a number in which they do not differ has the row that it had
   same_row : (n : ℕ) → (n < p.ext.props → differs old new n ≡ false) → (s : ℕ) → has e n s ≡ has p.ext n s
   same_row n agree s = by (cases_eq s slot)
     where
       in_range : differs old new n ≡ true → n < p.ext.props
-      in_range differ = elim (or_cases (has_number new n && not (has_number old n)) (has_number old n && not (has_number new n)) differ) [
-        | inl one ↦ omega (arith, held.sound.rows, named_below p held.sound n (new_named n (and_parts (has_number new n) (not (has_number old n)) one).0))
-        | inr one ↦ had_within p.ext within n slot (ap (λ ns. has_number ns n) is_old ∙ (and_parts (has_number old n) (not (has_number new n)) one).0)
-      ]
+      in_range differ = search (rules, or_cases, named_below, new_named, and_parts, had_within)
 
       alike : differs old new n ≡ false
       alike = false_from_ne_true (differs old new n) (λ differ. both_ways (differs old new n) (agree (in_range differ)) differ)
@@ -95,8 +83,7 @@ module _ (p : Kept) (t : Taxonomy) (held : AreHeld p t) (slot : ℕ) (old new : 
   })
     where
       by : (n s : ℕ) → (s ≡ slot) ⊎ (s ≡ slot → ⊥) → IsSome (rec_at p.catalog s) → has e n s ≡ true → IsSome (word_of p.dict n)
-      by n s (inl same) there has_it = new_named n (ap (λ ns. has_number ns n) (sym (ap (set_of e) same ∙ set_in)) ∙ has_it)
-      by n s (inr differ) there has_it = held.sound.named n s there (ap (λ ns. has_number ns n) (sym (set_at s differ)) ∙ has_it)
+      by n s h1 there has_it = search (rules, new_named, set_in, set_at)
 
   pub described_made : AreHeld described t × Describes slot new p described
   described_made = (
@@ -115,10 +102,7 @@ module _ (p : Kept) (t : Taxonomy) (held : AreHeld p t) (slot : ℕ) (old new : 
 
 -- numbers of words are below the limit
 pub numbers_below : (k p : Kept) (ns : List ℕ) → p ≡ k → AreSound p → list_all (λ n. is_some (word_of k.dict n)) ns ≡ true → All (λ n. n < p.ext.props) ns
-numbers_below k p ns is sound named i d lt =
-    let P : Kept → Type 0 = λ q. list_all (λ n. is_some (word_of q.dict n)) ns ≡ true in
-    let there = among_from_contains ns (get_or ns i d) (Contains-get_or ns i d lt) in
-    omega (arith, sound.rows, named_below p sound (get_or ns i d) (all_among (λ n. is_some (word_of p.dict n)) ns (get_or ns i d) (subst P (sym is) named) there))
+numbers_below k p ns is sound named i d lt = grind (arith, common_steps, among_from_contains, named_below, all_among)
 
 -- the same, over what memory kept
 pub describes : (k p : Kept) (t : Taxonomy) (slot : ℕ) (old new : List ℕ) (e : Ext) (marks : List Bool) → p ≡ k → AreHeld p t → AreWithin p.ext

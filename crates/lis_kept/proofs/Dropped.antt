@@ -1,16 +1,16 @@
 -- A file that goes.
-use Rattle.std.proofs.Common.{◌≡◌, ◌⊎◌, inl, inr, Option, refl, sym, ap, ◌∙◌, subst, ℕ, ◌<◌, ◌==◌, if◌then◌else◌, ◌&&◌, not, Bool, true, List, length, map, set, Some, None, is_some, IsSome, arith, length-set}
-use Rattle.lis_kept.proofs.Common.{cases_eq, eqb-true, ne_eqb, and_parts, same_Some, Among, are_distinct, Catalog, Filed, IsCatalog, rec_at, slot_of, without_slot, FileRecord, file_bytes, slot_blocks, slots_distinct, Dict, word_of, Taxonomy, same_word, File, same_word_decides, has}
-use Rattle.std.proofs.lemmas.Bool.{both_ways, eq-eqb}
+use Rattle.std.proofs.Common.{arith}
+use Rattle.lis_kept.proofs.Common.{rules, ◌≡◌, ◌⊎◌, inl, inr, Option, refl, sym, ap, ◌∙◌, subst, ℕ, ◌<◌, ◌==◌, if◌then◌else◌, ◌&&◌, not, Bool, true, List, length, set, Some, None, is_some, IsSome, length-set, cases_eq, eqb-true, ne_eqb, and_parts, same_Some, Among, are_distinct, Catalog, Filed, IsCatalog, rec_at, slot_of, without_slot, FileRecord, slot_blocks, slots_distinct, Dict, word_of, Taxonomy, same_word, same_word_decides, has, both_ways, same_tests}
+use Rattle.std.proofs.lemmas.Bool.{eq-eqb}
 use Rattle.lis_catalog.proofs.Laws.{rec_at-without_slot, slot_is_below, slot_of-rec_at}
 use Rattle.lis_fields.specs.Layouts.{are_short}
 use Rattle.lis_fields.proofs.Parts.{IsFileRecord, record_tests}
 use Rattle.lis_model.specs.Changes.{file_removed}
-use Rattle.lis_laws.proofs.Locals.{same_tests, filter_same}
-use Rattle.lis_kept.specs.Kept.{Kept, file_by}
+use Rattle.lis_laws.proofs.Locals.{filter_same}
+use Rattle.lis_kept.specs.Kept.{Kept}
 use Rattle.lis_kept.specs.Areas.{Area, slots_of, block_of, spelled}
-use Rattle.lis_kept.specs.Areas.Area.{Properties, Axioms, Files, Rows, Bitmap}
-use Rattle.lis_kept.specs.Telling.{state_of, file_told}
+use Rattle.lis_kept.specs.Areas.Area.{Files}
+use Rattle.lis_kept.specs.Telling.{state_of}
 use Rattle.lis_kept.specs.Sound.{is_sound_record, AreSound}
 use Rattle.lis_kept.specs.Links.{AreHeld}
 use Rattle.lis_kept.specs.Changes.{Marks, Drops}
@@ -70,11 +70,7 @@ module _ (p : Kept) (t : Taxonomy) (held : AreHeld p t) {slot : ℕ} {c : Catalo
       named_at n s (inr differ) file has_it = held.sound.named n s (ap is_some (sym (one.others s differ)) ∙ file) has_it
 
   spelled_before : (area : Area) (n : ℕ) → n < (slots_of p.limits area).count → (block_of p.limits area n ≡ block_of p.limits Files slot → ⊥) → spelled refiled area n ≡ spelled p area n
-  spelled_before Properties n lt apart = refl
-  spelled_before Axioms n lt apart = refl
-  spelled_before Files n lt apart = ap (λ o. file_bytes (file_by o)) (one.others n (λ e. apart (ap (block_of p.limits Files) e)))
-  spelled_before Rows n lt apart = refl
-  spelled_before Bitmap n lt apart = refl
+  spelled_before area n lt apart = search (rules)
 
   pub marks_then : Marks 1 p refiled
   marks_then =
@@ -122,12 +118,7 @@ module _ (k p : Kept) (t : Taxonomy) (slot : ℕ) (rec : FileRecord) (c : Catalo
           (same_word_decides f.rec.name rec.name).1 (ap (λ (r : FileRecord). r.name) is)
 
   state_dropped : (at : ℕ → List ℕ) → state_of left at ≡ file_removed (state_of p at) rec.name
-  state_dropped at =
-      let told : Filed → File = file_told p.limits p.dict at in
-      ap (λ (x : Catalog). state_of (record p { catalog = x; marks = marks }) at) gone
-      ∙ ap (λ (fs : List File). record (state_of p at) { files = fs })
-      (sym (filter-map (λ (file : File). not (same_word file.name rec.name)) told p.catalog.entries
-      ∙ ap (map told) (filter_same (λ (f : Filed). not (same_word f.rec.name rec.name)) (λ (f : Filed). not (f.slot == slot)) p.catalog.entries told_apart)))
+  state_dropped at = search (rules, filter-map, filter_same, told_apart)
 
   pub drops : AreHeld left t × Drops slot rec k left
   drops = (

@@ -1,18 +1,13 @@
 -- Chains of links between words that have numbers are chains of edges between their numbers.
-use Rattle.std.proofs.Common.{◌≡◌, ◌⊎◌, ℕ, zero, suc, ◌==◌, true, List, Option, Some, None, refl, sym, ap, ap₂, ◌∙◌, subst, inl, inr, eq-eqb}
+use Rattle.std.proofs.Common.{eq-eqb}
+use Rattle.lis_kept.proofs.Common.{rules, ◌≡◌, ◌⊎◌, ℕ, zero, suc, ◌==◌, true, List, Option, Some, None, refl, sym, ap, ◌∙◌, subst, inl, inr, or_cases, same_Some, Chain, Among, among_from_contains, contains_from_among, among_from_any, word_of, number_of, word_from_number, Taxonomy, no_links, has_edge, Pair, head_bytes, has_word, up, among_from_has_word, OwnLink, own_link, Head, Weaker, and_from, or_left, or_right, any_from_among, has_word_from_among, same_tests}
 use Rattle.std.specs.Ordering.{eq_by_cmp}
-use Rattle.std.specs.FinSet as set
-use Rattle.lis_kept.proofs.Common.{or_cases, same_Some, Chain, Among, among_from_contains, contains_from_among, among_from_any, word_of, number_of, word_from_number, Taxonomy, no_links, has_edge, Pair, head_bytes, has_word, up, among_from_has_word, OwnLink, own_link, Head, Weaker}
-use Rattle.std.proofs.lemmas.Bool.{and_from, or_left, or_right}
 use Rattle.lis_graph.specs.Graph.{Linked}
-use Rattle.lis_graph.proofs.Members.{any_from_among}
 use Rattle.lis_taxonomy.specs.Taxonomy.{pair_cmp, Entails as Leads, entails as leads}
 use Rattle.lis_taxonomy.proofs.Laws.{entails_decides}
 use Rattle.lis_taxonomy.proofs.Seen.{pair_decides}
 use Rattle.lis_model.specs.State.{links}
-use Rattle.lis_laws.proofs.Members.{has_word_from_among}
 use Rattle.lis_laws.proofs.Chains.{up_from_entails, entails_from_up}
-use Rattle.lis_laws.proofs.Locals.{same_tests}
 use Rattle.lis_kept.specs.Kept.{Kept}
 use Rattle.lis_kept.specs.Sound.{AreSound}
 use Rattle.lis_kept.specs.Telling.{declared_of, axioms_of}
@@ -20,6 +15,7 @@ use Rattle.lis_kept.specs.Links.{is_pair, has_pair, is_own_link, is_linked, Tell
 use Rattle.lis_kept.proofs.Formed.{some_word}
 use Rattle.lis_kept.proofs.OwnLinks.{pair_slot}
 use Rattle.lis_kept.proofs.Known.{some_number, among_place, one_number, declared_has_number, axiom_among, among_axiom}
+use Rattle.std.specs.FinSet as set
 
 -- ---- the edges of a taxonomy
 pub edge_among : (t : Taxonomy) (p q : ℕ) → has_edge t p q ≡ true → Among (set.items t.edges) (p, q)
@@ -31,8 +27,7 @@ among_edge : (t : Taxonomy) (p q : ℕ) → Among (set.items t.edges) (p, q) →
 among_edge t p q m = set.contains-items t.edges (p, q) ∙ any_from_among (eq_by_cmp pair_cmp (p, q)) (set.items t.edges) (p, q) m ((pair_decides (p, q) (p, q)).1 refl)
 
 pub edge_of : (t : Taxonomy) (p q : ℕ) → Linked no_links (set.items t.edges) p q → has_edge t p q ≡ true
-edge_of t p q (inl none) = absurd (among_from_contains (no_links p) q none)
-edge_of t p q (inr edge) = among_edge t p q (among_from_contains (set.items t.edges) (p, q) edge)
+edge_of t p q h1 = search (rules, among_from_contains, among_edge)
 
 -- ---- links between words, and links between their numbers
 -- a number whose word the number before it links to
@@ -53,12 +48,7 @@ module _ (k : Kept) (sound : AreSound k) where
       m = among_from_contains (links (declared_of k) p) r own
 
       at : (number : ℕ) → word_of k.dict number ≡ Some r → NumberedLink k n r
-      at number named = record {
-        number = number;
-        named = named;
-        linked = or_left (is_own_link (declared_of k) (word_of k.dict n) (word_of k.dict number)) (has_pair k.axioms n number)
-            (ap₂ (is_own_link (declared_of k)) is named ∙ has_word_from_among (links (declared_of k) p) r m);
-      }
+      at number named = search (rules, or_left, has_word_from_among, m)
 
       by : OwnLink (declared_of k) p r → NumberedLink k n r
       by (Head valued same) =

@@ -1,8 +1,8 @@
 -- A record that comes into a free slot.
-use Rattle.std.proofs.Common.{◌≡◌, refl, sym, ap, ◌∙◌, subst, inl, inr, ℕ, ◌<◌, ◌==◌, eqb, if◌then◌else◌, nat_lt, not, Bool, true, false, List, [], ◌∷◌, length, set, Some, None, IsSome, arith}
+use Rattle.std.proofs.Common.{eqb, arith}
+use Rattle.lis_kept.proofs.Common.{rules, ◌≡◌, refl, sym, ap, ◌∙◌, subst, inl, ℕ, ◌<◌, ◌==◌, if◌then◌else◌, not, Bool, true, false, List, [], ◌∷◌, length, set, Some, None, IsSome, and_parts, ne_eqb, eqb-true, ltb-true, length-map, same_Some, Among, among_from_any, are_distinct, Catalog, Filed, IsCatalog, rec_at, slot_of, Dict, word_of, has, FileRecord, Taxonomy, File, all_among, and_from, both_ways}
 use Rattle.std.specs.List.{AllByRecursion, IsDistinct}
-use Rattle.lis_kept.proofs.Common.{and_parts, ne_eqb, eqb-true, ltb-true, length-map, same_Some, Among, among_from_any, are_distinct, Catalog, Filed, IsCatalog, rec_at, slot_of, Dict, word_of, has, FileRecord, Taxonomy, File, all_among}
-use Rattle.std.proofs.lemmas.Bool.{and_from, or_parts, both_ways, eq-eqb}
+use Rattle.std.proofs.lemmas.Bool.{or_parts, eq-eqb}
 use Rattle.std.proofs.lemmas.Map.Steps.{length-le_from_distinct_below}
 use Rattle.lis_content.specs.Content.{has_number}
 use Rattle.lis_content.proofs.Numbers.{not_true}
@@ -48,8 +48,7 @@ room_for_file c is slot rec absent below free =
     omega (arith, few, length-map c.entries (λ (f : Filed). f.slot))
   where
     lower : (q : ℕ) → Among (slot ∷ slots c) q → q < c.files
-    lower q (inl same) = omega (arith, same, below)
-    lower q (inr m) = ltb-true q c.files (all_among (λ (n : ℕ). nat_lt n c.files) (slots c) q is.below m)
+    lower q h1 = search (rules, ltb-true, all_among)
 
 -- ---- the record in its slot
 -- what a record needs that comes into a free slot

@@ -1,23 +1,19 @@
 -- Lists of files in the order of their names, and catalogs with a file more or fewer.
-use Rattle.std.proofs.Common.{◌≡◌, ◌⊎◌, refl, sym, ap, ap₂, ◌∙◌, subst, inl, inr, ℕ, ◌+◌, ◌<◌, ◌≤◌, nat_lt, ◌==◌, ◌&&◌, not, Bool, true, false, cond, List, [], ◌∷◌, length, map, filter, Option, Some, None, option_map, arith}
-use Rattle.lis_kept.proofs.Common.{Ordering, Less, Equal, Greater, match_ordering, insert_key, find, list_all, list_any, and_parts, eqb-true, lt-ltb, not-true, Among, among_filter, among_from_any, among_insert_key, among_map, are_distinct, FileRecord, slots_distinct, Catalog, Filed, IsCatalog, slot_of, rec_at, without_slot, word_cmp, word_order, all_among, filter_le}
-use Rattle.std.specs.Ordering.{is_lt}
-use Rattle.std.proofs.lemmas.Bool.{and_from, both_ways, eq-eqb, false_from_ne_true, or_parts}
+pub use Rattle.lis_laws.proofs.Routes.{find_among}
+use Rattle.std.proofs.Common.{filter, option_map, arith}
+use Rattle.lis_kept.proofs.Common.{common_steps, rules, ◌≡◌, ◌⊎◌, refl, sym, ap, ap₂, ◌∙◌, subst, inl, inr, ℕ, ◌+◌, ◌<◌, ◌≤◌, nat_lt, ◌==◌, ◌&&◌, not, Bool, true, false, cond, List, [], ◌∷◌, length, map, Option, Some, None, Ordering, Less, Equal, Greater, match_ordering, insert_key, find, list_all, list_any, and_parts, eqb-true, lt-ltb, not-true, Among, among_filter, among_from_any, among_insert_key, among_map, are_distinct, FileRecord, slots_distinct, Catalog, Filed, IsCatalog, slot_of, rec_at, without_slot, word_cmp, word_order, all_among, filter_le, and_from, both_ways, false_from_ne_true, any_from_among, map_among, all_from}
+use Rattle.std.proofs.lemmas.Bool.{eq-eqb, or_parts}
 use Rattle.lis_graph.specs.Graph.{is_rising}
-use Rattle.lis_graph.proofs.Members.{any_from_among, map_among}
 use Rattle.lis_content.specs.Content.{has_number}
 use Rattle.lis_catalog.specs.Catalog.{names, slots, filed_cmp, with_filed}
 use Rattle.lis_catalog.proofs.Laws.{slot_of-rec_at}
 use Rattle.lis_catalog.proofs.Slots.{apart_filter, apart_from, apart_parts, any_map}
 use Rattle.lis_words.specs.Words.{is_file_name}
-pub use Rattle.lis_laws.proofs.Routes.{find_among}
-use Rattle.lis_laws.proofs.Counts.{all_from, all_insert_key, rising_insert_key, insert_key_le}
+use Rattle.lis_laws.proofs.Counts.{all_insert_key, rising_insert_key, insert_key_le}
 
 -- ---- tests and numbers
 pub among_from_number : (ns : List ℕ) (n : ℕ) → has_number ns n ≡ true → Among ns n
-among_from_number ns n has =
-    let found = among_from_any (λ m. m == n) ns has in
-    subst (λ k. Among ns k) (eqb-true found.0 n found.2) found.1
+among_from_number ns n has = search (rules, among_from_any, eqb-true)
 
 pub number_from_among : (ns : List ℕ) (n : ℕ) → Among ns n → has_number ns n ≡ true
 number_from_among ns n m = any_from_among (λ k. k == n) ns n m (eq-eqb n n refl)
@@ -25,8 +21,7 @@ number_from_among ns n m = any_from_among (λ k. k == n) ns n m (eq-eqb n n refl
 -- ---- what a test finds
 -- what was found has the value
 pub found_has : {X Y : Type 0} (v : X → Y) (y : Y) (o : Option X) → option_map v o ≡ Some y → (x : X) × (o ≡ Some x) × (v x ≡ y)
-found_has v y None is = absurd cc
-found_has v y (Some x) is = (x, refl, cc)
+found_has v y o is = search (rules)
 
 -- ---- numbers of which none stands twice
 -- a member is found by its number
@@ -50,11 +45,7 @@ found_apart number (y ∷ ys) x apart (inr m) = by (number y == number x) refl (
 module _ {X Y : Type 0} where
   pub filter-map : (keep : Y → Bool) (f : X → Y) (xs : List X) → filter keep (map f xs) ≡ map f (filter (λ x. keep (f x)) xs)
   filter-map keep f [] = refl
-  filter-map keep f (x ∷ xs) = by (keep (f x)) (filter-map keep f xs)
-    where
-      by : (b : Bool) → filter keep (map f xs) ≡ map f (filter (λ z. keep (f z)) xs) → cond b (f x ∷ filter keep (map f xs)) (filter keep (map f xs)) ≡ map f (cond b (x ∷ filter (λ z. keep (f z)) xs) (filter (λ z. keep (f z)) xs))
-      by true rest = ap (λ ys. f x ∷ ys) rest
-      by false rest = rest
+  filter-map keep f (x ∷ xs) = grind (arith, common_steps, filter-map keep f xs)
 
 pub map_all : {X Y : Type 0} (f g : X → Y) (xs : List X) → ((x : X) → Among xs x → f x ≡ g x) → map f xs ≡ map g xs
 map_all f g [] same = refl
@@ -63,14 +54,7 @@ map_all f g (x ∷ xs) same = ap₂ (λ y ys. y ∷ ys) (same x (inl refl)) (map
 -- a map that keeps the order puts the image of a key to its place
 pub map_insert_key : {A B : Type 0} (f : A → B) (cmp : A → A → Ordering) (other : B → B → Ordering) → ((x y : A) → cmp x y ≡ other (f x) (f y)) → (xs : List A) (k : A) → map f (insert_key cmp xs k) ≡ insert_key other (map f xs) (f k)
 map_insert_key f cmp other same [] k = refl
-map_insert_key f cmp other same (x ∷ xs) k = by (cmp k x) (same k x) (map_insert_key f cmp other same xs k)
-  where
-    by : (r : Ordering) → r ≡ other (f k) (f x) → map f (insert_key cmp xs k) ≡ insert_key other (map f xs) (f k) → map f (match_ordering r (k ∷ x ∷ xs) (x ∷ xs) (x ∷ insert_key cmp xs k)) ≡ insert_key other (f x ∷ map f xs) (f k)
-    by Less e rest = ap (λ r. match_ordering r (f k ∷ f x ∷ map f xs) (f x ∷ map f xs) (f x ∷ insert_key other (map f xs) (f k))) e
-    by Equal e rest = ap (λ r. match_ordering r (f k ∷ f x ∷ map f xs) (f x ∷ map f xs) (f x ∷ insert_key other (map f xs) (f k))) e
-    by Greater e rest =
-        ap (λ ys. f x ∷ ys) rest
-        ∙ ap (λ r. match_ordering r (f k ∷ f x ∷ map f xs) (f x ∷ map f xs) (f x ∷ insert_key other (map f xs) (f k))) e
+map_insert_key f cmp other same (x ∷ xs) k = grind (arith, common_steps, map_insert_key f cmp other same xs k)
 
 -- ---- files by their slots
 module _ (c : Catalog) (is : IsCatalog c) where
@@ -97,25 +81,13 @@ module _ {X K : Type 0} (v : X → K) (keep : X → Bool) where
 
   pub rising_kept : (cmp : K → K → Ordering) (xs : List X) → is_rising cmp (map v xs) ≡ true → is_rising cmp (map v (filter keep xs)) ≡ true
   rising_kept cmp [] h = refl
-  rising_kept cmp (x ∷ xs) h = by (keep x) (and_parts (list_all (λ y. is_lt (cmp (v x) y)) (map v xs)) (is_rising cmp (map v xs)) h) (rising_kept cmp xs)
-    where
-      by : (b : Bool) → (list_all (λ y. is_lt (cmp (v x) y)) (map v xs) ≡ true) × (is_rising cmp (map v xs) ≡ true) → (is_rising cmp (map v xs) ≡ true → is_rising cmp (map v (filter keep xs)) ≡ true) → is_rising cmp (map v (cond b (x ∷ filter keep xs) (filter keep xs))) ≡ true
-      by true parts more = and_from _ _ (all_kept (λ y. is_lt (cmp (v x) y)) xs parts.0) (more parts.1)
-      by false parts more = more parts.1
+  rising_kept cmp (x ∷ xs) h = grind (arith, common_steps, and_parts, and_from, all_kept, rising_kept cmp xs)
 
 abbrev slot_in : Filed → ℕ
 slot_in f = f.slot
 
 pub catalog_without : (c : Catalog) (slot : ℕ) → IsCatalog c → IsCatalog (without_slot c slot)
-catalog_without c slot is =
-    let keep : Filed → Bool = λ f. not (f.slot == slot) in
-    record {
-      rising = rising_kept (λ (f : Filed). f.rec.name) keep word_cmp c.entries is.rising;
-      forms = all_kept (λ (f : Filed). f.rec.name) keep is_file_name c.entries is.forms;
-      below = all_kept slot_in keep (λ n. nat_lt n c.files) c.entries is.below;
-      apart = apart_filter keep c.entries is.apart;
-      few = omega (arith, is.few, filter_le keep c.entries);
-    }
+catalog_without c slot is = search (rules, rising_kept, all_kept, apart_filter, filter_le)
 
 -- ---- numbers of which none stands twice
 pub same_distinct : (ns : List ℕ) → slots_distinct ns ≡ are_distinct ns
@@ -135,13 +107,7 @@ apart_more f (x ∷ xs) apart none = by (filed_cmp f x) (apart_more f xs parts.1
     others = or_parts (x.slot == f.slot) (list_any (λ (g : Filed). g.slot == f.slot) xs) none
 
     not_there : list_any (λ (g : Filed). g.slot == x.slot) (insert_key filed_cmp xs f) ≡ false
-    not_there = false_from_ne_true (list_any (λ (g : Filed). g.slot == x.slot) (insert_key filed_cmp xs f)) (λ has.
-        let found = among_from_any (λ (g : Filed). g.slot == x.slot) (insert_key filed_cmp xs f) has in
-        which found.0 found.2 (among_insert_key filed_cmp xs f found.0 found.1))
-      where
-        which : (g : Filed) → (g.slot == x.slot) ≡ true → (f ≡ g) ⊎ Among xs g → ⊥
-        which g same (inl is) = both_ways (x.slot == f.slot) others.0 (eq-eqb x.slot f.slot (sym (ap slot_in is ∙ eqb-true g.slot x.slot same)))
-        which g same (inr m) = both_ways (list_any (λ (h : Filed). h.slot == x.slot) xs) parts.0 (any_from_among (λ (h : Filed). h.slot == x.slot) xs g m same)
+    not_there = search (rules, false_from_ne_true, among_from_any, among_insert_key, both_ways, others, eq-eqb, eqb-true, parts, any_from_among)
 
     by : (r : Ordering) → slots_distinct (map slot_in (insert_key filed_cmp xs f)) ≡ true
         → slots_distinct (map slot_in (match_ordering r (f ∷ x ∷ xs) (x ∷ xs) (x ∷ insert_key filed_cmp xs f))) ≡ true
@@ -161,14 +127,7 @@ module _ (c : Catalog) (is : IsCatalog c) (slot : ℕ) (rec : FileRecord) (absen
   names_then = map_insert_key (λ (f : Filed). f.rec.name) filed_cmp word_cmp (λ x y. refl) c.entries filed
 
   pub slot_is_free : rec_at c slot ≡ None → has_number (slots c) slot ≡ false
-  slot_is_free free = false_from_ne_true (has_number (slots c) slot) (λ has. by (among_from_any (λ n. n == slot) (slots c) has))
-    where
-      by : (n : ℕ) × Among (slots c) n × ((n == slot) ≡ true) → ⊥
-      by found =
-          let f = among_map (λ (g : Filed). g.slot) c.entries found.0 found.1 in
-          let there = filed_rec c is f.0 f.1 in
-          let here = subst (λ n. rec_at c n ≡ Some (f.0).rec) (f.2 ∙ eqb-true found.0 slot found.2) there in
-          cc
+  slot_is_free free = search (rules, false_from_ne_true, among_from_any, among_map, filed_rec, eqb-true)
 
   pub catalog_then : is_file_name rec.name ≡ true → slot < c.files → rec_at c slot ≡ None → length c.entries < c.files → IsCatalog (with_filed c slot rec)
   catalog_then form below free room = record {

@@ -1,20 +1,21 @@
 -- Of the words right of a number in axiom slots, the first behind another.
-use Rattle.std.proofs.Common.{◌≡◌, ℕ, ◌+◌, ◌<◌, ◌==◌, ◌&&◌, Bool, true, false, cond, if◌then◌else◌, option_to_list, Option, ◌⊎◌, subst, Some, None, List, [], ◌∷◌, ◌++◌, length, get_or, map, filter, take, refl, sym, ap, ap₂, ◌∙◌, inl, inr}
-use Rattle.lis_kept.proofs.Common.{insert_key, find, flat_map, fold, IsStrictlySortedBy, match_ordering, Ordering, Less, Equal, Greater, eqb-true, take_more, same_Some, Among, among_filter, among_map, among_flat_map, flat_map_among, sorted_insert_key, Dict, number_of, word_of, number_from_word, AxiomSlot, FreeAxiom, Pair, word_cmp, same_word, pair_exact, word_order, same_word_decides}
+use Rattle.std.proofs.Common.{option_to_list, filter}
+use Rattle.lis_kept.proofs.Common.{common_steps, rules, ◌≡◌, ℕ, ◌+◌, ◌<◌, ◌==◌, ◌&&◌, Bool, true, false, cond, if◌then◌else◌, Option, ◌⊎◌, subst, Some, None, List, [], ◌∷◌, ◌++◌, length, get_or, map, take, refl, sym, ap, ap₂, ◌∙◌, inl, inr, insert_key, find, flat_map, fold, IsStrictlySortedBy, match_ordering, Ordering, Less, Equal, Greater, eqb-true, take_more, same_Some, Among, among_filter, among_map, among_flat_map, flat_map_among, sorted_insert_key, Dict, number_of, word_of, number_from_word, AxiomSlot, FreeAxiom, Pair, word_cmp, same_word, pair_exact, word_order, same_word_decides, false_from_ne_true, filter_among, map_among, pair_order, same_words}
+use native.Mathlib.Omega.{arith}
 use Rattle.std.specs.List.{AllByRecursion}
 use Rattle.std.proofs.Math.Bool.{and-true}
-use Rattle.std.specs.Cmp.{IsTotalOrder, tied_itself}
-use Rattle.std.specs.Ordering.{is_lt, ordering_then}
-use Rattle.std.proofs.lemmas.Bool.{false_from_ne_true, eq-eqb}
+use Rattle.std.specs.Cmp.{IsTotalOrder}
+use Rattle.std.specs.Ordering.{is_lt}
+use Rattle.std.proofs.lemmas.Bool.{eq-eqb}
 use Rattle.std.proofs.lemmas.Grind.{flat_map-append}
 use Rattle.std.proofs.lemmas.List.{append-nil}
 use Rattle.std.proofs.lemmas.List.Sums.{fold-append}
 use Rattle.std.proofs.lemmas.Map.Lookups.{CmpEqualImpliesEq}
-use Rattle.lis_graph.proofs.Members.{filter_among, map_among, among_with_more, with_more_new}
+use Rattle.lis_graph.proofs.Members.{among_with_more, with_more_new}
 use Rattle.lis_graph.proofs.Sets.{below_tail, sorted_tail, sorted_nil, sorted_cons, sorted_with_more}
 use Rattle.lis_model.specs.Sets.{set_of}
 use Rattle.lis_model.specs.State.{pair_cmp}
-use Rattle.lis_laws.proofs.Members.{pair_order, word_exact, same_words, among_set_of, set_of_among, sorted_set_of}
+use Rattle.lis_laws.proofs.Members.{word_exact, among_set_of, set_of_among, sorted_set_of}
 use Rattle.lis_kept.specs.Behind.{rights_of, is_behind, is_before, right_by}
 use Rattle.lis_kept.specs.Inside.{IsShort}
 use Rattle.lis_kept.specs.Kept.{Kept}
@@ -34,11 +35,7 @@ module _ {K : Type 0} (cmp : K → K → Ordering) (order : IsTotalOrder cmp) (e
   -- what is below all is sooner than the first
   below_all : (k : K) (xs : List K) → AllByRecursion (λ x. cmp k x ≡ Less) xs → Some k ≡ sooner (find test xs) k
   below_all k [] below = refl
-  below_all k (x ∷ xs) below = by (test x) (below_all k xs below.1)
-    where
-      by : (b : Bool) → Some k ≡ sooner (find test xs) k → Some k ≡ sooner (cond b (Some x) (find test xs)) k
-      by true rest = ap (λ r. cond (is_lt r) (Some k) (Some x)) (sym below.0)
-      by false rest = rest
+  below_all k (x ∷ xs) below = grind (arith, common_steps, below_all k xs below.1)
 
   find_put : (xs : List K) (k : K) → IsStrictlySortedBy cmp xs → find test (insert_key cmp xs k) ≡ put (find test xs) k
   find_put [] k sorted = refl
@@ -49,10 +46,7 @@ module _ {K : Type 0} (cmp : K → K → Ordering) (order : IsTotalOrder cmp) (e
       first false below = refl
 
       level : (b : Bool) → test x ≡ b → cmp k x ≡ Equal → find test (x ∷ xs) ≡ cond b (sooner (find test (x ∷ xs)) k) (find test (x ∷ xs))
-      level true e tie =
-          let here : find test (x ∷ xs) ≡ Some x = ap (λ b. cond b (Some x) (find test xs)) e in
-          rw here (ap (λ r. cond (is_lt r) (Some k) (Some x)) (sym tie))
-      level false e tie = refl
+      level b e tie = search (rules)
 
       later : (a b : Bool) → cmp k x ≡ Greater → find test (insert_key cmp xs k) ≡ cond b (sooner (find test xs) k) (find test xs)
           → cond a (Some x) (find test (insert_key cmp xs k)) ≡ cond b (sooner (cond a (Some x) (find test xs)) k) (cond a (Some x) (find test xs))
@@ -74,26 +68,13 @@ taken last first (Some word) = cond (is_behind last word && is_before word first
 
 -- a word that is taken is the first where it is put in
 put_taken : (last first : Option (List ℕ)) (word : List ℕ) → put word_cmp word_order word_exact (is_behind last) first word ≡ taken last first (Some word)
-put_taken last None word = ap (λ b. cond b (Some word) None) (sym (and-true (is_behind last word)))
-put_taken last (Some x) word = by (is_behind last word) (is_lt (word_cmp word x))
-  where
-    by : (b l : Bool) → cond b (cond l (Some word) (Some x)) (Some x) ≡ cond (b && l) (Some word) (Some x)
-    by true l = refl
-    by false l = refl
+put_taken last first word = search (rules, and-true)
 
 -- the right sides of a sorted list of axioms are sorted
 module _ (left : List ℕ) where
   below_rights : (word : List ℕ) (axioms : List (List ℕ × List ℕ)) → AllByRecursion (λ pair. pair_cmp (left, word) pair ≡ Less) axioms → AllByRecursion (λ w. word_cmp word w ≡ Less) (rights_of axioms left)
   below_rights word [] below = tt
-  below_rights word (pair ∷ axioms) below = by (same_word pair.0 left) refl (below_rights word axioms below.1)
-    where
-      sides : pair.0 ≡ left → pair_cmp (left, word) pair ≡ word_cmp word pair.1
-      sides same = ap (λ w. ordering_then (word_cmp left w) (word_cmp word pair.1)) same ∙ ap (λ r. ordering_then r (word_cmp word pair.1)) (tied_itself word_order left)
-
-      by : (b : Bool) → same_word pair.0 left ≡ b → AllByRecursion (λ w. word_cmp word w ≡ Less) (rights_of axioms left)
-          → AllByRecursion (λ w. word_cmp word w ≡ Less) (map (λ p. p.1) (cond b (pair ∷ filter (λ p. same_word p.0 left) axioms) (filter (λ p. same_word p.0 left) axioms)))
-      by true e rest = (sym (sides ((same_word_decides pair.0 left).0 e)) ∙ below.0, rest)
-      by false e rest = rest
+  below_rights word (pair ∷ axioms) below = grind (arith, common_steps, word_order, same_word_decides, below_rights word axioms below.1)
 
   rights_sorted : (axioms : List (List ℕ × List ℕ)) → IsStrictlySortedBy pair_cmp axioms → IsStrictlySortedBy word_cmp (rights_of axioms left)
   rights_sorted [] sorted = sorted_nil word_cmp word_order

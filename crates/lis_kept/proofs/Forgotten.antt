@@ -1,17 +1,16 @@
 -- Words of given numbers that nothing uses, but a slot: valued words go first, then the others.
-use Rattle.std.proofs.Common.{◌≡◌, refl, sym, ap, ap₂, ◌∙◌, subst, ℕ, ◌+◌, ◌<◌, ◌≤◌, ◌==◌, if◌then◌else◌, ◌&&◌, ◌||◌, not, cond, Bool, true, false, List, [], ◌∷◌, length, take, get_or, Option, Some, None, is_some, IsSome, IfSome, slice_get, count_by, arith}
-use Rattle.lis_kept.proofs.Common.{and_parts, eqb-true, not-true, sum_by-cons, word_of, rec_at, has, FileRecord, Pair, same_word, is_valued, head_bytes, same_word_decides, head_not_valued}
-use Rattle.std.proofs.lemmas.Bool.{and_from, both_ways, false_from_ne_true, true_from_ne_false}
+use Rattle.std.proofs.Common.{arith}
+use Rattle.lis_kept.proofs.Common.{rules, ◌≡◌, refl, sym, ap, ap₂, ◌∙◌, ℕ, ◌+◌, ◌<◌, ◌≤◌, ◌==◌, if◌then◌else◌, ◌&&◌, ◌||◌, not, cond, Bool, true, false, List, [], ◌∷◌, length, take, get_or, Option, Some, None, is_some, IsSome, IfSome, slice_get, count_by, and_parts, eqb-true, not-true, sum_by-cons, word_of, rec_at, has, FileRecord, Pair, same_word_decides, head_not_valued, and_from, both_ways, false_from_ne_true, neither}
+use Rattle.std.proofs.lemmas.Bool.{true_from_ne_false}
 use Rattle.std.proofs.lemmas.List.Folds.{list_any_more}
 use Rattle.std.proofs.lemmas.List.Sums.{count_by_more_yes, count_by_more_no}
 use Rattle.lis_blockmap.specs.Bitmap.{is_taken}
 use Rattle.lis_content.specs.Content.{has_number}
-use Rattle.lis_content.proofs.Numbers.{neither}
 use Rattle.lis_kept.specs.Kept.{Kept}
-use Rattle.lis_kept.specs.Telling.{is_head_by, is_had, is_named_left, is_used}
+use Rattle.lis_kept.specs.Telling.{is_head_by, is_named_left, is_used}
 use Rattle.lis_kept.specs.Changes.{Forgets}
 use Rattle.lis_kept.specs.Forgetting.{MayGo, MayForget, ForgetsWithout}
-use Rattle.lis_kept.specs.Passes.{ext_beside, beside, is_of_pass, is_due, ForgetsWhere, ForgetsDue}
+use Rattle.lis_kept.specs.Passes.{beside, is_of_pass, is_due, ForgetsWhere, ForgetsDue}
 use Rattle.lis_kept.proofs.WordLess.{had_from}
 use Rattle.lis_kept.proofs.Without.{elsewhere_had}
 
@@ -45,9 +44,7 @@ module _ {test : ℕ → Bool} {most : ℕ} {p q : Kept} (went : ForgetsWhere te
   same_word_then n some = left_alone n (stayed n some)
 
   used_then : (but : Option ℕ) (n : ℕ) → is_some (word_of q.dict n) ≡ true → is_used (beside but q) n ≡ is_used (beside but p) n
-  used_then but n some =
-      ap (λ (k : Kept). is_taken q.declared n || is_had (ext_beside but k.ext) n || is_named_left q n) went.parts
-      ∙ ap₂ (λ a b. a || is_had (ext_beside but p.ext) n || b) (ap (λ (k : Kept). is_taken k.declared n) went.parts) (went.lefts n some)
+  used_then but n some = search (rules)
 
   same_due : (but : Option ℕ) (valued : Bool) (n : ℕ) → is_some (word_of q.dict n) ≡ true → is_due but q valued n ≡ is_due but p valued n
   same_due but valued n some = ap₂ (λ o u. is_of_pass valued o && not u) (same_word_then n some) (used_then but n some)
@@ -55,13 +52,7 @@ module _ {test : ℕ → Bool} {most : ℕ} {p q : Kept} (went : ForgetsWhere te
 -- a word that is due is known, and nothing else uses it
 due_parts : (but : Option ℕ) (k : Kept) (valued : Bool) (n : ℕ) → is_due but k valued n ≡ true
     → (is_of_pass valued (word_of k.dict n) ≡ true) × (is_used (beside but k) n ≡ false) × (is_some (word_of k.dict n) ≡ true)
-due_parts but k valued n is =
-    let parts = and_parts (is_of_pass valued (word_of k.dict n)) (not (is_used (beside but k) n)) is in
-    (parts.0, not-true (is_used (beside but k) n) parts.1, known (word_of k.dict n) parts.0)
-  where
-    known : (o : Option (List ℕ)) → is_of_pass valued o ≡ true → is_some o ≡ true
-    known None of = absurd (both_ways false refl of)
-    known (Some w) of = refl
+due_parts but k valued n is = search (rules, and_parts, not-true, both_ways)
 
 pub due_before : (test : ℕ → Bool) (most : ℕ) (p q : Kept) → ForgetsWhere test most p q → (but : Option ℕ) (valued : Bool) (n : ℕ) → is_due but q valued n ≡ true → is_due but p valued n ≡ true
 due_before test most p q went but valued n is = sym (same_due went but valued n (due_parts but q valued n is).2) ∙ is
@@ -83,81 +74,23 @@ may_go : (k : Kept) (n : ℕ) → IsLone k n → ((m : ℕ) → is_head_by (word
 may_go k n lone heads = record { flagged = lone.flagged; had = lone.had; lefts = lone.lefts; tags = lone.tags; rights = lone.rights; heads = heads }
 
 lone_from : (but : Option ℕ) (numbers : List ℕ) (k : Kept) (n : ℕ) → HasNoFile but k → MayForget numbers (beside but k) → is_used (beside but k) n ≡ false → IsLone k n
-lone_from but numbers k n empty may unused = record {
-  flagged = front.0;
-  had = λ slot file. false_from_ne_true (has k.ext n slot) (λ has_it. both_ways (is_had (ext_beside but k.ext) n) front.1 (still but empty slot file has_it));
-  lefts = outer.1;
-  tags = λ slot rec at. false_from_ne_true (has_number rec.tags n) (λ tag. both_ways (is_used (beside but k) n) unused (may.tags slot rec at n tag));
-  rights = λ slot left right at same. both_ways (is_used (beside but k) n) unused (is_first right n same (is_used (beside but k)) (may.rights slot left right at));
-}
-  where
-    outer : ((is_taken k.declared n || is_had (ext_beside but k.ext) n) ≡ false) × (is_named_left k n ≡ false)
-    outer = neither (is_taken k.declared n || is_had (ext_beside but k.ext) n) (is_named_left k n) unused
-
-    front : (is_taken k.declared n ≡ false) × (is_had (ext_beside but k.ext) n ≡ false)
-    front = neither (is_taken k.declared n) (is_had (ext_beside but k.ext) n) outer.0
-
-    still : (o : Option ℕ) → HasNoFile o k → (slot : ℕ) → IsSome (rec_at k.catalog slot) → has k.ext n slot ≡ true → is_had (ext_beside o k.ext) n ≡ true
-    still None none slot file has_it = had_from k.ext n slot has_it
-    still (Some left) none slot file has_it =
-        elsewhere_had k.ext left n slot (λ same. both_ways (is_some (rec_at k.catalog left)) (ap is_some none) (subst (λ s. IsSome (rec_at k.catalog s)) same file)) has_it
+lone_from but numbers k n empty may unused = search (rules, false_from_ne_true, both_ways, is_first, neither, had_from, elsewhere_had)
 
 -- it stays so once others went
 lone_still : {test : ℕ → Bool} {most : ℕ} {p q : Kept} → ForgetsWhere test most p q → (n : ℕ) → is_some (word_of q.dict n) ≡ true → IsLone p n → IsLone q n
-lone_still {q = q} went n some lone =
-    let lefts = went.lefts n some ∙ lone.lefts in
-    subst (λ (k : Kept). is_named_left k n ≡ false → IsLone k n) (sym went.parts)
-    (λ left. record { flagged = lone.flagged; had = lone.had; lefts = left; tags = lone.tags; rights = lone.rights }) lefts
+lone_still {q = q} went n some lone = search (rules)
 
 -- what may go may still go once others went
 pub may_still : (test : ℕ → Bool) (most : ℕ) (p q : Kept) → ForgetsWhere test most p q → (but : Option ℕ) (valued : Bool) (n : ℕ) → is_due but q valued n ≡ true → MayGo n p → MayGo n q
-may_still test most p q went but valued n is go =
-    may_go q n (lone_still went n known (record { flagged = go.flagged; had = go.had; lefts = go.lefts; tags = go.tags; rights = go.rights })) (λ m. by m (test m) refl)
-  where
-    known : is_some (word_of q.dict n) ≡ true
-    known = (due_parts but q valued n is).2
-
-    by : (m : ℕ) (t : Bool) → test m ≡ t → is_head_by (word_of q.dict m) (word_of q.dict n) ≡ false
-    by m true e = ap (λ o. is_head_by o (word_of q.dict n)) (none_left went m e)
-    by m false e = ap₂ is_head_by (left_alone went m e) (same_word_then went n known) ∙ go.heads m
+may_still test most p q went but valued n is go = search (rules, may_go, lone_still, due_parts, none_left, left_alone, same_word_then)
 
 -- ---- one change after another
 both : {f g : ℕ → Bool} {a b : ℕ} {p q r : Kept} → ForgetsWhere f a p q → ForgetsWhere g b q r → ForgetsWhere (λ n. f n || g n) (a + b) p r
-both {f = f} {g = g} {p = p} {r = r} first second = record {
-  parts = second.parts ∙ ap (λ (k : Kept). record k { dict = r.dict; marks = r.marks }) first.parts;
-  props = second.props ∙ first.props;
-  marks = record { saved = λ at saved. second.marks.saved at (first.marks.saved at saved); few = omega (arith, first.marks.few, second.marks.few) };
-  marked = λ block is. second.marked block (first.marked block is);
-  words = λ n. second.words n ∙ (ap (λ (o : Option (List ℕ)). if g n then None else o) (first.words n) ∙ words (f n) (g n) (word_of p.dict n));
-  state = λ at. second.state at ∙ first.state at;
-  lefts = λ n some. second.lefts n some ∙ first.lefts n (ap is_some (sym (same_word_then second n some)) ∙ some);
-}
-  where
-    words : (x y : Bool) (o : Option (List ℕ)) → (if y then None else (if x then None else o)) ≡ (if x || y then None else o)
-    words true true o = refl
-    words true false o = refl
-    words false true o = refl
-    words false false o = refl
+both {f = f} {g = g} {p = p} {r = r} first second = search (rules, same_word_then)
 
 -- another test, that answers the same at each known word
 retest : {f : ℕ → Bool} {a : ℕ} {p q : Kept} (g : ℕ → Bool) (b : ℕ) → ForgetsWhere f a p q → ((n : ℕ) → is_some (word_of p.dict n) ≡ true → f n ≡ g n) → a ≤ b → ForgetsWhere g b p q
-retest {f = f} {p = p} g b went same le = record {
-  parts = went.parts;
-  props = went.props;
-  marks = record { saved = went.marks.saved; few = omega (arith, went.marks.few, le) };
-  marked = went.marked;
-  words = λ n. went.words n ∙ by n (word_of p.dict n) refl;
-  state = went.state;
-  lefts = went.lefts;
-}
-  where
-    none : (t : Bool) (o : Option (List ℕ)) → o ≡ None → (if t then None else o) ≡ None
-    none true o is = refl
-    none false o is = is
-
-    by : (n : ℕ) (o : Option (List ℕ)) → word_of p.dict n ≡ o → (if f n then None else word_of p.dict n) ≡ (if g n then None else word_of p.dict n)
-    by n None e = none (f n) (word_of p.dict n) e ∙ sym (none (g n) (word_of p.dict n) e)
-    by n (Some w) e = ap (λ t. if t then None else word_of p.dict n) (same n (ap is_some e))
+retest {f = f} {p = p} g b went same le = search (rules)
 
 -- ---- a pass, number by number
 module _ (but : Option ℕ) (valued : Bool) (numbers : List ℕ) (i : ℕ) (p q : Kept) (lt : i < length numbers) (went : ForgetsDue but valued (take i numbers) p q) where
@@ -199,16 +132,11 @@ module _ (but : Option ℕ) (valued : Bool) (numbers : List ℕ) (i : ℕ) (p q 
 -- ---- both passes
 -- the first word of a head is known and valued, and the second one is not
 head_by_parts : (o w : Option (List ℕ)) → is_head_by o w ≡ true → (is_some o ≡ true) × (is_of_pass true o ≡ true) × (is_of_pass true w ≡ false)
-head_by_parts None w said = absurd (both_ways false refl said)
-head_by_parts (Some v) None said = absurd (both_ways false refl said)
-head_by_parts (Some v) (Some w) said =
-    let parts = and_parts (is_valued v) (same_word (head_bytes v) w) said in
-    (refl, parts.0, ap is_valued (sym ((same_word_decides (head_bytes v) w).0 parts.1)) ∙ head_not_valued v)
+head_by_parts o w said = search (rules, both_ways, and_parts, same_word_decides, head_not_valued)
 
 -- what is known goes in one pass
 of_other_pass : (o : Option (List ℕ)) → is_some o ≡ true → is_of_pass false o ≡ not (is_of_pass true o)
-of_other_pass None some = absurd (both_ways false refl some)
-of_other_pass (Some w) some = refl
+of_other_pass o some = search (rules, both_ways)
 
 pub first_may : (but : Option ℕ) (numbers : List ℕ) (p : Kept) → HasNoFile but p → MayForget numbers (beside but p) → (n : ℕ) → is_due but p true n ≡ true → MayGo n p
 first_may but numbers p empty may n is =
@@ -250,10 +178,7 @@ module _ (but : Option ℕ) (numbers : List ℕ) (p q : Kept) (went : ForgetsDue
               (and_from (is_of_pass true (word_of p.dict m)) (not (is_used (beside but p) m)) (sym (ap (is_of_pass true) same) ∙ parts.1) (ap not e)))
 
   apart : (n : ℕ) → is_due but p true n ≡ true → is_due but q false n ≡ false
-  apart n is = false_from_ne_true (is_due but q false n) (λ again.
-      let there = due_parts but q false n again in
-      let first = due_parts but p true n is in
-      both_ways (is_of_pass false (word_of p.dict n)) (of_other_pass (word_of p.dict n) first.2 ∙ ap not first.0) (sym (ap (is_of_pass false) (same_word_then went n there.2)) ∙ there.0))
+  apart n is = search (rules, false_from_ne_true, due_parts, both_ways, of_other_pass, same_word_then)
 
   counts_apart : (ns : List ℕ) → count_by (is_due but p true) ns + count_by (is_due but q false) ns ≤ length ns
   counts_apart [] = omega arith
@@ -261,10 +186,7 @@ module _ (but : Option ℕ) (numbers : List ℕ) (p q : Kept) (went : ForgetsDue
       omega (arith, sum_by-cons (λ k. cond (is_due but p true k) 1 0) n ns, sum_by-cons (λ k. cond (is_due but q false k) 1 0) n ns, at_most (is_due but p true n) (is_due but q false n) (apart n), counts_apart ns)
     where
       at_most : (a b : Bool) → (a ≡ true → b ≡ false) → cond a 1 0 + cond b 1 0 ≤ 1
-      at_most true true one = absurd (both_ways true (one refl) refl)
-      at_most true false one = omega arith
-      at_most false true one = omega arith
-      at_most false false one = omega arith
+      at_most a b one = search (rules, both_ways)
 
   pub both_forget : (r : Kept) → ForgetsDue but false numbers q r → ForgetsWhere (λ n. has_number numbers n && not (is_used (beside but p) n)) (length numbers) p r
   both_forget r more =
@@ -276,24 +198,9 @@ module _ (but : Option ℕ) (numbers : List ℕ) (p q : Kept) (went : ForgetsDue
 
 -- where no slot is given
 pub forgets_where : (numbers : List ℕ) (p q : Kept) → ForgetsWhere (λ n. has_number numbers n && not (is_used (beside None p) n)) (length numbers) p q → Forgets numbers p q
-forgets_where numbers p q went = record {
-  parts = went.parts;
-  props = went.props;
-  marks = went.marks;
-  words = went.words;
-  state = went.state;
-  used = used_then went None;
-}
+forgets_where numbers p q went = search (rules, used_then)
 
 -- and where one is
 pub forgets_beside : (slot : ℕ) (numbers : List ℕ) (p q : Kept) → ForgetsWhere (λ n. has_number numbers n && not (is_used (beside (Some slot) p) n)) (length numbers) p q
     → ForgetsWithout slot numbers p q
-forgets_beside slot numbers p q went = record {
-  parts = went.parts;
-  props = went.props;
-  marks = went.marks;
-  marked = went.marked;
-  words = went.words;
-  state = went.state;
-  used = used_then went (Some slot);
-}
+forgets_beside slot numbers p q went = search (rules, used_then)

@@ -1,9 +1,7 @@
 -- What sound parts spell is in the ranges of its layouts.
-use Rattle.std.proofs.Common.{◌≡◌, ◌⊎◌, inl, inr, ℕ, ◌-◌, ◌^◌, ◌<◌, ◌≤◌, ◌&&◌, nat_lt, Bool, true, false, List, [], length, Option, Some, None, is_some, unwrap_or, slice_get, IsSome, refl, sym, ap, ◌∙◌, arith}
-use Rattle.lis_kept.proofs.Common.{list_all, and_parts, lt-ltb, cases_lt, get_or_from_slice_get, Dict, word_of, number_from_word, number_below, Catalog, IsCatalog, rec_at, Ext, has, Taxonomy, FileRecord, AxiomSlot, FreeAxiom, Pair}
+use Rattle.std.proofs.Common.{◌^◌, unwrap_or, arith}
+use Rattle.lis_kept.proofs.Common.{rules, ◌≡◌, ◌⊎◌, inl, inr, ℕ, ◌-◌, ◌<◌, ◌≤◌, ◌&&◌, nat_lt, Bool, true, false, List, [], length, Option, Some, None, is_some, slice_get, IsSome, refl, sym, ap, ◌∙◌, list_all, and_parts, lt-ltb, cases_lt, get_or_from_slice_get, Dict, word_of, number_from_word, number_below, Catalog, IsCatalog, rec_at, Ext, has, Taxonomy, FileRecord, AxiomSlot, FreeAxiom, Pair, and_from, both_ways, false_from_ne_true, get_or_past}
 use Rattle.std.specs.List.{All}
-use Rattle.std.proofs.lemmas.Bool.{and_from, both_ways, false_from_ne_true}
-use Rattle.std.proofs.lemmas.List.{get_or_past}
 use Rattle.std.proofs.lemmas.Option.{unwrap_or-slice_get}
 use Rattle.lis_content.specs.Content.{has_number}
 use Rattle.lis_ext.specs.Ext.{set_of}
@@ -17,8 +15,7 @@ use Rattle.lis_kept.proofs.InArea.{few_properties}
 use Rattle.lis_kept.proofs.Filing.{among_from_number}
 
 pub some_word : (o : Option (List ℕ)) → IsSome o → (w : List ℕ) × (o ≡ Some w)
-some_word None h = absurd cc
-some_word (Some w) h = (w, refl)
+some_word o h = search (rules)
 
 -- ---- what makes a record sound
 pub record_parts : (version : ℕ) (dict : Dict) (blocks : ℕ) (rec : FileRecord) → is_sound_record version dict blocks rec ≡ true
@@ -46,10 +43,7 @@ module _ (k : Kept) (sound : AreSound k) where
 
   -- and so its number has 16 bits
   pub short_dict : IsShort k.dict
-  short_dict = record {
-    dict = sound.dict;
-    short = λ n some. let below = named_below n some in let few = few_properties k.limits sound.range in omega (arith, below, few);
-  }
+  short_dict = search (rules, named_below, few_properties)
 
   pub axioms_formed : (n : ℕ) → is_axiom (axiom_at k.axioms n) ≡ true
   axioms_formed n = by (slice_get k.axioms n) refl
@@ -72,8 +66,7 @@ module _ (k : Kept) (sound : AreSound k) where
     where
       by : (o : Option FileRecord) → rec_at k.catalog n ≡ o → is_file k.limits.version (file_by o) ≡ true
       by None is = refl
-      by (Some rec) is =
-          (record_parts k.limits.version k.dict k.limits.blocks rec (sound.records n rec is)).0
+      by (Some rec) is = (record_parts k.limits.version k.dict k.limits.blocks rec (sound.records n rec is)).0
 
   -- where free slots are empty, each number of any slot has a word
   pub named_all : FreeSlotsAreEmpty k → (n slot : ℕ) → has k.ext n slot ≡ true → IsSome (word_of k.dict n)
@@ -144,14 +137,4 @@ held_files p t catalog taken ext marks held hold = record {
 
 -- other marks, as many
 pub held_marks : (k : Kept) (t : Taxonomy) (marks : List Bool) → AreHeld k t → length marks ≡ length k.marks → AreHeld (record k { marks = marks }) t
-held_marks k t marks held same = held_files k t k.catalog k.taken k.ext marks held (record {
-  slots = refl;
-  catalog_is = held.sound.catalog;
-  records = held.sound.records;
-  blocks = refl;
-  rows = refl;
-  files = refl;
-  named = held.sound.named;
-  settled = held.sound.settled;
-  as_many = same;
-})
+held_marks k t marks held same = search (rules, held_files)

@@ -1,35 +1,27 @@
 -- An edge more of a taxonomy.
-use Rattle.std.proofs.Common.{◌≡◌, ◌⊎◌, ℕ, zero, suc, ◌==◌, ◌&&◌, ◌||◌, Bool, true, false, not, Option, Some, None, [], ◌↔◌, Result, Err, IsTrue, refl, sym, ap, ap₂, ◌∙◌, subst, inl, inr, eq-eqb, arith}
-use Rattle.lis_kept.proofs.Common.{Ordering, Less, Equal, Greater, Contains, cases_eq, ne_eqb, Chain, among_from_contains, EdgeFault, Present, Cycle, Absent, Taxonomy, no_links, has_edge, with_edge, without_edge}
+use Rattle.std.proofs.Common.{eq-eqb}
+use Rattle.lis_kept.proofs.Common.{rules, ◌≡◌, ◌⊎◌, ℕ, zero, suc, ◌==◌, ◌&&◌, ◌||◌, true, false, not, Option, [], ◌↔◌, Result, Err, IsTrue, refl, ap, ap₂, ◌∙◌, subst, inl, inr, Ordering, Contains, ne_eqb, Chain, among_from_contains, EdgeFault, Present, Cycle, Absent, Taxonomy, no_links, has_edge, with_edge, without_edge, both_ways, any_from_among}
 use Rattle.std.specs.Ordering.{nat_cmp, ordering_then, is_eq, eq_by_cmp}
 use Rattle.std.specs.Cmp.{IsTotalOrder, nat_cmp_total, unsigned_tied}
-use Rattle.std.specs.FinSet as set
 use Rattle.std.proofs.Math.Bool.{or-false}
-use Rattle.std.proofs.lemmas.Bool.{both_ways}
 use Rattle.std.proofs.lemmas.Map.Lookups.{exact_unsigned}
-use Rattle.lis_graph.proofs.Members.{any_from_among}
 use Rattle.lis_graph.proofs.Pairs.{pairs_total}
 use Rattle.lis_taxonomy.specs.Taxonomy.{pair_cmp, Entails}
 use Rattle.lis_kept.specs.Edges.{with_edge_to, without_edge_to}
 use Rattle.lis_kept.proofs.Used.{is_at}
+use Rattle.std.specs.FinSet as set
 
 pair_order : IsTotalOrder pair_cmp
 pair_order = pairs_total nat_cmp nat_cmp nat_cmp_total nat_cmp_total exact_unsigned exact_unsigned
 
 both_equal : (a b : Ordering) → is_eq (ordering_then a b) ≡ (is_eq a && is_eq b)
-both_equal Less b = refl
-both_equal Equal b = refl
-both_equal Greater b = refl
+both_equal a b = search (rules)
 
 same_edge : (x y n h : ℕ) → eq_by_cmp pair_cmp (x, y) (n, h) ≡ ((x == n) && (y == h))
 same_edge x y n h = both_equal (nat_cmp x n) (nat_cmp y h) ∙ ap₂ (λ a b. a && b) (unsigned_tied x n) (unsigned_tied y h)
 
 pub swapped : (x y : ℕ) → (x == y) ≡ (y == x)
-swapped x y = by (cases_eq x y)
-  where
-    by : (x ≡ y) ⊎ (x ≡ y → ⊥) → (x == y) ≡ (y == x)
-    by (inl same) = eq-eqb x y same ∙ sym (eq-eqb y x (sym same))
-    by (inr differ) = ne_eqb x y differ ∙ sym (ne_eqb y x (λ e. differ (sym e)))
+swapped x y = search (rules, eq-eqb, ne_eqb)
 
 pub has_edge-with_edge : (t : Taxonomy) (n h x y : ℕ) → has_edge (with_edge t n h) x y ≡ (((x == n) && (y == h)) || has_edge t x y)
 has_edge-with_edge t n h x y = set.contains-insert pair_order t.edges (n, h) (x, y) ∙ ap (λ b. b || has_edge t x y) (same_edge x y n h)
@@ -68,35 +60,25 @@ has_edge-without_edge t n h x y = set.contains-remove pair_order t.edges (n, h) 
 
 -- ---- the edge to a head
 pub same_props_with : (t : Taxonomy) (n : ℕ) (o : Option ℕ) → (with_edge_to t n o).props ≡ t.props
-same_props_with t n None = refl
-same_props_with t n (Some h) = refl
+same_props_with t n o = search (rules)
 
 pub same_props_without : (t : Taxonomy) (n : ℕ) (o : Option ℕ) → (without_edge_to t n o).props ≡ t.props
-same_props_without t n None = refl
-same_props_without t n (Some h) = refl
+same_props_without t n o = search (rules)
 
 -- other numbers keep their edges
 pub other_edges_with : (t : Taxonomy) (n : ℕ) (o : Option ℕ) (x y : ℕ) → (x ≡ n → ⊥) → has_edge (with_edge_to t n o) x y ≡ has_edge t x y
-other_edges_with t n None x y differ = refl
-other_edges_with t n (Some h) x y differ = has_edge-with_edge t n h x y ∙ ap (λ b. (b && (y == h)) || has_edge t x y) (ne_eqb x n differ)
+other_edges_with t n o x y differ = search (rules, has_edge-with_edge, ne_eqb)
 
 pub other_edges_without : (t : Taxonomy) (n : ℕ) (o : Option ℕ) (x y : ℕ) → (x ≡ n → ⊥) → has_edge (without_edge_to t n o) x y ≡ has_edge t x y
-other_edges_without t n None x y differ = refl
-other_edges_without t n (Some h) x y differ = has_edge-without_edge t n h x y ∙ ap (λ b. not (b && (y == h)) && has_edge t x y) (ne_eqb x n differ)
+other_edges_without t n o x y differ = search (rules, has_edge-without_edge, ne_eqb)
 
 -- a number that had no edge has this one
 pub first_edge : (t : Taxonomy) (n : ℕ) (o : Option ℕ) (y : ℕ) → has_edge t n y ≡ false → has_edge (with_edge_to t n o) n y ≡ is_at o y
-first_edge t n None y none = none
-first_edge t n (Some h) y none = has_edge-with_edge t n h n y ∙ (ap₂ (λ a b. (a && (y == h)) || b) (eq-eqb n n refl) none ∙ (or-false (y == h) ∙ swapped y h))
+first_edge t n o y none = search (rules, has_edge-with_edge, eq-eqb, or-false, swapped)
 
 -- and one that had this one alone has none without it
 pub last_edge : (t : Taxonomy) (n : ℕ) (o : Option ℕ) (y : ℕ) → has_edge t n y ≡ is_at o y → has_edge (without_edge_to t n o) n y ≡ false
-last_edge t n None y only = only
-last_edge t n (Some h) y only = has_edge-without_edge t n h n y ∙ (ap₂ (λ a b. not (a && (y == h)) && b) (eq-eqb n n refl) (only ∙ swapped h y) ∙ neither (y == h))
-  where
-    neither : (b : Bool) → (not b && b) ≡ false
-    neither b = grind arith
+last_edge t n o y only = search (rules, has_edge-without_edge, eq-eqb, swapped)
 
 pub not_absent : {T : Type 0} (t : Taxonomy) (n h x y : ℕ) (fault : EdgeFault) (r : Result T EdgeFault) → r ≡ Err fault → ((r ≡ Err Absent) ↔ (has_edge t x y ≡ false)) → r ≡ Err Absent → x ≡ n → y ≡ h → has_edge t n h ≡ true → ⊥
-not_absent t n h x y fault r is absent only left right there =
-    both_ways (has_edge t n h) (subst (λ m. has_edge t n m ≡ false) right (subst (λ m. has_edge t m y ≡ false) left (absent.0 only))) there
+not_absent t n h x y fault r is absent only left right there = search (rules, both_ways)

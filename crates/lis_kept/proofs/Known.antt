@@ -1,44 +1,35 @@
 -- The words that have numbers are the known words: each number with a word is in use, and what is known has a number.
-use Rattle.std.proofs.Common.{◌≡◌, ◌⊎◌, ℕ, true, List, [], Option, Some, None, option_to_list, is_some, map, slice_get, IsSome, refl, sym, ap, ap₂, ◌∙◌, subst, inl, inr}
-use Rattle.lis_kept.proofs.Common.{flat_map, Contains, and_parts, same_Some, Among, contains_from_among, among_filter, among_map, among_flat_map, flat_map_among, sorted_from_rising, number_of, word_of, number_from_word, word_from_number, Filed, rec_at, has, numbers_at, FileRecord, AxiomSlot, FreeAxiom, Pair, word_cmp, same_word, has_word, is_valued, head_bytes, File, description, pair_exact, word_order, same_word_decides, among_from_has_word}
-use Rattle.std.proofs.lemmas.Bool.{both_ways}
-use Rattle.lis_graph.proofs.Members.{filter_among, map_among, among_with_more, with_more_new}
+pub use Rattle.lis_kept.proofs.OwnLinks.{placed_at, among_place}
+use Rattle.std.proofs.Common.{option_to_list}
+use Rattle.lis_kept.proofs.Common.{rules, ◌≡◌, ◌⊎◌, ℕ, true, List, [], Option, Some, None, is_some, map, slice_get, IsSome, refl, sym, ap, ap₂, ◌∙◌, subst, inl, inr, flat_map, Contains, and_parts, same_Some, Among, contains_from_among, among_filter, among_map, among_flat_map, flat_map_among, sorted_from_rising, number_of, word_of, number_from_word, word_from_number, Filed, rec_at, has, numbers_at, FileRecord, AxiomSlot, FreeAxiom, Pair, word_cmp, same_word, has_word, is_valued, head_bytes, File, description, pair_exact, word_order, same_word_decides, among_from_has_word, both_ways, filter_among, map_among, words, has_word_from_among, same_words, same_tests}
+use Rattle.lis_graph.proofs.Members.{among_with_more, with_more_new}
 use Rattle.lis_blockmap.specs.Bitmap.{is_taken}
 use Rattle.lis_content.specs.Content.{has_number}
-use Rattle.lis_dict.specs.Dict.{words}
 use Rattle.lis_dict.proofs.Laws.{among_from_word, number_from_among}
 use Rattle.lis_model.specs.State.{pair_cmp, known, heads}
 use Rattle.lis_graph.specs.Graph.{is_rising}
-use Rattle.lis_laws.proofs.Members.{has_word_from_among, among_set_of, set_of_among, same_words}
+use Rattle.lis_laws.proofs.Members.{among_set_of, set_of_among}
 use Rattle.lis_laws.proofs.Counts.{rising_filter}
 use Rattle.lis_laws.proofs.Chains.{among_heads, heads_of_valued}
 use Rattle.lis_laws.proofs.Known.{sorted_known}
 use Rattle.lis_laws.proofs.Sources.{Source, source_of, known_from}
 use Rattle.lis_laws.proofs.Sources.Source.{Declared, Left, LeftHead, Described}
-use Rattle.lis_laws.proofs.Locals.{same_tests}
 use Rattle.lis_kept.specs.Kept.{Kept}
 use Rattle.lis_kept.specs.Sound.{AreSound, FreeSlotsAreEmpty}
-use Rattle.lis_kept.specs.Telling.{bit_of, is_declared, declared_of, words_told, pair_by, pair_told, pairs_told, axioms_of, file_told, state_of, is_head_by, AreUsed}
-pub use Rattle.lis_kept.proofs.OwnLinks.{placed_at, among_place}
+use Rattle.lis_kept.specs.Telling.{is_declared, declared_of, words_told, pair_by, pair_told, pairs_told, axioms_of, file_told, state_of, is_head_by, AreUsed}
 use Rattle.lis_kept.proofs.Filing.{among_from_number as among_numbers, number_from_among as has_from_among, filed_at_slot}
 use Rattle.lis_kept.proofs.Formed.{some_word}
 use Rattle.lis_kept.proofs.Used.{WhyUsed, why_used}
 use Rattle.lis_kept.proofs.Used.WhyUsed.{Flagged, Had, OnLeft, HeadOfLeft}
 
 pub only_word : (o : Option (List ℕ)) (w : List ℕ) → Among (option_to_list o) w → o ≡ Some w
-only_word None w m = absurd m
-only_word (Some v) w (inl same) = ap Some same
-only_word (Some v) w (inr m) = absurd m
+only_word o w m = search (rules)
 
 pub some_number : (o : Option ℕ) → IsSome o → (n : ℕ) × (o ≡ Some n)
-some_number None h = absurd cc
-some_number (Some n) h = (n, refl)
+some_number o h = search (rules)
 
 pub only_pair : (p q : Option (List ℕ)) (e : List ℕ × List ℕ) → Among (pair_by p q) e → (p ≡ Some e.0) × (q ≡ Some e.1)
-only_pair None q e m = absurd m
-only_pair (Some p) None e m = absurd m
-only_pair (Some p) (Some q) e (inl same) = (ap (λ (x : List ℕ × List ℕ). Some x.0) same, ap (λ (x : List ℕ × List ℕ). Some x.1) same)
-only_pair (Some p) (Some q) e (inr m) = absurd m
+only_pair p q e m = search (rules)
 
 -- ---- numbers and their words
 module _ (k : Kept) (sound : AreSound k) where
@@ -73,8 +64,7 @@ module _ (k : Kept) (sound : AreSound k) where
 
   -- ---- declared words
   pub declared_word : (n : ℕ) (w : List ℕ) → word_of k.dict n ≡ Some w → is_taken k.declared n ≡ true → Among (declared_of k) w
-  declared_word n w is bit =
-      filter_among (is_declared k) (words k.dict) w (word_known n w is) (ap (bit_of k.declared) (number_from_word k.dict sound.dict w n is) ∙ bit)
+  declared_word n w is bit = search (rules, filter_among, word_known, number_from_word)
 
   pub declared_has_number : (w : List ℕ) → Among (declared_of k) w → (n : ℕ) × (word_of k.dict n ≡ Some w)
   declared_has_number w m = known_word w (among_filter (is_declared k) (words k.dict) w m).0

@@ -1,16 +1,19 @@
 -- Marks of the blocks that a change touches.
-use Rattle.std.proofs.Common.{◌≡◌, ◌⊎◌, ℕ, ◌+◌, ◌<◌, ◌≤◌, Bool, true, false, cond, nat_lt, IsTrue, slice_get, Some, List, [], ◌∷◌, ◌++◌, length, get_or, set, map, take, count_by, refl, sym, ap, ◌∙◌, subst, inl, inr, arith, length-set, get_or-set_same, get_or-set_other}
-use Rattle.lis_kept.proofs.Common.{list_all, Contains, cases_eq, ltb-true, take_more, Contains-get_or, slice_get_within, get_or_from_slice_get, Among, among_from_contains, Limits, are_in_range, data_start, all_among}
+use Rattle.std.proofs.Common.{arith}
+use Rattle.lis_kept.proofs.Common.{rules, ◌≡◌, ◌⊎◌, ℕ, ◌+◌, ◌<◌, ◌≤◌, Bool, true, false, cond, nat_lt, IsTrue, slice_get, Some, List, [], ◌∷◌, ◌++◌, length, set, map, take, count_by, refl, sym, ap, ◌∙◌, subst, inl, inr, length-set, get_or-set_same, get_or-set_other, zero, suc, list_all, Contains, cases_eq, ltb-true, take_more, Contains-get_or, slice_get_within, get_or_from_slice_get, Among, among_from_contains, Limits, are_in_range, data_start, all_among, sum_by-cons, length-map, among_map, Ext, has, among_where, marked, common_steps, both_ways, false_from_ne_true, map_among}
 use Rattle.std.proofs.lemmas.List.{map-append}
 use Rattle.std.proofs.lemmas.List.Sums.{sum_by-set}
 use Rattle.lis_blockmap.specs.Bitmap.{is_taken}
-use Rattle.lis_content.specs.Content.{marked}
 use Rattle.lis_content.proofs.Numbers.{marked_more}
 use Rattle.lis_kept.specs.Kept.{Kept}
-use Rattle.lis_kept.specs.Areas.{Area, slots_of, block_of, spelled, held_in, is_marked, IsSaved}
-use Rattle.lis_kept.specs.Areas.Area.{Rows}
+use Rattle.lis_kept.specs.Areas.{Area, slots_of, block_of, spelled}
+use Rattle.lis_kept.specs.Areas.Area.{Rows, Properties, Axioms, Files, Bitmap}
 use Rattle.lis_kept.specs.Changes.{Marks}
 use Rattle.lis_kept.proofs.InArea.{among_slots, rows_counted}
+use Rattle.lis_ext.specs.Numbers.{numbers_where}
+use Rattle.lis_ext.proofs.Numbers.{where_among}
+use Rattle.lis_kept.specs.Sound.{AreSound}
+use Rattle.lis_kept.proofs.Spelled.{row_bytes_same}
 
 abbrev true_in : List Bool → ℕ
 true_in bits = count_by (λ (b : Bool). b) bits
@@ -36,31 +39,13 @@ unmarked_all (h ∷ homes) bits n below free =
     by (unmarked_all homes (set bits h true) n (λ m among. omega (arith, below m (inr among), length-set bits h true)) free) (cases_eq n h)
   where
     by : (is_taken (set bits h true) n ≡ false) × (Among homes n → ⊥) → (n ≡ h) ⊎ (n ≡ h → ⊥) → (is_taken bits n ≡ false) × (Among (h ∷ homes) n → ⊥)
-    by rest (inl same) =
-        let yes : is_taken (set bits h true) n ≡ true = ap (λ k. get_or (set bits h true) k false) same ∙ get_or-set_same bits h true false (below h (inl refl)) in
-        absurd (let no = rest.0 in cc)
-    by rest (inr differ) = (sym (get_or-set_other bits h n true false differ) ∙ rest.0, other)
-      where
-        other : Among (h ∷ homes) n → ⊥
-        other (inl same) = differ (sym same)
-        other (inr m) = rest.1 m
+    by rest h2 = search (rules, get_or-set_same, get_or-set_other)
 
 -- The blocks that differ are marked: the others' slots are spelled as before.
 pub blocks_marked : (p q : Kept) (homes : List ℕ) → q.limits ≡ p.limits → q.marks ≡ marked p.marks homes → AreBelow (length p.marks) homes
     → ((area : Area) (n : ℕ) → n < (slots_of p.limits area).count → (Among homes (block_of p.limits area n) → ⊥) → spelled q area n ≡ spelled p area n)
     → Marks (length homes) p q
-blocks_marked p q homes limits marks below same = record {
-  saved = λ at saved. by q.limits limits at saved;
-  few = omega (arith, ap true_in marks, true_marked homes p.marks below);
-}
-  where
-    by : (limits : Limits) → limits ≡ p.limits → (at : ℕ → List ℕ) → IsSaved p at
-        → (area : Area) (n : ℕ) → n < (slots_of limits area).count → is_marked q (block_of limits area n) ≡ false → held_in limits area at n ≡ spelled q area n
-    by limits is at saved =
-        let P : Limits → Type 0 = λ l. (area : Area) (n : ℕ) → n < (slots_of l area).count → is_marked q (block_of l area n) ≡ false → held_in l area at n ≡ spelled q area n in
-        subst P (sym is) (λ area n lt free.
-        let apart = unmarked_all homes p.marks (block_of p.limits area n) below (ap (λ bits. is_taken bits (block_of p.limits area n)) (sym marks) ∙ free) in
-        saved area n lt apart.0 ∙ sym (same area n lt apart.1))
+blocks_marked p q homes limits marks below same = search (rules, true_marked, unmarked_all)
 
 -- one block
 pub block_marked : (p q : Kept) (home : ℕ) → q.limits ≡ p.limits → q.marks ≡ set p.marks home true → home < length p.marks
@@ -70,8 +55,7 @@ block_marked p q home limits marks below same =
     blocks_marked p q (home ∷ []) limits marks (λ n m. one n m) (λ area n lt apart. same area n lt (λ e. apart (inl (sym e))))
   where
     one : (n : ℕ) → Among (home ∷ []) n → n < length p.marks
-    one n (inl e) = subst (λ k. k < length p.marks) e below
-    one n (inr none) = absurd none
+    one n h1 = search (rules)
 
 -- one more of the blocks of numbers
 pub marked_next : (f : ℕ → ℕ) (bits : List Bool) (ns : List ℕ) (k n : ℕ) → slice_get ns k ≡ Some n → set (marked bits (map f (take k ns))) (f n) true ≡ marked bits (map f (take (k + 1) ns))
@@ -88,3 +72,67 @@ pub row_home : (limits : Limits) (ns : List ℕ) (k n : ℕ) → IsTrue (are_in_
 row_home limits ns k n range below is =
     let lt = ltb-true n limits.props (all_among (λ m. nat_lt m limits.props) ns n below (among_got ns k n is)) in
     (among_slots limits range Rows n (omega (arith, lt, rows_counted limits range))).1
+
+-- ---- which blocks are marked, and how many
+-- what is marked was so, or is one of the blocks
+pub marked_only : (homes : List ℕ) (bits : List Bool) (n : ℕ) → is_taken (marked bits homes) n ≡ true → (is_taken bits n ≡ true) ⊎ Among homes n
+marked_only [] bits n is = inl is
+marked_only (h ∷ homes) bits n is = grind (arith, common_steps, get_or-set_other, marked_only homes (set bits h true) n is)
+
+one_at_most : (b : Bool) → cond b 1 0 ≤ 1
+one_at_most b = search (rules)
+
+unset : (bits : List Bool) (m : ℕ) → is_taken (set bits m false) m ≡ false
+unset [] m = refl
+unset (b ∷ bits) zero = refl
+unset (b ∷ bits) (suc m) = unset bits m
+
+one_fewer : (bits : List Bool) (m : ℕ) → true_in bits ≤ true_in (set bits m false) + 1
+one_fewer [] m = omega arith
+one_fewer (b ∷ bits) zero = omega (arith, sum_by-cons (λ (b : Bool). cond b 1 0) b bits, sum_by-cons (λ (b : Bool). cond b 1 0) false bits, one_at_most b)
+one_fewer (b ∷ bits) (suc m) = omega (arith, sum_by-cons (λ (b : Bool). cond b 1 0) b bits, sum_by-cons (λ (b : Bool). cond b 1 0) b (set bits m false), one_fewer bits m)
+
+none_true : (bits : List Bool) → ((n : ℕ) → is_taken bits n ≡ true → ⊥) → true_in bits ≡ 0
+none_true [] none = omega arith
+none_true (true ∷ bits) none = absurd (none zero refl)
+none_true (false ∷ bits) none = omega (arith, sum_by-cons (λ (b : Bool). cond b 1 0) false bits, none_true bits (λ n. none (suc n)))
+
+pub marked_within : (bits : List Bool) (ns : List ℕ) → ((n : ℕ) → is_taken bits n ≡ true → Among ns n) → true_in bits ≤ length ns
+marked_within bits [] within = omega (arith, none_true bits within)
+marked_within bits (m ∷ ns) within = omega (arith, one_fewer bits m, marked_within (set bits m false) ns rest)
+  where
+    rest : (n : ℕ) → is_taken (set bits m false) n ≡ true → Among ns n
+    rest n is = search (rules, get_or-set_other, both_ways, unset)
+
+-- ---- marks of the blocks of rows
+-- where the blocks of the rows of some numbers were marked, and the rows of others are as before
+module _ (p : Kept) (sound : AreSound p) (test : ℕ → Bool) (e : Ext) (marks : List Bool) (as_many : length e.sets ≡ length p.ext.sets)
+    (are_marks : marks ≡ marked p.marks (map (block_of p.limits Rows) (numbers_where p.ext.props test)))
+    (same_row : (n : ℕ) → (n < p.ext.props → test n ≡ false) → (s : ℕ) → has e n s ≡ has p.ext n s) where
+  abbrev touched : List ℕ
+  touched = numbers_where p.ext.props test
+
+  abbrev described : Kept
+  described = record p { ext = e; marks = marks }
+
+  homes_below : AreBelow (length p.marks) (map (block_of p.limits Rows) touched)
+  homes_below h m =
+      let found = among_map (block_of p.limits Rows) touched h m in
+      let lt = (among_where p.ext.props test found.0 found.1).0 in
+      let inside = among_slots p.limits sound.range Rows found.0 (omega (arith, lt, sound.rows, rows_counted p.limits sound.range)) in
+      omega (arith, inside.1, found.2, sound.marks)
+
+  untouched : (n : ℕ) → (Among (map (block_of p.limits Rows) touched) (block_of p.limits Rows n) → ⊥) → n < p.ext.props → test n ≡ false
+  untouched n apart lt = false_from_ne_true (test n) (λ passes. apart (map_among (block_of p.limits Rows) touched n (where_among p.ext.props test n lt passes)))
+
+  spelled_before : (area : Area) (n : ℕ) → n < (slots_of p.limits area).count → (Among (map (block_of p.limits Rows) touched) (block_of p.limits area n) → ⊥) → spelled described area n ≡ spelled p area n
+  spelled_before Properties n lt apart = refl
+  spelled_before Axioms n lt apart = refl
+  spelled_before Files n lt apart = refl
+  spelled_before Rows n lt apart = row_bytes_same p.ext e n as_many (same_row n (untouched n apart))
+  spelled_before Bitmap n lt apart = refl
+
+  pub rows_marked : Marks (length touched) p described
+  rows_marked =
+      let M : ℕ → Type 0 = λ n. Marks n p described in
+      subst M (length-map touched (block_of p.limits Rows)) (blocks_marked p described (map (block_of p.limits Rows) touched) refl are_marks homes_below spelled_before)

@@ -1,9 +1,8 @@
 -- Sets of words, by the numbers that have them.
-use Rattle.std.proofs.Common.{◌≡◌, ℕ, Bool, true, List, Some}
+use Rattle.lis_kept.proofs.Common.{◌≡◌, ℕ, Bool, true, List, Some, flat_map, IsStrictlySortedBy, Among, Dict, word_of, word_cmp, same_words}
 use Rattle.std.specs.Option.{option_to_list}
-use Rattle.lis_kept.proofs.Common.{flat_map, IsStrictlySortedBy, Among, Dict, word_of, word_cmp}
 use Rattle.lis_content.specs.Content.{has_number}
-use Rattle.lis_laws.proofs.Members.{sorted_set_of, same_words}
+use Rattle.lis_laws.proofs.Members.{sorted_set_of}
 use Rattle.lis_kept.specs.Kept.{Kept}
 use Rattle.lis_kept.specs.Sound.{AreSound}
 use Rattle.lis_kept.specs.Telling.{words_told}

@@ -1,11 +1,10 @@
 -- One number whose word comes or goes, and what stays of all else.
-use Rattle.std.proofs.Common.{◌≡◌, ◌⊎◌, refl, sym, ap, ap₂, ◌∙◌, subst, inl, inr, ℕ, ◌<◌, ◌==◌, if◌then◌else◌, ◌&&◌, ◌||◌, not, Bool, true, false, List, [], length, map, filter, set, Option, Some, None, is_some, IsSome, arith, length-set}
+use Rattle.std.proofs.Common.{filter, arith}
+use Rattle.lis_kept.proofs.Common.{rules, ◌≡◌, ◌⊎◌, refl, sym, ap, ap₂, ◌∙◌, subst, inl, inr, ℕ, ◌<◌, ◌==◌, if◌then◌else◌, ◌&&◌, ◌||◌, not, Bool, true, false, List, [], length, map, set, Option, Some, None, is_some, IsSome, length-set, insert_key, list_any, fold, and_parts, cases_eq, ne_eqb, not_from_false, not-true, same_Some, IsStrictlySortedBy-filter, Among, among_filter, among_insert_key, insert_key_old, insert_key_new, sorted_insert_key, Dict, IsDict, number_of, word_of, without_word, number_from_word, Filed, rec_at, has, FileRecord, is_prop, AxiomSlot, FreeAxiom, Pair, Taxonomy, has_edge, word_cmp, same_word, is_valued, head_bytes, with_word, word_order, same_word_decides, all_among, and_from, both_ways, false_from_ne_true, filter_among, same_words}
 use Rattle.std.specs.Option.{option_to_list}
-use Rattle.lis_kept.proofs.Common.{insert_key, list_any, fold, and_parts, cases_eq, ne_eqb, not_from_false, not-true, same_Some, IsStrictlySortedBy-filter, Among, among_filter, among_insert_key, insert_key_old, insert_key_new, sorted_insert_key, Dict, IsDict, number_of, word_of, without_word, number_from_word, Filed, rec_at, has, FileRecord, prop_bytes, is_prop, AxiomSlot, FreeAxiom, Pair, Taxonomy, has_edge, word_cmp, same_word, is_valued, head_bytes, with_word, are_weaker, word_order, same_word_decides, all_among}
 use Rattle.std.proofs.Math.Bool.{or-false}
-use Rattle.std.proofs.lemmas.Bool.{and_from, both_ways, eq-eqb, false_from_ne_true}
+use Rattle.std.proofs.lemmas.Bool.{eq-eqb}
 use Rattle.lis_graph.proofs.Filters.{any_same}
-use Rattle.lis_graph.proofs.Members.{filter_among}
 use Rattle.lis_blockmap.specs.Bitmap.{is_taken}
 use Rattle.lis_content.specs.Content.{has_number}
 use Rattle.lis_dict.specs.Dict.{with_entry}
@@ -13,11 +12,11 @@ use Rattle.lis_dict.proofs.Laws.{number_of-with_entry, word_of-with_entry, lengt
 use Rattle.lis_words.specs.Words.{is_property}
 use Rattle.lis_model.specs.Sets.{set_of}
 use Rattle.lis_model.specs.State.{pair_cmp}
-use Rattle.lis_laws.proofs.Members.{word_exact, same_words}
+use Rattle.lis_laws.proofs.Members.{word_exact}
 use Rattle.lis_laws.proofs.Counts.{all_weaker}
 use Rattle.lis_kept.specs.Kept.{Kept, property_by, property_at}
 use Rattle.lis_kept.specs.Areas.{Area, slots_of, block_of, spelled}
-use Rattle.lis_kept.specs.Areas.Area.{Properties, Axioms, Files, Rows, Bitmap}
+use Rattle.lis_kept.specs.Areas.Area.{Properties}
 use Rattle.lis_kept.specs.Telling.{declared_of, pair_by, pair_told, axioms_of, file_told, state_of, is_left_of, is_head_by, is_left_head_of, is_named_left, is_had, is_used}
 use Rattle.lis_kept.specs.Sound.{AreSound}
 use Rattle.lis_kept.specs.Links.{AreHeld, TellsLinks, has_pair, is_linked}
@@ -61,15 +60,7 @@ linked_unnamed k dict number none x y which =
 -- a number that is not declared links to its head alone, and is linked to as a head alone
 pub linked_undeclared : (k : Kept) → IsDict k.dict → (number : ℕ) → IsNoSide k.axioms number → is_taken k.declared number ≡ false → (x y : ℕ) → (x ≡ number) ⊎ (y ≡ number)
     → is_linked k x y ≡ is_head_by (word_of k.dict x) (word_of k.dict y)
-linked_undeclared k dict number none bit x y which =
-    linked_unnamed k dict number none x y which ∙ (ap (λ b. is_head_by (word_of k.dict x) (word_of k.dict y) || b) (untested which) ∙ or-false (is_head_by (word_of k.dict x) (word_of k.dict y)))
-  where
-    no_test : (n : ℕ) → n ≡ number → declared_test k.dict k.declared n ≡ None
-    no_test n same = ap (λ b. if b then test_by (word_of k.dict n) else None) (ap (is_taken k.declared) same ∙ bit)
-
-    untested : (x ≡ number) ⊎ (y ≡ number) → is_test_link k.dict k.declared x y ≡ false
-    untested (inl same) = ap (are_weaker (declared_test k.dict k.declared y)) (no_test x same) ∙ none_weaker (declared_test k.dict k.declared y)
-    untested (inr same) = ap (λ t. are_weaker t (declared_test k.dict k.declared x)) (no_test y same)
+linked_undeclared k dict number none bit x y which = search (rules, linked_unnamed, or-false, none_weaker)
 
 -- The words and bits of all other numbers stay, and nothing names this one. The block of its slot is marked.
 pub record OneWord (p : Kept) (number : ℕ) (d : Dict) (bits marks : List Bool) : Type 0 where
@@ -99,12 +90,10 @@ module _ (p : Kept) (sound : AreSound p) {number : ℕ} {d : Dict} {bits marks :
 
   -- ---- soundness
   property_then : (n : ℕ) → (n ≡ number) ⊎ (n ≡ number → ⊥) → is_prop (property_at d bits n) ≡ true
-  property_then n (inl same) = ap (λ m. is_prop (property_at d bits m)) same ∙ w.fits
-  property_then n (inr differ) = ap is_prop (ap₂ property_by (same_word_there n differ) (w.others n differ).1) ∙ sound.properties n
+  property_then n h1 = search (rules, same_word_there)
 
   flagged_then : (n : ℕ) → is_taken bits n ≡ true → (n ≡ number) ⊎ (n ≡ number → ⊥) → IsSome (word_of d n)
-  flagged_then n bit (inl same) = ap (λ m. is_some (word_of d m)) same ∙ w.flagged (ap (is_taken bits) (sym same) ∙ bit)
-  flagged_then n bit (inr differ) = some_stays n differ (sound.flagged n (sym (w.others n differ).1 ∙ bit))
+  flagged_then n bit h2 = search (rules, some_stays)
 
   pub sound_then : AreSound after
   sound_then = record {
@@ -142,18 +131,10 @@ module _ (p : Kept) (sound : AreSound p) {number : ℕ} {d : Dict} {bits marks :
 
   -- ---- the marked block
   spelled_before : (area : Area) (n : ℕ) → n < (slots_of p.limits area).count → (block_of p.limits area n ≡ block_of p.limits Properties number → ⊥) → spelled after area n ≡ spelled p area n
-  spelled_before Properties n lt apart =
-      let differ : n ≡ number → ⊥ = λ e. apart (ap (block_of p.limits Properties) e) in
-      ap prop_bytes (ap₂ property_by (same_word_there n differ) (w.others n differ).1)
-  spelled_before Axioms n lt apart = refl
-  spelled_before Files n lt apart = refl
-  spelled_before Rows n lt apart = refl
-  spelled_before Bitmap n lt apart = refl
+  spelled_before area n lt apart = search (rules, same_word_there)
 
   pub marks_then : Marks 1 p after
-  marks_then =
-      block_marked p after (block_of p.limits Properties number) refl w.marked
-      (omega (arith, (among_slots p.limits sound.range Properties number w.below).1, sound.marks)) spelled_before
+  marks_then = grind (arith, block_marked p after (block_of p.limits Properties number), among_slots p.limits sound.range Properties number w.below)
 
   -- ---- what is told
   pair_same : (a : AxiomSlot) → Among p.axioms a → pair_told d a ≡ pair_told p.dict a
@@ -240,9 +221,7 @@ module _ (p : Kept) (sound : AreSound p) {number : ℕ} {d : Dict} {bits marks :
 
   pub linked_elsewhere : (x y : ℕ) → (x ≡ number → ⊥) → (y ≡ number → ⊥) → is_linked after x y ≡ is_linked p x y
   linked_elsewhere x y differ apart =
-      linked_by after w.dict x y
-      ∙ (ap₂ (λ a b. (a || b) || has_pair p.axioms x y) (ap₂ is_head_by (same_word_there x differ) (same_word_there y apart)) (ap₂ are_weaker (test_elsewhere y apart) (test_elsewhere x differ))
-      ∙ sym (linked_by p sound.dict x y))
+      grind (arith, linked_by after w.dict x y, same_word_there x differ, same_word_there y apart, test_elsewhere y apart, test_elsewhere x differ, linked_by p sound.dict x y)
 
   -- edges that are the links of the number, and else those that there were
   pub held_then : (t u : Taxonomy) → TellsLinks p t → u.props ≡ t.props → ((y : ℕ) → has_edge u number y ≡ is_linked after number y)
@@ -294,8 +273,7 @@ pub record Comes (p : Kept) (word : List ℕ) (number : ℕ) (d : Dict) : Type 0
 pub added : (p : Kept) (word : List ℕ) (n : ℕ) (d : Dict)
     → ((number_of p.dict word ≡ Some n) × (d ≡ p.dict)) ⊎ ((number_of p.dict word ≡ None) × (n < p.dict.props) × (word_of p.dict n ≡ None) × (d ≡ with_entry p.dict word n))
     → number_of p.dict word ≡ None → length p.dict.entries < p.limits.props → Comes p word n d
-added p word n d (inl there) new room = let both : ◌≡◌ {A = Option ℕ} None (Some n) = sym new ∙ there.0 in absurd cc
-added p word n d (inr more) new room = record { new = new; room = room; below = more.1; free = more.2; dict_is = more.3 }
+added p word n d h1 new room = search (rules)
 
 module _ (p : Kept) (sound : AreSound p) {word : List ℕ} {number : ℕ} {d : Dict} (come : Comes p word number d) where
   word_then : (n : ℕ) → word_of d n ≡ (if number == n then Some word else word_of p.dict n)

@@ -1,32 +1,22 @@
 -- The links that words have by themselves.
-use Rattle.std.proofs.Common.{zero, suc, [], ◌∷◌, ◌≡◌, ℕ, true, false, ◌&&◌, ◌||◌, ◌==◌, Option, Some, None, is_some, IsSome, slice_get, List, refl, sym, inl, inr, ap, ap₂, ◌∙◌, subst}
-use Rattle.lis_kept.proofs.Common.{list_all, and_parts, or_cases, eqb-true, same_Some, Among, among_right, among_from_any, contains_from_among, word_of, AxiomSlot, FreeAxiom, Pair, same_word, has_word, head_bytes, is_valued, is_test, is_plain_word, is_undeclared, same_word_decides, among_from_has_word, all_among, OwnLink, own_link, Head, Weaker, Taxonomy, has_edge}
-use Rattle.std.proofs.lemmas.Bool.{and_from, both_ways, false_from_ne_true}
+use Rattle.lis_kept.proofs.Common.{common_steps, rules, [], ◌∷◌, ◌≡◌, ℕ, true, false, Option, Some, None, is_some, IsSome, slice_get, List, refl, ap, ◌∙◌, and_parts, or_cases, eqb-true, same_Some, Among, among_right, among_from_any, contains_from_among, word_of, AxiomSlot, Pair, same_word, has_word, head_bytes, is_valued, is_test, is_plain_word, is_undeclared, same_word_decides, among_from_has_word, all_among, OwnLink, own_link, Head, Weaker, Taxonomy, has_edge, and_from, both_ways, false_from_ne_true, has_word_from_among, same_tests}
+use native.Mathlib.Omega.{arith}
 use Rattle.std.proofs.lemmas.Option.{slice_get-get_or}
-use Rattle.lis_words.specs.Words.{stem, is_plain_byte, is_head, is_built_in}
 use Rattle.lis_words.proofs.Tests.{plain_not_test, head_not_test, valued_not_test}
 use Rattle.lis_model.specs.State.{links}
-use Rattle.lis_laws.proofs.Members.{has_word_from_among}
-use Rattle.lis_laws.proofs.Locals.{same_tests}
 use Rattle.lis_laws.proofs.Chains.{IsWeakerIn, weaker_tests_are, links_head}
 use Rattle.lis_kept.specs.Kept.{Kept}
 use Rattle.lis_kept.specs.Telling.{declared_of, is_head_by}
 use Rattle.lis_kept.specs.Sound.{AreSound}
-use Rattle.lis_kept.specs.Links.{AreHeld, is_own_link, is_linked, is_pair, has_pair}
+use Rattle.lis_kept.specs.Links.{AreHeld, is_own_link, is_linked, has_pair}
 
 -- a member stands in some place
 pub placed_at : {X : Type 0} (xs : List X) (x : X) → Among xs x → (n : ℕ) × (slice_get xs n ≡ Some x)
-placed_at xs x m =
-    let at = contains_from_among xs x m in
-    (at.0, slice_get-get_or xs at.0 x at.1 ∙ ap Some at.2)
+placed_at xs x m = search (rules, contains_from_among, slice_get-get_or)
 
 pub among_place : {X : Type 0} (xs : List X) (n : ℕ) (x : X) → slice_get xs n ≡ Some x → Among xs x
 among_place [] n x is = absurd cc
-among_place (y ∷ ys) n x is = by n is (among_place ys)
-  where
-    by : (k : ℕ) → slice_get (y ∷ ys) k ≡ Some x → ((j : ℕ) (z : _) → slice_get ys j ≡ Some z → Among ys z) → Among (y ∷ ys) x
-    by zero here more = inl (same_Some y x here)
-    by (suc k) here more = inr (more k x here)
+among_place (y ∷ ys) n x is = grind (arith, common_steps, same_Some, among_place ys)
 
 pub slot_at : (axioms : List AxiomSlot) (a : AxiomSlot) → Among axioms a → (i : ℕ) × (slice_get axioms i ≡ Some a)
 slot_at = placed_at
@@ -36,16 +26,11 @@ among_slot = among_place
 
 -- ---- links of words by themselves, whatever tests are declared
 pub own_to_none : (declared : List (List ℕ)) (o : Option (List ℕ)) → is_own_link declared o None ≡ false
-own_to_none declared None = refl
-own_to_none declared (Some w) = refl
+own_to_none declared o = search (rules)
 
 -- a word leads to its head
 pub own_head : (declared : List (List ℕ)) (o r : Option (List ℕ)) → is_head_by o r ≡ true → is_own_link declared o r ≡ true
-own_head declared None r h = absurd (both_ways false refl h)
-own_head declared (Some w) None h = absurd (both_ways false refl h)
-own_head declared (Some w) (Some v) h =
-    let both = and_parts (is_valued w) (same_word (head_bytes w) v) h in
-    has_word_from_among (links declared w) v (subst (λ (x : List ℕ). Among (links declared w) x) ((same_word_decides (head_bytes w) v).0 both.1) (links_head declared w both.0))
+own_head declared o r h = search (rules, both_ways, and_parts, has_word_from_among, same_word_decides, links_head)
 
 -- what leads to no weaker test leads to its head alone
 untested : (declared : List (List ℕ)) (w v : List ℕ) → (IsWeakerIn declared w v → ⊥) → has_word (links declared w) v ≡ is_head_by (Some w) (Some v)
@@ -60,46 +45,27 @@ untested declared w v none = same_tests (has_word (links declared w) v) (is_head
 
 -- a link to a word that is no test is that to a head
 pub own_to : (declared : List (List ℕ)) (o : Option (List ℕ)) (v : List ℕ) → is_test v ≡ false → is_own_link declared o (Some v) ≡ is_head_by o (Some v)
-own_to declared None v plain = refl
-own_to declared (Some w) v plain = untested declared w v (λ weaker. both_ways (is_test v) plain (weaker_tests_are declared w v weaker).1)
+own_to declared o v plain = search (rules, untested, both_ways, weaker_tests_are)
 
 -- what is known without being declared is no test
 pub undeclared_not_test : (word : List ℕ) → is_undeclared word ≡ true → is_test word ≡ false
-undeclared_not_test word h = elim (or_cases (is_valued word) (is_head word && is_built_in word) h) [
-  | inl valued ↦ valued_not_test word valued
-  | inr head ↦ head_not_test word (and_parts (is_head word) (is_built_in word) head).0
-]
+undeclared_not_test word h = search (rules, or_cases, valued_not_test, head_not_test, and_parts)
 
 -- a plain word is nobody's head
 plain_no_head : (l r : List ℕ) → is_plain_word r ≡ true → head_bytes l ≡ r → ⊥
-plain_no_head l r plain same =
-    let bytes : list_all is_plain_byte r ≡ true = (and_parts _ _ plain).1 in
-    let colon : is_plain_byte 58 ≡ true = all_among is_plain_byte (head_bytes l) 58 (subst (λ (w : List ℕ). list_all is_plain_byte w ≡ true) (sym same) bytes) (among_right (stem l) (58 ∷ []) 58 (inl refl)) in
-    both_ways (is_plain_byte 58) refl colon
+plain_no_head l r plain same = grind (arith, common_steps, and_parts, all_among, among_right, both_ways)
 
 not_head : (o w : Option (List ℕ)) → ((r : List ℕ) → w ≡ Some r → is_plain_word r ≡ true) → is_head_by o w ≡ false
-not_head None w plain = refl
-not_head (Some l) None plain = refl
-not_head (Some l) (Some r) plain =
-    false_from_ne_true (is_valued l && same_word (head_bytes l) r)
-    (λ head. plain_no_head l r (plain r refl) ((same_word_decides (head_bytes l) r).0 (and_parts (is_valued l) (same_word (head_bytes l) r) head).1))
+not_head o w plain = grind (arith, common_steps, false_from_ne_true, plain_no_head, same_word_decides, and_parts)
 
 -- no word leads to a plain word by itself
 pub own_to_plain : (declared : List (List ℕ)) (o r : Option (List ℕ)) → ((v : List ℕ) → r ≡ Some v → is_plain_word v ≡ true) → is_own_link declared o r ≡ false
-own_to_plain declared o None plain = own_to_none declared o
-own_to_plain declared o (Some v) plain = own_to declared o v (plain_not_test v (plain v refl)) ∙ not_head o (Some v) plain
+own_to_plain declared o r plain = grind (arith, common_steps, own_to_none, own_to, plain_not_test, not_head)
 
 -- ---- a number that no axiom names
 -- the slot of an axiom between two numbers
 pub pair_slot : (axioms : List AxiomSlot) (x y : ℕ) → has_pair axioms x y ≡ true → (slot : ℕ) × (slice_get axioms slot ≡ Some (Pair x y))
-pair_slot axioms x y has = let found = among_from_any (is_pair x y) axioms has in by found.0 found.1 found.2
-  where
-    by : (a : AxiomSlot) → Among axioms a → is_pair x y a ≡ true → (slot : ℕ) × (slice_get axioms slot ≡ Some (Pair x y))
-    by FreeAxiom m is = absurd cc
-    by (Pair left right) m is =
-        let parts = and_parts (left == x) (right == y) is in
-        let at = slot_at axioms (Pair left right) m in
-        (at.0, at.1 ∙ ap₂ (λ (a b : ℕ). Some (Pair a b)) (eqb-true left x parts.0) (eqb-true right y parts.1))
+pair_slot axioms x y has = search (rules, among_from_any, and_parts, slot_at, eqb-true)
 
 -- it is no side of one
 pub record IsNoSide (axioms : List AxiomSlot) (number : ℕ) : Type 0 where
@@ -124,13 +90,10 @@ module _ (k : Kept) (sound : AreSound k) (number : ℕ) (free : word_of k.dict n
   }
 
   pub unnamed_to : (x : ℕ) → is_linked k x number ≡ false
-  unnamed_to x =
-      ap₂ (λ a b. a || b) (ap (is_own_link (declared_of k) (word_of k.dict x)) free ∙ own_to_none (declared_of k) (word_of k.dict x))
-      (no_pair_to k.axioms number no_side x)
+  unnamed_to x = grind (arith, own_to_none (declared_of k) (word_of k.dict x), no_pair_to k.axioms number no_side x)
 
   pub unnamed_from : (y : ℕ) → is_linked k number y ≡ false
-  unnamed_from y =
-      ap₂ (λ a b. a || b) (ap (λ o. is_own_link (declared_of k) o (word_of k.dict y)) free) (no_pair_from k.axioms number no_side y)
+  unnamed_from y = grind (arith, no_pair_from k.axioms number no_side y)
 
 -- nor an edge
 pub none_to : (p : Kept) (t : Taxonomy) → AreHeld p t → (number : ℕ) → word_of p.dict number ≡ None → (x : ℕ) → has_edge t x number ≡ false

@@ -1,25 +1,65 @@
 -- Blocks whose slots are spelled by what memory keeps.
-use Rattle.std.proofs.Common.{◌≡◌, ℕ, ◌+◌, ◌*◌, ◌-◌, ◌/◌, ◌%◌, ◌<◌, ◌≤◌, List, IsTrue, refl, ap, ◌∙◌, arith}
+use Rattle.std.proofs.Common.{arith, replicate}
+use Rattle.lis_kept.proofs.Common.{rules, ◌≡◌, sym, ap, ◌∙◌, ℕ, ◌+◌, ◌*◌, ◌<◌, ◌≤◌, List, ◌++◌, length, take, drop, zero, suc, ◌/◌, Bool, false, [], ◌∷◌, map, refl, ◌-◌, ◌%◌, IsTrue, part, Ext, has, AxiomSlot, prop_bytes, axiom_bytes, file_bytes, are_in_range, bitmap_start}
+use Rattle.lis_ports.proofs.Parts.{length-part, part-put, part-put_other}
+use Rattle.lis_slots.proofs.Putting.{put_between, places_apart}
+use Rattle.std.proofs.lemmas.List.{get_or-replicate, length-replicate}
+use Rattle.std.proofs.lemmas.List.FromFn.{fill_by_all}
+use Rattle.lis_bits.specs.Bytes.{bits_number, bits_bytes}
+use Rattle.lis_kept.specs.Rows.{row_bytes}
 use Rattle.std.proofs.Math.Nat.{mod-lt}
-use Rattle.lis_kept.proofs.Common.{part, AxiomSlot, prop_bytes, axiom_bytes, file_bytes, are_in_range, bitmap_start}
 use Rattle.lis_blockmap.specs.Bitmap.{bitmap_bytes}
 use Rattle.lis_model.specs.Image.{axioms_start, files_start, rows_start}
 use Rattle.lis_kept.specs.Kept.{Kept, property_at, axiom_at, record_at}
-use Rattle.lis_kept.specs.Rows.{row_bytes}
-use Rattle.lis_kept.specs.Areas.Area.{Properties, Axioms, Files, Rows, Bitmap}
+use Rattle.lis_kept.specs.Areas.Area.{Files, Bitmap}
 use Rattle.lis_kept.specs.Inside.{IsBlock}
 use Rattle.lis_kept.proofs.InArea.{one_area, slot_placed, some_rows}
 
+-- the slots so far, and one more
+pub one_slot_more : (width k at n : ℕ) (spelled : ℕ → List ℕ) (block bytes : List ℕ) → at ≡ width * k → n ≡ width → width * k + width ≤ length block
+    → length bytes ≡ length (take n (drop at block)) → bytes ≡ spelled k → ((j : ℕ) → j < k → part (width * j) width block ≡ spelled j)
+    → (j : ℕ) → j < k + 1 → part (width * j) width (take at block ++ (bytes ++ drop n (drop at block))) ≡ spelled j
+one_slot_more width k at n spelled block bytes place len within covers is so_far =
+    search (rules, put_between, length-part, part-put, part-put_other, places_apart)
+
+-- ---- the bytes of rows
+no_bits : (n : ℕ) (bit : ℕ → Bool) → ((i : ℕ) → bit i ≡ false) → bits_number n bit ≡ 0
+unfolding bits_number
+no_bits zero bit none = refl
+no_bits (suc n) bit none = rw (none 0, no_bits n (λ i. bit (i + 1)) (λ i. none (i + 1))) refl
+
+same_number : (n : ℕ) (f g : ℕ → Bool) → ((i : ℕ) → f i ≡ g i) → bits_number n f ≡ bits_number n g
+unfolding bits_number
+same_number zero f g same = refl
+same_number (suc n) f g same = rw (same 0, same_number n (λ i. f (i + 1)) (λ i. g (i + 1)) (λ i. same (i + 1))) refl
+
+-- the row of a number that no file has
+pub row_bytes_none : (e : Ext) (prop n : ℕ) → 8 * n ≡ length e.sets → ((file : ℕ) → has e prop file ≡ false) → replicate n 0 ≡ row_bytes e prop
+unfolding bits_bytes
+row_bytes_none e prop n wide none =
+    let count : length e.sets / 8 ≡ n = omega (arith, wide) in
+    fill_by_all (λ k. bits_number 8 (λ i. has e prop (8 * k + i))) (replicate n 0) n 0 (length-replicate n 0)
+    (λ k lt. get_or-replicate n k 0 0 lt ∙ sym (no_bits 8 (λ i. has e prop (8 * k + i)) (λ i. none (8 * k + i))))
+    ∙ ap (λ m. bits_bytes m (has e prop)) (sym count)
+
+same_map : (f g : ℕ → ℕ) → ((n : ℕ) → f n ≡ g n) → (ns : List ℕ) → map f ns ≡ map g ns
+same_map f g same [] = refl
+same_map f g same (n ∷ ns) = rw (same n, same_map f g same ns) refl
+
+-- what the row tells is all that it depends on
+pub row_bytes_same : (d e : Ext) (prop : ℕ) → length e.sets ≡ length d.sets → ((file : ℕ) → has e prop file ≡ has d prop file) → row_bytes e prop ≡ row_bytes d prop
+unfolding bits_bytes
+row_bytes_same d e prop count same = search (rules, same_map, same_number)
+
+-- ---- blocks whose slots are spelled by what memory keeps
 module _ (k : Kept) (range : IsTrue (are_in_range k.limits)) (n : ℕ) (block : List ℕ) where
   pub properties_block : 578 ≤ n → n < axioms_start k.limits
       → ((j : ℕ) → j < 64 → part (64 * j) 64 block ≡ prop_bytes (property_at k.dict k.declared (64 * (n - 578) + j))) → IsBlock k n block
-  properties_block from to is = one_area k range Properties n block from to (λ m lt here.
-      is (m % 64) (omega arith) ∙ ap (λ j. prop_bytes (property_at k.dict k.declared j)) (omega (arith, here)))
+  properties_block from to is = search (rules, one_area)
 
   pub axioms_block : (start : ℕ) (axioms : List AxiomSlot) → start ≡ axioms_start k.limits → axioms ≡ k.axioms → axioms_start k.limits ≤ n → n < files_start k.limits
       → ((j : ℕ) → j < 512 → part (8 * j) 8 block ≡ axiom_bytes (axiom_at axioms (512 * (n - start) + j))) → IsBlock k n block
-  axioms_block start axioms at are from to is = one_area k range Axioms n block from to (λ m lt here.
-      is (m % 512) (omega arith) ∙ (ap (λ j. axiom_bytes (axiom_at axioms j)) (omega (arith, here, at)) ∙ ap (λ slots. axiom_bytes (axiom_at slots m)) are))
+  axioms_block start axioms at are from to is = search (rules, one_area)
 
   pub files_block : (start : ℕ) → start ≡ files_start k.limits → files_start k.limits ≤ n → n < rows_start k.limits
       → ((j : ℕ) → j < 16 → part (256 * j) 256 block ≡ file_bytes (record_at k.catalog (16 * (n - start) + j))) → IsBlock k n block
@@ -28,10 +68,7 @@ module _ (k : Kept) (range : IsTrue (are_in_range k.limits)) (n : ℕ) (block : 
 
   pub rows_block : (start : ℕ) → start ≡ rows_start k.limits → rows_start k.limits ≤ n → n < bitmap_start k.limits
       → ((j : ℕ) → j < 4096 / (k.limits.files / 8) → part (k.limits.files / 8 * j) (k.limits.files / 8) block ≡ row_bytes k.ext (4096 / (k.limits.files / 8) * (n - start) + j)) → IsBlock k n block
-  rows_block start at from to is = one_area k range Rows n block from to (λ m lt here.
-      let p : ℕ = 4096 / (k.limits.files / 8) in
-      is (m % p) (mod-lt m (some_rows k.limits range))
-      ∙ ap (row_bytes k.ext) (ap (λ b. p * (n - b) + m % p) at ∙ slot_placed p (rows_start k.limits) m n p (some_rows k.limits range) refl here))
+  rows_block start at from to is = search (rules, one_area, mod-lt, some_rows, slot_placed)
 
   pub bitmap_block : n ≡ bitmap_start k.limits → block ≡ bitmap_bytes k.taken → IsBlock k n block
   bitmap_block here is = one_area k range Bitmap n block (omega (arith, here)) (omega (arith, here)) (λ m lt at. is)

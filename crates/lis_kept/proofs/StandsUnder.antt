@@ -1,29 +1,123 @@
--- A new word comes under others, axiom by axiom.
-use Rattle.std.proofs.Common.{◌≡◌, ℕ, zero, suc, ◌+◌, ◌*◌, ◌/◌, ◌<◌, ◌≤◌, ◌==◌, if◌then◌else◌, ◌&&◌, ◌||◌, not, Bool, true, false, cond, Option, Some, None, List, [], ◌∷◌, length, get_or, set, take, count_by, slice_get, refl, sym, ap, ap₂, ◌∙◌, subst, inl, inr, arith, eq-eqb}
-use Rattle.lis_kept.proofs.Common.{and_parts, not-true, ne_eqb, Contains-get_or, slice_get_within, get_or_from_slice_get, Among, among_from_contains, are_distinct, Dict, number_of, word_of, AxiomSlot, FreeAxiom, Pair, same_word, has_word, is_plain_word, is_test, head_bytes, Limits, is_declarable, up, declarable_not_valued, all_among, same_word_decides}
-use Rattle.std.proofs.lemmas.Bool.{and_from, or_left, or_right, both_ways, false_from_ne_true}
+-- A word that is declared under others.
+use Rattle.std.proofs.Common.{arith, append-nil, eq-eqb}
+use Rattle.lis_kept.proofs.Common.{common_steps, rules, ◌≡◌, ℕ, zero, suc, ◌+◌, ◌==◌, ◌||◌, true, false, List, [], ◌∷◌, ◌++◌, length, Some, refl, sym, ap, ◌∙◌, subst, ◌<◌, ◌≤◌, if◌then◌else◌, ◌&&◌, not, Bool, cond, Option, None, get_or, set, take, count_by, slice_get, ap₂, inl, inr, fold, Chain, Among, Dict, word_of, has_word, is_plain_word, is_test, up, with_word, with_axiom, among_from_has_word, and_parts, not-true, ne_eqb, Contains-get_or, slice_get_within, get_or_from_slice_get, among_from_contains, are_distinct, number_of, AxiomSlot, FreeAxiom, Pair, same_word, head_bytes, is_declarable, declarable_not_valued, all_among, same_word_decides, both_ways, false_from_ne_true, or_right, and_from, or_left, any_from_among, neither}
+use Rattle.lis_words.proofs.Tests.{test_not_plain}
+use Rattle.lis_model.specs.State.{State, links}
+use Rattle.lis_model.specs.Changes.{declared_under, axiom_added}
+use Rattle.lis_laws.proofs.Chains.{entails_from_up}
+use Rattle.lis_laws.proofs.Leads.{chain_last, right_leads}
+use Rattle.lis_kept.specs.Kept.{Kept}
+use Rattle.lis_kept.specs.Areas.{IsSaved, marked_count}
+use Rattle.lis_kept.specs.Sound.{AreSound}
+use Rattle.lis_kept.specs.Links.{is_linked, is_pair, has_pair, is_own_link}
+use Rattle.lis_kept.specs.Linking.{Links, is_filled, MayLink}
+use Rattle.lis_kept.specs.Under.{LinksEach, is_plain_by, MayStandUnder}
+use Rattle.lis_kept.specs.Changes.{Marks, Declares}
+use Rattle.lis_kept.specs.Telling.{declared_of, axioms_of, state_of, is_head_by, is_used, AreUsed}
+use Rattle.lis_kept.proofs.Known.{one_number, among_axiom}
+use Rattle.lis_kept.proofs.Entailed.{link_numbered, chain_has_number}
 use Rattle.std.proofs.lemmas.List.{length-take-le}
 use Rattle.std.proofs.lemmas.List.Sums.{sum_by-set}
-use Rattle.lis_graph.proofs.Members.{any_from_among}
 use Rattle.lis_content.specs.Content.{has_number}
-use Rattle.lis_content.proofs.Numbers.{neither}
 use Rattle.lis_dict.proofs.Laws.{word_of-with_entry, number_of-with_entry}
-use Rattle.lis_kept.specs.Kept.{Kept}
-use Rattle.lis_kept.specs.Sound.{AreSound}
-use Rattle.lis_kept.specs.Changes.{Declares}
-use Rattle.lis_kept.specs.Telling.{declared_of, axioms_of, is_head_by}
-use Rattle.lis_kept.specs.Links.{is_pair, has_pair, is_own_link, is_linked}
-use Rattle.lis_kept.specs.Linking.{is_filled, MayLink}
-use Rattle.lis_kept.specs.Under.{LinksEach, is_plain_by, MayStandUnder}
 use Rattle.lis_kept.proofs.Filing.{among_from_number, number_from_among}
 use Rattle.lis_kept.proofs.OwnLinks.{among_slot, own_to, unnamed_to, unnamed_from}
-use Rattle.lis_catalog.proofs.Slots.{swapped}
 use Rattle.lis_kept.proofs.OneWord.{new_no_head}
 use Rattle.lis_kept.proofs.AxiomSlots.{InSlot}
 use Rattle.lis_kept.proofs.AxiomsApart.{apart_linked}
 use Rattle.lis_kept.proofs.AxiomsTold.{slot_free}
-use Rattle.lis_kept.proofs.UnderOthers.{each_parts, each_dict, not_entailed, plain_no_test}
 
+-- ---- states
+under_step : (word : List ℕ) (axioms : List (List ℕ × List ℕ)) (ws : List (List ℕ)) (w : List ℕ)
+    → with_axiom (fold (λ xs q. with_axiom xs (word, q)) axioms ws) (word, w) ≡ fold (λ xs q. with_axiom xs (word, q)) axioms (ws ++ w ∷ [])
+under_step word axioms [] w = refl
+under_step word axioms (v ∷ ws) w = under_step word (with_axiom axioms (word, v)) ws w
+
+-- one word more
+pub under_more : (s : State) (word : List ℕ) (ws : List (List ℕ)) (w : List ℕ) → axiom_added (declared_under s word ws) (word, w) ≡ declared_under s word (ws ++ w ∷ [])
+under_more s word ws w = ap (λ (axioms : List (List ℕ × List ℕ)). record s { declared = with_word s.declared word; axioms = axioms }) (under_step word s.axioms ws w)
+
+-- ---- axioms one after another
+pub each_more : (left : ℕ) (rights : List ℕ) (right : ℕ) (p q r : Kept) → LinksEach left rights p q → Links left right q r → LinksEach left (rights ++ right ∷ []) p r
+each_more left [] right p q r is last = (r, subst (λ (k : Kept). Links left right k r) is last, refl)
+each_more left (first ∷ rights) right p q r each last = (each.0, each.1, each_more left rights right each.0 q r each.2 last)
+
+-- all but the axioms and the marks
+pub each_parts : (left : ℕ) (rights : List ℕ) (p q : Kept) → LinksEach left rights p q → q ≡ record p { axioms = q.axioms; marks = q.marks }
+each_parts left [] p q is = subst (λ (k : Kept). k ≡ record p { axioms = k.axioms; marks = k.marks }) (sym is) refl
+each_parts left (right ∷ rights) p q each = each_parts left rights each.0 q each.2 ∙ ap (λ (k : Kept). record k { axioms = q.axioms; marks = q.marks }) each.1.parts
+
+pub each_dict : (left : ℕ) (rights : List ℕ) (p q : Kept) → LinksEach left rights p q → q.dict ≡ p.dict
+each_dict left rights p q each = ap (λ (k : Kept). k.dict) (each_parts left rights p q each)
+
+pub each_marks : (left : ℕ) (rights : List ℕ) (p q : Kept) → LinksEach left rights p q → Marks (length rights) p q
+each_marks left [] p q is = record { saved = λ at saved. subst (λ (k : Kept). IsSaved k at) (sym is) saved; few = omega (arith, ap marked_count is) }
+each_marks left (right ∷ rights) p q each =
+    let one = each.1.marks in
+    let rest = each_marks left rights each.0 q each.2 in
+    record { saved = λ at saved. rest.saved at (one.saved at saved); few = omega (arith, one.few, rest.few) }
+
+-- the words of these numbers
+abbrev pub AreWordsOf : Dict → List ℕ → List (List ℕ) → Type 0
+AreWordsOf d [] ws = ws ≡ []
+AreWordsOf d (n ∷ ns) ws = (w : List ℕ) × (rest : List (List ℕ)) × (word_of d n ≡ Some w) × (ws ≡ w ∷ rest) × AreWordsOf d ns rest
+
+each_state : (left : ℕ) (rights : List ℕ) (p q : Kept) (word : List ℕ) (axioms_before : List (List ℕ)) (ws : List (List ℕ)) (at : ℕ → List ℕ) (s : State)
+    → LinksEach left rights p q → word_of p.dict left ≡ Some word → AreWordsOf p.dict rights ws → state_of p at ≡ declared_under s word axioms_before
+    → state_of q at ≡ declared_under s word (axioms_before ++ ws)
+each_state left [] p q word before ws at s is named none told = ap (λ (k : Kept). state_of k at) is ∙ (told ∙ ap (declared_under s word) (sym (ap (λ vs. before ++ vs) none ∙ append-nil before)))
+each_state left (right ∷ rights) p q word before ws at s each named words told =
+    grind (arith, common_steps, under_more, each_state left rights each.0 q word (before ++ words.0 ∷ []) words.1)
+
+-- a word that is declared, and then linked to others, is declared under them
+pub declared_then_linked : (word : List ℕ) (p mid q : Kept) (declares : Declares word p mid) (rights : List ℕ) (ws : List (List ℕ)) → LinksEach declares.number rights mid q
+    → word_of mid.dict declares.number ≡ Some word → AreWordsOf mid.dict rights ws → (at : ℕ → List ℕ) → state_of q at ≡ declared_under (state_of p at) word ws
+declared_then_linked word p mid q declares rights ws each named words at =
+    each_state declares.number rights mid q word [] ws at (state_of p at) each named words (declares.state at)
+
+pub declared_then_marked : (word : List ℕ) (p mid q : Kept) (declares : Declares word p mid) (rights : List ℕ) → LinksEach declares.number rights mid q → Marks (1 + length rights) p q
+declared_then_marked word p mid q declares rights each =
+    let rest = each_marks declares.number rights mid q each in
+    record { saved = λ at saved. rest.saved at (declares.marks.saved at saved); few = omega (arith, declares.marks.few, rest.few) }
+
+-- ---- a word to which nothing leads is entailed by itself alone
+module _ (k : Kept) (sound : AreSound k) (number : ℕ) (word : List ℕ) (named : word_of k.dict number ≡ Some word) (nothing : (x : ℕ) → is_linked k x number ≡ false) where
+  pub not_entailed : (n : ℕ) (p : List ℕ) → word_of k.dict n ≡ Some p → (n ≡ number → ⊥) → has_word (up (declared_of k) (axioms_of k) p) word ≡ false
+  not_entailed n p is differ =
+      false_from_ne_true (has_word (up (declared_of k) (axioms_of k) p) word)
+      (λ has. let chain = entails_from_up (declared_of k) (axioms_of k) p word (among_from_has_word (up (declared_of k) (axioms_of k) p) word has) in by chain.0 chain.1)
+    where
+      by : (len : ℕ) → Chain (links (declared_of k)) (axioms_of k) len p word → ⊥
+      by zero same = differ (one_number k sound n number word (is ∙ ap Some same) named)
+      by (suc len) c =
+          let last = chain_last (declared_of k) (axioms_of k) len p word c in
+          let from = chain_has_number k sound len n p last.0 is last.1 in
+          let link = link_numbered k sound from.0 last.0 word from.1 last.2 in
+          let same = one_number k sound link.number number word link.named named in
+          both_ways (is_linked k from.0 number) (nothing from.0) (subst (λ m. is_linked k from.0 m ≡ true) same link.linked)
+
+-- a plain word entails no test
+pub plain_no_test : (k : Kept) (sound : AreSound k) (p word : List ℕ) → is_plain_word p ≡ true → is_test word ≡ true → has_word (up (declared_of k) (axioms_of k) p) word ≡ false
+plain_no_test k sound p word plain test =
+    false_from_ne_true (has_word (up (declared_of k) (axioms_of k) p) word)
+    (λ has. let chain = entails_from_up (declared_of k) (axioms_of k) p word (among_from_has_word (up (declared_of k) (axioms_of k) p) word has) in
+    both_ways (is_plain_word word) (test_not_plain word test) (right_leads is_plain_word (λ w h. h) (axioms_of k) rights (declared_of k) chain.0 p word plain chain.1))
+  where
+    rights : (e : List ℕ × List ℕ) → Among (axioms_of k) e → is_plain_word e.1 ≡ true
+    rights e m = let found = among_axiom k sound e m in (sound.axioms found.0 found.1 found.2 found.3).plain e.1 found.5
+
+-- ---- what stays
+-- what is in use
+pub each_used : (left : ℕ) (rights : List ℕ) (p q : Kept) → LinksEach left rights p q → (n : ℕ) → is_used p n ≡ true → is_used q n ≡ true
+each_used left [] p q is n used = ap (λ (k : Kept). is_used k n) is ∙ used
+each_used left (right ∷ rights) p q each n used =
+    each_used left rights each.0 q each.2 n (each.1.used n ∙ or_right ((left == n) || is_head_by (word_of p.dict left) (word_of p.dict n)) (is_used p n) used)
+
+-- a word that is declared under others leaves no number unused
+pub under_used : (word : List ℕ) (p mid q : Kept) (declares : Declares word p mid) (rights : List ℕ) → LinksEach declares.number rights mid q → AreUsed p → AreUsed q
+under_used word p mid q declares rights each used n some = search (rules, each_used, each_dict)
+
+-- ---- a new word comes under others, axiom by axiom
 -- ---- lists
 among_take : (i : ℕ) (ns : List ℕ) (n : ℕ) → Among (take i ns) n → Among ns n
 among_take zero ns n m = absurd m
@@ -46,8 +140,7 @@ not_before (n ∷ ns) (suc i) distinct lt =
     (not_before ns i parts.1 inside)
 
 plain_word : (o : Option (List ℕ)) → is_plain_by o ≡ true → (w : List ℕ) × (o ≡ Some w) × (is_plain_word w ≡ true)
-plain_word None plain = absurd (both_ways false refl plain)
-plain_word (Some w) plain = (w, refl, plain)
+plain_word o plain = search (rules, both_ways)
 
 -- ---- axioms one after another
 none_in : (b c : Bool) → c ≡ ((b && false) || c)
@@ -66,15 +159,6 @@ each_pairs left (right ∷ rights) p q each x y =
     each_pairs left rights each.0 q each.2 x y
     ∙ (ap (λ b. ((left == x) && has_number rights y) || b) (each.1.pairs x y)
     ∙ pairs_in_order (left == x) (right == y) (has_number rights y) (has_pair p.axioms x y))
-
--- and so are the links
-pub each_linked : (left : ℕ) (rights : List ℕ) (p q : Kept) → LinksEach left rights p q → (x y : ℕ) → is_linked q x y ≡ (((left == x) && has_number rights y) || is_linked p x y)
-each_linked left rights p q each x y =
-    ap (λ (k : Kept). is_own_link (declared_of k) (word_of k.dict x) (word_of k.dict y) || has_pair q.axioms x y) (each_parts left rights p q each)
-    ∙ (ap (λ b. own || b) (each_pairs left rights p q each x y) ∙ swapped own ((left == x) && has_number rights y) (has_pair p.axioms x y))
-  where
-    own : Bool
-    own = is_own_link (declared_of p) (word_of p.dict x) (word_of p.dict y)
 
 pub each_count : (left : ℕ) (rights : List ℕ) (p q : Kept) → LinksEach left rights p q → count_by is_filled q.axioms ≡ count_by is_filled p.axioms + length rights
 each_count left [] p q is = omega (arith, ap (λ (k : Kept). count_by is_filled k.axioms) is)
@@ -95,9 +179,7 @@ each_count left (right ∷ rights) p q each =
 -- ---- the next axiom of a new word
 -- the number that the word has then
 pub number_declared : (p mid : Kept) (word : List ℕ) → number_of p.dict word ≡ None → (declares : Declares word p mid) → number_of mid.dict word ≡ Some declares.number
-number_declared p mid word new declares =
-    ap (λ (k : Kept). number_of k.dict word) declares.parts
-    ∙ (number_of-with_entry p.dict word declares.number new word ∙ ap (λ b. if b then Some declares.number else number_of p.dict word) ((same_word_decides word word).1 refl))
+number_declared p mid word new declares = search (rules, number_of-with_entry, same_word_decides)
 
 module _ (p mid now : Kept) (sound : AreSound p) (after : AreSound now) (word : List ℕ) (form : is_declarable word ≡ true) (new : number_of p.dict word ≡ None) (declares : Declares word p mid)
     (rights : List ℕ) (may : MayStandUnder rights p) where
@@ -174,21 +256,10 @@ module _ (p mid now : Kept) (sound : AreSound p) (after : AreSound now) (word : 
 
     -- ---- a slot is free
     enough : count_by is_filled now.axioms < now.limits.props
-    enough =
-        let counted = each_count number before mid now each in
-        let started = ap (λ (k : Kept). count_by is_filled k.axioms) declares.parts in
-        let limit = ap (λ (l : Limits). l.props) (ap (λ (k : Kept). k.limits) (each_parts number before mid now each) ∙ ap (λ (k : Kept). k.limits) declares.parts) in
-        room (count_by is_filled now.axioms) (count_by is_filled mid.axioms) (count_by is_filled p.axioms) (length before) (length rights) p.limits.props now.limits.props
-        counted started (length-take-le i rights (omega (arith, lt))) may.room limit lt
-      where
-        room : (last first start taken all most limit : ℕ) → last ≡ first + taken → first ≡ start → taken ≡ i → start + all ≤ most → limit ≡ most → i < all → last < limit
-        room last first start taken all most limit a b c d e f = omega (arith, a, b, c, d, e, f)
+    enough = search (rules, each_count, each_parts, length-take-le)
 
     many : now.limits.props ≤ length now.axioms
-    many = few now.limits.props (length now.axioms) after.axiom_count
-      where
-        few : (props count : ℕ) → count ≡ 512 * ((props + 511) / 512) → props ≤ count
-        few props count is = omega (arith, is)
+    many = search (rules)
 
     pub may_link_next : MayLink number right now
     may_link_next =

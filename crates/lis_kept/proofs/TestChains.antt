@@ -1,23 +1,21 @@
 -- Edges between tests close no circle.
-use Rattle.std.proofs.Common.{◌≡◌, ◌⊎◌, ℕ, zero, suc, ◌+◌, ◌<◌, ◌≤◌, ◌==◌, ◌&&◌, ◌||◌, nat_lt, not, Bool, true, false, Option, Some, None, is_some, List, [], ◌↔◌, Result, Ok, Err, OnOk, OnErr, IsTrue, refl, sym, ap, ap₂, ◌∙◌, subst, inl, inr, arith}
-use Rattle.lis_kept.proofs.Common.{Contains, and_parts, or_cases, cases_eq, ne_eqb, eqb-true, lt-ltb, Chain, among_from_contains, Dict, IsDict, word_of, number_from_word, number_below, EdgeFault, Present, Cycle, Absent, Taxonomy, no_links, has_edge, with_edge, without_edge, are_weaker}
-use Rattle.std.specs.FinSet as set
+use Rattle.std.proofs.Common.{OnOk, OnErr, arith}
+use Rattle.lis_kept.proofs.Common.{common_steps, rules, ◌≡◌, ◌⊎◌, ℕ, zero, suc, ◌+◌, ◌<◌, ◌≤◌, ◌==◌, ◌&&◌, ◌||◌, nat_lt, not, Bool, true, false, Option, Some, None, is_some, List, ◌↔◌, Result, Ok, Err, IsTrue, refl, sym, ap, ap₂, ◌∙◌, subst, inl, inr, Contains, and_parts, or_cases, ne_eqb, eqb-true, lt-ltb, Chain, among_from_contains, Dict, IsDict, word_of, number_from_word, number_below, EdgeFault, Present, Cycle, Absent, Taxonomy, no_links, has_edge, with_edge, without_edge, are_weaker, both_ways}
 use Rattle.std.proofs.Math.Bool.{and-true}
 use Rattle.std.proofs.lemmas.Bool.Decides.{nat_tests}
-use Rattle.std.proofs.lemmas.Bool.{both_ways, le-ltb}
+use Rattle.std.proofs.lemmas.Bool.{le-ltb}
 use Rattle.lis_taxonomy.specs.Taxonomy.{Entails}
 use Rattle.lis_laws.proofs.Chains.{weaker_trans, weaker_apart}
 use Rattle.lis_kept.specs.TestEdges.{test_by, declared_test, is_test_link, TestsAreOrdered, LinksWhere, LinksSome, LinksWeaker, LinksStronger, UnlinksAll}
 use Rattle.lis_kept.proofs.HeadEdges.{has_edge-with_edge, has_edge-without_edge, edge_there}
 use Rattle.lis_kept.proofs.TestLinks.{none_weaker, no_test, test_link}
+use Rattle.std.specs.FinSet as set
 
 some_behind : (q p : Option (Bool × ℕ)) → are_weaker q p ≡ true → is_some {T = Bool × ℕ} p ≡ true
-some_behind q None w = absurd (both_ways (are_weaker q None) (none_weaker q) w)
-some_behind q (Some p) w = refl
+some_behind q p w = search (rules, both_ways, none_weaker)
 
 some_front : (q p : Option (Bool × ℕ)) → are_weaker q p ≡ true → is_some {T = Bool × ℕ} q ≡ true
-some_front None p w = absurd cc
-some_front (Some q) p w = refl
+some_front q p w = search (rules)
 
 -- ---- chains to tests
 module _ (dict : Dict) (t : Taxonomy) (ordered : TestsAreOrdered dict t) where
@@ -30,8 +28,7 @@ module _ (dict : Dict) (t : Taxonomy) (ordered : TestsAreOrdered dict t) where
   chain_to_test (suc len) x y tested c = by (chain_to_test len c.0 y tested c.2)
     where
       linked : Contains (no_links x) c.0 ⊎ Contains (set.items t.edges) (x, c.0) → has_edge t x c.0 ≡ true
-      linked (inl own) = absurd (among_from_contains {K = ℕ} [] c.0 own)
-      linked (inr edge) = edge_there t x c.0 edge
+      linked h1 = search (rules, among_from_contains, edge_there)
 
       by : (c.0 ≡ y) ⊎ (are_weaker (test y) (test c.0) ≡ true) → (x ≡ y) ⊎ (are_weaker (test y) (test x) ≡ true)
       by (inl same) = inr (ordered x y (subst (λ n. has_edge t x n ≡ true) same (linked c.1)) tested)
@@ -61,10 +58,7 @@ pub edge_comes : (t u : Taxonomy) (x y : ℕ) → u ≡ with_edge t x y → Adds
 edge_comes t u x y is = subst (AddsEdge x y t) (sym is) (record { props = refl; edges = has_edge-with_edge t x y })
 
 edge_was : (t : Taxonomy) (x y : ℕ) → has_edge t x y ≡ true → AddsEdge x y t t
-edge_was t x y there = record { props = refl; edges = λ p q. as_before ((p == x) && (q == y)) (has_edge t p q) (λ e. let both = and_parts (p == x) (q == y) e in ap₂ (has_edge t) (eqb-true p x both.0) (eqb-true q y both.1) ∙ there) }
-  where
-    as_before : (a h : Bool) → (a ≡ true → h ≡ true) → h ≡ (a || h)
-    as_before a h is = grind arith
+edge_was t x y there = search (rules, and_parts, eqb-true)
 
 -- so that a new edge between tests comes, or was there
 pub comes_or_was : {T : Type 0} (dict : Dict) (t u : Taxonomy) (declared : List Bool) (p q : ℕ) (r : Result T EdgeFault) → TestsAreOrdered dict t
@@ -77,11 +71,7 @@ comes_or_was dict t u declared p q (Err Absent) ordered present cycle absent ok 
 
 -- ---- edges that come one after another
 pub where_ordered : (test : ℕ → ℕ → Bool) (dict : Dict) (declared : List Bool) (t u : Taxonomy) → LinksWhere test dict declared t u → TestsAreOrdered dict t → TestsAreOrdered dict u
-where_ordered test dict declared t u links ordered p q edge tested = by (or_cases (test p q && is_test_link dict declared p q) (has_edge t p q) (sym (links.edges p q) ∙ edge))
-  where
-    by : ((test p q && is_test_link dict declared p q) ≡ true) ⊎ (has_edge t p q ≡ true) → are_weaker (test_by (word_of dict q)) (test_by (word_of dict p)) ≡ true
-    by (inl new) = (test_link dict declared p q (and_parts (test p q) (is_test_link dict declared p q) new).1).weaker
-    by (inr old) = ordered p q old tested
+where_ordered test dict declared t u links ordered p q edge tested = search (rules, or_cases, test_link, and_parts)
 
 -- no edge yet
 pub where_none : (dict : Dict) (declared : List Bool) (t : Taxonomy) → LinksWhere (λ p q. false) dict declared t t
@@ -104,13 +94,7 @@ new_link new test link h is = grind arith
 
 pub where_more : (test : ℕ → ℕ → Bool) (dict : Dict) (declared : List Bool) (t u next : Taxonomy) (x y : ℕ) → LinksWhere test dict declared t u → is_test_link dict declared x y ≡ true → AddsEdge x y u next
     → LinksWhere (λ p q. ((p == x) && (q == y)) || test p q) dict declared t next
-where_more test dict declared t u next x y links link adds = record {
-  props = adds.props ∙ links.props;
-  edges = λ p q.
-      adds.edges p q ∙ (ap (λ b. ((p == x) && (q == y)) || b) (links.edges p q)
-      ∙ new_link ((p == x) && (q == y)) (test p q) (is_test_link dict declared p q) (has_edge t p q)
-      (λ e. let both = and_parts (p == x) (q == y) e in ap₂ (is_test_link dict declared) (eqb-true p x both.0) (eqb-true q y both.1) ∙ link));
-}
+where_more test dict declared t u next x y links link adds = search (rules, new_link, and_parts, eqb-true)
 
 -- some edges
 pub some_none : (dict : Dict) (declared : List Bool) (t : Taxonomy) → LinksSome dict declared t t
@@ -131,10 +115,7 @@ test_below dict declared n kept some = by (word_of dict n) refl
     by (Some v) e = number_below dict kept v n (number_from_word dict kept v n e)
 
 pub link_below : (dict : Dict) (declared : List Bool) (p q : ℕ) → IsDict dict → is_test_link dict declared p q ≡ true → (p < dict.props) × (q < dict.props)
-link_below dict declared p q kept link = (
-  test_below dict declared p kept (some_behind (declared_test dict declared q) (declared_test dict declared p) link),
-  test_below dict declared q kept (some_front (declared_test dict declared q) (declared_test dict declared p) link),
-)
+link_below dict declared p q kept link = search (rules, test_below, some_behind, some_front)
 
 -- ---- from and to a number, in the order of the others
 -- `this` is the number, of the two that a link joins, and `other` the other one
@@ -159,31 +140,17 @@ where_nothing test dict declared t none = record { props = refl; edges = λ p q.
 
 module _ (this other : ℕ → ℕ → ℕ) (number end : ℕ) (dict : Dict) (declared : List Bool) (t u : Taxonomy) where
   pub upto_none : LinksUpTo this other number 0 dict declared t t
-  upto_none = where_nothing (λ p q. (this p q == number) && nat_lt (other p q) 0) dict declared t
-      (λ p q. ap (λ b. b && is_test_link dict declared p q) (none_below (this p q == number) (other p q)))
+  upto_none = search (rules, where_nothing, none_below)
 
   -- one more
   pub upto_more : (here : ℕ → ℕ → Bool) → ((p q : ℕ) → here p q ≡ ((this p q == number) && (other p q == end)))
       → LinksWhere (λ p q. here p q || ((this p q == number) && nat_lt (other p q) end)) dict declared t u → LinksUpTo this other number (end + 1) dict declared t u
-  upto_more here is =
-      where_same (λ p q. here p q || ((this p q == number) && nat_lt (other p q) end)) (λ p q. (this p q == number) && nat_lt (other p q) (end + 1)) dict declared t u
-      (λ p q _. spread (this p q == number) (other p q == end) (nat_lt (other p q) end) (here p q) (nat_lt (other p q) (end + 1)) (is p q) (lt_suc (other p q) end))
-    where
-      spread : (a b c h l : Bool) → h ≡ (a && b) → l ≡ (b || c) → (h || (a && c)) ≡ (a && l)
-      spread a b c h l is_h is_l = grind arith
+  upto_more here is = search (rules, where_same, lt_suc)
 
   -- one that is no link
   pub upto_passed : ((p q : ℕ) → this p q ≡ number → other p q ≡ end → is_test_link dict declared p q ≡ false) → LinksUpTo this other number end dict declared t u
       → LinksUpTo this other number (end + 1) dict declared t u
-  upto_passed none =
-      where_same (λ p q. (this p q == number) && nat_lt (other p q) end) (λ p q. (this p q == number) && nat_lt (other p q) (end + 1)) dict declared t u
-      (λ p q link. by p q link (cases_eq (this p q) number) (cases_eq (other p q) end))
-    where
-      by : (p q : ℕ) → is_test_link dict declared p q ≡ true → (this p q ≡ number) ⊎ (this p q ≡ number → ⊥) → (other p q ≡ end) ⊎ (other p q ≡ end → ⊥)
-          → ((this p q == number) && nat_lt (other p q) end) ≡ ((this p q == number) && nat_lt (other p q) (end + 1))
-      by p q link (inl here) (inl same) = absurd (both_ways (is_test_link dict declared p q) (none p q here same) link)
-      by p q link (inl here) (inr differ) = ap (λ b. (this p q == number) && b) (sym (lt_suc (other p q) end ∙ ap (λ b. b || nat_lt (other p q) end) (ne_eqb (other p q) end differ)))
-      by p q link (inr far) e = ap (λ b. b && nat_lt (other p q) end) (ne_eqb (this p q) number far) ∙ sym (ap (λ b. b && nat_lt (other p q) (end + 1)) (ne_eqb (this p q) number far))
+  upto_passed none = grind (arith, common_steps, where_same, both_ways, lt_suc, ne_eqb)
 
   -- all
   pub upto_all : ((p q : ℕ) → is_test_link dict declared p q ≡ true → other p q < end) → LinksUpTo this other number end dict declared t u → LinksWhere (λ p q. this p q == number) dict declared t u
@@ -193,9 +160,7 @@ module _ (this other : ℕ → ℕ → ℕ) (number end : ℕ) (dict : Dict) (de
 
 module _ (number end : ℕ) (dict : Dict) (declared : List Bool) (t u : Taxonomy) where
   pub weaker_more : WeakerTo number end dict declared t u → is_test_link dict declared number end ≡ true → (next : Taxonomy) → AddsEdge number end u next → WeakerTo number (end + 1) dict declared t next
-  weaker_more links link next adds =
-      upto_more (λ p q. p) (λ p q. q) number end dict declared t next (λ p q. (p == number) && (q == end)) (λ p q. refl)
-      (where_more (λ p q. (p == number) && nat_lt q end) dict declared t u next number end links link adds)
+  weaker_more links link next adds = grind (arith, common_steps, upto_more, where_more)
 
   pub weaker_passed : WeakerTo number end dict declared t u → is_test_link dict declared number end ≡ false → WeakerTo number (end + 1) dict declared t u
   weaker_passed links none = upto_passed (λ p q. p) (λ p q. q) number end dict declared t u (λ p q here same. ap₂ (is_test_link dict declared) here same ∙ none) links
@@ -218,10 +183,7 @@ module _ (number end : ℕ) (dict : Dict) (declared : List Bool) (t u : Taxonomy
 
   -- the next edge is not there yet
   pub stronger_new : StrongerTo number end dict declared t u → has_edge t end number ≡ false → has_edge u end number ≡ false
-  stronger_new links none = links.edges end number ∙ apart (number == number) (nat_lt end end) (is_test_link dict declared end number) (has_edge t end number) (le-ltb end end (omega arith)) none
-    where
-      apart : (a l b h : Bool) → l ≡ false → h ≡ false → (((a && l) && b) || h) ≡ false
-      apart a l b h is_l is_h = grind arith
+  stronger_new links none = search (rules, le-ltb)
 
   pub stronger_all : IsDict dict → dict.props ≤ end → StrongerTo number end dict declared t u → LinksStronger dict declared number t u
   stronger_all kept all links =
@@ -237,16 +199,10 @@ module _ (number : ℕ) (dict : Dict) (declared : List Bool) (t : Taxonomy) (non
   no_test_at n same = ap (declared_test dict declared) (eqb-true n number same) ∙ none
 
   pub weaker_without : LinksWeaker dict declared number t t
-  weaker_without =
-      let done = where_nothing (λ p q. p == number) dict declared t
-      (λ p q. nothing (p == number) (is_test_link dict declared p q) (λ same. ap (are_weaker (declared_test dict declared q)) (no_test_at p same) ∙ none_weaker (declared_test dict declared q))) in
-      record { props = done.props; edges = done.edges }
+  weaker_without = search (rules, where_nothing, nothing, no_test_at, none_weaker)
 
   pub stronger_without : LinksStronger dict declared number t t
-  stronger_without =
-      let done = where_nothing (λ p q. q == number) dict declared t
-      (λ p q. nothing (q == number) (is_test_link dict declared p q) (λ same. ap (λ o. are_weaker o (declared_test dict declared p)) (no_test_at q same))) in
-      record { props = done.props; edges = done.edges }
+  stronger_without = search (rules, where_nothing, nothing, no_test_at)
 
 -- ---- edges that go one after another
 pub record UnlinkedTo (number end : ℕ) (t u : Taxonomy) : Type 0 where
@@ -256,18 +212,10 @@ pub record UnlinkedTo (number end : ℕ) (t u : Taxonomy) : Type 0 where
 -- what a removal answers
 pub without_by : {T : Type 0} (t u : Taxonomy) (x y p q : ℕ) (r : Result T EdgeFault) → (OnOk r (u ≡ without_edge t x y)) → (OnErr r (u ≡ t)) → (OnErr r (r ≡ Err Absent)) → ((r ≡ Err Absent) ↔ (has_edge t x y ≡ false))
     → has_edge u p q ≡ (not ((p == x) && (q == y)) && has_edge t p q)
-without_by t u x y p q (Ok done) gone same only absent = ap (λ (k : Taxonomy). has_edge k p q) gone ∙ has_edge-without_edge t x y p q
-without_by t u x y p q (Err fault) gone same only absent = ap (λ (k : Taxonomy). has_edge k p q) same ∙ by ((p == x) && (q == y)) refl
-  where
-    by : (b : Bool) → ((p == x) && (q == y)) ≡ b → has_edge t p q ≡ (not b && has_edge t p q)
-    by false e = refl
-    by true e =
-        let both = and_parts (p == x) (q == y) e in
-        ap₂ (has_edge t) (eqb-true p x both.0) (eqb-true q y both.1) ∙ absent.0 only
+without_by t u x y p q r gone same only absent = search (rules, has_edge-without_edge, and_parts, eqb-true)
 
 pub without_props : {T : Type 0} (t u : Taxonomy) (x y : ℕ) (r : Result T EdgeFault) → (OnOk r (u ≡ without_edge t x y)) → (OnErr r (u ≡ t)) → u.props ≡ t.props
-without_props t u x y (Ok done) gone same = ap (λ (k : Taxonomy). k.props) gone
-without_props t u x y (Err fault) gone same = ap (λ (k : Taxonomy). k.props) same
+without_props t u x y r gone same = search (rules)
 
 pub unlinked_none : (number : ℕ) (t : Taxonomy) → UnlinkedTo number 0 t t
 unlinked_none number t = record { props = refl; edges = λ p q. sym (ap₂ (λ a b. not (a || b) && has_edge t p q) (none_below (p == number) q) (none_below (q == number) p)) }
@@ -275,23 +223,7 @@ unlinked_none number t = record { props = refl; edges = λ p q. sym (ap₂ (λ a
 pub unlinked_more : (number end : ℕ) (t u mid next : Taxonomy) → UnlinkedTo number end t u → mid.props ≡ u.props → next.props ≡ mid.props
     → ((p q : ℕ) → has_edge mid p q ≡ (not ((p == number) && (q == end)) && has_edge u p q))
     → ((p q : ℕ) → has_edge next p q ≡ (not ((p == end) && (q == number)) && has_edge mid p q)) → UnlinkedTo number (end + 1) t next
-unlinked_more number end t u mid next links first second from to = record {
-  props = second ∙ (first ∙ links.props);
-  edges = λ p q.
-      to p q
-      ∙ (ap (λ b. not ((p == end) && (q == number)) && b) (from p q ∙ ap (λ b. not ((p == number) && (q == end)) && b) (links.edges p q))
-      ∙ (gathered (p == number) (q == number) (q == end) (nat_lt q end) (p == end) (nat_lt p end) (has_edge t p q)
-      ∙ sym (ap₂ (λ a b. not (((p == number) && a) || ((q == number) && b)) && has_edge t p q) (lt_suc q end) (lt_suc p end))));
-}
-  where
-    gathered : (pn qn qe ql pe pl h : Bool) → (not (pe && qn) && (not (pn && qe) && (not ((pn && ql) || (qn && pl)) && h))) ≡ (not ((pn && (qe || ql)) || (qn && (pe || pl))) && h)
-    gathered pn qn qe ql pe pl h = grind arith
+unlinked_more number end t u mid next links first second from to = search (rules, lt_suc)
 
 pub unlinked_all : (number end : ℕ) (t u : Taxonomy) → ((p q : ℕ) → IsTrue (has_edge t p q) → (p < end) × (q < end)) → UnlinkedTo number end t u → UnlinksAll number t u
-unlinked_all number end t u range links = record {
-  props = links.props;
-  edges = λ p q. links.edges p q ∙ by (p == number) (q == number) (nat_lt q end) (nat_lt p end) (has_edge t p q) (λ is. let within = range p q is in (lt-ltb q end within.1, lt-ltb p end within.0));
-}
-  where
-    by : (a b l k h : Bool) → (h ≡ true → (l ≡ true) × (k ≡ true)) → (not ((a && l) || (b && k)) && h) ≡ ((not a && not b) && h)
-    by a b l k h within = grind arith
+unlinked_all number end t u range links = search (rules, lt-ltb)

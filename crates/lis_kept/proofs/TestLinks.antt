@@ -1,14 +1,10 @@
 -- The links between declared tests, by their numbers.
-use Rattle.std.proofs.Common.{◌≡◌, ◌⊎◌, ℕ, if◌then◌else◌, ◌||◌, Bool, true, false, Option, Some, None, is_some, List, refl, sym, ap, ap₂, ◌∙◌, subst, inl, inr, arith}
-use Rattle.lis_kept.proofs.Common.{and_parts, or_cases, Dict, IsDict, word_of, number_from_word, Taxonomy, same_word, has_word, is_valued, head_bytes, is_test, are_weaker, same_word_decides, among_from_has_word, OwnLink, own_link, Head, Weaker}
-use Rattle.std.proofs.lemmas.Bool.{and_from, or_left, or_right, both_ways, false_from_ne_true}
+use Rattle.lis_kept.proofs.Common.{rules, ◌≡◌, ◌⊎◌, ℕ, if◌then◌else◌, ◌||◌, Bool, true, false, Option, Some, None, is_some, List, refl, sym, ap, ap₂, ◌∙◌, subst, inl, inr, and_parts, or_cases, Dict, IsDict, word_of, number_from_word, Taxonomy, same_word, has_word, is_valued, head_bytes, is_test, are_weaker, same_word_decides, among_from_has_word, OwnLink, own_link, Head, Weaker, and_from, or_left, or_right, both_ways, false_from_ne_true, has_word_from_among, same_tests}
 use Rattle.lis_blockmap.specs.Bitmap.{is_taken}
 use Rattle.lis_words.specs.Words.{test_of}
 use Rattle.lis_words.proofs.Tests.{plain_not_test}
 use Rattle.lis_model.specs.State.{links}
-use Rattle.lis_laws.proofs.Members.{has_word_from_among}
 use Rattle.lis_laws.proofs.Chains.{links_weaker, head_no_test, weaker_apart}
-use Rattle.lis_laws.proofs.Locals.{same_tests}
 use Rattle.lis_kept.specs.Kept.{Kept}
 use Rattle.lis_kept.specs.Telling.{bit_of, is_declared, declared_of, is_head_by}
 use Rattle.lis_kept.specs.Links.{is_own_link, is_linked, has_pair, AreHeld}
@@ -19,15 +15,11 @@ use Rattle.lis_kept.proofs.WordMore.{declared_there, there_declared}
 
 -- ---- tests of numbers
 pub none_weaker : (t : Option (Bool × ℕ)) → are_weaker t None ≡ false
-none_weaker None = refl
-none_weaker (Some t) = refl
+none_weaker t = search (rules)
 
 -- a number that has no word has no test
 pub no_test : (dict : Dict) (declared : List Bool) (n : ℕ) → word_of dict n ≡ None → declared_test dict declared n ≡ None
-no_test dict declared n none = ap (λ o. if is_taken declared n then test_by o else None) none ∙ by (is_taken declared n)
-  where
-    by : (b : Bool) → ◌≡◌ {A = Option (Bool × ℕ)} (if b then None else None) None
-    by b = grind arith
+no_test dict declared n none = search (rules)
 
 -- a link between tests is one between the words
 pub record TestLink (dict : Dict) (declared : List Bool) (p q : ℕ) : Type 0 where
@@ -46,8 +38,7 @@ test_link dict declared p q h = by (is_taken declared p) refl (is_taken declared
 
 pub test_linked : (dict : Dict) (declared : List Bool) (p q : ℕ) → is_taken declared p ≡ true → is_taken declared q ≡ true → are_weaker (test_by (word_of dict q)) (test_by (word_of dict p)) ≡ true
     → is_test_link dict declared p q ≡ true
-test_linked dict declared p q from to weaker =
-    ap₂ (λ a b. are_weaker (if b then test_by (word_of dict q) else None) (if a then test_by (word_of dict p) else None)) from to ∙ weaker
+test_linked dict declared p q from to weaker = search (rules)
 
 -- no test is weaker than itself
 pub not_itself : (dict : Dict) (declared : List Bool) (n : ℕ) → is_test_link dict declared n n ≡ false

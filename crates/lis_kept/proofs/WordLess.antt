@@ -1,17 +1,13 @@
 -- A declared word that loses its number.
-use Rattle.std.proofs.Common.{◌≡◌, ◌⊎◌, refl, sym, ap, ap₂, ◌∙◌, subst, inl, inr, ℕ, ◌<◌, ◌≤◌, ◌==◌, ◌&&◌, not, Bool, true, false, List, [], length, filter, set, get_or, slice_get, Option, Some, None, is_some, arith, length-set, get_or-set_same, get_or-set_other}
-use Rattle.lis_kept.proofs.Common.{list_any, cases_lt, ne_eqb, Contains-get_or, among_from_contains, Dict, word_of, without_word, Ext, has, Pair, Taxonomy, has_edge, same_word}
-use Rattle.std.proofs.lemmas.Bool.{both_ways, eq-eqb, false_from_ne_true}
-use Rattle.std.proofs.lemmas.List.{get_or_past}
-use Rattle.lis_graph.proofs.Members.{any_from_among}
+use Rattle.std.proofs.Common.{filter, arith}
+use Rattle.lis_kept.proofs.Common.{common_steps, rules, ◌≡◌, refl, sym, ap, ap₂, ◌∙◌, subst, ℕ, ◌<◌, ◌==◌, ◌&&◌, not, Bool, true, false, List, length, set, slice_get, Some, None, is_some, length-set, get_or-set_same, get_or-set_other, list_any, cases_lt, ne_eqb, among_from_contains, Dict, word_of, without_word, Ext, has, Pair, Taxonomy, has_edge, same_word, both_ways, false_from_ne_true, get_or_past, any_from_among, neither}
+use Rattle.std.proofs.lemmas.Bool.{eq-eqb}
 use Rattle.lis_blockmap.specs.Bitmap.{is_taken}
-use Rattle.lis_content.specs.Content.{has_number}
-use Rattle.lis_content.proofs.Numbers.{neither}
 use Rattle.lis_kept.specs.Kept.{Kept}
 use Rattle.lis_kept.specs.Areas.{block_of}
 use Rattle.lis_kept.specs.Areas.Area.{Properties}
 use Rattle.lis_kept.specs.Telling.{declared_of, is_left_of, is_left_head_of, is_named_left, is_had}
-use Rattle.lis_kept.specs.Links.{AreHeld, is_linked}
+use Rattle.lis_kept.specs.Links.{AreHeld}
 use Rattle.lis_kept.specs.TestEdges.{UnlinksAll}
 use Rattle.lis_kept.specs.Undeclaring.{MayUndeclare, Undeclares}
 use Rattle.lis_kept.proofs.Formed.{named_below}
@@ -20,11 +16,7 @@ use Rattle.lis_kept.proofs.OneWord.{OneWord, sound_then, marks_then, state_then,
 
 -- a number that some file has is had
 pub had_from : (e : Ext) (n slot : ℕ) → has e n slot ≡ true → is_had e n ≡ true
-had_from e n slot has_it = by (cases_lt slot (length e.sets))
-  where
-    by : (slot < length e.sets) ⊎ (length e.sets ≤ slot) → is_had e n ≡ true
-    by (inl lt) = any_from_among (λ ns. has_number ns n) e.sets (get_or e.sets slot []) (among_from_contains e.sets (get_or e.sets slot []) (Contains-get_or e.sets slot [] lt)) has_it
-    by (inr past) = let none : has e n slot ≡ false = ap (λ ns. has_number ns n) (get_or_past e.sets slot [] past) in absurd (both_ways (has e n slot) none has_it)
+had_from e n slot has_it = grind (arith, common_steps, cases_lt, any_from_among, among_from_contains, get_or_past, both_ways)
 
 -- a number that is not named on a left is on none
 pub not_left : (k : Kept) (number : ℕ) → is_named_left k number ≡ false → (slot left right : ℕ) → slice_get k.axioms slot ≡ Some (Pair left right) → left ≡ number → ⊥
@@ -34,18 +26,7 @@ not_left k number lefts slot left right is same =
 
 -- edges lead from and to numbers below the limit alone, as no other number has a word
 pub edges_within : (k : Kept) (t : Taxonomy) → AreHeld k t → (p q : ℕ) → has_edge t p q ≡ true → (p < k.limits.props) × (q < k.limits.props)
-edges_within k t held p q edge =
-    let linked = sym (held.links.edges p q) ∙ edge in (
-      below p (λ none. both_ways (is_linked k p q) (unnamed_from k held.sound p none q) linked),
-      below q (λ none. both_ways (is_linked k p q) (unnamed_to k held.sound q none p) linked),
-    )
-  where
-    below : (n : ℕ) → (word_of k.dict n ≡ None → ⊥) → n < k.limits.props
-    below n named = by (word_of k.dict n) refl
-      where
-        by : (o : Option (List ℕ)) → word_of k.dict n ≡ o → n < k.limits.props
-        by None is = absurd (named is)
-        by (Some w) is = named_below k held.sound n (ap is_some is)
+edges_within k t held p q edge = search (rules, both_ways, unnamed_from, unnamed_to, named_below)
 
 -- over what memory kept
 module _ (k p : Kept) (t u : Taxonomy) (is : p ≡ k) (held : AreHeld p t) {number : ℕ} (may : MayUndeclare number p) {word : List ℕ} (there : word_of p.dict number ≡ Some word)
@@ -55,16 +36,7 @@ module _ (k p : Kept) (t u : Taxonomy) (is : p ≡ k) (held : AreHeld p t) {numb
   q = record p { dict = dict; declared = bits; marks = marks }
 
   go : Goes p word number dict
-  go = record {
-    there = there;
-    unnamed = record {
-      sides = record { left = not_left p number may.lefts; right = may.rights };
-      tags = may.tags;
-      had = λ slot file. false_from_ne_true (has p.ext number slot) (λ has_it. both_ways (is_had p.ext number) may.had (had_from p.ext number slot has_it));
-    };
-    heads = may.heads;
-    dict_is = dict_is;
-  }
+  go = search (rules, not_left, false_from_ne_true, both_ways, had_from)
 
   bit : is_taken bits number ≡ false
   bit = ap (λ bs. is_taken bs number) bits_are ∙ get_or-set_same p.declared number false false (omega (arith, named_below p held.sound number (ap is_some there), held.sound.bits))

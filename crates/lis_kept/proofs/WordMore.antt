@@ -1,9 +1,6 @@
 -- The declared words by their numbers, and lists.
-use Rattle.std.proofs.Common.{◌≡◌, refl, ap, ap₂, ◌∙◌, inl, inr, ℕ, ◌||◌, true, List, [], ◌∷◌, ◌++◌, Option, Some, None}
-use Rattle.lis_kept.proofs.Common.{flat_map, IsStrictlySortedBy, IsStrictlySortedBy-filter, Among, among_filter, sorted_from_rising, IsDict, number_of, word_of, word_from_number, number_from_word, word_cmp, word_order}
-use Rattle.lis_graph.proofs.Members.{filter_among, map_among}
+use Rattle.lis_kept.proofs.Common.{rules, ◌≡◌, refl, ap, ap₂, ◌∙◌, inl, inr, ℕ, true, List, [], ◌∷◌, ◌++◌, Option, Some, None, flat_map, IsStrictlySortedBy, IsStrictlySortedBy-filter, Among, among_filter, sorted_from_rising, IsDict, number_of, word_of, word_from_number, number_from_word, word_cmp, word_order, filter_among, map_among, words}
 use Rattle.lis_blockmap.specs.Bitmap.{is_taken}
-use Rattle.lis_dict.specs.Dict.{words}
 use Rattle.lis_dict.proofs.Laws.{among_from_number}
 use Rattle.lis_kept.specs.Kept.{Kept}
 use Rattle.lis_kept.specs.Telling.{bit_of, is_declared, declared_of}
@@ -30,11 +27,7 @@ sorted_declared k dict = IsStrictlySortedBy-filter word_cmp (is_declared k) (wor
 
 -- and its number
 pub declared_at : (k : Kept) → IsDict k.dict → (w : List ℕ) → Among (declared_of k) w → (n : ℕ) × (word_of k.dict n ≡ Some w) × (is_taken k.declared n ≡ true)
-declared_at k dict w m = by (number_of k.dict w) refl (there_declared k w m)
-  where
-    by : (o : Option ℕ) → number_of k.dict w ≡ o → bit_of k.declared o ≡ true → (n : ℕ) × (word_of k.dict n ≡ Some w) × (is_taken k.declared n ≡ true)
-    by None e bit = absurd cc
-    by (Some n) e bit = (n, word_from_number k.dict dict w n e, bit)
+declared_at k dict w m = search (rules, there_declared, word_from_number)
 
 pub at_declared : (k : Kept) → IsDict k.dict → (n : ℕ) (w : List ℕ) → word_of k.dict n ≡ Some w → is_taken k.declared n ≡ true → Among (declared_of k) w
 at_declared k dict n w is bit = declared_there k w (ap (bit_of k.declared) (number_from_word k.dict dict w n is) ∙ bit)

@@ -1,8 +1,9 @@
-use Rattle.std.proofs.Common.{sym, ap, ◌∙◌, arith}
+use Rattle.std.proofs.Common.{arith}
+use Rattle.lis_kept.proofs.Common.{sym, ap, ◌∙◌}
 use Rattle.std.specs.Option.{option_map}
 use Rattle.lis_kept.proofs.FirstRight.{taken, first_more, is_taken, not_behind, not_before}
-use Rattle.lis_kept.proofs.behind.first_right.Goals as goal
 use Rattle.lis_kept.proofs.behind.first_right.Goals.{in-Some+then-is_behind+then-is_before, in-Some+else-is_behind, else-is_behind-via-then-is_behind+else-is_before, else-is_behind-via-else-is_behind, in_default}
+use Rattle.lis_kept.proofs.behind.first_right.Goals as goal
 
 pub loop-slot-preserved : goal.loop-slot-preserved
 loop-slot-preserved c =

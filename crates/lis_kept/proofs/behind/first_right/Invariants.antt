@@ -1,4 +1,4 @@
-use Rattle.std.proofs.Common.{take}
+use Rattle.lis_kept.proofs.Common.{take}
 use Rattle.std.specs.Option.{option_map}
 use Rattle.lis_kept.proofs.FirstRight.{FirstSoFar}
 use Rattle.lis_kept.proofs.behind.first_right.Given as goal

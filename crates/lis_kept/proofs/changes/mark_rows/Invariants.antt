@@ -1,5 +1,4 @@
-use Rattle.std.proofs.Common.{◌≡◌, map, take}
-use Rattle.lis_content.specs.Content.{marked}
+use Rattle.lis_kept.proofs.Common.{◌≡◌, map, take, marked}
 use Rattle.lis_kept.specs.Areas.{block_of}
 use Rattle.lis_kept.specs.Areas.Area.{Rows}
 use Rattle.lis_kept.proofs.changes.mark_rows.Given as goal

@@ -1,4 +1,4 @@
-use Rattle.std.proofs.Common.{◌≡◌, ◌≤◌, take, count_by}
+use Rattle.lis_kept.proofs.Common.{◌≡◌, ◌≤◌, take, count_by}
 use Rattle.lis_kept.specs.Linking.{is_filled}
 use Rattle.lis_kept.proofs.linking.filled_count.Given as goal
 

@@ -1,6 +1,7 @@
-use Rattle.std.proofs.Common.{◌+◌, ◌*◌, ◌≤◌, arith, mul-le-mul_left}
+use Rattle.std.proofs.Common.{arith, mul-le-mul_left}
+use Rattle.lis_kept.proofs.Common.{◌+◌, ◌*◌, ◌≤◌}
 use Rattle.lis_kept.specs.Rows.{row_bytes}
-use Rattle.lis_kept.proofs.Blocks.{one_slot_more}
+use Rattle.lis_kept.proofs.Spelled.{one_slot_more}
 use Rattle.lis_kept.proofs.rows.write_rows.Goals as goal
 
 pub loop-k-preserved : goal.loop-k-preserved

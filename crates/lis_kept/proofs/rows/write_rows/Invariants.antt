@@ -1,5 +1,4 @@
-use Rattle.std.proofs.Common.{◌≡◌, ℕ, ◌+◌, ◌*◌, ◌<◌}
-use Rattle.lis_kept.proofs.Common.{part}
+use Rattle.lis_kept.proofs.Common.{◌≡◌, ℕ, ◌+◌, ◌*◌, ◌<◌, part}
 use Rattle.lis_kept.specs.Rows.{row_bytes}
 use Rattle.lis_kept.proofs.rows.write_rows.Given as goal
 

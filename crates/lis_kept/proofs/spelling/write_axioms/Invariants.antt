@@ -1,5 +1,4 @@
-use Rattle.std.proofs.Common.{◌≡◌, ℕ, ◌+◌, ◌*◌, ◌<◌}
-use Rattle.lis_kept.proofs.Common.{part, axiom_bytes}
+use Rattle.lis_kept.proofs.Common.{◌≡◌, ℕ, ◌+◌, ◌*◌, ◌<◌, part, axiom_bytes}
 use Rattle.lis_kept.specs.Kept.{axiom_at}
 use Rattle.lis_kept.proofs.spelling.write_axioms.Given as goal
 

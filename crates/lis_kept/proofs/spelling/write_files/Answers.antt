@@ -1,7 +1,7 @@
-use Rattle.std.proofs.Common.{◌∙◌, ap, ◌+◌, arith}
-use Rattle.lis_kept.proofs.Common.{file_bytes}
+use Rattle.std.proofs.Common.{arith}
+use Rattle.lis_kept.proofs.Common.{◌∙◌, ap, ◌+◌, file_bytes}
 use Rattle.lis_kept.specs.Kept.{record_at}
-use Rattle.lis_kept.proofs.Blocks.{one_slot_more}
+use Rattle.lis_kept.proofs.Spelled.{one_slot_more}
 use Rattle.lis_kept.proofs.spelling.write_files.Goals as goal
 
 pub loop-k-preserved : goal.loop-k-preserved

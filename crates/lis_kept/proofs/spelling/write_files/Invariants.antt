@@ -1,5 +1,4 @@
-use Rattle.std.proofs.Common.{◌≡◌, ℕ, ◌+◌, ◌*◌, ◌<◌}
-use Rattle.lis_kept.proofs.Common.{part, file_bytes}
+use Rattle.lis_kept.proofs.Common.{◌≡◌, ℕ, ◌+◌, ◌*◌, ◌<◌, part, file_bytes}
 use Rattle.lis_kept.specs.Kept.{record_at}
 use Rattle.lis_kept.proofs.spelling.write_files.Given as goal
 

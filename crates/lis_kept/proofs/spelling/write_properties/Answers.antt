@@ -1,7 +1,7 @@
-use Rattle.std.proofs.Common.{◌∙◌, ap, ◌+◌, arith}
-use Rattle.lis_kept.proofs.Common.{prop_bytes}
+use Rattle.std.proofs.Common.{arith}
+use Rattle.lis_kept.proofs.Common.{◌∙◌, ap, ◌+◌, prop_bytes}
 use Rattle.lis_kept.specs.Kept.{property_at}
-use Rattle.lis_kept.proofs.Blocks.{one_slot_more}
+use Rattle.lis_kept.proofs.Spelled.{one_slot_more}
 use Rattle.lis_kept.proofs.spelling.write_properties.Goals as goal
 
 pub loop-k-preserved : goal.loop-k-preserved

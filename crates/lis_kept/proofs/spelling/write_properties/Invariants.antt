@@ -1,5 +1,4 @@
-use Rattle.std.proofs.Common.{◌≡◌, ℕ, ◌+◌, ◌*◌, ◌<◌}
-use Rattle.lis_kept.proofs.Common.{part, prop_bytes}
+use Rattle.lis_kept.proofs.Common.{◌≡◌, ℕ, ◌+◌, ◌*◌, ◌<◌, part, prop_bytes}
 use Rattle.lis_kept.specs.Kept.{property_at}
 use Rattle.lis_kept.proofs.spelling.write_properties.Given as goal
 

@@ -1,9 +1,9 @@
-use Rattle.std.proofs.Common.{◌≡◌, ◌∙◌, ◌==◌, ◌&&◌, nat_lt, true, Some, sym, ap, arith}
-use Rattle.lis_kept.proofs.Common.{are_weaker}
+use Rattle.std.proofs.Common.{arith}
+use Rattle.lis_kept.proofs.Common.{◌≡◌, ◌∙◌, ◌==◌, ◌&&◌, nat_lt, true, Some, sym, ap, are_weaker}
 use Rattle.lis_kept.specs.TestEdges.{declared_test, is_test_link}
 use Rattle.lis_kept.proofs.TestChains.{comes_or_was, where_ordered, upto_none, weaker_more, weaker_passed, weaker_all, weaker_without}
-use Rattle.lis_kept.proofs.test_edges.link_weaker.Goals as goal
 use Rattle.lis_kept.proofs.test_edges.link_weaker.Goals.{then-has_weaker, else-has_weaker}
+use Rattle.lis_kept.proofs.test_edges.link_weaker.Goals as goal
 
 pub returns-in_default : goal.returns-in_default
 returns-in_default c = weaker_without c.args.number c.args.dict.now c.args.declared.now c.args.taxonomy.now (sym c.declared_test.ensures ∙ c.in_default.is)

@@ -1,5 +1,4 @@
-use Rattle.std.proofs.Common.{◌≡◌, ◌<◌, true, Some, IfSome}
-use Rattle.lis_kept.proofs.Common.{are_weaker}
+use Rattle.lis_kept.proofs.Common.{◌≡◌, ◌<◌, true, Some, IfSome, are_weaker}
 use Rattle.lis_kept.specs.TestEdges.{declared_test}
 use Rattle.lis_kept.proofs.test_edges.nearest_weaker.Given as goal
 

@@ -1,5 +1,5 @@
-use Rattle.std.proofs.Common.{List, [], sym, ap, ◌∙◌}
-use Rattle.lis_kept.proofs.Common.{insert_key, find, fold, word_from_number, AxiomSlot}
+use Rattle.lis_kept.proofs.Common.{List, [], sym, ap, ◌∙◌, insert_key, find, fold, word_from_number, AxiomSlot}
+use native.Mathlib.Omega.{arith}
 use Rattle.std.specs.Option.{option_map}
 use Rattle.lis_model.specs.State.{pair_cmp}
 use Rattle.lis_kept.specs.Kept.{Kept}
@@ -13,11 +13,7 @@ pub first_right-requires : goal.first_right-requires
 first_right-requires c = short_dict _ c.self.invariant.sound
 
 pub returns-in_err-left : goal.returns-in_err-left
-returns-in_err-left c =
-    let last = option_map (λ w. w.now) c.args.last in
-    c.from_residual.ensures
-    ∙ (ap (find (is_behind last)) (sym (no_rights _ c.self.invariant.sound c.args.left.now (sym c.id_of.ensures ∙ c.in_err-left.was)))
-    ∙ ap (λ (k : Kept). find (is_behind last) (rights_of (axioms_of k) c.args.left.now)) c.self.view_is)
+returns-in_err-left c = grind (arith, no_rights _ c.self.invariant.sound c.args.left.now (sym c.id_of.ensures ∙ c.in_err-left.was))
 
 pub returns : goal.returns
 returns c =

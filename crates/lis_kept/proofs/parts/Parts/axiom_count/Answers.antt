@@ -1,4 +1,5 @@
-use Rattle.std.proofs.Common.{◌∙◌, count_by, ap, arith}
+use Rattle.std.proofs.Common.{arith}
+use Rattle.lis_kept.proofs.Common.{◌∙◌, count_by, ap}
 use Rattle.lis_kept.specs.Kept.{Kept}
 use Rattle.lis_kept.specs.Linking.{is_filled}
 use Rattle.lis_kept.proofs.AxiomSlots.{few_slots}

@@ -1,10 +1,9 @@
-use Rattle.std.proofs.Common.{◌≡◌, ◌∙◌, ℕ, ◌<◌, ◌≤◌, List, length, take, get_or, sym, subst, arith}
-use Rattle.lis_kept.proofs.Common.{take_more, same_Some}
+use Rattle.std.proofs.Common.{arith}
+use Rattle.lis_kept.proofs.Common.{◌≡◌, ◌∙◌, ℕ, ◌<◌, ◌≤◌, List, length, take, get_or, sym, subst, take_more, same_Some}
 use Rattle.std.proofs.lemmas.List.{take_all}
 use Rattle.lis_kept.specs.Linking.{MayLink}
 use Rattle.lis_kept.specs.Under.{LinksEach}
-use Rattle.lis_kept.proofs.StandsUnder.{number_declared, may_link_next}
-use Rattle.lis_kept.proofs.UnderOthers.{each_more}
+use Rattle.lis_kept.proofs.StandsUnder.{number_declared, may_link_next, each_more}
 use Rattle.lis_kept.proofs.parts.Parts.declare_under.Goals.{After-declare_word-number}
 use Rattle.lis_kept.proofs.parts.Parts.declare_under.Goals as goal
 

@@ -1,4 +1,4 @@
-use Rattle.std.proofs.Common.{take}
+use Rattle.lis_kept.proofs.Common.{take}
 use Rattle.lis_kept.specs.Sound.{AreSound}
 use Rattle.lis_kept.specs.Under.{LinksEach}
 use Rattle.lis_kept.proofs.parts.Parts.declare_under.Given as goal

@@ -1,21 +1,17 @@
-use Rattle.std.proofs.Common.{◌≡◌, ◌∙◌, ◌<◌, if◌then◌else◌, true, Some, None, length, set, refl, sym, ap, subst}
-use Rattle.lis_kept.proofs.Common.{number_of, same_word_decides}
+use Rattle.lis_kept.proofs.Common.{rules, ◌≡◌, ◌∙◌, if◌then◌else◌, true, Some, set, refl, ap, subst, number_of, same_word_decides}
 use Rattle.lis_kept.specs.Kept.{Kept}
 use Rattle.lis_kept.specs.Links.{AreHeld}
 use Rattle.lis_kept.specs.Sound.{AreSound}
 use Rattle.lis_kept.specs.Changes.{Declares}
 use Rattle.lis_kept.proofs.InArea.{few_properties}
 use Rattle.lis_kept.proofs.OneWord.{Comes, added, number_then}
-use Rattle.lis_kept.proofs.WordDeclared.{dict_after, ordered_after, ordered_between, none_between, declares}
+use Rattle.lis_kept.proofs.WordsChanged.{dict_after, ordered_after, ordered_between, none_between, declares}
 use Rattle.lis_kept.specs.contracts.parts.Parts.{the_view}
 use Rattle.lis_kept.proofs.parts.Parts.declare_word.Goals.{After-put}
 use Rattle.lis_kept.proofs.parts.Parts.declare_word.Goals as goal
 
 come : (c : After-put) → Comes (the_view c.self.inside) c.args.word.now c.in-Ok.number c.add.new.self
-come c =
-    let Q : Kept → Type 0 = λ k. (number_of k.dict c.args.word.now ≡ None) × (length k.dict.entries < k.limits.props) in
-    let pre = subst Q (sym c.self.view_is) (c.requires.new, c.requires.room) in
-    added (the_view c.self.inside) c.args.word.now c.in-Ok.number c.add.new.self c.in-Ok.ensures pre.0 pre.1
+come c = search (rules, added)
 
 bits : (c : After-put) → c.put.new.self ≡ set c.self.inside.declared c.in-Ok.number true
 bits c = c.put.ensures ∙ ap (λ n. set c.self.inside.declared n true) c.from-at.ensures

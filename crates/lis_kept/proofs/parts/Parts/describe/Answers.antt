@@ -1,7 +1,6 @@
-use Rattle.std.proofs.Common.{◌∙◌, map, set, ap, arith}
-use Rattle.lis_kept.proofs.Common.{Ext}
+use Rattle.std.proofs.Common.{arith}
+use Rattle.lis_kept.proofs.Common.{◌∙◌, map, set, ap, Ext, marked}
 use Rattle.lis_ext.specs.Numbers.{differs}
-use Rattle.lis_content.specs.Content.{marked}
 use Rattle.lis_kept.specs.Areas.{block_of}
 use Rattle.lis_kept.specs.Areas.Area.{Rows}
 use Rattle.lis_kept.proofs.Described.{marks_differ, few_where, where_below, numbers_below, describes}

@@ -1,4 +1,4 @@
-use Rattle.std.proofs.Common.{◌∙◌, sym}
+use Rattle.lis_kept.proofs.Common.{◌∙◌, sym}
 use Rattle.lis_kept.proofs.Dropped.{file_slot_below, drops}
 use Rattle.lis_kept.specs.contracts.parts.Parts.{the_view}
 use Rattle.lis_kept.proofs.parts.Parts.drop_record.Goals as goal

@@ -1,5 +1,5 @@
-use Rattle.std.proofs.Common.{◌≡◌, ◌∙◌, ◌==◌, Some, None, is_some, IsSome, sym, ap, subst, arith}
-use Rattle.lis_kept.proofs.Common.{word_of}
+use Rattle.std.proofs.Common.{arith}
+use Rattle.lis_kept.proofs.Common.{◌≡◌, ◌∙◌, ◌==◌, Some, None, is_some, IsSome, sym, ap, subst, word_of}
 use Rattle.lis_kept.specs.Kept.{Kept}
 use Rattle.lis_kept.specs.Edges.{without_edge_to}
 use Rattle.lis_kept.specs.Forgetting.{MayGo}
@@ -7,8 +7,7 @@ use Rattle.lis_kept.specs.Sound.{AreSound}
 use Rattle.lis_kept.specs.Links.{AreHeld}
 use Rattle.lis_kept.specs.Passes.{ForgetsWhere}
 use Rattle.lis_kept.proofs.Formed.{named_below}
-use Rattle.lis_kept.proofs.WordLearnt.{head_below}
-use Rattle.lis_kept.proofs.WordForgotten.{edge_to_head, forgets, forgets_none}
+use Rattle.lis_kept.proofs.WordsChanged.{head_below, edge_to_head, forgets, forgets_none}
 use Rattle.lis_kept.specs.contracts.parts.Parts.{the_view}
 use Rattle.lis_kept.proofs.parts.Parts.forget.Goals.{In-Some}
 use Rattle.lis_kept.proofs.parts.Parts.forget.Goals as goal

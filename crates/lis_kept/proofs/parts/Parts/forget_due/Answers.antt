@@ -1,10 +1,11 @@
-use Rattle.std.proofs.Common.{◌∙◌, ◌+◌, ◌<◌, sym, subst, length, take, get_or, arith}
+use Rattle.std.proofs.Common.{arith}
+use Rattle.lis_kept.proofs.Common.{◌∙◌, ◌+◌, ◌<◌, sym, subst, length, take, get_or}
 use Rattle.lis_kept.specs.Kept.{Kept}
 use Rattle.lis_kept.specs.Passes.{ForgetsDue}
 use Rattle.lis_kept.specs.Sound.{AreSound}
 use Rattle.lis_kept.proofs.Forgotten.{may_still, due_before, due_more, due_past}
-use Rattle.lis_kept.proofs.parts.Parts.forget_due.Goals as goal
 use Rattle.lis_kept.proofs.parts.Parts.forget_due.Goals.{then-is_due, else-is_due}
+use Rattle.lis_kept.proofs.parts.Parts.forget_due.Goals as goal
 
 pub forget-requires : goal.forget-requires
 forget-requires c = λ there.

@@ -1,4 +1,4 @@
-use Rattle.std.proofs.Common.{take}
+use Rattle.lis_kept.proofs.Common.{take}
 use Rattle.lis_kept.specs.Passes.{ForgetsDue}
 use Rattle.lis_kept.specs.Sound.{AreSound}
 use Rattle.lis_kept.proofs.parts.Parts.forget_due.Given as goal

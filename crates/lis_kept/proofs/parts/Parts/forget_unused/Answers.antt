@@ -1,4 +1,4 @@
-use Rattle.std.proofs.Common.{rules, None}
+use Rattle.lis_kept.proofs.Common.{rules, None}
 use Rattle.lis_kept.proofs.Forgotten.{first_may, second_may, both_forget, forgets_where}
 use Rattle.lis_kept.proofs.parts.Parts.forget_unused.Goals as goal
 

@@ -1,4 +1,4 @@
-use Rattle.std.proofs.Common.{Some}
+use Rattle.lis_kept.proofs.Common.{Some}
 use Rattle.lis_kept.proofs.Forgotten.{first_may, second_may, both_forget, forgets_beside}
 use Rattle.lis_kept.proofs.parts.Parts.forget_without.Goals as goal
 

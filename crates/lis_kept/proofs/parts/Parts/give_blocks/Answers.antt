@@ -1,5 +1,4 @@
-use Rattle.std.proofs.Common.{◌∙◌, ◌≤◌, ap, sym, subst, ◌≡◌, length}
-use Rattle.lis_kept.proofs.Common.{same_Some, rec_at, slot_count, FileRecord}
+use Rattle.lis_kept.proofs.Common.{◌∙◌, ◌≤◌, ap, sym, subst, ◌≡◌, length, same_Some, rec_at, slot_count, FileRecord}
 use Rattle.lis_fields.proofs.Parts.{size_fits}
 use Rattle.lis_model.specs.Image.{image_blocks}
 use Rattle.lis_kept.specs.Kept.{Kept}

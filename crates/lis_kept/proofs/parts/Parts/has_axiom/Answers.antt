@@ -1,5 +1,4 @@
-use Rattle.std.proofs.Common.{◌∙◌, ℕ, List, ap, ap₂}
-use Rattle.lis_kept.proofs.Common.{AxiomSlot}
+use Rattle.lis_kept.proofs.Common.{◌∙◌, ℕ, List, ap, ap₂, AxiomSlot}
 use Rattle.lis_kept.specs.Kept.{Kept}
 use Rattle.lis_kept.specs.Links.{has_pair}
 use Rattle.lis_kept.specs.contracts.parts.Parts.{the_view}

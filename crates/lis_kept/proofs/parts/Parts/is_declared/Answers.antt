@@ -1,5 +1,5 @@
-use Rattle.std.proofs.Common.{sym, arith}
-use Rattle.lis_kept.proofs.Common.{number_below}
+use Rattle.std.proofs.Common.{arith}
+use Rattle.lis_kept.proofs.Common.{sym, number_below}
 use Rattle.lis_kept.proofs.parts.Parts.is_declared.Goals as goal
 
 pub get-requires : goal.get-requires

@@ -1,13 +1,13 @@
-use Rattle.std.proofs.Common.{◌≡◌, ◌∙◌, ℕ, ◌&&◌, ◌||◌, not, Bool, false, is_some, sym, ap, ap₂, arith}
-use Rattle.lis_kept.proofs.Common.{list_any, word_of}
+use Rattle.std.proofs.Common.{arith}
+use Rattle.lis_kept.proofs.Common.{◌≡◌, ◌∙◌, ℕ, ◌&&◌, ◌||◌, not, Bool, false, is_some, sym, ap, ap₂, list_any, word_of}
 use Rattle.lis_kept.specs.Kept.{Kept}
 use Rattle.lis_kept.specs.TestEdges.{test_by}
 use Rattle.lis_kept.specs.Telling.{is_had}
 use Rattle.lis_kept.specs.Undeclaring.{is_named_by, is_needed}
 use Rattle.lis_kept.proofs.Formed.{named_in, short_dict}
 use Rattle.lis_kept.specs.contracts.parts.Parts.{the_view}
-use Rattle.lis_kept.proofs.parts.Parts.is_needed.Goals as goal
 use Rattle.lis_kept.proofs.parts.Parts.is_needed.Goals.{else-not-is_test-via-then-not-is_test+else-is_had, else-not-is_test-via-else-not-is_test}
+use Rattle.lis_kept.proofs.parts.Parts.is_needed.Goals as goal
 
 pub is_had-requires : goal.is_had-requires
 is_had-requires c = omega (arith, named_in c.args.self.now (the_view c.self.inside) c.self.view_is c.self.invariant.sound c.args.number c.requires, c.self.invariant.sound.rows)

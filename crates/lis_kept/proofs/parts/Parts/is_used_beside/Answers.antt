@@ -1,13 +1,12 @@
-use Rattle.std.proofs.Common.{◌∙◌, ◌||◌, false, slice_index_or, sym, ap, arith}
-use Rattle.lis_kept.proofs.Common.{list_any}
-use Rattle.std.proofs.lemmas.Bool.{both_ways}
+use Rattle.std.proofs.Common.{slice_index_or, arith}
+use Rattle.lis_kept.proofs.Common.{◌∙◌, ◌||◌, false, sym, ap, list_any, both_ways}
 use Rattle.lis_kept.specs.Passes.{beside}
 use Rattle.lis_kept.specs.Telling.{is_left_of, is_left_head_of, is_used}
 use Rattle.lis_kept.proofs.Formed.{named_in, short_dict}
 use Rattle.lis_kept.proofs.Used.{any_or, used_on_left}
 use Rattle.lis_kept.specs.contracts.parts.Parts.{the_view}
-use Rattle.lis_kept.proofs.parts.Parts.is_used_beside.Goals as goal
 use Rattle.lis_kept.proofs.parts.Parts.is_used_beside.Goals.{then-get, else-get}
+use Rattle.lis_kept.proofs.parts.Parts.is_used_beside.Goals as goal
 
 pub get-requires : goal.get-requires
 get-requires c = omega (arith, named_in c.args.self.now (the_view c.self.inside) c.self.view_is c.self.invariant.sound c.args.number c.requires, c.from.ensures, c.self.invariant.sound.bits)

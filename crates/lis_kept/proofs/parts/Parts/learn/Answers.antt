@@ -1,5 +1,4 @@
-use Rattle.std.proofs.Common.{◌≡◌, ◌∙◌, ◌<◌, ℕ, true, None, List, length, IsSome, sym, ap, subst}
-use Rattle.lis_kept.proofs.Common.{number_of, is_undeclared, is_valued, head_bytes}
+use Rattle.lis_kept.proofs.Common.{◌≡◌, ◌∙◌, ◌<◌, ℕ, true, None, List, length, IsSome, sym, ap, subst, number_of, is_undeclared, is_valued, head_bytes}
 use Rattle.lis_kept.specs.Kept.{Kept}
 use Rattle.lis_kept.specs.Edges.{with_edge_to}
 use Rattle.lis_kept.specs.Sound.{AreSound}
@@ -7,7 +6,7 @@ use Rattle.lis_kept.specs.Links.{AreHeld}
 use Rattle.lis_kept.specs.Changes.{Learns}
 use Rattle.lis_kept.proofs.OneWord.{Comes, added}
 use Rattle.lis_kept.proofs.OwnLinks.{none_to, none_from}
-use Rattle.lis_kept.proofs.WordLearnt.{head_below, head_apart, learns_new, learns_there}
+use Rattle.lis_kept.proofs.WordsChanged.{head_below, head_apart, learns_new, learns_there}
 use Rattle.lis_kept.specs.contracts.parts.Parts.{the_view}
 use Rattle.lis_kept.proofs.parts.Parts.learn.Goals.{In-Ok}
 use Rattle.lis_kept.proofs.parts.Parts.learn.Goals as goal

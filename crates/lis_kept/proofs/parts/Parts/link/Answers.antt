@@ -1,12 +1,12 @@
-use Rattle.std.proofs.Common.{◌≡◌, Some, ◌∙◌, ◌<◌, ℕ, refl, sym, ap, ap₂, subst, set, is_some, arith}
+use Rattle.std.proofs.Common.{arith}
+use Rattle.lis_kept.proofs.Common.{◌≡◌, Some, ◌∙◌, ◌<◌, ℕ, refl, sym, ap, ap₂, subst, set, is_some, with_edge, FreeAxiom, Pair}
 use Rattle.std.specs.List.{position}
-use Rattle.lis_kept.proofs.Common.{with_edge, FreeAxiom, Pair}
 use Rattle.lis_kept.specs.Linking.{is_free, MayLink, Links}
 use Rattle.lis_kept.specs.Kept.{Kept}
 use Rattle.lis_kept.specs.Links.{AreHeld}
 use Rattle.lis_kept.proofs.Formed.{named_below}
 use Rattle.lis_kept.proofs.AxiomSlots.{first_is_some, first_no_later, free_place}
-use Rattle.lis_kept.proofs.AxiomMore.{link_refused, links}
+use Rattle.lis_kept.proofs.AxiomsChanged.{link_refused, links}
 use Rattle.lis_kept.specs.contracts.parts.Parts.{the_view}
 use Rattle.lis_kept.proofs.parts.Parts.link.Goals.{In-Some}
 use Rattle.lis_kept.proofs.parts.Parts.link.Goals as goal

@@ -1,4 +1,4 @@
-use Rattle.std.proofs.Common.{◌∙◌, sym, ℕ, List}
+use Rattle.lis_kept.proofs.Common.{◌∙◌, sym, ℕ, List}
 use Rattle.arrayvec.specs.ArrayVec.{ArrayVec}
 use Rattle.lis_kept.proofs.BlocksTaken.{MayPut, PutEnds, placed_ends, staged_ends, ended_ok, ended_err}
 use Rattle.lis_kept.specs.contracts.parts.Parts.{the_view}

@@ -1,4 +1,4 @@
-use Rattle.std.proofs.Common.{false, length, ap, ◌∙◌}
+use Rattle.lis_kept.proofs.Common.{false, length, ap, ◌∙◌}
 use Rattle.std.proofs.lemmas.List.{length-replicate}
 use Rattle.lis_kept.specs.contracts.parts.Parts.{the_view}
 use Rattle.lis_kept.proofs.Formed.{held_marks}

@@ -1,9 +1,9 @@
-use Rattle.std.proofs.Common.{◌+◌, ◌<◌, length, sym, ap, ◌∙◌, subst, arith}
-use Rattle.lis_kept.proofs.Common.{Held, data_start}
+use Rattle.std.proofs.Common.{arith}
+use Rattle.lis_kept.proofs.Common.{◌+◌, ◌<◌, length, sym, ap, ◌∙◌, subst, Held, data_start}
 use Rattle.lis_kept.specs.Inside.{StagedBelow}
 use Rattle.lis_kept.proofs.Staged.{staged_none, staged_past, staged_more, staged_all}
-use Rattle.lis_kept.proofs.parts.Parts.stage.Goals as goal
 use Rattle.lis_kept.proofs.parts.Parts.stage.Goals.{then-is_marked, else-is_marked}
+use Rattle.lis_kept.proofs.parts.Parts.stage.Goals as goal
 
 pub loop-n-init : goal.loop-n-init
 loop-n-init c = staged_none c.args.self.now c.args.journal.now c.limits.ensures.sound.range

@@ -1,4 +1,4 @@
-use Rattle.std.proofs.Common.{refl, ◌∙◌, subst}
+use Rattle.lis_kept.proofs.Common.{refl, ◌∙◌, subst}
 use Rattle.lis_blockmap.specs.Bitmap.{bitmap_bytes}
 use Rattle.lis_kept.specs.Kept.{Kept}
 use Rattle.lis_kept.specs.Inside.{IsBlock}

@@ -1,6 +1,6 @@
 use Rattle.std.proofs.Common.{arith}
-use Rattle.lis_blockmap.specs.Bitmap.{is_taken}
 use Rattle.lis_kept.proofs.Common.{filter_le}
+use Rattle.lis_blockmap.specs.Bitmap.{is_taken}
 use Rattle.lis_kept.proofs.parts.Parts.taken_blocks.Goals as goal
 
 pub returns-clause-few : goal.returns-clause-few

@@ -1,4 +1,4 @@
-use Rattle.std.proofs.Common.{◌∙◌, ap, slice_get}
+use Rattle.lis_kept.proofs.Common.{◌∙◌, ap, slice_get}
 use Rattle.lis_kept.specs.Kept.{Kept}
 use Rattle.lis_kept.proofs.parts.Parts.tests.Goals as goal
 

@@ -1,4 +1,4 @@
-use Rattle.std.proofs.Common.{◌∙◌, false, set, sym, ap, subst}
+use Rattle.lis_kept.proofs.Common.{◌∙◌, false, set, sym, ap, subst}
 use Rattle.lis_kept.specs.Kept.{Kept}
 use Rattle.lis_kept.specs.Links.{AreHeld}
 use Rattle.lis_kept.specs.Undeclaring.{MayUndeclare, Undeclares}

@@ -1,12 +1,12 @@
-use Rattle.std.proofs.Common.{◌≡◌, Some, slice_get, ◌∙◌, ℕ, refl, sym, ap₂, subst, set, arith}
-use Rattle.lis_kept.proofs.Common.{without_edge, FreeAxiom, Pair}
+use Rattle.std.proofs.Common.{arith}
+use Rattle.lis_kept.proofs.Common.{◌≡◌, Some, slice_get, ◌∙◌, ℕ, refl, sym, ap₂, subst, set, without_edge, FreeAxiom, Pair}
 use Rattle.lis_kept.specs.Linking.{MayUnlink, Unlinks}
 use Rattle.lis_kept.specs.Kept.{Kept}
 use Rattle.lis_kept.specs.Links.{AreHeld}
 use Rattle.lis_kept.specs.Sound.{IsSoundAxiom}
 use Rattle.lis_kept.proofs.Formed.{named_below}
 use Rattle.lis_kept.proofs.AxiomSlots.{pair_found, pair_placed}
-use Rattle.lis_kept.proofs.AxiomLess.{unlink_missed, unlinks}
+use Rattle.lis_kept.proofs.AxiomsChanged.{unlink_missed, unlinks}
 use Rattle.lis_kept.specs.contracts.parts.Parts.{the_view}
 use Rattle.lis_kept.proofs.parts.Parts.unlink.Goals.{In-Some}
 use Rattle.lis_kept.proofs.parts.Parts.unlink.Goals as goal

@@ -1,5 +1,5 @@
-use Rattle.std.proofs.Common.{◌≡◌, ◌<◌, ℕ, true, List, sym, subst, arith}
-use Rattle.lis_kept.proofs.Common.{bitmap_start, AxiomSlot}
+use Rattle.std.proofs.Common.{arith}
+use Rattle.lis_kept.proofs.Common.{◌≡◌, ◌<◌, ℕ, true, List, sym, subst, bitmap_start, AxiomSlot}
 use Rattle.lis_fields.specs.Layouts.{is_axiom}
 use Rattle.lis_kept.specs.Kept.{Kept, axiom_at}
 use Rattle.lis_kept.specs.Inside.{IsBlock}

@@ -1,28 +1,28 @@
--- An axiom that comes into a free slot.
-use Rattle.std.proofs.Common.{◌≡◌, ◌⊎◌, ◌↔◌, refl, sym, ap, ap₂, ◌∙◌, subst, inl, inr, ℕ, ◌<◌, ◌==◌, ◌&&◌, ◌||◌, Bool, true, false, List, [], set, slice_get, Some, Result, Err, is_some, length, get_or, arith, length-set, get_or-set_other}
-use Rattle.lis_kept.proofs.Common.{list_any, IsStrictlySortedBy, same_Some, Among, among_insert_key, insert_key_old, insert_key_new, same_sets, sorted_insert_key, word_of, Taxonomy, has_edge, with_edge, EdgeFault, Present, Cycle, Absent, has_word, is_plain_word, axiom_bytes, AxiomSlot, FreeAxiom, Pair, up, with_axiom, pair_exact}
-use Rattle.std.proofs.lemmas.Bool.{both_ways}
+-- An axiom that comes into a free slot, and one that leaves its slot.
+use Rattle.std.proofs.Common.{arith}
+use Rattle.lis_kept.proofs.Common.{rules, ◌≡◌, ◌⊎◌, ◌↔◌, refl, sym, ap, ap₂, ◌∙◌, subst, inl, inr, ℕ, ◌<◌, ◌==◌, ◌&&◌, ◌||◌, Bool, true, false, List, [], set, slice_get, Some, Result, Err, length, length-set, get_or-set_other, not, list_any, IsStrictlySortedBy, same_Some, Among, among_insert_key, insert_key_old, insert_key_new, same_sets, sorted_insert_key, word_of, Taxonomy, has_edge, with_edge, EdgeFault, Present, Cycle, Absent, has_word, is_plain_word, AxiomSlot, FreeAxiom, Pair, up, with_axiom, pair_exact, and_parts, eqb-true, not_from_false, not-true, IsStrictlySortedBy-filter, among_filter, without_edge, same_word, same_pair, same_word_decides, both_ways, and_from, false_from_ne_true, pair_order, has_word_from_among, filter_among, any_from_among}
 use Rattle.lis_graph.proofs.Sets.{sorted_nil, sorted_with_more}
-use Rattle.lis_blockmap.specs.Bitmap.{is_taken}
 use Rattle.lis_taxonomy.specs.Taxonomy.{Entails as Leads}
 use Rattle.lis_model.specs.State.{pair_cmp}
-use Rattle.lis_laws.proofs.Members.{pair_order, has_word_from_among}
 use Rattle.lis_catalog.proofs.Slots.{swapped as or_swapped}
 use Rattle.lis_kept.specs.Kept.{Kept}
 use Rattle.lis_kept.specs.Areas.{Area, slots_of, block_of, spelled}
-use Rattle.lis_kept.specs.Areas.Area.{Properties, Axioms, Files, Rows, Bitmap}
-use Rattle.lis_kept.specs.Telling.{declared_of, pairs_told, axioms_of, state_of, is_left_of, is_head_by, is_left_head_of, is_had, is_used}
+use Rattle.lis_kept.specs.Areas.Area.{Axioms}
+use Rattle.lis_kept.specs.Telling.{declared_of, pairs_told, axioms_of, state_of, is_head_by, is_used}
 use Rattle.lis_kept.specs.Sound.{AreSound, IsSoundAxiom}
 use Rattle.lis_kept.specs.Links.{AreHeld, is_pair, has_pair, is_own_link, is_linked}
-use Rattle.lis_kept.specs.Linking.{are_both, MayLink, Links}
+use Rattle.lis_kept.specs.Linking.{are_both, MayLink, Links, MayUnlink, Unlinks}
 use Rattle.lis_kept.specs.Changes.{Marks}
 use Rattle.lis_kept.proofs.InArea.{among_slots}
 use Rattle.lis_kept.proofs.Marking.{block_marked}
-use Rattle.lis_kept.proofs.HeadEdges.{has_edge-with_edge, swapped as edges_swapped}
+use Rattle.lis_kept.proofs.HeadEdges.{has_edge-with_edge, swapped as edges_swapped, has_edge-without_edge}
 use Rattle.lis_kept.proofs.Known.{axiom_among, among_axiom}
-use Rattle.lis_kept.proofs.OwnLinks.{own_to_plain}
+use Rattle.lis_kept.proofs.OwnLinks.{own_to_plain, pair_slot}
 use Rattle.lis_kept.proofs.Entailed.{up_from_leads}
-use Rattle.lis_kept.proofs.AxiomSlots.{set_here, set_cases, set_there, any_set, axiom_within, same_sides}
+use Rattle.lis_kept.proofs.AxiomSlots.{set_here, set_cases, set_there, any_set, axiom_within, same_sides, set_back}
+use Rattle.std.specs.List.{filter}
+use Rattle.lis_model.specs.Changes.{has_axiom}
+use Rattle.lis_kept.proofs.AxiomsTold.{axiom_told}
 
 pub sorted_axioms : (k : Kept) → IsStrictlySortedBy pair_cmp (axioms_of k)
 sorted_axioms k = sorted_with_more pair_cmp pair_order [] (pairs_told k.dict k.axioms) (sorted_nil pair_cmp pair_order)
@@ -81,12 +81,7 @@ module _ (p : Kept) (sound : AreSound p) {slot : ℕ} {now : AxiomSlot} {axioms 
   }
 
   spelled_before : (area : Area) (n : ℕ) → n < (slots_of p.limits area).count → (block_of p.limits area n ≡ block_of p.limits Axioms slot → ⊥) → spelled after area n ≡ spelled p area n
-  spelled_before Properties n lt apart = refl
-  spelled_before Axioms n lt apart =
-      ap (λ xs. axiom_bytes (get_or xs n FreeAxiom)) one.axioms_are ∙ ap axiom_bytes (get_or-set_other p.axioms slot n now FreeAxiom (λ same. apart (ap (block_of p.limits Axioms) same)))
-  spelled_before Files n lt apart = refl
-  spelled_before Rows n lt apart = refl
-  spelled_before Bitmap n lt apart = refl
+  spelled_before area n lt apart = search (rules, get_or-set_other)
 
   pub marks_then : Marks 1 p after
   marks_then =
@@ -110,15 +105,10 @@ module _ (few : Kept) (sound : AreSound few) (marks : List Bool) {axioms : List 
   pairs_more x y = any_filled (is_pair x y) refl
 
   pub links_more : (x y : ℕ) → is_linked many x y ≡ (are_both left right x y || is_linked few x y)
-  links_more x y =
-      let own = is_own_link (declared_of few) (word_of few.dict x) (word_of few.dict y) in
-      ap (λ b. own || b) (pairs_more x y) ∙ or_swapped own (are_both left right x y) (has_pair few.axioms x y)
+  links_more x y = search (rules, pairs_more, or_swapped)
 
   pub used_then : (n : ℕ) → is_used many n ≡ ((left == n) || is_head_by (word_of few.dict left) (word_of few.dict n) || is_used few n)
-  used_then n =
-      ap₂ (λ a b. is_taken few.declared n || is_had few.ext n || (a || b)) (any_filled (is_left_of n) refl) (any_filled (is_left_head_of few.dict n) refl)
-      ∙ used_more (is_taken few.declared n) (is_had few.ext n) (left == n) (is_head_by (word_of few.dict left) (word_of few.dict n))
-      (list_any (is_left_of n) few.axioms) (list_any (is_left_head_of few.dict n) few.axioms)
+  used_then n = search (rules, any_filled, used_more)
 
   pub told_more : AreSound many → (l r : List ℕ) → word_of few.dict left ≡ Some l → word_of few.dict right ≡ Some r → axioms_of many ≡ with_axiom (axioms_of few) (l, r)
   told_more sound_many l r is_l is_r =
@@ -167,23 +157,10 @@ module _ (k p : Kept) (t u : Taxonomy) (left right slot : ℕ) (axioms : List Ax
   into = record { free = free; filled = filled }
 
   one : OneAxiom p slot (Pair left right) axioms marks
-  one = record { was = FreeAxiom; there = free; below = below; sound = new; axioms_are = filled; marked = marked }
-    where
-      new : (x y : ℕ) → ◌≡◌ {A = AxiomSlot} (Pair left right) (Pair x y) → IsSoundAxiom p slot x y
-      new x y same =
-          let sides = same_sides same in
-          record {
-            below = below;
-            left = ap is_some (ap (word_of p.dict) (sym sides.0) ∙ may.is_left);
-            right = ap is_some (ap (word_of p.dict) (sym sides.1) ∙ may.is_right);
-            plain = λ word is_y. subst (λ w. is_plain_word w ≡ true) (same_Some may.to word (sym may.is_right ∙ (ap (word_of p.dict) sides.1 ∙ is_y))) may.plain;
-          }
+  one = search (rules, same_sides, same_Some)
 
   edges_then : (x y : ℕ) → has_edge u x y ≡ is_linked linked x y
-  edges_then x y =
-      ap (λ (v : Taxonomy). has_edge v x y) linked_is ∙ (has_edge-with_edge t left right x y
-      ∙ (ap₂ (λ a b. (a && b) || has_edge t x y) (swapped x left) (swapped y right)
-      ∙ (ap (λ b. are_both left right x y || b) (held.links.edges x y) ∙ sym (links_more p held.sound marks into x y))))
+  edges_then x y = search (rules, has_edge-with_edge, swapped, links_more, into)
 
   pub links : AreHeld linked u × Links left right k linked
   links = (
@@ -221,3 +198,105 @@ link_refused p t held left right may x y fault r is present cycle absent lefts r
         let back = up_from_leads p held.sound t held.links right left may.to may.from may.is_right may.is_left leads in
         both_ways (has_word (up (declared_of p) (axioms_of p) may.to) may.from) may.no_circle (has_word_from_among (up (declared_of p) (axioms_of p) may.to) may.from back)
     by Absent said = absent said
+
+-- ---- an axiom that leaves its slot
+pub both_sides : (left right x y : ℕ) → are_both left right x y ≡ true → (left ≡ x) × (right ≡ y)
+both_sides left right x y is = let parts = and_parts (left == x) (right == y) is in (eqb-true left x parts.0, eqb-true right y parts.1)
+
+-- a test of all that passes where one passed is a test without it
+without_one : (b f g : Bool) → g ≡ (b || f) → (b ≡ true → f ≡ false) → f ≡ (not b && g)
+without_one b f g h1 h2 = search (rules)
+
+-- axioms that lack one, with it and then without it
+axiom_gone : (axioms : List (List ℕ × List ℕ)) (pair : List ℕ × List ℕ) → IsStrictlySortedBy pair_cmp axioms → has_axiom axioms pair ≡ false → axioms ≡ filter (λ e. not (same_pair e pair)) (with_axiom axioms pair)
+axiom_gone axioms pair sorted none =
+    same_sets pair_cmp pair_order axioms (filter (λ e. not (same_pair e pair)) (with_axiom axioms pair)) sorted
+    (IsStrictlySortedBy-filter pair_cmp (λ e. not (same_pair e pair)) (with_axiom axioms pair) (sorted_insert_key pair_cmp pair_order axioms pair sorted))
+    (λ e m. filter_among (λ e. not (same_pair e pair)) (with_axiom axioms pair) e (insert_key_old pair_cmp axioms pair e m)
+    (not_from_false (same_pair e pair) (false_from_ne_true (same_pair e pair) (λ same. both_ways (has_axiom axioms pair) none (any_from_among (λ x. same_pair x pair) axioms e m same)))))
+    (λ e m. let kept = among_filter (λ e. not (same_pair e pair)) (with_axiom axioms pair) e m in from e kept.1 (among_insert_key pair_cmp axioms pair e kept.0))
+  where
+    from : (e : List ℕ × List ℕ) → not (same_pair e pair) ≡ true → (pair ≡ e) ⊎ Among axioms e → Among axioms e
+    from e differ (inl same) =
+        absurd (both_ways (same_pair e pair) (not-true (same_pair e pair) differ)
+        (and_from (same_word e.0 pair.0) (same_word e.1 pair.1) ((same_word_decides e.0 pair.0).1 (ap (λ (x : List ℕ × List ℕ). x.0) (sym same))) ((same_word_decides e.1 pair.1).1 (ap (λ (x : List ℕ × List ℕ). x.1) (sym same)))))
+    from e differ (inr m) = m
+
+-- ---- over what memory kept
+module _ (k p : Kept) (t u : Taxonomy) (left right slot : ℕ) (axioms : List AxiomSlot) (marks : List Bool) (is : p ≡ k) (held : AreHeld p t) (may : MayUnlink left right p)
+    (there : slice_get p.axioms slot ≡ Some (Pair left right)) (emptied : axioms ≡ set p.axioms slot FreeAxiom) (unlinked_is : u ≡ without_edge t left right)
+    (marked : marks ≡ set p.marks (block_of p.limits Axioms slot) true) where
+  abbrev unlinked : Kept
+  unlinked = record p { axioms = axioms; marks = marks }
+
+  one_gone : OneAxiom p slot FreeAxiom axioms marks
+  one_gone = record {
+    was = Pair left right;
+    there = there;
+    below = (held.sound.axioms slot left right there).below;
+    sound = λ x y same. absurd (let none : ◌≡◌ {A = AxiomSlot} FreeAxiom (Pair x y) = same in cc);
+    axioms_are = emptied;
+    marked = marked;
+  }
+
+  sound_gone : AreSound unlinked
+  sound_gone = sound_then p held.sound one_gone
+
+  -- memory was what it is now with the axiom
+  into_before : IsFilled axioms p.axioms slot left right
+  into_before = search (rules, set_here, set_back)
+
+  -- no other slot has it
+  pair_gone : has_pair axioms left right ≡ false
+  pair_gone = false_from_ne_true (has_pair axioms left right) (λ has.
+      let at = pair_slot axioms left right has in
+      by at.0 (cases_then p held.sound one_gone at.0 (Pair left right) at.1))
+    where
+      by : (at : ℕ) → ((at ≡ slot) × (◌≡◌ {A = AxiomSlot} FreeAxiom (Pair left right))) ⊎ ((at ≡ slot → ⊥) × (slice_get p.axioms at ≡ Some (Pair left right))) → ⊥
+      by at (inl new) = let none = new.1 in cc
+      by at (inr old) = old.0 (may.once at slot old.1 there)
+
+  gone_at : (x y : ℕ) → are_both left right x y ≡ true → has_pair axioms x y ≡ false
+  gone_at x y is = let sides = both_sides left right x y is in subst (λ n. has_pair axioms n y ≡ false) sides.0 (subst (λ n. has_pair axioms left n ≡ false) sides.1 pair_gone)
+
+  pairs_then : (x y : ℕ) → has_pair axioms x y ≡ (not (are_both left right x y) && has_pair p.axioms x y)
+  pairs_then x y = without_one (are_both left right x y) (has_pair axioms x y) (has_pair p.axioms x y) (pairs_more unlinked sound_gone p.marks into_before x y) (gone_at x y)
+
+  links_then : (x y : ℕ) → is_linked unlinked x y ≡ (not (are_both left right x y) && is_linked p x y)
+  links_then x y = without_one (are_both left right x y) (is_linked unlinked x y) (is_linked p x y) (links_more unlinked sound_gone p.marks into_before x y)
+      (λ is. ap₂ (λ a b. a || b) (own_to_plain (declared_of p) (word_of p.dict x) (word_of p.dict y) (λ to at. may.plain to (ap (word_of p.dict) (both_sides left right x y is).1 ∙ at))) (gone_at x y is))
+
+  edges_gone : (x y : ℕ) → has_edge u x y ≡ is_linked unlinked x y
+  edges_gone x y = search (rules, has_edge-without_edge, swapped, links_then)
+
+  told_then : (l r : List ℕ) → word_of p.dict left ≡ Some l → word_of p.dict right ≡ Some r → axioms_of unlinked ≡ filter (λ e. not (same_pair e (l, r))) (axioms_of p)
+  told_then l r is_l is_r =
+      axiom_gone (axioms_of unlinked) (l, r) (sorted_axioms unlinked) (axiom_told unlinked sound_gone left right l r is_l is_r ∙ pair_gone)
+      ∙ ap (filter (λ e. not (same_pair e (l, r)))) (sym (told_more unlinked sound_gone p.marks into_before held.sound l r is_l is_r))
+
+  pub unlinks : AreHeld unlinked u × Unlinks left right k unlinked
+  unlinks = (
+    record { sound = sound_gone; links = record { props = ap (λ (v : Taxonomy). v.props) unlinked_is ∙ held.links.props; edges = edges_gone } },
+    subst (λ (x : Kept). Unlinks left right x unlinked) is (record {
+      slot = slot;
+      below = one_gone.below;
+      there = there;
+      parts = cc (emptied, marked);
+      marks = marks_then p held.sound one_gone;
+      pairs = pairs_then;
+      linked = links_then;
+      state = λ at l r is_l is_r. ap (λ (xs : List (List ℕ × List ℕ)). record (state_of p at) { axioms = xs }) (told_then l r is_l is_r);
+      used = used_then unlinked sound_gone p.marks into_before;
+    }),
+  )
+
+-- ---- why its edge is not missing
+pub unlink_missed : {T : Type 0} (p : Kept) (t : Taxonomy) → AreHeld p t → (left right : ℕ) → MayUnlink left right p → (x y : ℕ) (fault : EdgeFault) (r : Result T EdgeFault) → r ≡ Err fault
+    → ((r ≡ Err Absent) ↔ (has_edge t x y ≡ false)) → r ≡ Err Absent → x ≡ left → y ≡ right → ⊥
+unlink_missed p t held left right may x y fault r is absent only lefts rights =
+    both_ways (has_edge t left right) (subst (λ n. has_edge t left n ≡ false) rights (subst (λ n. has_edge t n y ≡ false) lefts (absent.0 only)))
+    (held.links.edges left right ∙ by (is_own_link (declared_of p) (word_of p.dict left) (word_of p.dict right)))
+  where
+    by : (b : Bool) → (b || has_pair p.axioms left right) ≡ true
+    by true = refl
+    by false = may.there
