@@ -1,13 +1,11 @@
 -- The row of a new file, told by what a store keeps, is the row of the state; and what holds where it refuses nothing.
-use Rattle.std.proofs.Common.{◌≡◌, refl, sym, ap, ap₂, ◌∙◌, subst, ℕ, ◌≤◌, nat_lt, nat_le, Bool, true, false, not, cond, is_some, Option, Some, None, List, [], ◌∷◌, ◌++◌, length, Result, Err, arith, ◌⊎◌, inl, inr}
-use Rattle.lis_store.proofs.Common.{list_any, list_all, ltb-false, not-false, ltb-true, leb-true, Meaning, free_count, slot_of, Formula, word_cmp, is_file_name, is_built_in, Limits, Refusal, UnknownProperty, NameTaken, LargeFile, NoSpace, place_words, State, File, is_assignable, file_limit, blocks_taken, file_words, description, file_cmp, has_name, new_file, file_added, Situation, Payload, assigned_at, free_blocks, add, exceeds_words, exceeds_known, word_order, rising_from_sorted, Kept, declared_of, Among, among_insert_key, with_words}
-use Rattle.std.proofs.lemmas.Bool.{leb-false}
+use Rattle.lis_store.proofs.Common.{◌≡◌, refl, sym, ap, ap₂, ◌∙◌, subst, ℕ, ◌≤◌, nat_lt, nat_le, Bool, true, false, not, cond, is_some, Option, Some, None, List, [], ◌∷◌, ◌++◌, length, Result, Err, arith, ◌⊎◌, inl, inr, list_any, list_all, ltb-false, not-false, ltb-true, leb-true, Meaning, free_count, slot_of, Formula, word_cmp, is_file_name, is_built_in, Limits, Refusal, UnknownProperty, NameTaken, LargeFile, NoSpace, place_words, State, File, is_assignable, file_limit, blocks_taken, all_up, met_tests, derived_words, derived_built_in, description, file_cmp, has_name, new_file, file_added, Situation, Payload, assigned_at, free_blocks, add, exceeds_words, exceeds_known, word_order, rising_from_sorted, Kept, declared_of, Among, among_insert_key, with_words, leb-false, known, changed, all_among, all_from, among_from_any, any_from_among, same_tests}
 use Rattle.lis_model.specs.declared.refusal.Refusal.TheVariants.{NotAPlace, NotAssignable, TooManyAssigned, NoFileRoom, BuiltIn, LargeDescription, NoPropertyRoom}
-use Rattle.lis_model.specs.State.{known}
-use Rattle.lis_model.specs.Step.{changed, is_head_or_test, room_checks as told_room, add_checks}
-use Rattle.lis_laws.proofs.Counts.{all_among}
+use Rattle.lis_model.specs.Step.{is_head_or_test, room_checks as told_room, add_checks}
+use Rattle.lis_laws.proofs.Derived.{derived_few}
 use Rattle.lis_store.specs.Stored.{Stored, IsSound, StoreHolds}
 use Rattle.lis_store.proofs.ToldBy.{ToldBy, told_held}
+use Rattle.lis_store.specs.Drafts.{with_own, draft_of, AreOwnWords}
 use Rattle.lis_store.specs.Admitting.{described_by, known_with, named_checks, room_checks, add_checks_of, IsAdmitted}
 use Rattle.lis_store.specs.Beside.{words_checks, words_beside, known_beside}
 use Rattle.lis_store.specs.declared.change.Change.{Change}
@@ -16,10 +14,8 @@ use Rattle.lis_store.specs.Changes.{Holds, first_refusal}
 use Rattle.lis_store.proofs.Assigned.{sorted_assigned}
 use Rattle.lis_store.proofs.Facts.{known_told, name_filed, files_counted, limits_told}
 use Rattle.lis_store.proofs.Judged.{refused_then, AllPass, all_pass, same_behind, judged_refused, judged_done, change_refused}
-use Rattle.lis_graph.proofs.Members.{among_from_any, any_from_among}
 use Rattle.lis_laws.proofs.Growth.{known_adds_file}
 use Rattle.lis_laws.proofs.Named.{file_there}
-use Rattle.lis_laws.proofs.Locals.{same_tests}
 use Rattle.lis_store.proofs.FreeBlocks.{used_told}
 
 -- ---- what words are refused for, beside all files or in the place of one
@@ -33,15 +29,16 @@ module _ (k : Stored) (s : State) (sound : IsSound k) (fits : ToldBy k s) where
   pub declared_are : declared_of kept ≡ s.declared
   declared_are = ap (λ (t : State). t.declared) fits.tells.state
 
-  described_are : (file : File) → described_by kept file ≡ description s file
-  described_are file = ap₂ (λ declared axioms. file_words declared axioms file) declared_are (ap (λ (t : State). t.axioms) fits.tells.state)
+  described_are : (file : File) (own : List (List ℕ)) → AreOwnWords s.declared s.axioms own file → described_by kept (with_own file own) ≡ description s file
+  described_are file own are_own =
+      ap₂ (λ declared axioms. all_up declared axioms (file.assigned ++ own ++ met_tests declared (length file.bytes))) declared_are (ap (λ (t : State). t.axioms) fits.tells.state) ∙ are_own
 
   pub free_are : free_count kept.taken ≡ free_blocks s
   free_are = omega (arith, used_told k s sound fits)
 
   -- of the files some are left, and memory tells the words that are known then
   module _ (old : Option ℕ) (files : List File) (left : (f : File) → Among files f → Among s.files f) (known_are : words_beside kept old ≡ known (record s { files = files }))
-      (file : File) (new : has_name files file.name ≡ false) where
+      (file : File) (own : List (List ℕ)) (are_own : AreOwnWords s.declared s.axioms own file) (new : has_name files file.name ≡ false) where
     abbrev rest : State
     rest = record s { files = files }
 
@@ -52,8 +49,8 @@ module _ (k : Stored) (s : State) (sound : IsSound k) (fits : ToldBy k s) where
     large f = nat_lt 128 (length (description s f))
 
     -- the others have few words, so the new one alone may have too many
-    large_told : nat_lt 128 (length (described_by kept file)) ≡ exceeds_words made
-    large_told = ap (λ ws. nat_lt 128 (length ws)) (described_are file) ∙ same_tests (large file) (list_any large made.files) to from
+    large_told : nat_lt 128 (length (described_by kept (with_own file own))) ≡ exceeds_words made
+    large_told = ap (λ ws. nat_lt 128 (length ws)) (described_are file own are_own) ∙ same_tests (large file) (list_any large made.files) to from
       where
         to : large file ≡ true → list_any large made.files ≡ true
         to h = any_from_among large made.files file (file_there rest file new) h
@@ -67,16 +64,23 @@ module _ (k : Stored) (s : State) (sound : IsSound k) (fits : ToldBy k s) where
                 let few = leb-true (length (description s f)) 128 (all_among (λ (f : File). nat_le (length (description s f)) 128) s.files f fits.tells.formed.files.few_words (left f old)) in
                 absurd (omega (arith, few, ltb-true 128 (length (description s f)) too))
 
-    room_told : nat_lt kept.limits.props (length (known_beside kept old file)) ≡ exceeds_known made
+    room_told : nat_lt kept.limits.props (length (known_beside kept old (with_own file own))) ≡ exceeds_known made
     room_told =
         ap₂ (λ props ws. nat_lt props (length ws)) (ap (λ (l : Limits). l.props) limits_are)
-        (ap₂ with_words known_are (described_are file) ∙ sym (known_adds_file rest fits.tells.formed.declared_set file new))
+        (ap₂ with_words known_are (described_are file own are_own) ∙ sym (known_adds_file rest fits.tells.formed.declared_set file new))
 
     pub words_row : (checks others : List (Bool × Refusal)) → first_refusal checks ≡ first_refusal others
-        → first_refusal (words_checks kept old file ++ checks) ≡ first_refusal (told_room made ++ others)
+        → first_refusal (words_checks kept old (with_own file own) ++ checks) ≡ first_refusal (told_room made ++ others)
     words_row checks others same =
         ap₂ (λ large full. cond large (Some LargeDescription) (cond full (Some NoPropertyRoom) (first_refusal checks))) large_told room_told
         ∙ ap (λ r. cond (exceeds_words made) (Some LargeDescription) (cond (exceeds_known made) (Some NoPropertyRoom) r)) same
+
+-- ---- derived words
+pub derived_own : (name bytes : List ℕ) → list_all is_built_in (derived_words name bytes) ≡ true
+derived_own name bytes = all_from is_built_in (derived_words name bytes) (derived_built_in name bytes)
+
+pub derived_few_own : (name bytes : List ℕ) → length (derived_words name bytes) ≤ 128
+derived_few_own name bytes = omega (arith, derived_few name bytes)
 
 -- ---- the row, part by part
 abbrev pub front_checks : Kept → List Formula → List (List ℕ) → File → ℕ → List (Bool × Refusal)
@@ -84,11 +88,11 @@ front_checks k place words file size = (nat_lt (file_limit k.limits.version) siz
 
 pub room_refused : (k : Kept) (place : List Formula) (name : List ℕ) (words : List (List ℕ)) (bytes : List ℕ) (size : ℕ) (given : List (List ℕ)) → given ≡ assigned_at place words
     → first_refusal (front_checks k place words (new_file name (assigned_at place words) bytes) size) ≡ None → (refusal : Refusal)
-    → first_refusal (room_checks k (new_file name given bytes) size) ≡ Some refusal → first_refusal (add_checks_of k place name words bytes size) ≡ Some refusal
+    → first_refusal (room_checks k (draft_of (new_file name given bytes)) size) ≡ Some refusal → first_refusal (add_checks_of k place name words bytes size) ≡ Some refusal
 room_refused k place name words bytes size given is named refusal first =
     let new = new_file name (assigned_at place words) bytes in
-    refused_then (front_checks k place words new size) (room_checks k new size) named
-    ∙ (ap (λ ws. first_refusal (room_checks k (new_file name ws bytes) size)) (sym is) ∙ first)
+    refused_then (front_checks k place words new size) (room_checks k (draft_of new) size) named
+    ∙ (ap (λ ws. first_refusal (room_checks k (draft_of (new_file name ws bytes)) size)) (sym is) ∙ first)
 
 pub none_there : {X : Type 0} (o : Option X) → is_some o ≡ false → o ≡ None
 none_there None e = refl
@@ -112,7 +116,7 @@ module _ (k : Kept) (place : List Formula) (name : List ℕ) (words : List (List
   small : size ≤ file_limit k.limits.version
   small = ltb-false (file_limit k.limits.version) size row.0
 
-  pub admitted : IsAdmitted k let_in
+  pub admitted : IsAdmitted k (draft_of let_in)
   admitted =
       let own = row.1.1.1.1.1 in
       let room = own.1.1 in
@@ -122,9 +126,11 @@ module _ (k : Kept) (place : List Formula) (name : List ℕ) (words : List (List
         set = rising_from_sorted word_cmp word_order let_in.assigned (sorted_assigned place words);
         assignable = not-false (list_all (is_assignable (declared_of k)) let_in.assigned) own.0;
         few = ltb-false 16 (length let_in.assigned) own.1.0;
+        own = derived_own name bytes;
+        few_own = derived_few_own name bytes;
         slots = leb-false k.limits.files (length k.catalog.entries) room.0;
-        short = ltb-false 128 (length (described_by k let_in)) room.1.0;
-        room = ltb-false k.limits.props (length (known_with k let_in)) room.1.1.0;
+        short = ltb-false 128 (length (described_by k (draft_of let_in))) room.1.0;
+        room = ltb-false k.limits.props (length (known_with k (draft_of let_in))) room.1.1.0;
         small = omega (arith, whole small, small);
       }
 
@@ -165,8 +171,8 @@ module _ (k : Stored) (s : State) (sound : IsSound k) (fits : ToldBy k s) (place
         let full : Bool × Refusal = (nat_lt (free_count p.taken) (blocks_taken p.limits.version size), NoSpace) in
         let full_told : Bool × Refusal = (nat_lt (free_blocks s) (blocks_taken s.limits.version size), NoSpace) in
         let rest = told_room (file_added s new_one) ++ full_told ∷ [] in
-        same_behind (front p.limits (is_some (slot_of p.catalog name)) (declared_of p) (length p.catalog.entries)) (words_checks p None new_one ++ full ∷ []) rest
-        (λ passes. words_row k s sound fits None s.files (λ f m. m) (known_told p fits.kept s sound.parts sound.free fits.tells) new_one (named ∙ passes.1.0) (full ∷ []) (full_told ∷ [])
+        same_behind (front p.limits (is_some (slot_of p.catalog name)) (declared_of p) (length p.catalog.entries)) (words_checks p None (draft_of new_one) ++ full ∷ []) rest
+        (λ passes. words_row k s sound fits None s.files (λ f m. m) (known_told p fits.kept s sound.parts sound.free fits.tells) new_one (derived_words name bytes) refl (named ∙ passes.1.0) (full ∷ []) (full_told ∷ [])
         (ap₂ (λ free (l : Limits). cond (nat_lt free (blocks_taken l.version size)) (Some NoSpace) None) (free_are k s sound fits) limits))
         ∙ (ap₂ (λ l taken. first_refusal (front l taken (declared_of p) (length p.catalog.entries) ++ rest)) limits (sym named)
         ∙ ap₂ (λ declared files. first_refusal (front s.limits (has_name s.files name) declared files ++ rest)) (declared_are k s sound fits) (sym (files_counted p fits.kept s sound.parts sound.free fits.tells)))

@@ -1,26 +1,20 @@
--- The words that a new file is given: which they are, and how they are put into a set.
-use Rattle.std.proofs.Common.{◌≡◌, ◌⊎◌, refl, sym, ap, ap₂, ◌∙◌, subst, inl, inr, ℕ, suc, ◌+◌, ◌<◌, nat_le, Bool, true, false, cond, ◌&&◌, ◌||◌, is_some, IsSome, Option, Some, None, List, [], ◌∷◌, ◌++◌, length, take, drop, get_or, filter, slice_get, append-nil, arith}
-use Rattle.lis_store.proofs.Common.{unwrap_or, flat_map, list_all, IsStrictlySortedBy, Ordering, Less, Equal, Greater, match_ordering, tied_itself, and-true, and-false, or-false, and_parts, or_cases, leb-true, take_more, IsStrictlySortedBy-filter, Among, among_filter, filter_among, among_flat_map, sorted_nil, word_cmp, same_word, has_word, is_plain_word, is_valued, head_bytes, Formula, Node, nodes_of, node_words, with_word, with_words, place_words, is_assignable, assigned_at, word_exact, word_order, same_word_decides, among_from_has_word, among_with_words, with_words_new, among_set_of, sorted_with_words, sorted_set_of, plain_not_valued, Kept, is_declared, declared_of}
-use Rattle.std.specs.Prelude.{option_map}
+-- The words of a place: which a new file is given and how they are put into a set, and the numbers of those under which a word is declared.
+use Rattle.lis_store.proofs.Common.{common_steps, rules, ◌≡◌, ◌⊎◌, refl, sym, ap, ap₂, ◌∙◌, subst, inl, inr, ℕ, suc, ◌+◌, ◌<◌, nat_le, Bool, true, false, cond, ◌&&◌, ◌||◌, is_some, IsSome, Option, Some, None, List, [], ◌∷◌, ◌++◌, length, take, drop, get_or, filter, slice_get, append-nil, arith, ◌≤◌, option_to_list, length-append, unwrap_or, flat_map, list_all, IsStrictlySortedBy, Ordering, Less, Equal, Greater, match_ordering, and-true, and-false, or-false, and_parts, or_cases, leb-true, take_more, IsStrictlySortedBy-filter, Among, among_filter, filter_among, among_flat_map, sorted_nil, word_cmp, same_word, has_word, is_plain_word, is_valued, head_bytes, Formula, Node, nodes_of, node_words, with_word, with_words, place_words, is_assignable, assigned_at, word_exact, word_order, same_word_decides, among_from_has_word, among_with_words, with_words_new, among_set_of, sorted_with_words, sorted_set_of, plain_not_valued, Kept, is_declared, declared_of, take_all, Contains-get_or, among_from_contains, among_insert_key, insert_key_old, sorted_insert_key, number_of, word_of, word_from_number, words_at, all_weaker, AreSound, word_among, option_map, and_from, or_left, or_right, both_ways, leb-false, le-leb, false_from_ne_true, flat_map-append, flat_map_among, set_of, tags_at, has_word_from_among, with_words_old, set_of_among, same_words, all_among, all_from, same_tests, has_number, words_told, declared_there}
 use Rattle.std.specs.List.{prefix_len, insert}
 use Rattle.std.specs.Ordering.{is_gt}
-use Rattle.std.proofs.lemmas.Bool.{and_from, or_left, or_right, both_ways, leb-false, le-leb, false_from_ne_true}
 use Rattle.std.proofs.lemmas.List.{take-append-drop}
 use Rattle.std.proofs.lemmas.List.Folds.{list_all-append}
-use Rattle.std.proofs.lemmas.Grind.{flat_map-append}
-use Rattle.lis_graph.proofs.Members.{flat_map_among}
 use Rattle.lis_grammar.specs.Formula.Formula.{Has, SizeAtLeast, SizeBelow, Negation, Both, Either}
-use Rattle.lis_place.specs.declared.node.Node.TheVariants.{Not, And, Or}
+use Rattle.lis_place.specs.declared.node.Node.TheVariants.{Not, And, Or, Word}
 use Rattle.lis_place.specs.Nodes.{tree_node_list}
-use Rattle.lis_model.specs.Sets.{set_of}
 use Rattle.lis_model.specs.Places.{both_lists, conjuncts, all_conjuncts, is_tag}
-use Rattle.lis_model.specs.Step.{tags_at}
-use Rattle.lis_laws.proofs.Members.{has_word_from_among, with_words_old, set_of_among, same_words}
-use Rattle.lis_laws.proofs.Counts.{all_among, all_from}
-use Rattle.lis_laws.proofs.Locals.{same_tests}
-use Rattle.lis_kept.proofs.WordMore.{declared_there, there_declared}
+use Rattle.lis_model.specs.Step.{is_plain_place}
+use Rattle.lis_laws.proofs.Counts.{all_insert_key}
+use Rattle.lis_kept.proofs.WordMore.{there_declared}
 use Rattle.lis_store.proofs.Told.{words_grow}
 use Rattle.lis_store.specs.Assigning.{is_conjunct, node_tags, is_held, Takes}
+use Rattle.lis_content.proofs.Numbers.{distinct_more}
+use Rattle.lis_store.specs.Placing.{is_plain_conjunct, declared_number, AreNumbersOf, TakesNumbers}
 
 -- ---- the words of a place
 abbrev words_if : Bool → List (List ℕ) → Option (List (List ℕ))
@@ -57,8 +51,7 @@ tree_words (Has word) = refl
 tree_words (SizeAtLeast n) = refl
 tree_words (SizeBelow n) = refl
 tree_words (Negation f) = with_other (tree_node_list f) Not refl
-tree_words (Both f g) =
-    ap₂ both_lists (tree_words f) (tree_words g) ∙ (parts_joined (tree_node_list f) (tree_node_list g) ∙ with_and (tree_node_list f ++ tree_node_list g))
+tree_words (Both f g) = search (rules, parts_joined, with_and, tree_words f, tree_words g)
 tree_words (Either f g) = with_other (tree_node_list f ++ tree_node_list g) Or refl
 
 steps_words : (steps : List Formula) → all_conjuncts steps ≡ words_if (are_conjuncts (nodes_of steps)) (words_in (nodes_of steps))
@@ -69,11 +62,7 @@ pub place_words_are : (place : List Formula) → place_words place ≡ option_ma
 place_words_are place = ap (option_map set_of) (steps_words place)
 
 pub place_has_words : (place : List Formula) → list_all is_conjunct (nodes_of place) ≡ is_some (place_words place)
-place_has_words place = by (are_conjuncts (nodes_of place)) refl ∙ ap (λ (o : Option (List (List ℕ))). is_some (option_map set_of o)) (sym (steps_words place))
-  where
-    by : (b : Bool) → are_conjuncts (nodes_of place) ≡ b → b ≡ is_some (option_map set_of (words_if b (words_in (nodes_of place))))
-    by true e = refl
-    by false e = refl
+place_has_words place = search (rules, steps_words)
 
 -- ---- the words that its files can be given
 node_tag : (nodes : List Node) (w : List ℕ) → Among (filter is_tag (set_of (words_in nodes))) w → Among (flat_map node_tags nodes) w
@@ -89,16 +78,10 @@ tag_node nodes w m =
     filter_among is_tag (set_of (words_in nodes)) w (set_of_among (words_in nodes) w (flat_map_among node_words nodes of_node.0 w of_node.1 tag.0)) tag.1
 
 tags_are : (nodes : List Node) → filter is_tag (set_of (words_in nodes)) ≡ set_of (flat_map node_tags nodes)
-tags_are nodes =
-    same_words (filter is_tag (set_of (words_in nodes))) (set_of (flat_map node_tags nodes))
-    (IsStrictlySortedBy-filter word_cmp is_tag (set_of (words_in nodes)) (sorted_set_of (words_in nodes))) (sorted_set_of (flat_map node_tags nodes))
-    (λ w m. set_of_among (flat_map node_tags nodes) w (node_tag nodes w m)) (λ w m. tag_node nodes w (among_set_of (flat_map node_tags nodes) w m))
+tags_are nodes = search (rules, same_words, IsStrictlySortedBy-filter, sorted_set_of, set_of_among, node_tag, tag_node, among_set_of)
 
 pub tags_of_nodes : (place : List Formula) → IsSome (place_words place) → tags_at place ≡ set_of (flat_map node_tags (nodes_of place))
-tags_of_nodes place some =
-    ap (λ (o : Option (List (List ℕ))). unwrap_or (option_map (filter is_tag) (option_map set_of o)) [])
-    (steps_words place ∙ ap (λ b. words_if b (words_in (nodes_of place))) (place_has_words place ∙ some))
-    ∙ tags_are (nodes_of place)
+tags_of_nodes place some = search (rules, steps_words, place_has_words, tags_are)
 
 pub assigned_is : (place : List Formula) (words : List (List ℕ)) → IsSome (place_words place) → assigned_at place words ≡ with_words (set_of (flat_map node_tags (nodes_of place))) words
 assigned_is place words some = ap (λ ws. with_words ws words) (tags_of_nodes place some)
@@ -145,10 +128,7 @@ all_flat test (node ∷ nodes) = list_all-append test (node_tags node) (flat_map
 
 pub all_assigned : (test : List ℕ → Bool) (place : List Formula) (words : List (List ℕ)) → IsSome (place_words place)
     → list_all test (assigned_at place words) ≡ (list_all (λ node. list_all test (node_tags node)) (nodes_of place) && list_all test words)
-all_assigned test place words some =
-    let tags = flat_map node_tags (nodes_of place) in
-    ap (list_all test) (assigned_is place words some)
-    ∙ (all_with test (set_of tags) words ∙ ap (λ b. b && list_all test words) (all_with test [] tags ∙ all_flat test (nodes_of place)))
+all_assigned test place words some = search (rules, assigned_is, all_with, all_flat)
 
 -- ---- a word at its place in a set
 one_more : (n : ℕ) → 1 + n ≡ suc n
@@ -160,17 +140,7 @@ module _ (word : List ℕ) where
 
   pub put_there : (words : List (List ℕ)) → is_held (slice_get words (place_in words)) word ≡ true → with_word words word ≡ words
   put_there [] h = absurd cc
-  put_there (w ∷ words) h = by (word_cmp word w) refl h (put_there words)
-    where
-      by : (o : Ordering) → word_cmp word w ≡ o → is_held (slice_get (w ∷ words) (cond (is_gt o) (1 + place_in words) 0)) word ≡ true
-          → (is_held (slice_get words (place_in words)) word ≡ true → with_word words word ≡ words)
-          → match_ordering o (word ∷ w ∷ words) (w ∷ words) (w ∷ with_word words word) ≡ w ∷ words
-      by Less e h more =
-          let same = (same_word_decides w word).0 h in
-          let level : word_cmp word w ≡ Equal = ap (word_cmp word) same ∙ tied_itself word_order word in
-          absurd cc
-      by Equal e h more = refl
-      by Greater e h more = let h' = rw (one_more (place_in words)) at h in ap (λ ws. w ∷ ws) (more h')
+  put_there (w ∷ words) h = search (rules, same_word_decides, word_order, one_more, put_there words)
 
   pub put_new : (words : List (List ℕ)) → is_held (slice_get words (place_in words)) word ≡ false → insert words (place_in words) word ≡ with_word words word
   put_new [] h = refl
@@ -189,12 +159,7 @@ with_words-append words [] others = refl
 with_words-append words (w ∷ more) others = with_words-append (with_word words w) more others
 
 pub takes_more : (more others old mid new : List (List ℕ)) (fits : Bool) → Takes more old mid true → Takes others mid new fits → Takes (more ++ others) old new fits
-takes_more more others old mid new fits first next =
-    let all : with_words old (more ++ others) ≡ with_words mid others = with_words-append old more others ∙ ap (λ ws. with_words ws others) (sym (first.words refl)) in
-    record {
-      room = next.room ∙ ap (λ (ws : List (List ℕ)). nat_le (length ws) 16) (sym all);
-      words = λ h. next.words h ∙ sym all;
-    }
+takes_more more others old mid new fits first next = grind (arith, common_steps, with_words-append)
 
 -- where there is no room for some, there is none for all
 pub takes_not : (more others old mid : List (List ℕ)) → Takes more old mid false → Takes (more ++ others) old mid false
@@ -259,3 +224,95 @@ valued_assignable k word plain valued =
 
 pub not_assignable : (k : Kept) (word : List ℕ) → is_plain_word word ≡ false → is_valued word ≡ false → false ≡ is_assignable (declared_of k) word
 not_assignable k word plain bare = sym (ap₂ (λ p v. (p && has_word (declared_of k) word) || (v && has_word (declared_of k) (head_bytes word))) plain bare)
+
+-- ---- the words under which a word is declared
+-- ---- plain words
+module _ (nodes : List Node) where
+  plain_then : list_all is_plain_conjunct nodes ≡ true → list_all is_plain_word (set_of (words_in nodes)) ≡ true
+  plain_then h = all_from is_plain_word (set_of (words_in nodes)) (λ w m.
+      let found = among_flat_map node_words nodes w (among_set_of (words_in nodes) w m) in
+      all_among is_plain_word (node_words found.0) w (and_parts (is_conjunct found.0) (list_all is_plain_word (node_words found.0)) (all_among is_plain_conjunct nodes found.0 h found.1)).1 found.2)
+
+  then_plain : list_all is_conjunct nodes ≡ true → list_all is_plain_word (set_of (words_in nodes)) ≡ true → list_all is_plain_conjunct nodes ≡ true
+  then_plain all h = all_from is_plain_conjunct nodes (λ node m.
+      and_from (is_conjunct node) (list_all is_plain_word (node_words node)) (all_among is_conjunct nodes node all m)
+      (all_from is_plain_word (node_words node) (λ w of. all_among is_plain_word (set_of (words_in nodes)) w h (set_of_among (words_in nodes) w (flat_map_among node_words nodes node w m of)))))
+
+  plain_nodes : (b : Bool) → list_all is_conjunct nodes ≡ b → list_all is_plain_conjunct nodes ≡ is_plain_place (option_map set_of (cond b (Some (words_in nodes)) None))
+  plain_nodes b all = search (rules, same_tests, plain_then, then_plain, false_from_ne_true, both_ways, all_weaker, and_parts)
+
+pub plain_place : (place : List Formula) → list_all is_plain_conjunct (nodes_of place) ≡ is_plain_place (place_words place)
+plain_place place = plain_nodes (nodes_of place) (list_all is_conjunct (nodes_of place)) refl ∙ ap is_plain_place (sym (place_words_are place))
+
+-- ---- the words of a place
+words_of_nodes : (place : List Formula) → IsSome (place_words place) → words_at place ≡ set_of (words_in (nodes_of place))
+words_of_nodes place some =
+    ap (λ (o : Option (List (List ℕ))). unwrap_or o [])
+    (place_words_are place ∙ ap (λ b. option_map set_of (cond b (Some (words_in (nodes_of place))) None)) (place_has_words place ∙ some))
+
+-- a word of the set is there already
+with_word_same : (words : List (List ℕ)) (word : List ℕ) → IsStrictlySortedBy word_cmp words → Among words word → with_word words word ≡ words
+with_word_same words word sorted there = search (rules, same_words, sorted_insert_key, word_order, among_insert_key, insert_key_old)
+
+-- ---- numbers that come one after another
+pub declared_is : (k : Kept) (word : List ℕ) (n : ℕ) → declared_number k word ≡ Some n → (is_declared k word ≡ true) × (number_of k.dict word ≡ Some n)
+declared_is k word n is = search (rules)
+
+pub takes_no_numbers : (k : Kept) (ns : List ℕ) → TakesNumbers k [] ns ns true
+takes_no_numbers k ns = record { declared = refl; few = omega arith; numbers = λ fits words are. are }
+
+module _ (k : Kept) (word : List ℕ) (ns : List ℕ) where
+  module _ (sound : AreSound k) (n : ℕ) (declared : is_declared k word ≡ true) (numbered : number_of k.dict word ≡ Some n) where
+    named : word_of k.dict n ≡ Some word
+    named = word_from_number k.dict sound.dict word n numbered
+
+    pub takes_again : has_number ns n ≡ true → TakesNumbers k (word ∷ []) ns ns true
+    takes_again has = record {
+      declared = sym (ap (λ b. b && true) declared);
+      few = omega arith;
+      numbers = λ fits words are.
+          let sorted = subst (λ ws. IsStrictlySortedBy word_cmp ws) are.told (sorted_set_of (flat_map (λ i. option_to_list (word_of k.dict i)) ns)) in
+          let there = subst (λ ws. Among ws word) are.told (word_among k sound ns n word named has) in
+          subst (λ ws. AreNumbersOf k ws ns) (sym (with_word_same words word sorted there)) are;
+    }
+
+    told_more : words_told k.dict (ns ++ n ∷ []) ≡ with_word (words_told k.dict ns) word
+    told_more = search (rules, flat_map-append, named, with_words-append)
+
+    pub takes_new : has_number ns n ≡ false → (more : List ℕ) → more ≡ ns ++ n ∷ [] → TakesNumbers k (word ∷ []) ns more true
+    takes_new new more is = search (rules, length-append, all_insert_key, distinct_more, named, list_all-append, and_from, told_more)
+
+-- ---- the word of a node
+pub no_word : (node : Node) → ((word : List ℕ) → node ≡ Word word → ⊥) → node_words node ≡ []
+no_word node none = search (rules)
+
+few_words : (node : Node) → length (node_words node) ≤ 1
+few_words node = search (rules)
+
+-- ---- a loop over nodes
+-- the numbers of the words of these nodes
+abbrev pub AreNumbersIn : Kept → List Node → List ℕ → Type 0
+AreNumbersIn k nodes numbers = AreNumbersOf k (set_of (flat_map node_words nodes)) numbers
+
+pub among_item : (nodes : List Node) (i : ℕ) (node : Node) → i < length nodes → node ≡ get_or nodes i node → Among nodes node
+among_item nodes i node lt is = subst (λ n. Among nodes n) (sym is) (among_from_contains nodes (get_or nodes i node) (Contains-get_or nodes i node lt))
+
+pub numbers_next : (k : Kept) (nodes : List Node) (i : ℕ) (node : Node) → i < length nodes → node ≡ get_or nodes i node → (old new : List ℕ) (fits : Bool) → fits ≡ true → length old ≤ i
+    → AreNumbersIn k (take i nodes) old → TakesNumbers k (node_words node) old new fits → (length new ≤ i + 1) × AreNumbersIn k (take (i + 1) nodes) new
+numbers_next k nodes i node lt is old new fits fit few are takes = grind (arith, common_steps, with_words-append, flat_next, few_words)
+
+pub numbers_all : (k : Kept) (place : List Formula) (nodes : List Node) (i : ℕ) (numbers : List ℕ) → IsSome (place_words place) → nodes ≡ nodes_of place → length nodes ≤ i
+    → AreNumbersIn k (take i nodes) numbers → AreNumbersOf k (words_at place) numbers
+numbers_all k place nodes i numbers some is end are =
+    subst (λ ws. AreNumbersOf k ws numbers) (ap (λ ns. set_of (words_in ns)) (take_all i nodes end ∙ is) ∙ sym (words_of_nodes place some)) are
+
+-- where the word of a node is not declared
+pub not_all_declared : (k : Kept) (place : List Formula) (nodes : List Node) (node : Node) (old new : List ℕ) (fits : Bool) → IsSome (place_words place) → nodes ≡ nodes_of place → Among nodes node
+    → fits ≡ false → TakesNumbers k (node_words node) old new fits → list_all (is_declared k) (words_at place) ≡ false
+not_all_declared k place nodes node old new fits some is m not_fit takes =
+    false_from_ne_true (list_all (is_declared k) (words_at place)) (λ all.
+    both_ways (list_all (is_declared k) (node_words node)) (sym takes.declared ∙ not_fit)
+    (all_from (is_declared k) (node_words node) (λ w of.
+    all_among (is_declared k) (words_at place) w all
+    (subst (λ ws. Among ws w) (sym (words_of_nodes place some))
+    (set_of_among (words_in (nodes_of place)) w (flat_map_among node_words (nodes_of place) node w (subst (λ ns. Among ns node) is m) of))))))

@@ -1,23 +1,19 @@
 -- What numbers entail, and the numbers of all that others entail.
-use Rattle.std.proofs.Common.{◌≡◌, refl, sym, ap, ◌∙◌, subst, ℕ, ◌+◌, ◌≤◌, true, false, List, [], ◌∷◌, length, Option, Some, None, is_some, IsSome, arith}
-use Rattle.lis_store.proofs.Common.{nat_cmp_total, nat_cmp, insert_key, list_all, IsStrictlySortedBy, same_Some, Among, members_le, sorted_nil, word_of, has, numbers_at, among_where, where_among, sorted_where, is_plain_word, up, all_up, up_self, entails_from_up, entailing, all_up_closed, sorted_all_up, insert_key_le, linked_up, Kept, AreSound, declared_of, axioms_of, link_named, named_below, among_axiom}
-use Rattle.std.proofs.lemmas.Bool.{both_ways}
+use Rattle.lis_store.proofs.Common.{common_steps, ◌≡◌, refl, sym, ap, ◌∙◌, subst, ℕ, ◌+◌, ◌≤◌, true, false, List, [], ◌∷◌, length, Option, Some, None, is_some, IsSome, arith, ap₂, ◌<◌, ◌||◌, some_word, nat_cmp_total, nat_cmp, insert_key, list_all, IsStrictlySortedBy, same_Some, Among, members_le, sorted_nil, word_of, has, numbers_at, among_where, where_among, sorted_where, is_plain_word, up, all_up, up_self, entails_from_up, entailing, all_up_closed, sorted_all_up, insert_key_le, linked_up, Kept, AreSound, declared_of, axioms_of, link_named, named_below, among_axiom, both_ways, and_parts, among_from_any, any_from_among, among_from_contains, has_number, up_trans, all_from, all_among, is_linked, TellsLinks, words_told, among_from_number, number_from_among, HasShape, get, get_any, numbers_where, numbers_same, Taxonomy, link_cases}
 use Rattle.std.proofs.lemmas.Map.Lookups.{exact_unsigned}
 use Rattle.lis_graph.specs.Graph.{with_more}
-use Rattle.lis_graph.proofs.Members.{among_from_any, any_from_among, with_more_new}
+use Rattle.lis_graph.proofs.Members.{with_more_new}
 use Rattle.lis_graph.proofs.Sets.{sorted_with_more}
-use Rattle.lis_content.specs.Content.{has_number}
-use Rattle.lis_laws.proofs.Chains.{up_trans}
-use Rattle.lis_laws.proofs.Counts.{all_from}
-use Rattle.lis_laws.proofs.Leads.{link_cases, right_leads}
-use Rattle.lis_kept.specs.Links.{is_linked}
-use Rattle.lis_kept.specs.Telling.{words_told}
-use Rattle.lis_kept.proofs.Filing.{among_from_number, number_from_among}
+use Rattle.lis_laws.proofs.Leads.{right_leads}
 use Rattle.lis_kept.proofs.Numbered.{numbers_are}
 use Rattle.lis_store.specs.Closing.{entails_by, is_entailed, is_gained, closure}
 use Rattle.lis_store.specs.Stored.{AreClosed}
 use Rattle.lis_store.proofs.Entailment.{up_has_number, closed_up}
 use Rattle.lis_store.proofs.Naming.{one_of, of_one}
+use Rattle.std.specs.Prelude.{All}
+use Rattle.lis_bits.specs.Rows.{Rows}
+use Rattle.lis_taxonomy.specs.Taxonomy.{entails}
+use Rattle.lis_store.proofs.Entailed.{entails_told}
 
 -- ---- what numbers entail
 -- the words of the two, of which the one entails the other
@@ -29,13 +25,7 @@ pub record IsLed (k : Kept) (m n : ℕ) : Type 0 where
   pub entailed : Among (up (declared_of k) (axioms_of k) from) to
 
 pub led : (k : Kept) (m n : ℕ) → is_entailed k m n ≡ true → IsLed k m n
-led k m n is = by (word_of k.dict m) refl is
-  where
-    by : (o : Option (List ℕ)) → word_of k.dict m ≡ o → entails_by k o (word_of k.dict n) ≡ true → IsLed k m n
-    by None is_m h = absurd (both_ways false refl h)
-    by (Some p) is_m h =
-        let found = one_of (up (declared_of k) (axioms_of k) p) (word_of k.dict n) h in
-        record { from = p; to = found.0; is_from = is_m; is_to = found.1; entailed = found.2 }
+led k m n is = grind (arith, common_steps, both_ways, one_of)
 
 pub led_from : (k : Kept) (m n : ℕ) (p q : List ℕ) → word_of k.dict m ≡ Some p → word_of k.dict n ≡ Some q → Among (up (declared_of k) (axioms_of k) p) q → is_entailed k m n ≡ true
 led_from k m n p q is_m is_n h = ap (λ o. entails_by k o (word_of k.dict n)) is_m ∙ of_one (up (declared_of k) (axioms_of k) p) (word_of k.dict n) q is_n h
@@ -130,3 +120,35 @@ module _ (k : Kept) (sound : AreSound k) (numbers : List ℕ) where
             let l = led k from.0 n from.2 in
             all_up_closed D A own l.from w (worded from.0 l.from l.is_from from.1) (subst (λ v. Among (up D A l.from) v) (same_Some l.to w (sym l.is_to ∙ is)) l.entailed);
       })
+
+-- ---- by the rows of a taxonomy
+-- a taxonomy tells what numbers entail
+pub number_led : (k : Kept) → AreSound k → (t : Taxonomy) → TellsLinks k t → (m n : ℕ) → is_some (word_of k.dict m) ≡ true → entails t m n ≡ is_entailed k m n
+number_led k sound t tells m n some =
+    let w = some_word (word_of k.dict m) some in
+    entails_told k sound t tells m w.0 w.1 n ∙ sym (ap (λ o. entails_by k o (word_of k.dict n)) w.1)
+
+-- as wide as there are properties
+pub wide_as : (k : Kept) (t : Taxonomy) → TellsLinks k t → (rows : Rows) → HasShape rows t.props t.props → rows.bits ≡ k.limits.props
+wide_as k t tells rows shape = omega (arith, shape.wide, tells.props)
+
+module _ (k : Kept) (sound : AreSound k) (t : Taxonomy) (tells : TellsLinks k t) (rows : Rows) (shape : HasShape rows t.props t.props) where
+  -- numbers of words have rows
+  pub rows_below : (numbers : List ℕ) → list_all (λ n. is_some (word_of k.dict n)) numbers ≡ true → All (λ row. row < length rows.rows) numbers
+  rows_below numbers named = grind (arith, common_steps, named_below, all_among, among_from_contains)
+
+  module _ (values : (p q : ℕ) → p < t.props → q < t.props → get rows p q ≡ entails t p q) where
+    row_led : (m n : ℕ) → is_some (word_of k.dict m) ≡ true → n < k.limits.props → get rows m n ≡ is_entailed k m n
+    row_led m n some lt =
+        values m n (omega (arith, named_below k sound m some, tells.props)) (omega (arith, lt, tells.props)) ∙ number_led k sound t tells m n some
+
+    pub any_led : (numbers : List ℕ) → list_all (λ n. is_some (word_of k.dict n)) numbers ≡ true → (n : ℕ) → n < k.limits.props → get_any rows numbers n ≡ is_gained k numbers n
+    any_led [] named n lt = refl
+    any_led (m ∷ ms) named n lt =
+        let both = and_parts (is_some (word_of k.dict m)) (list_all (λ i. is_some (word_of k.dict i)) ms) named in
+        ap₂ (λ a b. a || b) (row_led m n both.0 lt) (any_led ms both.1 n lt)
+
+    pub closure_shown : (numbers : List ℕ) → list_all (λ n. is_some (word_of k.dict n)) numbers ≡ true → numbers_where rows.bits (get_any rows numbers) ≡ closure k numbers
+    closure_shown numbers named =
+        ap (λ props. numbers_where props (get_any rows numbers)) (wide_as k t tells rows shape)
+        ∙ numbers_same k.limits.props (get_any rows numbers) (is_gained k numbers) (any_led numbers named)

@@ -1,6 +1,5 @@
 -- How much of a state a store tells.
-use Rattle.std.proofs.Common.{◌≡◌, length, sym, ap, ◌∙◌, arith}
-use Rattle.lis_store.proofs.Common.{free_count, State, free_blocks, axioms_of, axioms_counted}
+use Rattle.lis_store.proofs.Common.{◌≡◌, length, sym, ap, ◌∙◌, arith, free_count, State, free_blocks, axioms_of, axioms_counted}
 use Rattle.lis_store.specs.Stored.{Stored, IsSound}
 use Rattle.lis_store.proofs.ToldBy.{ToldBy}
 use Rattle.lis_store.specs.Counting.{CountsState}

@@ -1,56 +1,57 @@
 -- How many words files would have with a test that is declared.
-use Rattle.std.proofs.Common.{◌≡◌, ◌⊎◌, refl, sym, ap, ap₂, ◌∙◌, subst, inl, inr, ℕ, ◌+◌, ◌<◌, ◌≤◌, nat_lt, nat_le, ◌&&◌, ◌||◌, Bool, true, false, List, [], ◌∷◌, length, take, get_or, Option, Some, None, is_some, arith, ◌++◌, IsSome}
-use Rattle.lis_store.proofs.Common.{fun_ext, list_all, range_with_len, list_any, and_parts, ltb-true, lt-ltb, leb-true, take_more, Contains-get_or, list_any-append, Among, among_from_contains, contains_from_among, among_append, among_left, among_right, number_of, word_of, number_from_word, Filed, rec_at, has, numbers_at, FileRecord, Taxonomy, leads, is_test, test_of, is_valued, is_met, State, File, all_up, description, declared_under, exceeds_words, word_exact, Kept, TellsLinks, AreSound, FreeSlotsAreEmpty, declared_of, axioms_of, filed_rec, named_all, named_below, some_word, among_word, word_among}
-use Rattle.std.proofs.lemmas.Bool.{both_ways, false_from_ne_true}
-use Rattle.lis_graph.proofs.Members.{among_from_any, any_from_among}
-use Rattle.lis_content.specs.Content.{has_number}
-use Rattle.lis_model.specs.State.{known}
-use Rattle.lis_laws.proofs.Closures.{all_up_has}
-use Rattle.lis_laws.proofs.Counts.{all_among}
-use Rattle.lis_laws.proofs.Locals.{same_tests}
-use Rattle.lis_kept.specs.Telling.{words_told, file_told}
-use Rattle.lis_kept.proofs.Filing.{among_from_number, number_from_among}
-use Rattle.lis_store.specs.Closing.{entails_by, is_entailed, is_gained, is_met_at, is_met_by, closure, wider}
+use Rattle.lis_store.proofs.Common.{common_steps, ◌≡◌, sym, ap, ◌∙◌, ℕ, ◌<◌, nat_lt, Bool, true, false, Option, Some, None, is_some, IsSome, List, length, refl, arith, ◌⊎◌, ap₂, subst, inl, inr, ◌≤◌, nat_le, ◌&&◌, ◌||◌, get_or, ◌++◌, list_any, range_with_len, Among, range_among, Filed, rec_at, slot_is_below, FileRecord, State, File, description, Kept, AreSound, FreeSlotsAreEmpty, Tells, filed_rec, filed_at_slot, fun_ext, list_all, and_parts, ltb-true, lt-ltb, leb-true, list_any-append, contains_from_among, among_append, among_left, among_right, number_of, word_of, number_from_word, has, numbers_at, is_test, test_of, is_valued, is_met, all_up, declared_under, exceeds_words, word_exact, declared_of, axioms_of, named_all, some_word, among_word, word_among, both_ways, false_from_ne_true, among_from_any, any_from_among, same_tests, file_told, words_told, has_number, known, all_up_has, all_among, among_from_number, number_from_among, numbers_where}
+use Rattle.lis_graph.proofs.Ranges.{among_range}
+use Rattle.lis_store.proofs.Facts.{file_of_filed, filed_of_file, number_of_known, size_of_filed}
+use Rattle.lis_store.specs.Closing.{is_entailed, is_gained, is_met_at, is_met_by, closure, wider}
 use Rattle.lis_store.specs.Testing.{is_crowded, has_crowded}
-use Rattle.lis_store.proofs.Entailed.{entails_told}
-use Rattle.lis_store.proofs.Facts.{file_of_filed, number_of_known, size_of_filed}
+use Rattle.lis_dict.proofs.Places.{among_at}
 use Rattle.lis_store.proofs.Measured.{numbers_apart, told_counted}
 use Rattle.lis_store.proofs.Closed.{led_had, led_itself, closure_told, closure_named}
 use Rattle.lis_store.proofs.Told.{length-with_word}
-use Rattle.lis_ext.specs.Numbers.{numbers_where}
 use Rattle.lis_store.specs.Stored.{Stored, IsSound, AreClosed}
 use Rattle.lis_store.proofs.ToldBy.{ToldBy}
 use Rattle.lis_store.proofs.Under.{unmet_same, met_gains}
-use Rattle.lis_store.proofs.Full.{full_told}
+use Rattle.std.proofs.Math.Bool.{or_comm}
+
+-- ---- descriptions that would be too large, by their numbers and by their words
+-- ---- one slot after another
+module _ (full : ℕ → Bool) (files : ℕ) where
+  pub full_at : (slot : ℕ) → slot < files → full slot ≡ true → list_any full (range_with_len 0 files) ≡ true
+  full_at slot lt is = any_from_among full (range_with_len 0 files) slot (range_among 0 files slot (omega arith) (omega (arith, lt))) is
+
+  pub full_nowhere : ((slot : ℕ) → slot < files → full slot ≡ false) → list_any full (range_with_len 0 files) ≡ false
+  full_nowhere none = grind (arith, common_steps, false_from_ne_true, among_from_any, among_range, both_ways)
+
+-- ---- where each file is told to be too large by its slot, some file is where some slot is
+module _ (k : Kept) (sound : AreSound k) (at : ℕ → List ℕ) (s : State) (free : FreeSlotsAreEmpty k) (tells : Tells k at s) (made : State) (full : ℕ → Bool)
+    (filed : (slot : ℕ) → full slot ≡ true → IsSome (rec_at k.catalog slot))
+    (same : (f : Filed) → Among k.catalog.entries f → nat_lt 128 (length (description made (file_told k.limits k.dict at f))) ≡ full f.slot) where
+  abbrev large : File → Bool
+  large file = nat_lt 128 (length (description made file))
+
+  pub full_told : list_any full (range_with_len 0 k.limits.files) ≡ list_any large s.files
+  full_told = same_tests (list_any full (range_with_len 0 k.limits.files)) (list_any large s.files) forth back
+    where
+      forth : list_any full (range_with_len 0 k.limits.files) ≡ true → list_any large s.files ≡ true
+      forth h = let found = among_from_any full (range_with_len 0 k.limits.files) h in by found.0 found.2 (rec_at k.catalog found.0) refl
+        where
+          by : (slot : ℕ) → full slot ≡ true → (o : Option FileRecord) → rec_at k.catalog slot ≡ o → list_any large s.files ≡ true
+          by slot is None none = absurd (both_ways (is_some (rec_at k.catalog slot)) (ap (λ (o : Option FileRecord). is_some o) none) (filed slot is))
+          by slot is (Some rec) there =
+              let f : Filed = record { slot = slot; rec = rec } in
+              let m = filed_at_slot k.catalog sound.catalog slot rec there in
+              any_from_among large s.files (file_told k.limits k.dict at f) (file_of_filed k at s sound free tells f m) (same f m ∙ is)
+
+      back : list_any large s.files ≡ true → list_any full (range_with_len 0 k.limits.files) ≡ true
+      back h =
+          let found = among_from_any large s.files h in
+          let f = filed_of_file k at s sound free tells found.0 found.1 in
+          let below = slot_is_below k.catalog (f.0).slot sound.catalog (ap is_some (filed_rec k.catalog sound.catalog f.0 f.1)) in
+          full_at full k.limits.files (f.0).slot (omega (arith, below, sound.slots)) (sym (same f.0 f.1) ∙ (ap large f.2 ∙ found.2))
 
 -- ---- one number after another
--- a taxonomy tells what numbers entail
-pub number_led : (k : Kept) → AreSound k → (t : Taxonomy) → TellsLinks k t → (m n : ℕ) → is_some (word_of k.dict m) ≡ true → leads t m n ≡ is_entailed k m n
-number_led k sound t tells m n some =
-    let w = some_word (word_of k.dict m) some in
-    entails_told k sound t tells m w.0 w.1 n ∙ sym (ap (λ o. entails_by k o (word_of k.dict n)) w.1)
-
-module _ (k : Kept) (sound : AreSound k) (numbers : List ℕ) (named : list_all (λ n. is_some (word_of k.dict n)) numbers ≡ true) (i : ℕ) (lt : i < length numbers) where
-  abbrev pub number_at : ℕ
-  number_at = get_or numbers i 0
-
-  among_at : Among numbers number_at
-  among_at = among_from_contains numbers number_at (Contains-get_or numbers i 0 lt)
-
-  pub named_at : is_some (word_of k.dict number_at) ≡ true
-  named_at = all_among (λ n. is_some (word_of k.dict n)) numbers number_at named among_at
-
-  pub below_at : number_at < k.limits.props
-  below_at = named_below k sound number_at named_at
-
-  pub gained_at : (other : ℕ) → is_entailed k number_at other ≡ true → is_gained k numbers other ≡ true
-  gained_at other is = any_from_among (λ m. is_entailed k m other) numbers number_at among_at is
-
-  pub not_gained_at : (other : ℕ) → is_gained k (take i numbers) other ≡ false → is_entailed k number_at other ≡ false → is_gained k (take (i + 1) numbers) other ≡ false
-  not_gained_at other none not_led =
-      ap (λ ns. is_gained k ns other) (take_more numbers i 0 lt)
-      ∙ (list_any-append (λ m. is_entailed k m other) (take i numbers) (number_at ∷ [])
-      ∙ ap₂ (λ a b. a || (b || false)) none not_led)
+pub named_at : (k : Kept) (numbers : List ℕ) → list_all (λ n. is_some (word_of k.dict n)) numbers ≡ true → (i : ℕ) → i < length numbers → is_some (word_of k.dict (get_or numbers i 0)) ≡ true
+named_at k numbers named i lt = all_among (λ n. is_some (word_of k.dict n)) numbers (get_or numbers i 0) named (among_at numbers i 0 lt)
 
 -- numbers gain what others gain that are the same
 gains_within : (k : Kept) (some more : List ℕ) → ((n : ℕ) → Among some n → Among more n) → (n : ℕ) → is_gained k some n ≡ true → is_gained k more n ≡ true
@@ -77,13 +78,7 @@ module _ (k : Kept) (sound : AreSound k) (free : FreeSlotsAreEmpty k) (closed : 
   -- they are what they and the words entail
   wider_is : wider k (is_gained k numbers) slot ≡ closure k (numbers ++ set)
   wider_is =
-      ap₂ numbers_where sound.rows (fun_ext (λ n. either (has k.ext n slot) (is_gained k numbers n) ∙ (ap (λ b. is_gained k numbers n || b) (sym (set_gains n)) ∙ sym (list_any-append (λ m. is_entailed k m n) numbers set))))
-    where
-      either : (a b : Bool) → (a || b) ≡ (b || a)
-      either true true = refl
-      either true false = refl
-      either false true = refl
-      either false false = refl
+      ap₂ numbers_where sound.rows (fun_ext (λ n. or_comm (has k.ext n slot) (is_gained k numbers n) ∙ (ap (λ b. is_gained k numbers n || b) (sym (set_gains n)) ∙ sym (list_any-append (λ m. is_entailed k m n) numbers set))))
 
   pub wider_told : words_told k.dict (wider k (is_gained k numbers) slot) ≡ all_up (declared_of k) (axioms_of k) (words ++ had)
   wider_told = ap (words_told k.dict) wider_is ∙ closure_told k sound (numbers ++ set) (words ++ had) (λ w m. numbered w (among_append words had w m)) (λ n w is m. worded n w is (among_append numbers set n m))

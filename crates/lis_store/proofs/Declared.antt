@@ -1,37 +1,22 @@
 -- A word that may be declared, and what it comes to.
-use Rattle.std.proofs.Common.{◌≡◌, ◌⊎◌, refl, sym, ap, ap₂, ◌∙◌, subst, inl, inr, ℕ, ◌+◌, ◌≤◌, ◌==◌, nat_lt, nat_le, not, ◌&&◌, ◌||◌, true, false, if◌then◌else◌, List, [], ◌∷◌, ◌++◌, length, count_by, set, slice_get, Option, Some, None, option_to_list, is_some, IsSome, arith, eq-eqb, get_or-set_same, get_or-set_other, Result}
-use Rattle.lis_store.proofs.Common.{list_all, flat_map, unwrap_or, and_parts, or_cases, cases_eq, ne_eqb, eqb-true, not_from_false, not-true, not-false, ltb-false, Among, is_taken, Dict, number_of, word_of, word_from_number, number_from_word, rec_at, has, Formula, FileRecord, AxiomSlot, FreeAxiom, Pair, is_prop, word_cmp, has_word, is_head, is_plain_word, is_valued, is_built_in, test_of, Refusal, Limits, place_words, with_word, State, File, description, WellFormed, declared_under, exceeds_known, exceeds_words, words_at, under, word_exact, word_order, sorted_set_of, among_from_has_word, known_from, Kept, property_by, is_pair, has_pair, is_filled, AreSound, KeepsInUse, bit_of, is_declared, declared_of, axioms_of, state_of, Tells, some_word, word_among, among_word, among_slot, axioms_counted, IsStrictlySortedBy, sorted_nil}
-use Rattle.std.specs.Prelude.{option_map}
-use Rattle.std.proofs.lemmas.Bool.{and_from, both_ways, false_from_ne_true, le-leb}
-use Rattle.lis_graph.proofs.Members.{among_from_any, any_from_among}
-use Rattle.lis_content.specs.Content.{has_number, are_distinct}
+use Rattle.std.proofs.Common.{eq-eqb}
+use Rattle.lis_store.proofs.Common.{◌≡◌, ◌⊎◌, refl, sym, ap, ap₂, ◌∙◌, subst, inl, inr, ℕ, ◌+◌, ◌≤◌, ◌==◌, nat_lt, not, ◌&&◌, ◌||◌, true, false, if◌then◌else◌, List, [], ◌∷◌, ◌++◌, length, count_by, set, slice_get, Option, Some, None, option_to_list, is_some, IsSome, arith, get_or-set_same, get_or-set_other, Result, list_all, flat_map, unwrap_or, and_parts, or_cases, cases_eq, ne_eqb, not-true, not-false, ltb-false, Among, is_taken, Dict, number_of, word_of, word_from_number, number_from_word, rec_at, has, Formula, FileRecord, AxiomSlot, Pair, is_prop, word_cmp, has_word, is_head, is_plain_word, is_valued, is_built_in, test_of, Refusal, Limits, place_words, with_word, State, declared_under, exceeds_known, exceeds_words, words_at, under, word_exact, word_order, sorted_set_of, among_from_has_word, known_from, Kept, property_by, is_pair, has_pair, is_filled, AreSound, KeepsInUse, bit_of, is_declared, declared_of, axioms_of, state_of, Tells, some_word, word_among, among_word, among_slot, axioms_counted, IsStrictlySortedBy, sorted_nil, option_map, and_from, both_ways, any_from_among, has_number, are_distinct, set_of, known, all_among, all_from, Left, words_told, among_from_number, number_from_among, one_number, fun_ext, common_steps, declarable_not_valued}
 use Rattle.lis_dict.proofs.Laws.{word_of-with_entry}
 use Rattle.lis_fields.specs.declared.slots.PropSlot.{PropSlot}
 use Rattle.lis_fields.specs.declared.slots.PropSlot.TheVariants.{Known}
 use Rattle.lis_words.specs.Words.{is_property}
 use Rattle.lis_model.specs.declared.refusal.Refusal.TheVariants.{NoAxiomRoom, NoPropertyRoom, LargeDescription}
 use Rattle.lis_model.specs.Places.{all_conjuncts}
-use Rattle.lis_model.specs.Sets.{set_of}
-use Rattle.lis_model.specs.State.{known, is_declarable}
+use Rattle.lis_model.specs.State.{is_declarable}
 use Rattle.lis_model.specs.Step.{exceeds_axioms, is_plain_place, mkdir_checks}
-use Rattle.lis_laws.proofs.Apart.{declarable_from, declarable_not_valued, declarable_not_built_in}
-use Rattle.lis_laws.proofs.Counts.{all_among, all_from}
-use Rattle.lis_laws.proofs.Forms as forms
+use Rattle.lis_laws.proofs.Apart.{declarable_from, declarable_not_built_in}
 use Rattle.lis_laws.proofs.Growth.{known_declares}
-use Rattle.lis_laws.proofs.Members.{has_word_from_among}
-use Rattle.lis_laws.proofs.Sources.Source.{Left}
-use Rattle.lis_laws.proofs.Locals.{same_tests}
 use Rattle.lis_kept.specs.Kept.{property_at}
 use Rattle.lis_kept.specs.Changes.{Declares, Marks}
 use Rattle.lis_kept.specs.Under.{is_plain_by, DeclaresUnder}
-use Rattle.lis_kept.specs.Telling.{words_told}
-use Rattle.lis_kept.proofs.Filing.{among_from_number, number_from_among}
-use Rattle.lis_kept.proofs.Known.{one_number}
-use Rattle.lis_kept.proofs.OwnLinks.{slot_at}
-use Rattle.lis_kept.proofs.AxiomMore.{sorted_axioms}
-use Rattle.lis_kept.proofs.UnderOthers.{AreWordsOf, declared_then_linked, declared_then_marked, each_parts, under_used}
-use Rattle.lis_kept.proofs.StandsUnder.{each_pairs, under_apart}
-use Rattle.lis_kept.proofs.WordMore.{declared_there, there_declared}
+use Rattle.lis_kept.proofs.OwnLinks.{pair_slot}
+use Rattle.lis_kept.proofs.AxiomsChanged.{sorted_axioms}
+use Rattle.lis_kept.proofs.StandsUnder.{AreWordsOf, declared_then_linked, declared_then_marked, each_parts, under_used, each_pairs, under_apart}
 use Rattle.lis_store.specs.Stored.{PairsAreApart, Stored, IsSound}
 use Rattle.lis_store.specs.Judging.{word_checks, place_checks, room_checks}
 use Rattle.lis_store.specs.Placing.{AreNumbersOf}
@@ -47,6 +32,13 @@ use Rattle.lis_store.proofs.Under.{under_set, length-under}
 use Rattle.lis_store.specs.Adding.{numbers_named}
 use Rattle.lis_store.proofs.ToldBy.{ToldBy}
 use Rattle.lis_store.proofs.Naming.{one_of, of_one, named_one, named_has, named_told}
+use Rattle.lis_store.proofs.Assigned.{has_declared}
+
+-- the pair in a slot is among the pairs
+pub slot_pair : (axioms : List AxiomSlot) (slot left right : ℕ) → slice_get axioms slot ≡ Some (Pair left right) → has_pair axioms left right ≡ true
+slot_pair axioms slot left right is =
+    any_from_among (is_pair left right) axioms (Pair left right) (among_slot axioms slot (Pair left right) is)
+    (and_from (left == left) (right == right) (eq-eqb left left refl) (eq-eqb right right refl))
 
 -- ---- a word that may be declared, and is not, has no number
 pub new_word : (k : Kept) (word : List ℕ) → AreSound k → is_declarable word ≡ true → is_declared k word ≡ false → number_of k.dict word ≡ None
@@ -68,11 +60,7 @@ new_word k word sound form undeclared = by (number_of k.dict word) refl
 
 -- ---- the words of a place
 pub plain_at : (place : List Formula) → is_plain_place (place_words place) ≡ true → list_all is_plain_word (words_at place) ≡ true
-plain_at place = by (place_words place)
-  where
-    by : (o : Option (List (List ℕ))) → is_plain_place o ≡ true → list_all is_plain_word (unwrap_or o []) ≡ true
-    by None plain = refl
-    by (Some words) plain = plain
+plain_at place = grind (arith, common_steps)
 
 pub sorted_at : (place : List Formula) → IsStrictlySortedBy word_cmp (words_at place)
 sorted_at place = by (all_conjuncts place)
@@ -86,9 +74,7 @@ apart_at place = sorted_apart word_cmp word_order (words_at place) (sorted_at pl
 
 -- ---- what a state tells of the word
 pub declared_told : (k : Kept) (at : ℕ → List ℕ) (s : State) → Tells k at s → (word : List ℕ) → has_word s.declared word ≡ is_declared k word
-declared_told k at s tells word =
-    ap (λ (x : State). has_word x.declared word) (sym tells.state)
-    ∙ same_tests (has_word (declared_of k) word) (is_declared k word) (λ h. there_declared k word (among_from_has_word (declared_of k) word h)) (λ h. has_word_from_among (declared_of k) word (declared_there k word h))
+declared_told k at s tells word = ap (λ (x : State). has_word x.declared word) (sym tells.state) ∙ has_declared k word
 
 -- no number of these stands twice
 pub apart_numbers : (ns : List ℕ) → are_distinct ns ≡ true → AllApart ns
@@ -213,58 +199,21 @@ module _ {old : Stored} (sound : IsSound old) {s : State} (fits : ToldBy old s) 
         omega (arith, more, one, known_counted k fits.kept s sound.parts sound.free tells)
 
     room_alike : Alike ((exceeds_axioms t, NoAxiomRoom) ∷ (exceeds_known t, NoPropertyRoom) ∷ (exceeds_words t, LargeDescription) ∷ []) (room_checks k word (length named_here) (numbers_named k.dict named_here))
-    room_alike = (
-      refl,
-      ap₂ (λ a b. nat_lt a b) most axioms_more,
-      λ _. (refl, ap₂ (λ a b. nat_lt a b) most known_more, λ _. (refl, crowded_told sound fits named_here (numbers_named k.dict named_here) told word valued new, λ _. tt)),
-    )
-
-    -- the state is well-formed then
-    pub formed_then : first_refusal (room_checks k word (length named_here) (numbers_named k.dict named_here)) ≡ None → WellFormed t
-    formed_then none =
-        let pass = all_pass ((exceeds_axioms t, NoAxiomRoom) ∷ (exceeds_known t, NoPropertyRoom) ∷ (exceeds_words t, LargeDescription) ∷ [])
-        (same_first ((exceeds_axioms t, NoAxiomRoom) ∷ (exceeds_known t, NoPropertyRoom) ∷ (exceeds_words t, LargeDescription) ∷ [])
-        (room_checks k word (length named_here) (numbers_named k.dict named_here)) room_alike ∙ none) in
-        forms.declares s tells.formed word named_here (record {
-          form = form;
-          new = not_from_false (has_word s.declared word) (declared_told k fits.kept s tells word ∙ there);
-          over = over_told;
-          few_axioms = ltb-false s.limits.props (length t.axioms) pass.0;
-          few_known = ltb-false s.limits.props (length (known t)) pass.1.0;
-          few_words = all_from (λ (file : File). nat_le (length (description t file)) 128) s.files (λ file m.
-              le-leb (length (description t file)) 128 (ltb-false 128 (length (description t file)) (false_from_ne_true (nat_lt 128 (length (description t file))) (λ h.
-              both_ways (exceeds_words t) pass.1.1.0 (any_from_among (λ (f : File). nat_lt 128 (length (description t f))) s.files file m h)))));
-        })
+    room_alike =
+        let crowded = crowded_told sound fits named_here (numbers_named k.dict named_here) told word valued new in
+        (refl, ap₂ nat_lt most axioms_more, λ _. (refl, ap₂ nat_lt most known_more, λ _. (refl, crowded, λ _. tt)))
 
   all_told : list_all (has_word s.declared) named_here ≡ list_all (is_declared k) named_here
-  all_told = same_tests (list_all (has_word s.declared) named_here) (list_all (is_declared k) named_here)
-      (λ h. all_from (is_declared k) named_here (λ w m. sym (declared_told k fits.kept s tells w) ∙ all_among (has_word s.declared) named_here w h m))
-      (λ h. all_from (has_word s.declared) named_here (λ w m. declared_told k fits.kept s tells w ∙ all_among (is_declared k) named_here w h m))
+  all_told = ap (λ test. list_all test named_here) (fun_ext (declared_told k fits.kept s tells))
 
   -- what is asked of the new state is asked of a new word alone, under plain declared named_here
   pub mkdir_alike : first_refusal (mkdir_checks (record { state = s; place = place }) word t) ≡ first_refusal (word_checks k place word)
-  mkdir_alike = same_first (mkdir_checks (record { state = s; place = place }) word t) (word_checks k place word) (
-    refl,
-    refl,
-    λ own. (
-      refl,
-      refl,
-      λ valued. (
-        refl,
-        declared_told k fits.kept s tells word,
-        λ there. (
-          refl,
-          refl,
-          λ plain. (
-            refl,
-            ap not all_told,
-            λ over. room_alike own valued (sym (declared_told k fits.kept s tells word) ∙ there) (not-false (is_plain_place (place_words place)) plain)
-                (sym all_told ∙ not-false (list_all (has_word s.declared) named_here) over),
-          ),
-        ),
-      ),
-    ),
-  )
+  mkdir_alike =
+      let told = declared_told k fits.kept s tells word in
+      let room = λ (own : is_built_in word ≡ false) (valued : is_valued word ≡ false) (there : has_word s.declared word ≡ false) (plain : not (is_plain_place (place_words place)) ≡ false)
+      (over : not (list_all (has_word s.declared) named_here) ≡ false). room_alike own valued (sym told ∙ there) (not-false _ plain) (sym all_told ∙ not-false _ over) in
+      same_first (mkdir_checks (record { state = s; place = place }) word t) (word_checks k place word)
+      (refl, refl, λ own. (refl, refl, λ valued. (refl, told, λ there. (refl, refl, λ plain. (refl, ap not all_told, λ over. room own valued there plain over)))))
 
 words_each : (d : Dict) (ns : List ℕ) → ((n : ℕ) → Among ns n → IsSome (word_of d n)) → AreWordsOf d ns (flat_map (λ n. option_to_list (word_of d n)) ns)
 words_each d [] some = refl
@@ -325,24 +274,11 @@ module _ {p q : Kept} {word : List ℕ} {rights : List ℕ} (sound : AreSound p)
 
   -- axioms lead to declared words
   right_then : KeepsInUse p → (slot left right : ℕ) → slice_get q.axioms slot ≡ Some (Pair left right) → is_taken q.declared right ≡ true
-  right_then keeps slot left right is = flagged_then right (by (or_cases ((number == left) && has_number rights right) (has_pair mid.axioms left right) (sym (each_pairs number rights mid q stands.links left right) ∙ there)))
+  right_then keeps slot left right is = flagged_then right (by (or_cases ((number == left) && has_number rights right) (has_pair mid.axioms left right) (sym (each_pairs number rights mid q stands.links left right) ∙ slot_pair q.axioms slot left right is)))
     where
-      there : has_pair q.axioms left right ≡ true
-      there =
-          any_from_among (is_pair left right) q.axioms (Pair left right) (among_slot q.axioms slot (Pair left right) is)
-          (and_from (left == left) (right == right) (eq-eqb left left refl) (eq-eqb right right refl))
-
-      old : (a : AxiomSlot) → Among p.axioms a → is_pair left right a ≡ true → is_taken p.declared right ≡ true
-      old FreeAxiom m same = absurd cc
-      old (Pair x y) m same =
-          let place = slot_at p.axioms (Pair x y) m in
-          subst (λ n. is_taken p.declared n ≡ true) (eqb-true y right (and_parts (x == left) (y == right) same).1) (keeps.rights place.0 x y place.1)
-
       by : (((number == left) && has_number rights right) ≡ true) ⊎ (has_pair mid.axioms left right ≡ true) → is_taken p.declared right ≡ true
       by (inl both) = right_declared sound may.are right (and_parts (number == left) (has_number rights right) both).1
-      by (inr pair) =
-          let found = among_from_any (is_pair left right) p.axioms (subst (λ (k : Kept). has_pair k.axioms left right ≡ true) declares.parts pair) in
-          old found.0 found.1 found.2
+      by (inr pair) = let at = pair_slot p.axioms left right (subst (λ (k : Kept). has_pair k.axioms left right ≡ true) declares.parts pair) in keeps.rights at.0 left right at.1
 
   pub in_use_then : KeepsInUse p → KeepsInUse q
   in_use_then keeps = record {

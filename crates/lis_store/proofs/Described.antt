@@ -1,12 +1,8 @@
 -- What a store tells of one file of the state.
-use Rattle.std.proofs.Common.{◌≡◌, ℕ, Option, Some, IsSomeAnd, List, sym, ap, ◌∙◌, subst}
-use Rattle.lis_store.proofs.Common.{find, Among, contains_from_among, among_filter, Filed, slot_of, rec_at, rec_at-slot_of, numbers_at, FileRecord, same_word, Formula, State, File, description, same_word_decides}
-use Rattle.lis_graph.proofs.Members.{among_map}
-use Rattle.lis_model.specs.Changes.{file_of}
+use Rattle.lis_store.proofs.Common.{◌≡◌, ℕ, Option, Some, IsSomeAnd, List, sym, ap, ◌∙◌, subst, find, Among, contains_from_among, among_filter, Filed, slot_of, rec_at, rec_at-slot_of, numbers_at, FileRecord, same_word, Formula, State, File, description, same_word_decides, among_map, file_of, words_told}
 use Rattle.lis_model.specs.Table.{Entry, entry_of, table}
 use Rattle.lis_model.specs.Listing.{holds_all, extension}
 use Rattle.lis_model.specs.Step.{entry_at}
-use Rattle.lis_kept.specs.Telling.{words_told}
 use Rattle.lis_kept.proofs.Filing.{find_among}
 use Rattle.lis_store.specs.Stored.{Stored, IsSound}
 use Rattle.lis_store.proofs.ToldBy.{ToldBy}

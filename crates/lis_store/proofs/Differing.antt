@@ -1,11 +1,8 @@
 -- How many numbers are in one of two sets alone.
-use Rattle.std.proofs.Common.{◌≡◌, refl, ℕ, ◌+◌, ◌≤◌, not, ◌&&◌, Bool, true, false, List, [], length, arith}
-use Rattle.lis_store.proofs.Common.{IsStrictlyIncreasing, nat_cmp_total, nat_cmp, and_parts, members_le, differs, among_where, sorted_where}
-use Rattle.std.proofs.lemmas.Bool.{both_ways}
+use Rattle.lis_store.proofs.Common.{◌≡◌, refl, ℕ, ◌+◌, ◌≤◌, not, ◌&&◌, Bool, true, false, List, [], length, arith, IsStrictlyIncreasing, nat_cmp_total, nat_cmp, and_parts, members_le, differs, among_where, sorted_where, both_ways, numbers_where, among_from_number}
 use Rattle.std.proofs.lemmas.Map.Keys.{sorted_from_strictly_increasing}
-use Rattle.lis_ext.specs.Numbers.{has_number, numbers_where}
+use Rattle.lis_ext.specs.Numbers.{has_number}
 use Rattle.lis_ext.proofs.Numbers.{numbers_le, numbers_apart}
-use Rattle.lis_kept.proofs.Filing.{among_from_number}
 
 pub none_rising : IsStrictlyIncreasing []
 none_rising k lt = omega (arith, lt)

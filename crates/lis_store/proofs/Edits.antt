@@ -1,8 +1,5 @@
 -- How often rows are edited: at most as often as bits of them differ, and the count does not fall.
-use Rattle.std.proofs.Common.{◌≡◌, sym, ap, ap₂, subst, inl, inr, ℕ, ◌+◌, ◌<◌, ◌≤◌, List, [], ◌∷◌, length, map, sum, arith}
-use Rattle.lis_store.proofs.Common.{range_with_len, Among, range_among, Ext, numbers_at, differs, Kept}
-use Rattle.std.proofs.lemmas.List.Sums.{sum_by-cons}
-use Rattle.lis_ext.specs.Numbers.{numbers_where}
+use Rattle.lis_store.proofs.Common.{◌≡◌, sym, ap, ap₂, subst, inl, inr, ℕ, ◌+◌, ◌<◌, ◌≤◌, List, [], ◌∷◌, length, map, sum, arith, range_with_len, Among, range_among, Ext, numbers_at, differs, Kept, sum_by-cons, numbers_where}
 use Rattle.lis_store.specs.Stored.{Stored}
 use Rattle.lis_store.specs.Changes.{differing_bits}
 

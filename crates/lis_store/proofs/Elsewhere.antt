@@ -1,15 +1,8 @@
 -- Blocks that no file has may hold anything: what memory tells of a state and what it has written stay as they are.
-use Rattle.std.proofs.Common.{◌≡◌, refl, sym, ap, ◌∙◌, subst, inl, inr, ℕ, ◌+◌, ◌<◌, ◌≤◌, ◌==◌, ◌&&◌, not, nat_lt, true, false, List, length, IsTrue, arith}
-use Rattle.lis_store.proofs.Common.{Contains, and_parts, eqb-true, not-true, Among, among_from_contains, contains_from_among, is_taken, has_home, are_free, slot_count, Filed, SpellsSuper, are_in_range, data_start, State, File, description, Kept, block_of, IsWritten, IsSaved, AreSound, bytes_told, blocks_told, state_of, HasIndex, Tells, map_all, filed_rec, among_slots}
-use Rattle.std.proofs.lemmas.Bool.{both_ways, false_from_ne_true}
-use Rattle.lis_graph.proofs.Members.{among_from_any}
+use Rattle.lis_store.proofs.Common.{◌≡◌, refl, sym, ap, ◌∙◌, subst, inl, inr, ℕ, ◌+◌, ◌<◌, ◌≤◌, ◌==◌, ◌&&◌, not, nat_lt, true, false, List, length, IsTrue, arith, Contains, and_parts, eqb-true, not-true, Among, among_from_contains, contains_from_among, is_taken, has_home, are_free, slot_count, Filed, SpellsSuper, are_in_range, data_start, State, File, description, Kept, block_of, IsWritten, IsSaved, AreSound, bytes_told, blocks_told, state_of, HasIndex, Tells, map_all, filed_rec, among_slots, both_ways, false_from_ne_true, among_from_any, has_number, are_distinct, all_among, file_told, number_from_among}
 use Rattle.lis_journal.specs.Images.{IsOutside}
-use Rattle.lis_content.specs.Content.{has_number, are_distinct}
-use Rattle.lis_laws.proofs.Counts.{all_among}
 use Rattle.lis_kept.specs.Inside.{bytes_in}
-use Rattle.lis_kept.specs.Telling.{file_told}
 use Rattle.lis_kept.proofs.Contents.{same_file, slot_counted}
-use Rattle.lis_kept.proofs.Filing.{number_from_among}
 use Rattle.lis_kept.proofs.InArea.{held_by}
 
 -- a record of memory has as many numbers of blocks as its size asks for
@@ -101,9 +94,6 @@ module _ (k : Kept) (blocks : List ℕ) (at there : ℕ → List ℕ) (sound : A
 
   pub written_elsewhere : IsWritten k at → IsWritten k there
   written_elsewhere = written_there k at there sound.range homes_same
-
-  pub saved_elsewhere : IsSaved k at → IsSaved k there
-  saved_elsewhere = saved_there k at there sound.range homes_same
 
   pub files_elsewhere : (s : State) → Tells k at s → AreFilesSame k at there
   files_elsewhere s tells f m b of =

@@ -1,8 +1,7 @@
 -- A blank image tells of no words and no files: it stands for the empty state.
-use Rattle.std.proofs.Common.{◌≡◌, refl, sym, ap, ap₂, ◌∙◌, ℕ, zero, suc, ◌+◌, ◌-◌, ◌*◌, ◌/◌, ◌%◌, ◌<◌, ◌≤◌, ◌≢◌, false, List, [], ◌∷◌, length, get_or, map, take, drop, replicate, slice_get, slice_index, Some, IsTrue, arith}
-use Rattle.lis_store.proofs.Common.{insert_key, range_with_len, Contains, length-replicate, get_or-replicate, slice_get_within, get_or_from_slice_get, among_from_contains, part, block, is_taken, Dict, IsDict, has, SpellsSuper, AxiomSlot, FreeAxiom, Pair, Limits, are_in_range, bitmap_start, data_start, State, pair_cmp, Kept, IsWritten, axiom_slots, Properties, Axioms, Bitmap, AreSound, Tells, among_slots}
+use Rattle.std.proofs.Common.{◌%◌}
+use Rattle.lis_store.proofs.Common.{◌≡◌, refl, sym, ap, ap₂, ◌∙◌, ℕ, zero, suc, ◌+◌, ◌-◌, ◌*◌, ◌/◌, ◌<◌, ◌≤◌, ◌≢◌, false, List, [], ◌∷◌, length, get_or, map, take, drop, replicate, slice_get, slice_index, Some, IsTrue, arith, ◌==◌, insert_key, range_with_len, Contains, length-replicate, get_or-replicate, slice_get_within, get_or_from_slice_get, among_from_contains, part, block, is_taken, Dict, IsDict, has, SpellsSuper, AxiomSlot, FreeAxiom, Pair, Limits, are_in_range, bitmap_start, data_start, State, pair_cmp, Kept, IsWritten, axiom_slots, Properties, Axioms, Bitmap, AreSound, Tells, among_slots, list_any, Meaning, both_ways, Files, Rows}
 use Rattle.std.specs.List.{fold}
-use Rattle.std.proofs.lemmas.Bool.{both_ways}
 use Rattle.std.proofs.lemmas.List.{drop-replicate, take-replicate, take-take}
 use Rattle.lis_slots.specs.Slots.{Slots, home, place, slot}
 use Rattle.lis_blockmap.specs.Bitmap.{bits_number, bitmap_bytes}
@@ -13,14 +12,15 @@ use Rattle.lis_fields.specs.Layouts.{zeros, super_with, prop_bytes, axiom_bytes,
 use Rattle.lis_model.specs.State.{empty_state}
 use Rattle.lis_laws.proofs.Steps.{empty_formed}
 use Rattle.lis_kept.specs.Areas.{Area, slots_of, row_slots}
-use Rattle.lis_kept.specs.Areas.Area.{Files, Rows}
 use Rattle.lis_kept.specs.Telling.{pairs_told}
 use Rattle.lis_kept.proofs.InArea.{whole_files, files_range, each_files_limit}
-use Rattle.lis_kept.proofs.RowBytes.{row_bytes_none}
+use Rattle.lis_kept.proofs.Spelled.{row_bytes_none}
 use Rattle.lis_store.specs.Blank.{IsBlank}
 use Rattle.lis_store.specs.Stands.{Stands}
-use Rattle.lis_store.specs.Stored.{IsSound, empty_parts, empty_stored}
+use Rattle.lis_store.specs.Stored.{IsSound, empty_parts, empty_stored, StoreFits}
 use Rattle.lis_store.proofs.Cleaned.{none_set}
+use Rattle.lis_ports.specs.Runs.{IsSettled}
+use Rattle.lis_journal.proofs.Fitting.{settled_fits}
 
 -- ---- no words and no files
 module _ (limits : Limits) (blocks : ℕ) where
@@ -73,8 +73,8 @@ module _ (limits : Limits) (blocks : ℕ) where
     marks = omega (arith, room, length-replicate blocks false);
   }
 
-  pub empty_are_told : IsTrue (are_in_range limits) → data_start limits ≤ blocks → IsSound (empty_stored limits blocks)
-  empty_are_told range room = record {
+  pub empty_sound : IsTrue (are_in_range limits) → data_start limits ≤ blocks → IsSound (empty_stored limits blocks)
+  empty_sound range room = record {
     parts = empty_are_sound range room;
     free = λ at none n. no_set n at;
     pairs = λ at other left right is _. absurd (no_axiom at left right is);
@@ -89,9 +89,6 @@ module _ (limits : Limits) (blocks : ℕ) where
     placed = λ unbroken. refl;
     clean = λ unbroken. ap (λ n. replicate n false) (sym (length-replicate blocks false));
   }
-
-pub empty_sound : (limits : Limits) (blocks : ℕ) → IsTrue (are_in_range limits) → data_start limits ≤ blocks → IsSound (empty_stored limits blocks)
-empty_sound limits blocks range room = empty_are_told limits blocks range room
 
 -- ---- blocks of zeros
 pub zeros-part : (at n total : ℕ) → at + n ≤ total → part at n (zeros total) ≡ zeros n
@@ -169,3 +166,16 @@ no_state image s no_name stands =
     let front : take 1 (part 0 4096 image) ≡ part 0 1 image = take-take 1 4096 (drop 0 image) (omega arith) in
     let first : slice_index (take 1 (part 0 4096 image)) 0 ≡ 76 = ap (λ xs. slice_index (take 1 xs) 0) stands.super.spelled in
     no_name (ap (λ xs. slice_index xs 0) (sym front) ∙ first)
+
+-- ---- the store of such an image
+pub empty_fits : (m : Meaning) (limits : Limits) (blocks : ℕ) (image : List ℕ) → IsTrue (are_in_range limits) → data_start limits ≤ blocks → IsTrue m.is_honest → IsSettled m image
+    → SpellsSuper limits (part 0 4096 image) → IsBlank limits image → StoreFits (empty_stored limits blocks) m (empty_state limits)
+empty_fits m limits blocks image range room honest settled super blank =
+    record {
+      kept = λ n. block n image;
+      journal = settled_fits (empty_stored limits blocks).journal image refl honest settled (omega arith) blank.long (ap (list_any (λ gate. gate == 1)) blank.gates);
+      unbroken = refl;
+      settled = refl;
+      tells = tells_empty limits blocks image range blank super;
+      written = written_empty limits blocks image range blank;
+    }

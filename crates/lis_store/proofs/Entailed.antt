@@ -1,13 +1,7 @@
 -- The numbers of all that words entail, left out of a row.
-use Rattle.std.proofs.Common.{◌≡◌, refl, sym, ap, ap₂, ◌∙◌, ℕ, ◌<◌, ◌≤◌, not, ◌&&◌, ◌||◌, Bool, true, false, List, [], ◌∷◌, ◌++◌, length, Option, Some, append-nil, arith}
-use Rattle.lis_store.proofs.Common.{flat_map, HasShape, get, with_row, number_of, word_of, word_from_number, number_below, Taxonomy, entails_decides, up, all_up, up_from_entails, among_set_of, Kept, TellsLinks, AreSound, declared_of, axioms_of}
-use Rattle.std.proofs.lemmas.Grind.{flat_map-append}
+use Rattle.lis_store.proofs.Common.{common_steps, ◌≡◌, refl, sym, ap, ap₂, ◌∙◌, ℕ, ◌<◌, ◌≤◌, not, ◌&&◌, ◌||◌, Bool, true, false, List, [], ◌∷◌, ◌++◌, length, Option, Some, append-nil, arith, flat_map, HasShape, get, with_row, number_of, word_of, word_from_number, number_below, Taxonomy, entails_decides, up, all_up, up_from_entails, among_set_of, Kept, TellsLinks, AreSound, declared_of, axioms_of, flat_map-append, set_of, set_of_among, same_tests, numbers_where}
 use Rattle.lis_bits.specs.Rows.{Rows}
 use Rattle.lis_taxonomy.specs.Taxonomy.{entails}
-use Rattle.lis_model.specs.Sets.{set_of}
-use Rattle.lis_laws.proofs.Members.{set_of_among}
-use Rattle.lis_laws.proofs.Locals.{same_tests}
-use Rattle.lis_ext.specs.Numbers.{numbers_where}
 use Rattle.lis_store.specs.Adding.{is_one_of, numbers_named}
 use Rattle.lis_kept.proofs.Entailed.{chain_named, leads_from_up}
 use Rattle.lis_store.proofs.Naming.{one_of, of_one, one_of_none, one_of_both, named_few, same_shape, value_at, shown_numbers}
@@ -47,10 +41,7 @@ pub record LeavesOut (k : Kept) (words : List (List ℕ)) (old row : Rows) : Typ
   pub bits : (n : ℕ) → n < k.limits.props → get row 0 n ≡ (get old 0 n && not (is_one_of (all_up (declared_of k) (axioms_of k) words) (word_of k.dict n)))
 
 pub leaves_none : (k : Kept) (row : Rows) → HasShape row 1 k.limits.props → LeavesOut k [] row row
-leaves_none k row shape = record {
-  shape = shape;
-  bits = λ n lt. out_none (get row 0 n) ∙ ap (λ b. get row 0 n && not b) (sym (one_of_none (word_of k.dict n)));
-}
+leaves_none k row shape = grind (arith, common_steps, out_none, one_of_none)
 
 module _ (k : Kept) (sound : AreSound k) (t : Taxonomy) (tells : TellsLinks k t) where
   -- the edges tell what a word entails
@@ -85,11 +76,7 @@ module _ (k : Kept) (sound : AreSound k) (t : Taxonomy) (tells : TellsLinks k t)
 
 -- ---- what is left over is entailed by none
 left_over : (x y z : Bool) → not (((true && not x) && not y) && not z) ≡ ((x || y) || z)
-left_over true true z = refl
-left_over true false z = refl
-left_over false true z = refl
-left_over false false true = refl
-left_over false false false = refl
+left_over x y z = grind (arith, common_steps)
 
 -- the rows in turn: full, without what the first words entail, without what the others do, without what the tests do, and turned over
 module _ (k : Kept) (sound : AreSound k) (some more met : List (List ℕ)) (start full left rest last done : Rows)

@@ -1,9 +1,5 @@
 -- What a word with a number entails has a number, and the files that have the one have the other.
-use Rattle.std.proofs.Common.{◌≡◌, ℕ, zero, suc, true, List, Some, ap, ◌∙◌, subst}
-use Rattle.lis_graph.specs.Graph.{Chain}
-use Rattle.lis_store.proofs.Common.{Among, word_of, has, up, entails_from_up, Kept, AreSound, declared_of, axioms_of}
-use Rattle.lis_model.specs.State.{links}
-use Rattle.lis_kept.proofs.Known.{one_number}
+use Rattle.lis_store.proofs.Common.{◌≡◌, ℕ, zero, suc, true, List, Some, ap, ◌∙◌, subst, Among, word_of, has, up, entails_from_up, Kept, AreSound, declared_of, axioms_of, links, one_number, Chain}
 use Rattle.lis_kept.proofs.Entailed.{link_numbered, chain_has_number}
 use Rattle.lis_store.specs.Stored.{AreClosed}
 

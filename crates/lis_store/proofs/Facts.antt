@@ -1,21 +1,14 @@
 -- What a store says of the state that it tells, in other words.
-use Rattle.std.proofs.Common.{◌≡◌, refl, sym, ap, ap₂, ◌∙◌, subst, inl, inr, ℕ, ◌+◌, ◌*◌, ◌<◌, ◌||◌, nat_lt, Bool, true, false, cond, is_some, Option, Some, None, option_map, List, [], ◌∷◌, length, map, IsSomeAnd, arith, length-append}
-use Rattle.lis_store.proofs.Common.{find, flat_map, list_any, Contains, ltb-true, length-map, length-take-le, same_Some, Among, contains_from_among, same_word, has_word, Formula, FileRecord, Dict, number_of, number_from_word, Filed, slot_of, rec_at, rec_at-slot_of, numbers_at, data_start, State, File, description, up, has_name, file_of_name, Placed, Kept, AreSound, FreeSlotsAreEmpty, declared_of, axioms_of, bytes_told, blocks_told, state_of, Tells, filed_rec, filed_slot, filed_at_slot, map_all, known_word, words_known}
-use Rattle.lis_graph.proofs.Members.{among_map, map_among}
-use Rattle.lis_dict.specs.Dict.{words}
+use Rattle.std.proofs.Common.{option_map}
+use Rattle.lis_store.proofs.Common.{common_steps, ◌≡◌, refl, sym, ap, ap₂, ◌∙◌, subst, inl, inr, ℕ, ◌+◌, ◌*◌, ◌<◌, Bool, is_some, Option, Some, None, List, [], ◌∷◌, length, map, IsSomeAnd, arith, length-append, find, flat_map, list_any, Contains, length-map, length-take-le, same_Some, Among, contains_from_among, same_word, has_word, Formula, FileRecord, Dict, number_of, number_from_word, Filed, slot_of, rec_at, rec_at-slot_of, numbers_at, data_start, State, File, description, up, has_name, file_of_name, Placed, Kept, AreSound, FreeSlotsAreEmpty, declared_of, axioms_of, bytes_told, blocks_told, state_of, Tells, filed_rec, filed_slot, filed_at_slot, map_all, known_word, words_known, among_map, map_among, words, known, file_of, words_told, file_told, number_from_among}
 use Rattle.lis_catalog.proofs.Slots.{any_map}
-use Rattle.lis_model.specs.State.{known}
-use Rattle.lis_model.specs.Changes.{file_of}
 use Rattle.lis_model.specs.Table.{Entry, Table, entry_of, table}
 use Rattle.lis_model.specs.Listing.{extension}
 use Rattle.lis_model.specs.Step.{is_here}
-use Rattle.lis_laws.proofs.Counts.{all_among}
-use Rattle.lis_kept.specs.Telling.{words_told, file_told}
-use Rattle.lis_kept.proofs.Filing.{number_from_among, find_among, found_has}
+use Rattle.lis_kept.proofs.Filing.{find_among, found_has}
 use Rattle.lis_store.specs.Stored.{Stored, IsSound}
 use Rattle.lis_store.specs.Seen.{placed, table_of}
 use Rattle.lis_store.specs.Judging.{is_among}
-use Rattle.lis_store.proofs.Spelled.{sound_parts}
 use Rattle.lis_store.proofs.ToldBy.{ToldBy}
 use Rattle.lis_store.proofs.FileBlocks.{content_told, content_among, content_counted}
 
@@ -25,11 +18,7 @@ map_map f g (x ∷ xs) = ap (λ ys. f (g x) ∷ ys) (map_map f g xs)
 
 pub any_is_found : {X : Type 0} (test : X → Bool) (xs : List X) → list_any test xs ≡ is_some (find test xs)
 any_is_found test [] = refl
-any_is_found test (x ∷ xs) = by (test x) (any_is_found test xs)
-  where
-    by : (b : Bool) → list_any test xs ≡ is_some (find test xs) → (b || list_any test xs) ≡ is_some (cond b (Some x) (find test xs))
-    by true rest = refl
-    by false rest = rest
+any_is_found test (x ∷ xs) = grind (arith, common_steps, any_is_found test xs)
 
 is_some-map : {X Y : Type 0} (v : X → Y) (o : Option X) → is_some (option_map v o) ≡ is_some o
 is_some-map v None = refl
@@ -37,10 +26,7 @@ is_some-map v (Some x) = refl
 
 -- a word has a number exactly where it is one of the words
 pub numbered : (d : Dict) (word : List ℕ) → has_word (words d) word ≡ is_some (number_of d word)
-numbered d word =
-    any_map (λ w. same_word w word) (λ (e : List ℕ × ℕ). e.0) d.entries
-    ∙ (any_is_found (λ (e : List ℕ × ℕ). same_word e.0 word) d.entries
-    ∙ sym (is_some-map (λ (e : List ℕ × ℕ). e.1) (find (λ e. same_word e.0 word) d.entries)))
+numbered d word = grind (arith, common_steps, any_map, any_is_found, is_some-map)
 
 length-whole : (at : ℕ → List ℕ) (ns : List ℕ) → ((n : ℕ) → Among ns n → length (at n) ≡ 4096) → length (flat_map at ns) ≡ 4096 * length ns
 length-whole at [] whole = refl
@@ -51,20 +37,10 @@ length-whole at (n ∷ ns) whole =
 -- the file of a name among those that are told
 file_found : (told : Filed → File) → ((f : Filed) → (told f).name ≡ f.rec.name) → (name : List ℕ) (fs : List Filed) (f : Filed) → find (λ (g : Filed). same_word g.rec.name name) fs ≡ Some f → file_of (map told fs) name ≡ told f
 file_found told named name [] f is = absurd cc
-file_found told named name (g ∷ fs) f is =
-    ap (λ n. cond (same_word n name) (told g) (file_of (map told fs) name)) (named g)
-    ∙ by (same_word g.rec.name name) is (file_found told named name fs f)
-  where
-    by : (b : Bool) → cond b (Some g) (find (λ (g : Filed). same_word g.rec.name name) fs) ≡ Some f → (find (λ (g : Filed). same_word g.rec.name name) fs ≡ Some f → file_of (map told fs) name ≡ told f)
-        → cond b (told g) (file_of (map told fs) name) ≡ told f
-    by true is more = ap told (same_Some g f is)
-    by false is more = more is
+file_found told named name (g ∷ fs) f is = grind (arith, common_steps, same_Some, file_found told named name fs f)
 
 -- ---- files by their slots
 module _ (k : Kept) (sound : AreSound k) where
-  pub block_below : (f : Filed) → Among k.catalog.entries f → (b : ℕ) → Among f.rec.blocks b → b < k.limits.blocks
-  block_below f m b there = ltb-true b k.limits.blocks (all_among (λ n. nat_lt n k.limits.blocks) f.rec.blocks b (sound_parts k sound f m).below there)
-
   -- the record in the slot of a name has the name
   pub filed_named : (name : List ℕ) (slot : ℕ) (rec : FileRecord) → slot_of k.catalog name ≡ Some slot → rec_at k.catalog slot ≡ Some rec
       → Among k.catalog.entries (record { slot = slot; rec = rec }) × (rec.name ≡ name)
@@ -97,11 +73,7 @@ module _ (k : Kept) (at : ℕ → List ℕ) (s : State) (sound : AreSound k) (fr
 
   -- a name has a slot exactly where a file has it
   pub name_filed : (name : List ℕ) → has_name s.files name ≡ is_some (slot_of k.catalog name)
-  name_filed name =
-      ap (λ fs. has_name fs name) (sym files_told)
-      ∙ (any_map (λ (file : File). same_word file.name name) (file_told k.limits k.dict at) k.catalog.entries
-      ∙ (any_is_found (λ (f : Filed). same_word f.rec.name name) k.catalog.entries
-      ∙ sym (is_some-map (λ (f : Filed). f.slot) (find (λ (f : Filed). same_word f.rec.name name) k.catalog.entries))))
+  name_filed name = grind (arith, common_steps, files_told, any_map, any_is_found, is_some-map)
 
   pub files_counted : length s.files ≡ length k.catalog.entries
   files_counted = ap (λ fs. length fs) (sym files_told) ∙ length-map k.catalog.entries (file_told k.limits k.dict at)
@@ -113,13 +85,7 @@ module _ (k : Kept) (at : ℕ → List ℕ) (s : State) (sound : AreSound k) (fr
   filed_of_file file m = among_map (file_told k.limits k.dict at) k.catalog.entries file (subst (λ fs. Among fs file) (sym files_told) m)
 
   pub slot_of_file : (file : File) → Among s.files file → (f : Filed) × (slot_of k.catalog file.name ≡ Some f.slot) × (rec_at k.catalog f.slot ≡ Some f.rec) × (file_told k.limits k.dict at f ≡ file)
-  slot_of_file file m =
-      let found = filed_of_file file m in (
-        found.0,
-        ap (λ (other : File). slot_of k.catalog other.name) (sym found.2) ∙ filed_slot k.catalog sound.catalog found.0 found.1,
-        filed_rec k.catalog sound.catalog found.0 found.1,
-        found.2,
-      )
+  slot_of_file file m = grind (arith, common_steps, filed_of_file, filed_slot, filed_rec)
 
   -- the file in the slot of a name
   pub file_in_slot : (name : List ℕ) (slot : ℕ) (rec : FileRecord) → slot_of k.catalog name ≡ Some slot → rec_at k.catalog slot ≡ Some rec
@@ -148,7 +114,7 @@ module _ (k : Stored) (s : State) (sound : IsSound k) (fits : ToldBy k s) where
       let whole = length-whole (λ b. fits.kept (data_start k.parts.limits + b)) numbers (λ b among. fits.whole b (told_below f there b (content_among k.parts.limits fits.kept f.rec b among))) in
       length-take-le f.rec.size (flat_map (λ b. fits.kept (data_start k.parts.limits + b)) numbers) (omega (arith, whole, counted))
 
-  size_told : (name : List ℕ) (slot : ℕ) (rec : FileRecord) → slot_of k.parts.catalog name ≡ Some slot → rec_at k.parts.catalog slot ≡ Some rec → length (file_of s.files name).bytes ≡ rec.size
+  pub size_told : (name : List ℕ) (slot : ℕ) (rec : FileRecord) → slot_of k.parts.catalog name ≡ Some slot → rec_at k.parts.catalog slot ≡ Some rec → length (file_of s.files name).bytes ≡ rec.size
   size_told name slot rec is_slot is_rec =
       ap (λ (file : File). length file.bytes) (file_in_slot k.parts fits.kept s sound.parts sound.free fits.tells name slot rec is_slot is_rec)
       ∙ size_of_filed (record { slot = slot; rec = rec }) (filed_at_slot k.parts.catalog sound.parts.catalog slot rec is_rec)
@@ -170,10 +136,7 @@ module _ (k : Stored) (s : State) (sound : IsSound k) (fits : ToldBy k s) where
       ap₂ of_parts (sym (size_of_filed f there)) (described_told k.parts fits.kept s sound.parts sound.free fits.tells f (contains_from_among k.parts.catalog.entries f there))
 
   entries_are : map (λ (f : Placed). f.entry) (map (placed k.parts) k.parts.catalog.entries) ≡ map (entry_of (declared_of k.parts) (axioms_of k.parts)) (map told k.parts.catalog.entries)
-  entries_are =
-      map_map (λ (f : Placed). f.entry) (placed k.parts) k.parts.catalog.entries
-      ∙ (map_all (λ f. (placed k.parts f).entry) (λ f. entry_of (declared_of k.parts) (axioms_of k.parts) (told f)) k.parts.catalog.entries entry_is
-      ∙ sym (map_map (entry_of (declared_of k.parts) (axioms_of k.parts)) told k.parts.catalog.entries))
+  entries_are = grind (arith, common_steps, map_map, map_all, entry_is)
 
   -- truth and listings see the store as they see the state
   pub table_told : table_of k.parts ≡ table s

@@ -1,19 +1,14 @@
 -- Tests in the descriptions of files: a file has those that its size meets, and no others.
-use Rattle.std.proofs.Common.{◌≡◌, ◌⊎◌, ℕ, Bool, true, false, Option, Some, None, is_some, List, length, refl, sym, ap, subst, ◌∙◌, inl, inr}
-use Rattle.lis_store.proofs.Common.{list_all, Among, is_taken, rec_at, Dict, word_of, has, is_prop, FileRecord, has_word, is_plain_word, is_test, test_of, plain_not_test, File, up, own_words, is_assignable, is_met, up_self, entails_from_up, entailing, derived_built_in, among_from_has_word, OwnWord, own_word, own_from, met_weaker, Assigned, Derived, Met, Kept, property_by, AreSound, declared_of, axioms_of, test_by, some_word, declared_word, among_axiom}
-use Rattle.std.proofs.lemmas.Bool.{both_ways, false_from_ne_true}
+use Rattle.lis_store.proofs.Common.{◌≡◌, ◌⊎◌, ℕ, Bool, true, false, Option, Some, None, is_some, List, ◌++◌, refl, sym, ap, subst, ◌∙◌, inl, inr, list_all, Among, among_append, among_filter, among_right, filter_among, is_taken, rec_at, Dict, word_of, has, is_prop, FileRecord, has_word, is_plain_word, is_test, test_of, plain_not_test, up, is_assignable, is_built_in, is_met, met_tests, up_self, entails_from_up, entailing, among_from_has_word, met_weaker, Kept, property_by, AreSound, declared_of, axioms_of, test_by, some_word, declared_word, among_axiom, both_ways, false_from_ne_true, entailed_in, all_among, has_word_from_among, same_tests}
 use Rattle.lis_fields.specs.Layouts.{is_undeclared}
 use Rattle.lis_words.proofs.Tests.{valued_not_test}
 use Rattle.lis_laws.proofs.Apart.{built_in_not_test}
 use Rattle.lis_laws.proofs.Chains.{IsWeakerIn, weaker_tests_are}
-use Rattle.lis_laws.proofs.Closures.{entailed_in}
-use Rattle.lis_laws.proofs.Counts.{all_among}
-use Rattle.lis_laws.proofs.Leads.{right_leads, test_leads}
-use Rattle.lis_laws.proofs.Members.{has_word_from_among}
+use Rattle.lis_laws.proofs.Leads.{test_leads}
 use Rattle.lis_laws.proofs.Sources.{Assignable, assignable_cases}
 use Rattle.lis_laws.proofs.Sources.Assignable.{Plain, Valued}
-use Rattle.lis_laws.proofs.Locals.{same_tests}
 use Rattle.lis_kept.proofs.OwnLinks.{undeclared_not_test}
+use Rattle.lis_store.specs.Drafts.{Draft}
 use Rattle.lis_store.specs.Admitting.{described_by}
 use Rattle.lis_store.specs.Stored.{TestsAreMet}
 
@@ -26,12 +21,6 @@ module _ (k : Kept) (sound : AreSound k) where
 
   rights_plain : (e : List ℕ × List ℕ) → Among A e → is_plain_word e.1 ≡ true
   rights_plain e m = let found = among_axiom k sound e m in (sound.axioms found.0 found.1 found.2 found.3).plain e.1 found.5
-
-  -- a plain word entails no test
-  pub plain_leads : (p w : List ℕ) → is_plain_word p ≡ true → Among (up D A p) w → is_test w ≡ false
-  plain_leads p w plain m =
-      let chain = entails_from_up D A p w m in
-      plain_not_test w (right_leads is_plain_word (λ v h. h) A rights_plain D chain.0 p w plain chain.1)
 
   -- a test that has a number is declared
   pub test_flagged : (n : ℕ) (w : List ℕ) → word_of k.dict n ≡ Some w → is_test w ≡ true → is_taken k.declared n ≡ true
@@ -52,31 +41,45 @@ module _ (k : Kept) (sound : AreSound k) where
       by (Plain plain there) = plain_not_test w plain
       by (Valued valued there) = valued_not_test w valued
 
-  module _ (file : File) (given : list_all (is_assignable D) file.assigned ≡ true) where
-    own_met : (w : List ℕ) → is_test w ≡ true → OwnWord D file w → is_met (test_of w) (length file.bytes) ≡ true
-    own_met w test (Assigned m) = absurd (both_ways (is_test w) (assigned_no_test file.assigned given w m) test)
-    own_met w test (Derived m) = absurd (both_ways (is_test w) (built_in_not_test w (derived_built_in file.name file.bytes w m)) test)
-    own_met w test (Met there met) = met
+  module _ (draft : Draft) (given : list_all (is_assignable D) draft.assigned ≡ true) (own : list_all is_built_in draft.own ≡ true) where
+    abbrev tests : List (List ℕ)
+    tests = met_tests D draft.size
 
-    had_met : (w : List ℕ) → is_test w ≡ true → Among (described_by k file) w → is_met (test_of w) (length file.bytes) ≡ true
-    had_met w test m = at (entailing D A (own_words D file) w m)
+    abbrev words : List (List ℕ)
+    words = draft.assigned ++ draft.own ++ tests
+
+    own_met : (w : List ℕ) → is_test w ≡ true → Among words w → is_met (test_of w) draft.size ≡ true
+    own_met w test m = by (among_append (draft.assigned ++ draft.own) tests w m)
       where
-        by : (source : List ℕ) → OwnWord D file source → (source ≡ w) ⊎ IsWeakerIn D source w → is_met (test_of w) (length file.bytes) ≡ true
-        by source own (inl same) = own_met w test (subst (λ (v : List ℕ). OwnWord D file v) same own)
-        by source own (inr less) = met_weaker (test_of w) (test_of source) (length file.bytes) less.weaker (own_met source (weaker_tests_are D source w less).0 own)
+        untested : Among draft.assigned w ⊎ Among draft.own w → is_test w ≡ false
+        untested (inl m) = assigned_no_test draft.assigned given w m
+        untested (inr m) = built_in_not_test w (all_among is_built_in draft.own w own m)
 
-        at : (source : List ℕ) × Among (own_words D file) source × Among (up D A source) w → is_met (test_of w) (length file.bytes) ≡ true
+        by : Among (draft.assigned ++ draft.own) w ⊎ Among tests w → is_met (test_of w) draft.size ≡ true
+        by (inl m) = absurd (both_ways (is_test w) (untested (among_append draft.assigned draft.own w m)) test)
+        by (inr m) = (among_filter (λ x. is_met (test_of x) draft.size) D w m).1
+
+    had_met : (w : List ℕ) → is_test w ≡ true → Among (described_by k draft) w → is_met (test_of w) draft.size ≡ true
+    had_met w test m = at (entailing D A words w m)
+      where
+        by : (source : List ℕ) → Among words source → (source ≡ w) ⊎ IsWeakerIn D source w → is_met (test_of w) draft.size ≡ true
+        by source m (inl same) = own_met w test (subst (λ v. Among words v) same m)
+        by source m (inr less) = met_weaker (test_of w) (test_of source) draft.size less.weaker (own_met source (weaker_tests_are D source w less).0 m)
+
+        at : (source : List ℕ) × Among words source × Among (up D A source) w → is_met (test_of w) draft.size ≡ true
         at found =
             let chain = entails_from_up D A found.0 w found.2 in
-            by found.0 (own_word D file found.0 found.1) (test_leads is_plain_word (λ v h. h) A rights_plain D chain.0 found.0 w test chain.1)
+            by found.0 found.1 (test_leads is_plain_word (λ v h. h) A rights_plain D chain.0 found.0 w test chain.1)
 
     -- a description has the tests that the size meets
-    pub test_described : (n : ℕ) (w : List ℕ) → word_of k.dict n ≡ Some w → is_test w ≡ true → has_word (described_by k file) w ≡ is_met (test_of w) (length file.bytes)
+    pub test_described : (n : ℕ) (w : List ℕ) → word_of k.dict n ≡ Some w → is_test w ≡ true → has_word (described_by k draft) w ≡ is_met (test_of w) draft.size
     test_described n w is test =
-        same_tests (has_word (described_by k file) w) (is_met (test_of w) (length file.bytes))
-        (λ h. had_met w test (among_from_has_word (described_by k file) w h))
-        (λ met. has_word_from_among (described_by k file) w
-        (entailed_in D A (own_words D file) w w (own_from D file w (Met (declared_word k sound n w is (test_flagged n w is test)) met)) (up_self D A w)))
+        same_tests (has_word (described_by k draft) w) (is_met (test_of w) draft.size)
+        (λ h. had_met w test (among_from_has_word (described_by k draft) w h))
+        (λ met. has_word_from_among (described_by k draft) w
+        (entailed_in D A words w w
+        (among_right (draft.assigned ++ draft.own) tests w (filter_among (λ x. is_met (test_of x) draft.size) D w (declared_word k sound n w is (test_flagged n w is test)) met))
+        (up_self D A w)))
 
 -- what is declared has the word that it had, with more words
 pub flagged_before : (p : Kept) → AreSound p → (d : Dict) → ((n : ℕ) (w : List ℕ) → word_of p.dict n ≡ Some w → word_of d n ≡ Some w)

@@ -1,15 +1,9 @@
 -- How many blocks are free where some are given back.
-use Rattle.std.proofs.Common.{◌≡◌, ◌⊎◌, refl, ap, ◌∙◌, subst, inl, inr, ℕ, ◌+◌, ◌<◌, ◌≤◌, ◌==◌, ◌&&◌, not, Bool, true, false, cond, List, [], ◌∷◌, length, filter, set, Option, Some, None, IsSome, arith, get_or-set_other}
-use Rattle.lis_store.proofs.Common.{and_parts, cases_lt, cond-false, eqb-true, ne_eqb, not-true, or_cases, sum_by-set, Among, Meaning, Held, is_taken, free_count, is_large, small_size, rec_at, FileRecord, Limits, are_in_range, file_limit, blocks_taken, Kept, AreSound, record_in_form}
-use Rattle.std.proofs.lemmas.Bool.{both_ways}
+use Rattle.lis_store.proofs.Common.{rules, ◌≡◌, refl, ap, ◌∙◌, subst, inl, inr, ℕ, ◌+◌, ◌≤◌, not, Bool, true, false, cond, List, [], ◌∷◌, length, filter, set, Option, Some, None, IsSome, arith, get_or-set_other, and_parts, cases_lt, cond-false, eqb-true, ne_eqb, not-true, or_cases, sum_by-set, Among, Meaning, Held, is_taken, free_count, is_large, small_size, rec_at, FileRecord, Limits, are_in_range, file_limit, blocks_taken, Kept, AreSound, record_in_form, both_ways, given, has_number, are_distinct, Gives, number_from_among}
 use Rattle.std.proofs.lemmas.List.{set_past}
-use Rattle.lis_content.specs.Content.{given, has_number, are_distinct}
 use Rattle.lis_content.proofs.Numbers.{below_if_taken}
-use Rattle.lis_model.specs.Ranges.{is_files_limit, is_props_limit, is_blocks_limit, is_version}
-use Rattle.lis_kept.specs.Changes.{Gives}
 use Rattle.lis_kept.proofs.Dropped.{blocks_apart}
 use Rattle.lis_laws.proofs.Locals.{filter_same}
-use Rattle.lis_kept.proofs.Filing.{number_from_among}
 use Rattle.lis_store.specs.Instead.{free_instead}
 
 -- one that was taken is free then
@@ -20,13 +14,7 @@ one_more_free taken n is =
 
 -- and where it was not, as many are
 as_many_free : (taken : List Bool) (n : ℕ) → is_taken taken n ≡ false → free_count (set taken n false) ≡ free_count taken
-as_many_free taken n is = by (cases_lt n (length taken))
-  where
-    by : (n < length taken) ⊎ (length taken ≤ n) → free_count (set taken n false) ≡ free_count taken
-    by (inl lt) =
-        let changed = sum_by-set (λ (b : Bool). cond (not b) 1 0) taken n false false lt in
-        omega (arith, changed, ap {B = ℕ} (λ (b : Bool). cond (not b) 1 0) is)
-    by (inr past) = ap free_count (set_past taken n false past)
+as_many_free taken n is = search (rules, cases_lt, sum_by-set, set_past)
 
 pub free_given : (taken : List Bool) (ns : List ℕ) → are_distinct ns ≡ true → free_count (given taken ns) ≡ free_count taken + length (filter (is_taken taken) ns)
 free_given taken [] apart = omega arith
@@ -52,13 +40,7 @@ all_pass_filter test (n ∷ ns) each =
 -- ---- versions
 -- a version that is not the second is the first
 pub first_version : (limits : Limits) → are_in_range limits ≡ true → (limits.version ≡ 2 → ⊥) → limits.version ≡ 1
-first_version limits range not_two =
-    let version = (and_parts (is_files_limit limits.files && is_props_limit limits.props && is_blocks_limit limits.blocks) (is_version limits.version) range).1 in
-    by (or_cases (limits.version == 1) (limits.version == 2) version)
-  where
-    by : ((limits.version == 1) ≡ true) ⊎ ((limits.version == 2) ≡ true) → limits.version ≡ 1
-    by (inl one) = eqb-true limits.version 1 one
-    by (inr two) = absurd (not_two (eqb-true limits.version 2 two))
+first_version limits range not_two = search (rules, and_parts, or_cases, eqb-true)
 
 -- ---- a file whose blocks are given back
 pub rec_some : (o : Option FileRecord) → IsSome o → (rec : FileRecord) × (o ≡ Some rec)
@@ -77,8 +59,4 @@ module _ (p mid : Kept) (slot : ℕ) (rec : FileRecord) (there : rec_at p.catalo
 
   -- in version 1 its blocks count as free
   pub enough_given : blocks_taken mid.limits.version size ≤ free_count mid.taken
-  enough_given =
-      let counted = free_given p.taken rec.blocks (blocks_apart p sound slot rec there) in
-      let instead = cond-false (p.limits.version == 2) (free_count p.taken) (free_count p.taken + length (filter (is_taken p.taken) rec.blocks)) (ne_eqb p.limits.version 2 not_two) in
-      let limits_are = ap (λ (x : Kept). x.limits) gives.takes.parts in
-      omega (arith, enough, instead, counted, ap free_count (gives.small small), ap (λ (x : Limits). blocks_taken x.version size) limits_are)
+  enough_given = search (rules, free_given, blocks_apart, cond-false, ne_eqb, small)

@@ -1,15 +1,6 @@
 -- The blocks that no file takes are those that are free.
-use Rattle.std.proofs.Common.{◌≡◌, refl, sym, ap, ◌∙◌, subst, inl, inr, ℕ, ◌+◌, ◌<◌, nat_lt, not, ◌&&◌, Bool, true, false, cond, List, [], ◌∷◌, length, map, sum, set, replicate, arith, length-append, length-set, get_or-set_other}
-use Rattle.lis_store.proofs.Common.{flat_map, list_all, and_parts, lt-ltb, ltb-true, not-true, not_from_false, length-replicate, get_or-replicate, sum_by-set, Among, among_from_contains, contains_from_among, among_flat_map, is_taken, free_count, are_free, Filed, Limits, State, File, blocks_taken, used_blocks, blocks_told, state_of, Tells}
-use Rattle.std.proofs.lemmas.Bool.{and_from, both_ways}
-use Rattle.std.proofs.lemmas.List.Sums.{sum_by-cons}
-use Rattle.lis_graph.proofs.Members.{flat_map_among}
+use Rattle.lis_store.proofs.Common.{rules, ◌≡◌, refl, sym, ap, ◌∙◌, subst, inl, inr, ℕ, ◌+◌, ◌<◌, nat_lt, not, ◌&&◌, Bool, true, false, cond, List, [], ◌∷◌, length, map, sum, set, replicate, arith, length-append, length-set, get_or-set_other, flat_map, list_all, and_parts, lt-ltb, ltb-true, not-true, not_from_false, length-replicate, get_or-replicate, sum_by-set, Among, among_from_contains, contains_from_among, among_flat_map, is_taken, free_count, are_free, Filed, Limits, State, File, blocks_taken, used_blocks, blocks_told, state_of, Tells, and_from, both_ways, sum_by-cons, flat_map_among, marked, has_number, are_distinct, all_among, all_from, same_tests, file_told, among_from_number, number_from_among}
 use Rattle.lis_blockmap.proofs.Taken.{all_free}
-use Rattle.lis_content.specs.Content.{marked, has_number, are_distinct}
-use Rattle.lis_laws.proofs.Counts.{all_among, all_from}
-use Rattle.lis_laws.proofs.Locals.{same_tests}
-use Rattle.lis_kept.specs.Telling.{file_told}
-use Rattle.lis_kept.proofs.Filing.{among_from_number, number_from_among}
 use Rattle.lis_store.specs.Stored.{Stored, IsSound}
 use Rattle.lis_store.proofs.ToldBy.{ToldBy}
 use Rattle.lis_store.proofs.Facts.{limits_told, files_told, size_of_filed}
@@ -97,11 +88,7 @@ module _ (k : Stored) (s : State) (sound : IsSound k) (fits : ToldBy k s) where
       (fits.tells.given found.0 (contains_from_among k.parts.catalog.entries found.0 found.1) n (number_from_among (blocks_of found.0) n found.2)).1))
 
   free_before : are_free (replicate k.parts.limits.blocks false) taken_blocks ≡ true
-  free_before = all_from (λ n. nat_lt n (length (replicate k.parts.limits.blocks false)) && not (is_taken (replicate k.parts.limits.blocks false) n)) taken_blocks (λ n there.
-      let lt = below n there in
-      and_from (nat_lt n (length (replicate k.parts.limits.blocks false))) (not (is_taken (replicate k.parts.limits.blocks false) n))
-      (lt-ltb n (length (replicate k.parts.limits.blocks false)) (omega (arith, lt, length-replicate k.parts.limits.blocks false)))
-      (not_from_false (is_taken (replicate k.parts.limits.blocks false) n) (get_or-replicate k.parts.limits.blocks n false false lt)))
+  free_before = search (rules, all_from, below, and_from, lt-ltb, length-replicate, not_from_false, get_or-replicate)
 
   -- the files take the blocks that are not free
   pub used_told : used_blocks s + free_count k.parts.taken ≡ s.limits.blocks

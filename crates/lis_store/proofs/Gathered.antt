@@ -1,7 +1,5 @@
 -- Words that are gathered one after another: the numbers of what those with numbers entail, and those without.
-use Rattle.std.proofs.Common.{◌≡◌, refl, sym, ap, ◌∙◌, subst, ℕ, ◌+◌, ◌*◌, ◌<◌, ◌≤◌, Bool, true, false, not, ◌&&◌, ◌||◌, cond, is_some, is_none, Option, Some, None, List, [], ◌∷◌, ◌++◌, length, take, get_or, arith, length-append}
-use Rattle.lis_store.proofs.Common.{or-false, list_any-append, HasShape, get, with_row, number_of, word_of, number_from_word, number_below, Taxonomy, same_word, has_word, is_valued, head_bytes, same_word_decides, heads, all_up, Kept, AreSound, TellsLinks, declared_of, axioms_of}
-use Rattle.std.proofs.lemmas.Bool.{false_from_ne_true}
+use Rattle.lis_store.proofs.Common.{◌≡◌, refl, sym, ap, ◌∙◌, subst, ℕ, ◌+◌, ◌*◌, ◌<◌, ◌≤◌, Bool, true, false, not, ◌&&◌, ◌||◌, cond, is_some, is_none, Option, Some, None, List, [], ◌∷◌, ◌++◌, length, take, get_or, arith, length-append, or-false, list_any-append, HasShape, get, with_row, number_of, word_of, number_from_word, number_below, Taxonomy, same_word, has_word, is_valued, head_bytes, same_word_decides, heads, all_up, Kept, AreSound, TellsLinks, declared_of, axioms_of, false_from_ne_true}
 use Rattle.std.proofs.lemmas.List.Elements.{filter-append}
 use Rattle.lis_bits.specs.Rows.{Rows}
 use Rattle.lis_taxonomy.specs.Taxonomy.{entails}

@@ -1,9 +1,7 @@
 -- Blocks that are given back.
-use Rattle.std.proofs.Common.{◌≡◌, ◌⊎◌, refl, sym, ap, ◌∙◌, subst, inl, inr, ℕ, ◌<◌, ◌≤◌, ◌==◌, not, ◌&&◌, ◌||◌, Bool, true, false, List, [], ◌∷◌, length, get_or, set, get_or-set_same, get_or-set_other}
-use Rattle.lis_store.proofs.Common.{cases_eq, cases_lt, ne_eqb, get_or_past, is_taken}
-use Rattle.std.proofs.lemmas.Bool.{and_right, eq-eqb}
+use Rattle.lis_store.proofs.Common.{◌≡◌, ◌⊎◌, sym, ap, ◌∙◌, subst, inl, inr, ℕ, ◌<◌, ◌≤◌, ◌==◌, not, ◌&&◌, ◌||◌, Bool, false, List, [], ◌∷◌, length, get_or, set, get_or-set_same, get_or-set_other, cases_eq, cases_lt, ne_eqb, get_or_past, is_taken, eq-eqb, given, has_number, and-true}
+use Rattle.std.proofs.lemmas.Bool.{and_right}
 use Rattle.std.proofs.lemmas.List.{set_past}
-use Rattle.lis_content.specs.Content.{given, has_number}
 
 unset : (taken : List Bool) (n : ℕ) → get_or (set taken n false) n false ≡ false
 unset taken n = by (cases_lt n (length taken))
@@ -13,11 +11,7 @@ unset taken n = by (cases_lt n (length taken))
     by (inr past) = ap (λ ts. get_or ts n false) (set_past taken n false past) ∙ get_or_past taken n false past
 
 pub given_taken : (taken : List Bool) (ns : List ℕ) (n : ℕ) → is_taken (given taken ns) n ≡ (is_taken taken n && not (has_number ns n))
-given_taken taken [] n = whole (is_taken taken n)
-  where
-    whole : (b : Bool) → b ≡ (b && true)
-    whole true = refl
-    whole false = refl
+given_taken taken [] n = sym (and-true (is_taken taken n))
 given_taken taken (b ∷ ns) n = given_taken (set taken b false) ns n ∙ by (cases_eq b n)
   where
     by : (b ≡ n) ⊎ (b ≡ n → ⊥) → (is_taken (set taken b false) n && not (has_number ns n)) ≡ (is_taken taken n && not ((b == n) || has_number ns n))

@@ -1,12 +1,7 @@
 -- Numbers that pass a test, found one by one.
-use Rattle.std.proofs.Common.{◌≡◌, refl, sym, ap, ◌∙◌, ◌⊎◌, inl, inr, ℕ, zero, suc, ◌+◌, ◌<◌, ◌≤◌, Bool, true, false, cond, List, [], ◌∷◌, ◌++◌, length, map, filter, append-nil, length-append, arith}
-use Rattle.std.specs.Prelude.{All}
-use Rattle.lis_store.proofs.Common.{range_with_len, IsStrictlyIncreasing, cases_lt, Ext, has}
-use Rattle.std.proofs.lemmas.List.FromFn.{filter_of_map_range_with_len_more}
-use Rattle.lis_ext.specs.Ext.{set_of}
+use Rattle.lis_store.proofs.Common.{◌≡◌, refl, sym, ap, ◌∙◌, ◌⊎◌, inl, inr, ℕ, zero, suc, ◌+◌, ◌<◌, ◌≤◌, Bool, true, false, cond, List, [], ◌∷◌, ◌++◌, length, map, filter, append-nil, length-append, arith, range_with_len, cases_lt}
 use Rattle.lis_ext.specs.Numbers.{numbers_where}
-use Rattle.lis_ext.proofs.Numbers.{numbers_of}
-use Rattle.lis_ext.proofs.Seen.{each_below}
+use Rattle.std.proofs.lemmas.List.FromFn.{filter_of_map_range_with_len_more}
 
 abbrev pub found_below : (ℕ → Bool) → ℕ → List ℕ
 found_below test n = filter test (map (λ (p : ℕ). p) (range_with_len 0 n))
@@ -69,7 +64,3 @@ module _ (test : ℕ → Bool) where
       let one : length (found_below test (n + 1)) ≡ length (found_below test n) + 1 =
       ap length (more n ∙ ap (λ b. found_below test n ++ cond b (n ∷ []) []) passes) ∙ length-append (found_below test n) (n ∷ []) in
       omega (arith, one, grows (n + 1) props (omega arith), ap length (found_all props), few)
-
--- those that a set has are the set
-pub had_all : (e : Ext) (slot : ℕ) → IsStrictlyIncreasing (set_of e slot) → All (λ p. p < e.props) (set_of e slot) → numbers_where e.props (λ p. has e p slot) ≡ set_of e slot
-had_all e slot rising below = numbers_of e.props (set_of e slot) rising (λ p m. each_below e.props (set_of e slot) below p m)

@@ -1,10 +1,6 @@
 -- The head of a word in use is in use.
-use Rattle.std.proofs.Common.{◌≡◌, ◌⊎◌, refl, sym, ap, ◌∙◌, inl, inr, ℕ, ◌||◌, true, false, List, Option, Some, None}
-use Rattle.lis_store.proofs.Common.{list_any, and_parts, eqb-true, or_cases, Among, is_taken, word_of, has, AxiomSlot, FreeAxiom, Pair, same_word, is_valued, head_bytes, same_word_decides, head_not_valued, Kept, AreSound, has_pair, is_own_link, declared_of, is_left_of, is_head_by, is_left_head_of, is_had, is_named_left, is_used, had_at, used_had}
-use Rattle.std.proofs.lemmas.Bool.{both_ways, or_left, or_right}
-use Rattle.lis_graph.proofs.Members.{among_from_any, any_from_among}
+use Rattle.lis_store.proofs.Common.{rules, ◌≡◌, ◌⊎◌, refl, sym, ap, ◌∙◌, inl, inr, ℕ, ◌||◌, true, false, List, Option, Some, None, list_any, and_parts, eqb-true, or_cases, is_taken, word_of, has, AxiomSlot, FreeAxiom, Pair, same_word, is_valued, head_bytes, same_word_decides, head_not_valued, Kept, AreSound, has_pair, is_own_link, declared_of, is_left_of, is_head_by, is_left_head_of, is_had, is_named_left, is_used, had_at, used_flagged, used_had, both_ways, or_left, or_right, among_from_any, any_from_among, used_left}
 use Rattle.lis_kept.proofs.OwnLinks.{own_head}
-use Rattle.lis_kept.proofs.Used.{used_left}
 use Rattle.lis_kept.proofs.Emptied.{flagged_not_valued}
 use Rattle.lis_store.specs.Stored.{AreClosed}
 
@@ -25,13 +21,14 @@ used_for k n used = by (or_cases (is_taken k.declared n || is_had k.ext n) (is_n
     by (inl either) = first (or_cases (is_taken k.declared n) (is_had k.ext n) either)
     by (inr left) = NamedLeft left
 
+-- so it stays where these do
+pub use_stays : (k m : Kept) (n : ℕ) → (is_taken k.declared n ≡ true → is_taken m.declared n ≡ true) → (is_named_left k n ≡ true → is_named_left m n ≡ true)
+    → ((slot : ℕ) → has k.ext n slot ≡ true → is_used m n ≡ true) → is_used k n ≡ true → is_used m n ≡ true
+use_stays k m n bits lefts had used = search (rules, used_for, used_flagged, used_left)
+
 module _ (k : Kept) (sound : AreSound k) (closed : AreClosed k) (n head : ℕ) (is_head : is_head_by (word_of k.dict n) (word_of k.dict head) ≡ true) where
   not_bare : (w : List ℕ) → word_of k.dict n ≡ Some w → is_valued w ≡ false → ⊥
-  not_bare w is bare = by (word_of k.dict head) (sym (ap (λ o. is_head_by o (word_of k.dict head)) is) ∙ is_head)
-    where
-      by : (o : Option (List ℕ)) → is_head_by (Some w) o ≡ true → ⊥
-      by None h = both_ways false refl h
-      by (Some v) h = both_ways (is_valued w) bare (and_parts (is_valued w) (same_word (head_bytes w) v) h).0
+  not_bare w is bare = search (rules, both_ways, and_parts)
 
   flagged_head : (o : Option (List ℕ)) → word_of k.dict n ≡ o → is_taken k.declared n ≡ true → ⊥
   flagged_head None is bit = both_ways false refl (sym (ap (λ o. is_head_by o (word_of k.dict head)) is) ∙ is_head)
@@ -43,15 +40,7 @@ module _ (k : Kept) (sound : AreSound k) (closed : AreClosed k) (n head : ℕ) (
       used_had k head slot (closed slot n head h linked)
 
   left_head : list_any (is_left_of n) k.axioms ≡ true → is_used k head ≡ true
-  left_head h = let found = among_from_any (is_left_of n) k.axioms h in by found.0 found.1 found.2
-    where
-      by : (a : AxiomSlot) → Among k.axioms a → is_left_of n a ≡ true → is_used k head ≡ true
-      by FreeAxiom m is = absurd (both_ways false refl is)
-      by (Pair left right) m is =
-          used_left k head
-          (or_right (list_any (is_left_of head) k.axioms) (list_any (is_left_head_of k.dict head) k.axioms)
-          (any_from_among (is_left_head_of k.dict head) k.axioms (Pair left right) m
-          (ap (λ j. is_head_by (word_of k.dict j) (word_of k.dict head)) (eqb-true left n is) ∙ is_head)))
+  left_head h = search (rules, among_from_any, both_ways, used_left, or_right, any_from_among, eqb-true)
 
   no_head_twice : list_any (is_left_head_of k.dict n) k.axioms ≡ true → ⊥
   no_head_twice h = let found = among_from_any (is_left_head_of k.dict n) k.axioms h in by found.0 found.2

@@ -1,9 +1,6 @@
 -- Which files a place has.
-use Rattle.std.proofs.Common.{◌≡◌, refl, sym, ap, ap₂, ◌∙◌, ℕ, ◌<◌, ◌==◌, Bool, true, false, cond, IsSome, IsSomeAnd, List, [], ◌∷◌, map, filter, Option, Some, None}
-use Rattle.std.specs.Prelude.{option_map}
-use Rattle.lis_store.proofs.Common.{find, same_Some, Among, contains_from_among, among_filter, filter_among, same_word, Formula, FileRecord, Filed, slot_of, rec_at, rec_at-slot_of, same_word_decides, Placed, Kept, AreSound, filed_rec, filed_slot}
-use Rattle.std.proofs.lemmas.Bool.{false_from_ne_true}
-use Rattle.lis_graph.proofs.Members.{among_from_any, any_from_among, among_map, map_among}
+use Rattle.lis_store.proofs.Common.{common_steps, ◌≡◌, refl, sym, ap, ap₂, ◌∙◌, ℕ, ◌<◌, ◌==◌, Bool, true, false, cond, IsSome, IsSomeAnd, List, [], ◌∷◌, map, filter, Some, None, option_map, find, same_Some, Among, contains_from_among, among_filter, filter_among, same_word, Formula, FileRecord, Filed, slot_of, rec_at, rec_at-slot_of, same_word_decides, Placed, Kept, AreSound, filed_rec, filed_slot, false_from_ne_true, among_from_any, any_from_among, among_map, map_among}
+use native.Mathlib.Omega.{arith}
 use Rattle.lis_model.specs.Table.{Entry}
 use Rattle.lis_model.specs.Listing.{holds_all}
 use Rattle.lis_eval.specs.View.{TellsTest}
@@ -26,27 +23,11 @@ module _ (k : Kept) (sound : AreSound k) (place : List Formula) (name : List ℕ
     holds : holds_all place (entry f) ≡ true
 
   found_here : is_among k place name ≡ true → (f : Filed) × Here f
-  found_here some =
-      let e = among_from_any is_named (filter (holds_all place) (table_of k).files) some in
-      let kept = among_filter (holds_all place) (table_of k).files e.0 e.1 in
-      let x = among_map (λ (p : Placed). p.entry) (map (placed k) k.catalog.entries) e.0 kept.0 in
-      let f = among_map (placed k) k.catalog.entries x.0 x.1 in
-      let is : entry f.0 ≡ e.0 = ap (λ (p : Placed). p.entry) f.2 ∙ x.2 in (
-        f.0,
-        record {
-          there = f.1;
-          named = (same_word_decides (f.0).rec.name name).0 (ap is_named is ∙ e.2);
-          holds = ap (holds_all place) is ∙ kept.1;
-        },
-      )
+  found_here some = grind (arith, common_steps, among_from_any, among_filter, among_map, same_word_decides)
 
   -- no file has the name
   pub none_here : slot_of k.catalog name ≡ None → is_among k place name ≡ false
-  none_here none =
-      false_from_ne_true (is_among k place name) (λ some.
-      let f = found_here some in
-      let slot = ap (slot_of k.catalog) (sym (f.1).named) ∙ filed_slot k.catalog sound.catalog f.0 (f.1).there in
-      let e : ◌≡◌ {A = Option ℕ} None (Some (f.0).slot) = sym none ∙ slot in cc)
+  none_here none = grind (arith, common_steps, false_from_ne_true, found_here, filed_slot)
 
   -- the file of the name is in the place where that holds of it
   pub named_here : (slot : ℕ) (test : ℕ → Bool) → slot_of k.catalog name ≡ Some slot → TellsTest (seen_of k) test (holds_all place) → is_among k place name ≡ test slot
@@ -80,23 +61,12 @@ module _ (k : Kept) (sound : AreSound k) (place : List Formula) (name : List ℕ
 pub slot_seen : (k : Kept) (name : List ℕ) (fs : List Filed)
     → option_map (λ (f : Placed). f.slot) (find (λ (f : Placed). same_word f.entry.name name) (map (placed k) fs)) ≡ option_map (λ (f : Filed). f.slot) (find (λ (f : Filed). same_word f.rec.name name) fs)
 slot_seen k name [] = refl
-slot_seen k name (f ∷ fs) = by (same_word f.rec.name name) (slot_seen k name fs)
-  where
-    by : (b : Bool) → option_map (λ (x : Placed). x.slot) (find (λ (x : Placed). same_word x.entry.name name) (map (placed k) fs)) ≡ option_map (λ (x : Filed). x.slot) (find (λ (x : Filed). same_word x.rec.name name) fs)
-        → option_map (λ (x : Placed). x.slot) (cond b (Some (placed k f)) (find (λ (x : Placed). same_word x.entry.name name) (map (placed k) fs)))
-        ≡ option_map (λ (x : Filed). x.slot) (cond b (Some f) (find (λ (x : Filed). same_word x.rec.name name) fs))
-    by true rest = refl
-    by false rest = rest
+slot_seen k name (f ∷ fs) = grind (arith, common_steps, slot_seen k name fs)
 
 pub none_seen : (k : Kept) (slot : ℕ) (fs : List Filed) → option_map (λ (f : Filed). f.rec) (find (λ (f : Filed). f.slot == slot) fs) ≡ None
     → IsSome (find (λ (f : Placed). f.slot == slot) (map (placed k) fs)) → ⊥
 none_seen k slot [] none some = cc
-none_seen k slot (f ∷ fs) none some = by (f.slot == slot) none some (none_seen k slot fs)
-  where
-    by : (b : Bool) → option_map (λ (x : Filed). x.rec) (cond b (Some f) (find (λ (x : Filed). x.slot == slot) fs)) ≡ None → IsSome (cond b (Some (placed k f)) (find (λ (x : Placed). x.slot == slot) (map (placed k) fs)))
-        → (option_map (λ (x : Filed). x.rec) (find (λ (x : Filed). x.slot == slot) fs) ≡ None → IsSome (find (λ (x : Placed). x.slot == slot) (map (placed k) fs)) → ⊥) → ⊥
-    by true none some rest = cc
-    by false none some rest = rest none some
+none_seen k slot (f ∷ fs) none some = grind (arith, common_steps, none_seen k slot fs)
 
 pub size_seen : (k : Kept) (slot : ℕ) (rec : FileRecord) (size : ℕ) (fs : List Filed) → option_map (λ (f : Filed). f.rec) (find (λ (f : Filed). f.slot == slot) fs) ≡ Some rec → size ≡ rec.size
     → IsSomeAnd (find (λ (f : Placed). f.slot == slot) (map (placed k) fs)) (λ (f : Placed). size ≡ f.entry.size)

@@ -1,8 +1,5 @@
 -- A store at which nothing is held back, and one at which changes are; and a change that is held back and then committed.
-use Rattle.std.proofs.Common.{◌≡◌, ◌⊎◌, refl, sym, ap, ◌∙◌, subst, inl, inr, ℕ, true, false, List, [], Result, Ok, Err}
-use Rattle.lis_store.proofs.Common.{Meaning, Leaves, looked, KeepsPast, image_blocks, State, Situation, Outcome, IsWritten, Tells}
-use Rattle.lis_ports.proofs.Moments.{leaves_weaken, leaves_then}
-use Rattle.lis_journal.specs.Record.{Entry}
+use Rattle.lis_store.proofs.Common.{◌≡◌, ◌⊎◌, refl, sym, ap, ◌∙◌, subst, inl, inr, ℕ, true, false, List, [], Result, Ok, Err, Meaning, Leaves, looked, KeepsPast, image_blocks, State, Situation, Outcome, IsWritten, Tells, leaves_weaken, leaves_then, Entry}
 use Rattle.lis_store.specs.declared.change.Change.{Change}
 use Rattle.lis_store.specs.declared.change.Change.TheVariants.{Refused, Disk}
 use Rattle.lis_store.specs.Stands.{Stands}
@@ -34,21 +31,21 @@ held_fits k m base s settled holds = record {
   written = subst (λ (es : List Entry). IsWritten k.parts (looked es holds.kept)) settled holds.written;
 }
 
+one_of_two : {A B : Type 0} → (A ⊎ A) ⊎ B → A ⊎ B
+one_of_two (inl (inl a)) = inl a
+one_of_two (inl (inr a)) = inl a
+one_of_two (inr b) = inr b
+
 -- A change that was refused, or that a fault of the disk ended, of a store that held back nothing.
 pub changes_ended : {T : Type 0} (now : Situation) (outcome : Outcome) (old new : Stored) (before after : Meaning) (change : Change) (held result : Result T Change) → held ≡ Err change → result ≡ Err change
     → StoreFits old before now.state → ChangeLeft old new held → Holds now.state now outcome new before after held → Changes now outcome new before after result
 changes_ended {T = T} now outcome old new before after change held result was ends fits left holds =
     record {
-      moments = leaves_weaken (λ image. Stands image now.state ⊎ Stands image outcome.next.state) holds.moments one_of;
+      moments = leaves_weaken (λ image. Stands image now.state ⊎ Stands image outcome.next.state) holds.moments (λ image either. one_of_two either);
       past = holds.past;
       ended = subst (λ r. ChangeEnded now outcome new after r) (sym ends) (by change (subst (λ r. ChangeLeft old new r) was left) (subst (λ r. HeldEnded now.state now outcome new after r) was holds.ended));
     }
   where
-    one_of : (image : List ℕ) → (Stands image now.state ⊎ Stands image now.state) ⊎ Stands image outcome.next.state → Stands image now.state ⊎ Stands image outcome.next.state
-    one_of image (inl (inl old)) = inl old
-    one_of image (inl (inr old)) = inl old
-    one_of image (inr new) = inr new
-
     by : (c : Change) → ChangeLeft {T = T} old new (Err c) → HeldEnded {T = T} now.state now outcome new after (Err c) → ChangeEnded {T = T} now outcome new after (Err c)
     by (Refused refusal) same ended = (ended.0, held_fits new after now.state now.state (ap (λ (k : Stored). k.journal.staged) same ∙ fits.settled) ended.1)
     by Disk broken ended = ended
@@ -63,13 +60,8 @@ module _ {T U : Type 0} (now : Situation) (outcome : Outcome) (mid new : Stored)
   abbrev Either : List ℕ → Type 0
   Either image = Stands image now.state ⊎ Stands image next
 
-  one_of : (image : List ℕ) → (Stands image now.state ⊎ Stands image now.state) ⊎ Stands image next → Either image
-  one_of image (inl (inl old)) = inl old
-  one_of image (inl (inr old)) = inl old
-  one_of image (inr new) = inr new
-
   first : Leaves before between Either
-  first = leaves_weaken Either holds.moments one_of
+  first = leaves_weaken Either holds.moments (λ image either. one_of_two either)
 
   ended_by : (r : Result T Change) → CommitEnded next new after r → ChangeEnded now outcome new after r
   ended_by (Ok d) fits = (holds.ended.0, fits)
@@ -94,3 +86,18 @@ module _ {T U : Type 0} (now : Situation) (outcome : Outcome) (mid new : Stored)
       by : StoreHolds mid between now.state next ⊎ StoreHolds mid between next next → Changes now outcome new before after result
       by (inl held) = whole now.state (λ image either. either) refl (commits now.state next held)
       by (inr held) = whole next same (ap image_blocks (sym held.limits ∙ limits)) (commits next next held)
+
+-- ---- a call that makes a held change and then commits, of a store that fits
+module _ {T : Type 0} {old mid : Stored} {before between : Meaning} {outcome : Outcome} {held : Result T Change} (sound : IsSound old) (now : Situation) (fits : StoreFits old before now.state)
+    (holds : (base : State) → StoreHolds old before base now.state → Holds base now outcome mid before between held) where
+  first_held : Holds now.state now outcome mid before between held
+  first_held = holds now.state (fits_held old before now.state sound fits)
+
+  pub call_ended : {change : Change} {result : Result T Change} → held ≡ Err change → result ≡ Err change → ChangeLeft old mid held → Changes now outcome mid before between result
+  call_ended {change} {result} was ends left = changes_ended now outcome old mid before between change held result was ends fits left first_held
+
+  pub call_committed : {U : Type 0} {new : Stored} {after : Meaning} {done : T} {result : Result U Change} → held ≡ Ok done → ((base s : State) → StoreHolds mid between base s → Commits base s new between after result)
+      → mid.parts.limits ≡ old.parts.limits → Changes now outcome new before after result
+  call_committed {U} {new} {after} {done} {result} was commits limits =
+      changes_committed now outcome mid new before between after done result (subst (λ r. Holds now.state now outcome mid before between r) was first_held) commits
+      (limits ∙ limits_told old.parts fits.kept now.state sound.parts sound.free fits.tells)

@@ -1,15 +1,10 @@
 -- The blocks of a file that comes into the place of another.
-use Rattle.std.proofs.Common.{◌≡◌, refl, sym, ap, ◌∙◌, subst, ℕ, ◌+◌, ◌<◌, nat_lt, not, ◌&&◌, ◌||◌, Bool, true, false, List, [], length, IsTrue, arith}
-use Rattle.lis_store.proofs.Common.{and_parts, ltb-true, not-true, Among, contains_from_among, is_taken, are_free, has_home, Filed, Limits, data_start, State, Kept, AreSound, bytes_told, blocks_told, Tells}
-use Rattle.std.proofs.lemmas.Bool.{both_ways, false_from_ne_true}
-use Rattle.lis_content.specs.Content.{given, marked, are_distinct, has_number}
+use Rattle.lis_store.proofs.Common.{None, Some, ◌≡◌, refl, sym, ap, ◌∙◌, subst, ℕ, ◌+◌, ◌<◌, nat_lt, not, ◌&&◌, ◌||◌, Bool, true, false, List, [], length, IsTrue, arith, and_parts, ltb-true, not-true, Among, contains_from_among, is_taken, are_free, has_home, Filed, Limits, data_start, State, Kept, AreSound, bytes_told, blocks_told, Tells, both_ways, false_from_ne_true, given, marked, are_distinct, has_number, all_among, among_from_number, number_from_among, and-true, common_steps}
 use Rattle.lis_content.specs.Large.{file_content, file_blocks, IsIndexed}
 use Rattle.lis_content.specs.Placing.{HasFile}
 use Rattle.lis_content.proofs.Laying.{home_new}
 use Rattle.lis_content.proofs.Numbers.{length-given}
-use Rattle.lis_laws.proofs.Counts.{all_among}
 use Rattle.lis_kept.proofs.Contents.{same_file}
-use Rattle.lis_kept.proofs.Filing.{among_from_number, number_from_among}
 use Rattle.lis_store.specs.Contents.{Trades}
 use Rattle.lis_store.specs.Contents.Trades.{First, Last}
 use Rattle.lis_store.proofs.Elsewhere.{numbers_counted}
@@ -36,20 +31,7 @@ free_number taken blocks n free has =
 -- the same once those of the other file are given back
 pub housed_given : {limits : Limits} {taken now : List Bool} {old blocks bytes numbers : List ℕ} {at there : ℕ → List ℕ} → IsHoused limits taken now old blocks bytes numbers at there
     → IsHoused limits (given taken old) now [] blocks bytes numbers at there
-housed_given {limits} {taken} {now} {old} {blocks} housed = record {
-  below = housed.below;
-  vacant = λ n new is.
-      let both = and_parts (is_taken taken n) (not (has_number old n)) (sym (given_taken taken old n) ∙ is) in
-      absurd (both_ways (not (has_number old n)) (ap not (housed.vacant n new both.0)) both.1);
-  distinct = housed.distinct;
-  holds = housed.holds;
-  same = housed.same;
-  marks = λ n lt. housed.marks n lt ∙ ap (λ b. has_number blocks n || b) (sym (given_taken taken old n) ∙ whole (is_taken (given taken old) n));
-}
-  where
-    whole : (b : Bool) → b ≡ (b && true)
-    whole true = refl
-    whole false = refl
+housed_given {limits} {taken} {now} {old} {blocks} housed = grind (arith, common_steps, and_parts, given_taken, both_ways, and-true)
 
 -- ---- bytes that come into other blocks
 module _ (limits : Limits) (taken mid now : List Bool) (old blocks bytes numbers : List ℕ) (at there : ℕ → List ℕ) (len : length taken ≡ limits.blocks) (distinct : are_distinct blocks ≡ true)
@@ -151,7 +133,15 @@ module _ (k : Kept) (sound : AreSound k) (at there : ℕ → List ℕ) (s : Stat
       (home_new (data_start k.limits) blocks b
       (false_from_ne_true (has_number blocks b) (λ has. both_ways (is_taken k.taken b) (free_number k.taken blocks b free has).1 (old_taken b (number_from_among old b among))))))).1
 
-  pub trades_housed : Trades k.limits f.rec k.taken now blocks at there → IsHoused k.limits k.taken now old blocks bytes numbers at there
+  pub trades_housed : Trades k.limits (Some f.rec) k.taken now blocks at there → IsHoused k.limits k.taken now old blocks bytes numbers at there
   trades_housed (First free marks) = given_first k.limits k.taken (given k.taken old) now old blocks bytes numbers at there sound.blocks distinct holds same refl free marks
   trades_housed (Last free gave) =
       given_last k.limits k.taken (marked k.taken blocks) now old blocks bytes numbers at there sound.blocks distinct holds same free old_taken refl (gave ∙ ap (given (marked k.taken blocks)) (old_stays free))
+
+-- and where no file makes way
+pub alone_housed : (limits : Limits) (taken now : List Bool) (blocks bytes numbers : List ℕ) (at there : ℕ → List ℕ) → length taken ≡ limits.blocks → are_distinct blocks ≡ true
+    → HasFile (data_start limits) bytes numbers blocks there → ((n : ℕ) → has_home (data_start limits) blocks n ≡ false → there n ≡ at n)
+    → Trades limits None taken now blocks at there → IsHoused limits taken now [] blocks bytes numbers at there
+alone_housed limits taken now blocks bytes numbers at there len distinct holds same (First free marks) = given_first limits taken taken now [] blocks bytes numbers at there len distinct holds same refl free marks
+alone_housed limits taken now blocks bytes numbers at there len distinct holds same (Last free gave) =
+    given_last limits taken (marked taken blocks) now [] blocks bytes numbers at there len distinct holds same free (λ n none. absurd (both_ways (has_number [] n) refl none)) refl gave

@@ -1,8 +1,5 @@
 -- The words of numbers, put into a set one after another.
-use Rattle.std.proofs.Common.{◌≡◌, ◌∙◌, subst, ℕ, ◌+◌, ◌<◌, ◌≤◌, Bool, true, Option, Some, None, option_to_list, List, [], length, take, get_or, sym, ap, arith}
-use Rattle.lis_store.proofs.Common.{flat_map, Dict, word_of, word_cmp, with_words, insert_key_le}
-use Rattle.std.proofs.lemmas.Bool.{le-leb}
-use Rattle.std.proofs.lemmas.List.{get_or_default}
+use Rattle.lis_store.proofs.Common.{◌≡◌, ◌∙◌, subst, ℕ, ◌+◌, ◌<◌, ◌≤◌, Bool, true, Option, Some, None, option_to_list, List, [], length, take, get_or, sym, ap, arith, flat_map, Dict, word_of, word_cmp, with_words, insert_key_le, le-leb, get_or_default}
 use Rattle.lis_store.specs.Assigning.{Takes}
 use Rattle.lis_store.proofs.Assigned.{takes_more, flat_next}
 

@@ -1,15 +1,12 @@
 -- The rows of `write` and `rename`, told by what a store keeps, are the rows of the state.
-use Rattle.std.proofs.Common.{◌≡◌, refl, sym, ap, ap₂, ◌∙◌, ℕ, ◌+◌, ◌==◌, nat_lt, Bool, true, false, not, cond, is_some, Some, None, List, [], ◌∷◌, ◌++◌, length, filter, arith}
-use Rattle.lis_store.proofs.Common.{list_all, cond-false, not-false, free_count, is_taken, small_size, Filed, slot_of, rec_at, FileRecord, Among, contains_from_among, among_filter, Formula, same_word, Limits, Refusal, UnknownProperty, NameTaken, NoFileHere, LargeFile, NoSpace, data_start, State, File, is_assignable, file_limit, blocks_taken, has_name, new_file, file_removed, file_replaced, Situation, Payload, refused, free_blocks, write, rename, file_of_name, Kept, declared_of, bytes_told, blocks_told, record_in_form, filed_at_slot}
+use Rattle.lis_store.proofs.Common.{◌≡◌, refl, sym, ap, ap₂, ◌∙◌, ℕ, ◌+◌, ◌==◌, nat_lt, Bool, true, false, not, cond, is_some, Some, None, List, [], ◌∷◌, ◌++◌, length, filter, arith, list_all, cond-false, not-false, free_count, is_taken, small_size, Filed, slot_of, rec_at, FileRecord, Among, contains_from_among, among_filter, Formula, same_word, Limits, Refusal, UnknownProperty, NameTaken, NoFileHere, LargeFile, NoSpace, data_start, State, File, is_assignable, file_limit, blocks_taken, has_name, derived_words, new_file, file_removed, file_replaced, Situation, Payload, refused, free_blocks, write, rename, file_of_name, Kept, declared_of, bytes_told, blocks_told, record_in_form, filed_at_slot, file_of, changed, words_told, number_from_among}
 use Rattle.lis_content.proofs.Indexes.{small_blocks}
-use Rattle.lis_model.specs.Changes.{file_of}
-use Rattle.lis_model.specs.Step.{changed, blocks_for, is_here, room_checks, write_checks, rename_checks}
+use Rattle.lis_model.specs.Step.{blocks_for, is_here, room_checks, write_checks, rename_checks}
 use Rattle.lis_laws.proofs.Named.{gone_free, still_free}
-use Rattle.lis_kept.specs.Telling.{words_told}
 use Rattle.lis_kept.proofs.Contents.{slot_blocks_told}
-use Rattle.lis_kept.proofs.Filing.{number_from_among}
 use Rattle.lis_store.specs.Stored.{Stored, IsSound}
 use Rattle.lis_store.proofs.ToldBy.{ToldBy}
+use Rattle.lis_store.specs.Drafts.{with_own, draft_of, AreOwnWords}
 use Rattle.lis_store.specs.Beside.{words_checks}
 use Rattle.lis_store.specs.Changes.{first_refusal}
 use Rattle.lis_store.specs.Judging.{is_among}
@@ -94,13 +91,13 @@ module _ (k : Stored) (s : State) (sound : IsSound k) (fits : ToldBy k s) (place
       ∙ ap (λ b. cond (not b) (Some NoFileHere) (first_refusal others)) (among_told k s sound fits place name)
 
   -- The words of a told file may be given, so the check of memory refuses nothing.
-  pub instead_row : There → (file : File) (made : State) → file_replaced s name file ≡ made → has_name (file_removed s name).files file.name ≡ false
+  pub instead_row : There → (file : File) (own : List (List ℕ)) → AreOwnWords s.declared s.axioms own file → (made : State) → file_replaced s name file ≡ made → has_name (file_removed s name).files file.name ≡ false
       → list_all (is_assignable (declared_of kept)) file.assigned ≡ true → (checks others : List (Bool × Refusal)) → first_refusal checks ≡ first_refusal others
-      → first_refusal (instead_checks kept slot file ++ checks) ≡ first_refusal (room_checks made ++ others)
-  instead_row at file made is new given checks others same =
-      ap (λ b. cond (not b) (Some UnknownProperty) (first_refusal (words_checks kept (Some slot) file ++ checks))) given
+      → first_refusal (instead_checks kept slot (with_own file own) ++ checks) ≡ first_refusal (room_checks made ++ others)
+  instead_row at file own are_own made is new given checks others same =
+      ap (λ b. cond (not b) (Some UnknownProperty) (first_refusal (words_checks kept (Some slot) (with_own file own) ++ checks))) given
       ∙ (words_row k s sound fits (Some slot) (file_removed s name).files (λ f m. (among_filter (λ (g : File). not (same_word g.name name)) s.files f m).0)
-      (rest_known kept fits.kept s sound.parts sound.free fits.tells name slot rec at.0 at.1) file new checks others same
+      (rest_known kept fits.kept s sound.parts sound.free fits.tells name slot rec at.0 at.1) file own are_own new checks others same
       ∙ ap (λ (t : State). first_refusal (room_checks t ++ others)) is)
 
   given : There → old.assigned ≡ words_told kept.dict rec.tags
@@ -117,7 +114,7 @@ module _ (k : Stored) (s : State) (sound : IsSound k) (fits : ToldBy k s) (place
       let full_told : Bool × Refusal = (nat_lt (blocks_for s old) (blocks_taken s.limits.version size), NoSpace) in
       ap₂ (λ v r. cond (nat_lt (file_limit v) size) (Some LargeFile) r) version
       (here_row (overwriting_checks kept slot rec file size) (room_checks made ++ full_told ∷ []) (λ at.
-      instead_row at file made (ap₂ (λ n ws. file_replaced s n (new_file n ws bytes)) (sym (file_of_name s.files name)) (sym (given at))) (gone_free s name)
+      instead_row at file (derived_words name bytes) refl made (ap₂ (λ n ws. file_replaced s n (new_file n ws bytes)) (sym (file_of_name s.files name)) (sym (given at))) (gone_free s name)
       (given_assignable k sound slot rec at.1 fits.kept s fits.tells) (full ∷ []) (full_told ∷ [])
       (ap₂ (λ free v. cond (nat_lt free (blocks_taken v size)) (Some NoSpace) None) (free_told k s sound fits name slot rec at.0 at.1) version)))
 
@@ -129,8 +126,8 @@ module _ (k : Stored) (s : State) (sound : IsSound k) (fits : ToldBy k s) (place
       let made = file_replaced s old.name (new_file other old.assigned old.bytes) in
       let named = name_filed kept fits.kept s sound.parts sound.free fits.tells other in
       here_row (renaming_checks kept slot file) ((has_name s.files other, NameTaken) ∷ room_checks made) (λ at.
-      same_behind ((is_some (slot_of kept.catalog other), NameTaken) ∷ []) (instead_checks kept slot file) (room_checks made) (λ new.
-      instead_row at file made (ap₂ (λ n ws. file_replaced s n (new_file other ws old.bytes)) (sym (file_of_name s.files name)) (sym (given at))) (still_free s name other (named ∙ new.0))
+      same_behind ((is_some (slot_of kept.catalog other), NameTaken) ∷ []) (instead_checks kept slot (draft_of file)) (room_checks made) (λ new.
+      instead_row at file (derived_words other old.bytes) refl made (ap₂ (λ n ws. file_replaced s n (new_file other ws old.bytes)) (sym (file_of_name s.files name)) (sym (given at))) (still_free s name other (named ∙ new.0))
       (given_assignable k sound slot rec at.1 fits.kept s fits.tells) [] [] refl)
       ∙ ap (λ taken. cond taken (Some NameTaken) (first_refusal (room_checks made))) (sym named))
 

@@ -1,6 +1,6 @@
 -- Rows of refusals that are judged, and commands that are refused.
-use Rattle.std.proofs.Common.{◌≡◌, refl, sym, ap, ap₂, ◌∙◌, subst, Bool, true, false, cond, List, [], ◌∷◌, ◌++◌, Option, Some, None, Result, Ok, Err}
-use Rattle.lis_store.proofs.Common.{same_Some, Meaning, Refusal, Situation, Outcome, refused, State}
+use Rattle.lis_store.proofs.Common.{common_steps, rules, ◌≡◌, refl, sym, ap₂, ◌∙◌, subst, Bool, true, false, cond, List, [], ◌∷◌, ◌++◌, Option, Some, None, Result, Ok, Err, same_Some, Meaning, Refusal, Situation, Outcome, refused, State}
+use native.Mathlib.Omega.{arith}
 use Rattle.lis_ports.proofs.Moments.{leaves_none}
 use Rattle.lis_model.specs.Step.{judged}
 use Rattle.lis_store.specs.declared.change.Change.{Change}
@@ -10,20 +10,11 @@ use Rattle.lis_store.specs.Changes.{Holds, first_refusal, Judges}
 
 pub judged_refused : (now : Situation) (checks : List (Bool × Refusal)) (done : Outcome) (refusal : Refusal) → first_refusal checks ≡ Some refusal → judged now checks done ≡ refused now refusal
 judged_refused now [] done refusal first = absurd cc
-judged_refused now (check ∷ checks) done refusal first = by (judged_refused now checks done refusal) check.0 first
-  where
-    by : (first_refusal checks ≡ Some refusal → judged now checks done ≡ refused now refusal) → (b : Bool) → cond b (Some check.1) (first_refusal checks) ≡ Some refusal
-        → cond b (refused now check.1) (judged now checks done) ≡ refused now refusal
-    by rest true e = ap (refused now) (same_Some check.1 refusal e)
-    by rest false e = rest e
+judged_refused now (check ∷ checks) done refusal first = grind (arith, common_steps, same_Some, judged_refused now checks done refusal)
 
 pub judged_done : (now : Situation) (checks : List (Bool × Refusal)) (done : Outcome) → first_refusal checks ≡ None → judged now checks done ≡ done
 judged_done now [] done none = refl
-judged_done now (check ∷ checks) done none = by (judged_done now checks done) check.0 none
-  where
-    by : (first_refusal checks ≡ None → judged now checks done ≡ done) → (b : Bool) → cond b (Some check.1) (first_refusal checks) ≡ None → cond b (refused now check.1) (judged now checks done) ≡ done
-    by rest true e = absurd cc
-    by rest false e = rest e
+judged_done now (check ∷ checks) done none = search (rules, judged_done now checks done)
 
 -- the first check of a row that refuses nothing
 pub passed : (b : Bool) (refusal : Refusal) (rest : Option Refusal) → cond b (Some refusal) rest ≡ None → (b ≡ false) × (rest ≡ None)
@@ -42,21 +33,11 @@ all_pass (check ∷ checks) none = let first = passed check.0 check.1 (first_ref
 -- ---- rows one after another
 pub refused_first : (checks others : List (Bool × Refusal)) (refusal : Refusal) → first_refusal checks ≡ Some refusal → first_refusal (checks ++ others) ≡ Some refusal
 refused_first [] others refusal first = absurd cc
-refused_first (check ∷ checks) others refusal first = by (refused_first checks others refusal) check.0 first
-  where
-    by : (first_refusal checks ≡ Some refusal → first_refusal (checks ++ others) ≡ Some refusal) → (b : Bool) → cond b (Some check.1) (first_refusal checks) ≡ Some refusal
-        → cond b (Some check.1) (first_refusal (checks ++ others)) ≡ Some refusal
-    by rest true e = e
-    by rest false e = rest e
+refused_first (check ∷ checks) others refusal first = search (rules, refused_first checks others refusal)
 
 pub refused_then : (checks others : List (Bool × Refusal)) → first_refusal checks ≡ None → first_refusal (checks ++ others) ≡ first_refusal others
 refused_then [] others none = refl
-refused_then (check ∷ checks) others none = by (refused_then checks others) check.0 none
-  where
-    by : (first_refusal checks ≡ None → first_refusal (checks ++ others) ≡ first_refusal others) → (b : Bool) → cond b (Some check.1) (first_refusal checks) ≡ None
-        → cond b (Some check.1) (first_refusal (checks ++ others)) ≡ first_refusal others
-    by rest true e = absurd cc
-    by rest false e = rest e
+refused_then (check ∷ checks) others none = search (rules, refused_then checks others)
 
 pub judges_refused : {T : Type 0} (checks : List (Bool × Refusal)) (result : Result T Refusal) (refusal : Refusal) → result ≡ Err refusal → first_refusal checks ≡ Some refusal → Judges checks result
 judges_refused checks result refusal ends first = subst (λ r. Judges checks r) (sym ends) first
@@ -100,3 +81,9 @@ pub change_refused : {T : Type 0} (k : Stored) (m : Meaning) (base : State) (now
     → outcome ≡ refused now refusal → result ≡ Err (Refused refusal) → Holds base now outcome k m m result
 change_refused k m base now outcome refusal result holds is ends =
     subst (λ r. Holds base now outcome k m m r) (sym ends) (record { moments = leaves_none m _; past = λ n le. refl; ended = (is, holds) })
+
+-- nor of a store and its view
+pub view_refused : {T : Type 0} {old now : Stored} {m : Meaning} {base : State} {outcome : Outcome} {result : Result T Change} → old ≡ now → (sit : Situation) (refusal : Refusal) → StoreHolds now m base sit.state
+    → (StoreHolds old m base sit.state → outcome ≡ refused sit refusal) → result ≡ Err (Refused refusal) → Holds base sit outcome now m m result
+view_refused {now = now} {m = m} {base = base} {outcome = outcome} {result = result} view sit refusal holds is ends =
+    change_refused now m base sit outcome refusal result holds (is (subst (λ k. StoreHolds k m base sit.state) (sym view) holds)) ends

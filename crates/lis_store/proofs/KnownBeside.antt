@@ -1,16 +1,10 @@
 -- How many words would be known with a file, beside all that are known or in the place of another file.
-use Rattle.std.proofs.Common.{◌≡◌, ◌⊎◌, refl, sym, ap, ap₂, ◌∙◌, subst, inl, inr, ℕ, ◌+◌, not, ◌&&◌, ◌||◌, Bool, true, false, is_some, IsSome, IfSome, Option, Some, None, List, [], length, arith}
-use Rattle.lis_store.proofs.Common.{IsStrictlySortedBy, and-true, and-false, and_parts, cases_eq, length-map, none-some, sorted_from_rising, get, is_taken, rec_at, number_of, word_of, number_from_word, has, numbers_same, word_cmp, has_word, File, word_order, among_from_has_word, sorted_with_words, Kept, AreSound, is_had, is_named_left, is_used, AreUsed, emptied, had_at, left_out}
-use Rattle.std.proofs.lemmas.Bool.{both_ways, false_from_ne_true}
+use Rattle.lis_store.proofs.Common.{◌≡◌, ◌⊎◌, refl, sym, ap, ap₂, ◌∙◌, subst, inl, inr, ℕ, ◌+◌, not, ◌&&◌, ◌||◌, Bool, true, false, is_some, IsSome, IfSome, Option, Some, None, List, [], length, arith, IsStrictlySortedBy, and-true, and-false, and_parts, cases_eq, length-map, none-some, sorted_from_rising, get, is_taken, rec_at, number_of, word_of, number_from_word, has, numbers_same, word_cmp, has_word, word_order, among_from_has_word, sorted_with_words, Kept, AreSound, is_had, is_named_left, is_used, AreUsed, emptied, had_at, left_out, both_ways, false_from_ne_true, words, numbers_where, has_word_from_among, same_tests, one_number}
 use Rattle.lis_bits.specs.Rows.{Rows}
-use Rattle.lis_dict.specs.Dict.{words}
-use Rattle.lis_ext.specs.Numbers.{numbers_where}
 use Rattle.lis_ext.proofs.Numbers.{numbers_apart}
-use Rattle.lis_laws.proofs.Members.{has_word_from_among}
-use Rattle.lis_laws.proofs.Locals.{same_tests}
-use Rattle.lis_kept.proofs.Known.{one_number}
 use Rattle.lis_kept.proofs.Without.{elsewhere_had}
 use Rattle.lis_store.specs.Adding.{is_one_of}
+use Rattle.lis_store.specs.Drafts.{Draft}
 use Rattle.lis_store.specs.Admitting.{described_by}
 use Rattle.lis_store.specs.Beside.{words_beside, known_beside, is_leaving, leaving}
 use Rattle.lis_store.specs.Describing.{IsTold}
@@ -92,21 +86,21 @@ module _ (k : Kept) (sound : AreSound k) where
       }) in
       omega (arith, some, length-map k.dict.entries (λ (e : List ℕ × ℕ). e.0))
 
-  module _ (file : File) (row : Rows) (fresh : List (List ℕ)) (told : IsTold k file row fresh) where
+  module _ (draft : Draft) (row : Rows) (fresh : List (List ℕ)) (told : IsTold k draft row fresh) where
     abbrev remains : Option ℕ → ℕ → Bool
     remains old n = (stays old n || get row 0 n) && named n
 
-    known_is : (old : Option ℕ) → IsCounted k sound (remains old) fresh (known_beside k old file)
+    known_is : (old : Option ℕ) → IsCounted k sound (remains old) fresh (known_beside k old draft)
     known_is old = record {
-      sorted = sorted_with_words (words_beside k old) (described_by k file) (sorted_beside old);
+      sorted = sorted_with_words (words_beside k old) (described_by k draft) (sorted_beside old);
       named = λ n lt h. (and_parts (stays old n || get row 0 n) (named n) h).1;
       numbered = λ w n is.
-          has_both (words_beside k old) (described_by k file) w
-          ∙ (ap₂ (λ a b. a || b) (is_beside old w n is) (sym (told.numbers n (numbered_below k sound w n is) ∙ ap (is_one_of (described_by k file)) is))
+          has_both (words_beside k old) (described_by k draft) w
+          ∙ (ap₂ (λ a b. a || b) (is_beside old w n is) (sym (told.numbers n (numbered_below k sound w n is) ∙ ap (is_one_of (described_by k draft)) is))
           ∙ (sym (and-true (stays old n || get row 0 n)) ∙ ap (λ (o : Option (List ℕ)). (stays old n || get row 0 n) && is_some o) (sym is)));
       once = told.once;
       new = told.new;
-      others = λ w none. has_both (words_beside k old) (described_by k file) w ∙ ap₂ (λ a b. a || b) (none_beside old w none) (told.others w none);
+      others = λ w none. has_both (words_beside k old) (described_by k draft) w ∙ ap₂ (λ a b. a || b) (none_beside old w none) (told.others w none);
     }
 
     all_remain : (old : Option ℕ) → IfSome old (λ slot. IsSome (rec_at k.catalog slot)) → IfSome old (λ slot. AreUsed k)
@@ -132,6 +126,6 @@ module _ (k : Kept) (sound : AreSound k) where
             ∙ (goes_or_stays (is_used (emptied k slot) n) (get row 0 n) (has k.ext n slot) (λ gone. used_here slot n (used n here) gone) ∙ sym here)
 
     pub known_measured : (old : Option ℕ) → IfSome old (λ slot. IsSome (rec_at k.catalog slot)) → IfSome old (λ slot. AreUsed k)
-        → length (known_beside k old file) + length (leaving k row old) ≡ length k.dict.entries + length fresh
+        → length (known_beside k old draft) + length (leaving k row old) ≡ length k.dict.entries + length fresh
     known_measured old there used =
-        omega (arith, all_known, all_remain old there used, counted k sound (remains old) fresh (known_beside k old file) (known_is old))
+        omega (arith, all_known, all_remain old there used, counted k sound (remains old) fresh (known_beside k old draft) (known_is old))

@@ -1,13 +1,11 @@
 -- A change with a large content: all that is held back is committed before it.
-use Rattle.std.proofs.Common.{◌≡◌, ◌⊎◌, refl, sym, ap, ◌∙◌, subst, inl, inr, ℕ, ◌<◌, ◌≤◌, true, false, List, [], ◌∷◌, length, Result, Ok, Err, OnOk, arith}
-use Rattle.std.proofs.lemmas.Bool.{both_ways}
-use Rattle.lis_store.proofs.Common.{Meaning, KeepsPast, looked, is_large, image_blocks, State, Situation, Outcome}
-use Rattle.lis_ports.proofs.Moments.{leaves_weaken, leaves_then}
+use Rattle.std.proofs.Common.{OnOk}
+use Rattle.lis_store.proofs.Common.{rules, ◌≡◌, ◌⊎◌, refl, sym, ap, ◌∙◌, subst, inl, inr, ℕ, ◌<◌, ◌≤◌, true, false, List, [], ◌∷◌, length, Result, Ok, Err, arith, both_ways, Meaning, KeepsPast, looked, is_large, image_blocks, State, Situation, Outcome, leaves_weaken, leaves_then}
 use Rattle.lis_store.specs.declared.change.Change.{Change}
 use Rattle.lis_store.specs.declared.change.Change.TheVariants.{Refused, Disk}
 use Rattle.lis_store.specs.Stands.{Stands}
 use Rattle.lis_store.specs.Stored.{Stored, IsSound, StoreHolds}
-use Rattle.lis_store.specs.Changes.{Holds, HeldEnded, Commits, CommitEnded}
+use Rattle.lis_store.specs.Changes.{Holds, HeldEnded, Commits}
 use Rattle.lis_store.specs.Saving.{SaveEnded}
 use Rattle.lis_store.proofs.Facts.{limits_told}
 use Rattle.lis_store.proofs.Holding.{held_fits, fits_held}
@@ -45,13 +43,7 @@ module _ (base : State) (now : Situation) (outcome : Outcome) (before between af
   -- The disk fails in the commit.
   pub held_lost_commit : {T U : Type 0} (new : Stored) (change : Change) (result : Result T Change) → Commits {T = U} base now.state new before after (Err change) → result ≡ Err change
       → Holds base now outcome new before after result
-  held_lost_commit {T = T} {U = U} new change result commits ends =
-      subst (λ r. Holds base now outcome new before after r) (sym ends)
-      (record { moments = leaves_weaken Either commits.moments (λ image either. inl either); past = commits.past; ended = by change commits.ended })
-    where
-      by : (c : Change) → CommitEnded {T = U} now.state new after (Err c) → HeldEnded {T = T} base now outcome new after (Err c)
-      by (Refused refusal) never = absurd (let e : false ≡ true = never in cc)
-      by Disk broken = broken
+  held_lost_commit {T = T} {U = U} new change result commits ends = search (rules, leaves_weaken)
 
 -- Behind one that may leave nothing staged nothing is.
 pub none_left : {T E X : Type 0} (size most : ℕ) (staged : List X) (result : Result T E) → (0 < most → is_large size ≡ false) → is_large size ≡ true → OnOk result (length staged ≤ most) → OnOk result (staged ≡ [])

@@ -1,16 +1,10 @@
 -- Words that are learnt, one behind the other.
-use Rattle.std.proofs.Common.{◌≡◌, ◌⊎◌, refl, sym, ap, ◌∙◌, subst, inl, inr, ℕ, ◌+◌, ◌<◌, ◌≤◌, ◌&&◌, ◌||◌, Bool, true, false, cond, List, [], ◌∷◌, ◌++◌, length, take, drop, get_or, None, is_some, IsSome, append-nil, length-append, take-append-drop, arith}
-use Rattle.lis_store.proofs.Common.{list_all, or_cases, length-map, take_more, Contains-get_or, Among, among_from_contains, Dict, number_of, word_cmp, is_valued, is_plain_word, is_head, is_built_in, head_bytes, with_word, with_words, heads, head_not_valued, word_exact, among_from_has_word, Kept, stays_marked, block_of, is_marked, Properties}
-use Rattle.std.proofs.lemmas.Bool.{and_from, or_left, or_right, both_ways}
+use Rattle.std.proofs.Common.{take-append-drop}
+use Rattle.lis_store.proofs.Common.{◌≡◌, ◌⊎◌, refl, sym, ap, ◌∙◌, subst, inl, inr, ℕ, ◌+◌, ◌<◌, ◌≤◌, ◌&&◌, ◌||◌, Bool, true, false, cond, List, [], ◌∷◌, ◌++◌, length, take, drop, get_or, None, is_some, IsSome, append-nil, length-append, arith, list_all, or_cases, length-map, take_more, Contains-get_or, Among, among_from_contains, Dict, number_of, word_cmp, is_valued, is_plain_word, is_head, is_built_in, head_bytes, with_word, with_words, heads, head_not_valued, word_exact, among_from_has_word, Kept, stays_marked, block_of, is_marked, marked_count, Properties, and_from, or_left, or_right, both_ways, flat_map-append, words, built_in_not_plain, all_among, has_word_from_among}
 use Rattle.std.proofs.lemmas.List.Sums.{fold-append}
-use Rattle.std.proofs.lemmas.Grind.{flat_map-append}
 use Rattle.lis_graph.proofs.Members.{with_more_old, with_more_new}
-use Rattle.lis_dict.specs.Dict.{words}
 use Rattle.lis_words.proofs.Head.{head_is_word}
 use Rattle.lis_fields.specs.Layouts.{is_undeclared}
-use Rattle.lis_laws.proofs.Apart.{built_in_not_plain}
-use Rattle.lis_laws.proofs.Counts.{all_among}
-use Rattle.lis_laws.proofs.Members.{has_word_from_among}
 use Rattle.lis_kept.specs.Changes.{Learns}
 use Rattle.lis_store.specs.Adding.{behind_head, with_heads, may_learn, HasWordRoom, LearnsAll}
 use Rattle.lis_store.proofs.Facts.{numbered}
@@ -27,17 +21,20 @@ not_unknown : (d : Dict) (word : List ℕ) → number_of d word ≡ None → Amo
 not_unknown d word none m = both_ways (is_some (number_of d word)) (ap is_some none) (number_there d word m)
 
 -- ---- how many there are
+one_more : (d : Dict) (word : List ℕ) → number_of d word ≡ None → length (with_word (words d) word) ≡ length (words d) + 1
+one_more d word none = length-with_word (words d) word (λ other m tie. not_unknown d word none (subst (λ w. Among (words d) w) (sym (word_exact word other tie)) m))
+
 -- an unknown word needs room
 pub room_for : (d : Dict) (word : List ℕ) (more : List (List ℕ)) (most : ℕ) → number_of d word ≡ None → length (with_words (words d) (word ∷ more)) ≤ most → length d.entries < most
 room_for d word more most none room =
-    let one = length-with_word (words d) word (λ other m tie. not_unknown d word none (subst (λ w. Among (words d) w) (sym (word_exact word other tie)) m)) in
-    omega (arith, room, words_grow (with_word (words d) word) more, one, length-map d.entries (λ (e : List ℕ × ℕ). e.0))
+    omega (arith, room, words_grow (with_word (words d) word) more, one_more d word none, length-map d.entries (λ (e : List ℕ × ℕ). e.0))
 
 -- ---- learning in turn
 pub learns_none : (p : Kept) → LearnsAll [] p p
 learns_none p = record {
   parts = refl;
   marks = record { saved = λ at saved. saved; few = omega arith };
+  few = omega arith;
   marked = λ block is. is;
   words = refl;
   keeps = λ n word is. is;
@@ -51,6 +48,10 @@ learns_one p q word number learns = record {
     | inr new ↦ subst (λ (k : Kept). k ≡ record p { dict = k.dict; marks = k.marks }) (sym new.2) refl
   ];
   marks = learns.marks;
+  few = elim learns.parts [
+    | inl there ↦ subst (λ (k : Kept). marked_count k + length (words p.dict) ≤ marked_count p + length (words k.dict)) (sym there.1) (omega arith)
+    | inr new ↦ omega (arith, learns.marks.few, ap (λ (ws : List (List ℕ)). length ws) learns.words, one_more p.dict word new.0)
+  ];
   marked = λ block is. elim learns.parts [
     | inl there ↦ subst (λ (k : Kept). is_marked k block ≡ true) (sym there.1) is
     | inr new ↦ subst (λ (k : Kept). is_marked k block ≡ true) (sym new.2) (stays_marked p.marks (block_of p.limits Properties number ∷ []) block is)
@@ -67,6 +68,7 @@ learns_more p q r some more first second = record {
     saved = λ at saved. second.marks.saved at (first.marks.saved at saved);
     few = omega (arith, first.marks.few, second.marks.few, length-append some more);
   };
+  few = omega (arith, first.few, second.few);
   marked = λ block is. second.marked block (first.marked block is);
   words = second.words ∙ (ap (λ ws. with_words ws more) first.words ∙ sym (fold-append with_word (words p.dict) some more));
   keeps = λ n word is. second.keeps n word (first.keeps n word is);

@@ -1,14 +1,7 @@
 -- What is kept once words are learnt.
-use Rattle.std.proofs.Common.{◌≡◌, ◌⊎◌, refl, sym, ap, ap₂, ◌∙◌, subst, inl, inr, ℕ, ◌||◌, true, List, [], Option, Some, None, is_some, IsSome}
-use Rattle.lis_store.proofs.Common.{list_any, Contains, or_cases, Among, among_from_contains, is_taken, word_of, Filed, numbers_at, AxiomSlot, FreeAxiom, Pair, State, description, among_with_words, Kept, is_own_link, has_pair, AreSound, FreeSlotsAreEmpty, declared_of, state_of, is_left_of, is_left_head_of, is_head_by, is_had, is_named_left, is_used, filed_rec, some_word, named_all, known_word}
-use Rattle.std.proofs.lemmas.Bool.{or_left, or_right}
-use Rattle.lis_graph.proofs.Members.{among_from_any, any_from_among}
-use Rattle.lis_dict.specs.Dict.{words}
+use Rattle.lis_store.proofs.Common.{◌≡◌, ◌⊎◌, refl, sym, ap, ap₂, ◌∙◌, subst, inl, inr, ℕ, ◌||◌, true, List, [], Option, Some, None, is_some, IsSome, list_any, Contains, or_cases, Among, among_from_contains, is_taken, word_of, Filed, numbers_at, AxiomSlot, FreeAxiom, Pair, State, description, among_with_words, Kept, is_own_link, has_pair, AreSound, FreeSlotsAreEmpty, declared_of, state_of, is_left_of, is_left_head_of, is_head_by, is_had, is_named_left, is_used, filed_rec, some_word, named_all, known_word, or_left, or_right, among_from_any, any_from_among, words, is_linked, words_told, file_told, number_from_among, one_number}
 use Rattle.lis_ext.specs.Ext.{has as number_has}
-use Rattle.lis_kept.specs.Links.{is_linked}
-use Rattle.lis_kept.specs.Telling.{words_told, file_told}
-use Rattle.lis_kept.proofs.Filing.{number_from_among}
-use Rattle.lis_kept.proofs.Known.{one_number, word_known}
+use Rattle.lis_kept.proofs.Known.{word_known}
 use Rattle.lis_store.specs.Stored.{AreClosed}
 use Rattle.lis_store.specs.Adding.{LearnsAll}
 use Rattle.lis_store.proofs.Told.{same_map, words_same}

@@ -1,18 +1,9 @@
 -- What memory keeps and tells when a file is gone with the words that nothing else used: its slot may be described anew.
-use Rattle.std.proofs.Common.{◌≡◌, ◌⊎◌, refl, sym, ap, ◌∙◌, subst, inl, inr, ℕ, ◌+◌, ◌<◌, ◌≤◌, ◌==◌, not, ◌&&◌, ◌||◌, Bool, true, if◌then◌else◌, List, [], length, get_or, set, Some, is_some, arith, get_or-set_same, get_or-set_other}
-use Rattle.lis_store.proofs.Common.{list_all, Contains, and_parts, or_cases, cases_eq, ne_eqb, not_from_false, same_Some, Among, among_from_contains, contains_from_among, among_filter, filter_among, members_le, sorted_from_rising, is_taken, Filed, rec_at, word_of, Ext, has, numbers_at, FileRecord, word_cmp, State, File, description, file_words, is_assignable, file_removed, word_order, among_with_words, with_words_new, sorted_with_words, Kept, is_own_link, has_pair, AreSound, FreeSlotsAreEmpty, declared_of, axioms_of, blocks_told, state_of, is_had, is_named_left, is_used, AreUsed, Tells, emptied, filed_rec, filed_at_slot, known_word}
-use Rattle.std.proofs.lemmas.Bool.{and_from, or_left, or_right, both_ways, eq-eqb, false_from_ne_true}
-use Rattle.lis_content.specs.Content.{given, has_number}
+use Rattle.lis_store.proofs.Common.{◌≡◌, ◌⊎◌, refl, sym, ap, ◌∙◌, subst, inl, inr, ℕ, ◌+◌, ◌<◌, ◌≤◌, ◌==◌, not, ◌||◌, Bool, true, List, [], length, get_or, set, Some, is_some, arith, get_or-set_same, get_or-set_other, ap₂, ◌++◌, list_all, Contains, and_parts, or_cases, cases_eq, ne_eqb, not_from_false, same_Some, Among, among_from_contains, contains_from_among, among_filter, filter_among, members_le, sorted_from_rising, is_taken, Filed, rec_at, word_of, Ext, has, numbers_at, FileRecord, word_cmp, State, description, is_assignable, file_removed, word_order, among_with_words, with_words_new, sorted_with_words, Kept, is_own_link, has_pair, AreSound, FreeSlotsAreEmpty, declared_of, axioms_of, blocks_told, state_of, is_had, is_named_left, is_used, AreUsed, Tells, emptied, filed_rec, filed_at_slot, known_word, all_up, met_tests, and_from, or_left, or_right, both_ways, eq-eqb, false_from_ne_true, given, has_number, words, filter_drops, with_words_old, is_linked, words_told, file_told, number_from_among}
 use Rattle.lis_catalog.specs.Catalog.{without_slot}
-use Rattle.lis_dict.specs.Dict.{words}
-use Rattle.lis_laws.proofs.Counts.{filter_drops}
-use Rattle.lis_laws.proofs.Forms as forms
-use Rattle.lis_laws.proofs.Members.{with_words_old}
-use Rattle.lis_kept.specs.Links.{is_linked}
-use Rattle.lis_kept.specs.Telling.{words_told, file_told}
 use Rattle.lis_kept.proofs.Emptied.{emptied_before, emptied_stays}
-use Rattle.lis_kept.proofs.Filing.{number_from_among}
-use Rattle.lis_store.specs.Stored.{AreClosed, DescriptionsAreShort}
+use Rattle.lis_store.specs.Stored.{DescriptionsAreShort}
+use Rattle.lis_store.specs.Drafts.{Draft}
 use Rattle.lis_store.specs.Admitting.{described_by, known_with}
 use Rattle.lis_store.specs.Removing.{Vacates, without_record}
 use Rattle.lis_store.specs.Replacing.{words_without, known_instead, MayReplace}
@@ -24,6 +15,7 @@ use Rattle.lis_store.proofs.InsteadKnown.{sorted_without, word_without}
 use Rattle.lis_store.proofs.OwnStay.{own_before}
 use Rattle.lis_store.proofs.Told.{same_map, words_same}
 use Rattle.lis_store.proofs.Vacated.{name_vacant, used_or_here, used_elsewhere, slot_below, slot_vacant, none_before, rec_before, sound_emptied}
+use Rattle.lis_laws.proofs.Forms as forms
 
 module _ (p v : Kept) (slot : ℕ) (rec : FileRecord) (form : AreInForm p) (out : Vacates slot rec p v) where
   abbrev pub left : Kept
@@ -81,39 +73,36 @@ module _ (p v : Kept) (slot : ℕ) (rec : FileRecord) (form : AreInForm p) (out 
           (subst (λ ws. is_own_link ws (word_of v.dict a) (word_of v.dict b) ≡ true) declared_left own))
       by (inr pair) = or_right (is_own_link (declared_of p) (word_of p.dict a) (word_of p.dict b)) (has_pair p.axioms a b) pair
 
-  pub closed_left : AreClosed left
-  closed_left at a b h linked = form.closed at a b h (link_before a b linked)
-
   -- ---- the file that comes
-  module _ (file : File) (may : MayReplace p slot rec file) where
-    pub described_is : described_by left file ≡ described_by p file
-    described_is =
-        ap (λ (ds : List (List ℕ)). file_words ds (axioms_of left) file) declared_left
-        ∙ ap (λ (axioms : List (List ℕ × List ℕ)). file_words (declared_of p) axioms file) axioms_left
+  module _ (draft : Draft) (may : MayReplace p slot rec draft) where
+    pub described_is : described_by left draft ≡ described_by p draft
+    described_is = ap₂ (λ declared axioms. all_up declared axioms (draft.assigned ++ draft.own ++ met_tests declared draft.size)) declared_left axioms_left
 
     -- with its words no more are known than there would be with it in the place of the other
-    room_then : length (known_with left file) ≤ p.limits.props
+    room_then : length (known_with left draft) ≤ p.limits.props
     room_then =
-        let le = members_le word_cmp word_order (known_with left file) (known_instead p slot file)
-        (sorted_with_words (words left.dict) (described_by left file) (sorted_from_rising word_cmp word_order (words left.dict) sound_left.dict.rising))
-        (sorted_with_words (words_without p slot) (described_by p file) (sorted_without p form.sound slot))
-        (λ w m. by w (among_with_words (words left.dict) (described_by left file) w m)) in
+        let le = members_le word_cmp word_order (known_with left draft) (known_instead p slot draft)
+        (sorted_with_words (words left.dict) (described_by left draft) (sorted_from_rising word_cmp word_order (words left.dict) sound_left.dict.rising))
+        (sorted_with_words (words_without p slot) (described_by p draft) (sorted_without p form.sound slot))
+        (λ w m. by w (among_with_words (words left.dict) (described_by left draft) w m)) in
         omega (arith, le, may.room)
       where
-        by : (w : List ℕ) → Among (words left.dict) w ⊎ Among (described_by left file) w → Among (known_instead p slot file) w
+        by : (w : List ℕ) → Among (words left.dict) w ⊎ Among (described_by left draft) w → Among (known_instead p slot draft) w
         by w (inl m) =
             let found = known_word left sound_left w m in
-            with_words_old (words_without p slot) (described_by p file) w (word_without p form.sound slot w found.0 (word_was found.0 w found.1) (used_left found.0 (ap is_some found.1)))
-        by w (inr m) = with_words_new (words_without p slot) (described_by p file) w (subst (λ ws. Among ws w) described_is m)
+            with_words_old (words_without p slot) (described_by p draft) w (word_without p form.sound slot w found.0 (word_was found.0 w found.1) (used_left found.0 (ap is_some found.1)))
+        by w (inr m) = with_words_new (words_without p slot) (described_by p draft) w (subst (λ ws. Among ws w) described_is m)
 
-    pub coming : MayComeIn v file
-    coming = subst (λ (k : Kept). MayComeIn k file) (sym left_is) (record {
+    pub coming : MayComeIn v draft
+    coming = subst (λ (k : Kept). MayComeIn k draft) (sym left_is) (record {
       name = may.name;
-      new = name_vacant p slot rec form out.there file may;
+      new = name_vacant p slot rec form out.there draft may;
       set = may.set;
       small = may.small;
-      assignable = subst (λ (ds : List (List ℕ)). list_all (is_assignable ds) file.assigned ≡ true) (sym declared_left) may.assignable;
+      assignable = subst (λ (ds : List (List ℕ)). list_all (is_assignable ds) draft.assigned ≡ true) (sym declared_left) may.assignable;
       few = may.few;
+      own = may.own;
+      few_own = may.few_own;
       short = omega (arith, ap length described_is, may.short);
       room = room_then;
     })

@@ -1,33 +1,13 @@
 -- Rows of truth values that tell a list of numbers, and lists of numbers of which none stands twice.
-use Rattle.std.proofs.Common.{◌≡◌, ◌⊎◌, refl, sym, ap, ◌∙◌, subst, inl, inr, ℕ, ◌<◌, ◌||◌, not, eqb, Bool, true, false, List, [], ◌∷◌, ◌++◌, length, get_or, map, set, replicate, arith, length-set, get_or-set_same, get_or-set_other}
-use Rattle.lis_store.proofs.Common.{flat_map, and_parts, ne_eqb, cases_eq, not-true, not_from_false, length-replicate, get_or-replicate, Among, among_append, among_flat_map, is_taken}
-use Rattle.std.proofs.lemmas.Bool.{and_from, both_ways, eq-eqb, false_from_ne_true}
-use Rattle.std.proofs.lemmas.List.{get_or_default, same_lists}
-use Rattle.lis_graph.proofs.Members.{map_among}
-use Rattle.lis_content.specs.Content.{marked, has_number, are_distinct}
+use Rattle.lis_store.proofs.Common.{rules, ◌≡◌, ◌⊎◌, refl, sym, ap, ◌∙◌, subst, inl, inr, ℕ, ◌<◌, ◌||◌, not, Bool, true, false, List, [], ◌∷◌, ◌++◌, length, map, set, replicate, arith, length-set, get_or-set_same, get_or-set_other, flat_map, and_parts, ne_eqb, not-true, not_from_false, length-replicate, get_or-replicate, Among, among_append, among_flat_map, is_taken, and_from, both_ways, eq-eqb, false_from_ne_true, map_among, marked, has_number, are_distinct, among_from_number, number_from_among, or-false, get_or_default}
+use Rattle.std.proofs.lemmas.List.{same_lists}
 use Rattle.lis_content.proofs.Numbers.{length-marked}
-use Rattle.lis_kept.proofs.Filing.{among_from_number, number_from_among}
+use Rattle.std.proofs.Math.Bool.{or-true}
 
 -- ---- what is taken
 pub taken_after : (taken : List Bool) (ns : List ℕ) (n : ℕ) → n < length taken → is_taken (marked taken ns) n ≡ (has_number ns n || is_taken taken n)
 taken_after taken [] n lt = refl
-taken_after taken (b ∷ ns) n lt = taken_after (set taken b true) ns n (omega (arith, lt, length-set taken b true)) ∙ by (cases_eq b n) (has_number ns n)
-  where
-    last : (c : Bool) → (c || true) ≡ true
-    last true = refl
-    last false = refl
-
-    by : (b ≡ n) ⊎ (b ≡ n → ⊥) → (c : Bool) → (c || is_taken (set taken b true) n) ≡ ((eqb b n || c) || is_taken taken n)
-    by (inl same) c =
-        let bit : is_taken (set taken b true) n ≡ true = ap (λ k. get_or (set taken b true) k false) (sym same) ∙ get_or-set_same taken b true false (omega (arith, lt, same)) in
-        ap (λ t. c || t) bit ∙ (last c ∙ sym (ap (λ t. (t || c) || is_taken taken n) (eq-eqb b n same)))
-    by (inr differ) c =
-        ap (λ t. c || t) (get_or-set_other taken b n true false (λ e. differ (sym e)))
-        ∙ sym (ap (λ t. (t || c) || is_taken taken n) (ne_eqb b n differ))
-
-none_or : (b : Bool) → (b || false) ≡ b
-none_or true = refl
-none_or false = refl
+taken_after taken (b ∷ ns) n lt = search (rules, length-set, get_or-set_same, or-true, eq-eqb, get_or-set_other, ne_eqb, taken_after (set taken b true) ns n (omega (arith, lt, length-set taken b true)))
 
 -- a row of bits that tells these numbers
 pub marks_are : (taken : List Bool) (ns : List ℕ) (blocks : ℕ) → length taken ≡ blocks → ((n : ℕ) → n < blocks → is_taken taken n ≡ has_number ns n) → taken ≡ marked (replicate blocks false) ns
@@ -45,7 +25,7 @@ marks_are taken ns blocks len each =
     after : (n : ℕ) → n < blocks → is_taken (marked (replicate blocks false) ns) n ≡ has_number ns n
     after n within =
         taken_after (replicate blocks false) ns n (omega (arith, within, length-replicate blocks false))
-        ∙ (ap (λ t. has_number ns n || t) (get_or-replicate blocks n false false within) ∙ none_or (has_number ns n))
+        ∙ (ap (λ t. has_number ns n || t) (get_or-replicate blocks n false false within) ∙ or-false (has_number ns n))
 
 -- ---- lists in pieces
 distinct_append : (ms ns : List ℕ) → are_distinct ms ≡ true → are_distinct ns ≡ true → ((n : ℕ) → Among ms n → Among ns n → ⊥) → are_distinct (ms ++ ns) ≡ true

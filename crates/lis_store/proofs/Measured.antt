@@ -1,25 +1,16 @@
 -- How many words the description of a new file has, and how many of them are not known yet.
-use Rattle.std.proofs.Common.{◌≡◌, ◌⊎◌, refl, sym, ap, ap₂, ◌∙◌, subst, inl, inr, ℕ, zero, suc, ◌+◌, ◌<◌, ◌≤◌, Bool, true, false, not, ◌&&◌, ◌||◌, cond, is_some, is_none, Option, Some, None, option_to_list, IsSome, List, [], ◌∷◌, ◌++◌, length, map, arith}
+use Rattle.lis_store.proofs.Common.{◌≡◌, ◌⊎◌, refl, sym, ap, ap₂, ◌∙◌, subst, inl, inr, ℕ, zero, suc, ◌+◌, ◌<◌, ◌≤◌, Bool, true, false, not, ◌&&◌, ◌||◌, cond, is_some, is_none, Option, Some, None, option_to_list, IsSome, List, [], ◌∷◌, ◌++◌, length, map, arith, flat_map, range_with_len, nat_cmp, nat_cmp_total, tied_itself, Ordering, IsStrictlySortedBy, and-true, and-false, or-false, and_parts, not-true, none-some, Among, among_from_contains, among_flat_map, among_filter, filter_among, below_tail, sorted_tail, HasShape, get, with_row, number_of, word_of, number_from_word, word_from_number, word_cmp, has_word, is_valued, head_bytes, with_words, heads, up, all_up, met_tests, word_exact, among_from_has_word, among_with_words, with_words_new, sorted_with_words, sorted_set_of, head_not_valued, among_heads, up_self, entails_from_up, up_from_entails, Head, Weaker, entailing, sorted_all_up, Kept, AreSound, declared_of, axioms_of, among_where, where_among, numbers_same, sorted_where, among_axiom, declared_has_number, word_among, among_word, some_word, both_ways, false_from_ne_true, sum_by-cons, Chain, flat_map_among, links, has_word_from_among, with_words_old, same_words, OwnLink, up_trans, entailed_in, same_tests, words_told, among_from_number, number_from_among, one_number, only_word}
+use Rattle.lis_ext.specs.Numbers.{numbers_where}
 use Rattle.std.specs.Prelude.{count_by}
-use Rattle.lis_store.proofs.Common.{flat_map, range_with_len, nat_cmp, nat_cmp_total, tied_itself, Ordering, IsStrictlySortedBy, and-true, and-false, or-false, and_parts, not-true, none-some, Among, among_from_contains, among_flat_map, among_filter, filter_among, below_tail, sorted_tail, HasShape, get, with_row, number_of, word_of, number_from_word, word_from_number, word_cmp, has_word, is_valued, head_bytes, with_words, derived_words, File, heads, up, all_up, own_words, met_tests, word_exact, among_from_has_word, among_with_words, with_words_new, sorted_with_words, sorted_set_of, head_not_valued, among_heads, up_self, entails_from_up, up_from_entails, Head, Weaker, entailing, sorted_all_up, Kept, AreSound, declared_of, axioms_of, among_where, where_among, numbers_same, sorted_where, among_axiom, declared_has_number, word_among, among_word, some_word}
 use Rattle.std.specs.Cmp.{IsTotalOrder}
-use Rattle.std.proofs.lemmas.Bool.{both_ways, false_from_ne_true}
-use Rattle.std.proofs.lemmas.List.Sums.{length-filter, sum_by-cons}
-use Rattle.lis_graph.specs.Graph.{Linked, Chain}
-use Rattle.lis_graph.proofs.Members.{flat_map_among}
+use Rattle.std.proofs.lemmas.List.Sums.{length-filter}
+use Rattle.lis_graph.specs.Graph.{Linked}
 use Rattle.lis_bits.specs.Rows.{Rows, row_of, true_count}
 use Rattle.lis_bits.proofs.Laws.{row-with_row}
-use Rattle.lis_ext.specs.Numbers.{numbers_where}
 use Rattle.lis_model.specs.Noted.{are_distinct}
-use Rattle.lis_model.specs.State.{links}
-use Rattle.lis_laws.proofs.Members.{has_word_from_among, with_words_old, same_words}
-use Rattle.lis_laws.proofs.Chains.{heads_of_valued, OwnLink, own_link, links_head, up_own, up_trans}
-use Rattle.lis_laws.proofs.Closures.{entailed_in}
-use Rattle.lis_laws.proofs.Locals.{same_tests}
-use Rattle.lis_kept.specs.Telling.{words_told}
+use Rattle.lis_laws.proofs.Chains.{heads_of_valued, own_link, links_head, up_own}
 use Rattle.lis_kept.proofs.Described.{few_where}
-use Rattle.lis_kept.proofs.Filing.{among_from_number, number_from_among}
-use Rattle.lis_kept.proofs.Known.{one_number, only_word}
+use Rattle.lis_store.specs.Drafts.{Draft}
 use Rattle.lis_store.specs.Admitting.{described_by}
 use Rattle.lis_store.specs.Adding.{is_one_of}
 use Rattle.lis_store.specs.Describing.{with_heads, with_numbers, Gathers, HasNumbers, IsTold}
@@ -224,41 +215,38 @@ module _ (k : Kept) (sound : AreSound k) where
             absurd (let found = up_has_number k sound m s w (word_from_number k.dict sound.dict s m e) there in none-some found.0 (sym none ∙ number_from_word k.dict sound.dict w found.0 found.1))
 
   -- ---- a description is told
-  module _ (file : File) (start full one two last row : Rows) (few fresh : List (List ℕ))
+  module _ (draft : Draft) (start full one two last row : Rows) (few fresh : List (List ℕ))
       (shape : HasShape start 1 k.limits.props) (is_full : full ≡ with_row start 0 (λ _. true))
-      (first : Gathers k (with_heads file.assigned) full one [] few) (second : Gathers k (with_heads (derived_words file.name file.bytes)) one two few fresh)
+      (first : Gathers k (with_heads draft.assigned) full one [] few) (second : Gathers k (with_heads draft.own) one two few fresh)
       (last_shape : HasShape last 1 k.limits.props)
-      (third : (n : ℕ) → n < k.limits.props → get last 0 n ≡ (get two 0 n && not (is_one_of (all_up (declared_of k) (axioms_of k) (met_tests (declared_of k) (length file.bytes))) (word_of k.dict n))))
+      (third : (n : ℕ) → n < k.limits.props → get last 0 n ≡ (get two 0 n && not (is_one_of (all_up (declared_of k) (axioms_of k) (met_tests (declared_of k) draft.size)) (word_of k.dict n))))
       (turned : row ≡ with_row last 0 (λ bit. not (get last 0 bit))) where
-    abbrev derived : List (List ℕ)
-    derived = derived_words file.name file.bytes
-
     abbrev tests : List (List ℕ)
-    tests = met_tests (declared_of k) (length file.bytes)
+    tests = met_tests (declared_of k) draft.size
 
-    told_numbers : HasNumbers k row file
+    told_numbers : HasNumbers k row draft
     told_numbers =
-        bits_then k sound file.assigned derived tests start full one two last row shape is_full
-        (λ n lt. first.bits n lt ∙ ap (λ b. get full 0 n && not b) (numbered_same file.assigned n))
-        (λ n lt. second.bits n lt ∙ ap (λ b. get one 0 n && not b) (numbered_same derived n))
+        bits_then k sound draft.assigned draft.own tests start full one two last row shape is_full
+        (λ n lt. first.bits n lt ∙ ap (λ b. get full 0 n && not b) (numbered_same draft.assigned n))
+        (λ n lt. second.bits n lt ∙ ap (λ b. get one 0 n && not b) (numbered_same draft.own n))
         last_shape third turned
 
-    noted : (w : List ℕ) → has_word fresh w ≡ ((has_word (with_heads file.assigned) w && is_none (number_of k.dict w)) || (has_word (with_heads derived) w && is_none (number_of k.dict w)))
-    noted w = second.noted w ∙ ap (λ b. b || (has_word (with_heads derived) w && is_none (number_of k.dict w))) (first.noted w)
+    noted : (w : List ℕ) → has_word fresh w ≡ ((has_word (with_heads draft.assigned) w && is_none (number_of k.dict w)) || (has_word (with_heads draft.own) w && is_none (number_of k.dict w)))
+    noted w = second.noted w ∙ ap (λ b. b || (has_word (with_heads draft.own) w && is_none (number_of k.dict w))) (first.noted w)
 
     told_new : (w : List ℕ) → has_word fresh w ≡ true → number_of k.dict w ≡ None
     told_new w has = by (number_of k.dict w) (sym (noted w) ∙ has)
       where
-        by : (o : Option ℕ) → ((has_word (with_heads file.assigned) w && is_none o) || (has_word (with_heads derived) w && is_none o)) ≡ true → o ≡ None
+        by : (o : Option ℕ) → ((has_word (with_heads draft.assigned) w && is_none o) || (has_word (with_heads draft.own) w && is_none o)) ≡ true → o ≡ None
         by None h = refl
-        by (Some n) h = absurd (both_ways _ (ap₂ (λ a b. a || b) (and-false (has_word (with_heads file.assigned) w)) (and-false (has_word (with_heads derived) w))) h)
+        by (Some n) h = absurd (both_ways _ (ap₂ (λ a b. a || b) (and-false (has_word (with_heads draft.assigned) w)) (and-false (has_word (with_heads draft.own) w))) h)
 
-    told_others : (w : List ℕ) → number_of k.dict w ≡ None → has_word (described_by k file) w ≡ has_word fresh w
+    told_others : (w : List ℕ) → number_of k.dict w ≡ None → has_word (described_by k draft) w ≡ has_word fresh w
     told_others w none =
-        ups_both (declared_of k) (axioms_of k) (Some w) (file.assigned ++ derived) tests
-        ∙ (ap₂ (λ a b. a || b) (ups_both (declared_of k) (axioms_of k) (Some w) file.assigned derived) untested
-        ∙ (or-false (has_word (All file.assigned) w || has_word (All derived) w)
-        ∙ (ap₂ (λ a b. a || b) (half file.assigned) (half derived)
+        ups_both (declared_of k) (axioms_of k) (Some w) (draft.assigned ++ draft.own) tests
+        ∙ (ap₂ (λ a b. a || b) (ups_both (declared_of k) (axioms_of k) (Some w) draft.assigned draft.own) untested
+        ∙ (or-false (has_word (All draft.assigned) w || has_word (All draft.own) w)
+        ∙ (ap₂ (λ a b. a || b) (half draft.assigned) (half draft.own)
         ∙ sym (noted w))))
       where
         half : (words : List (List ℕ)) → has_word (All words) w ≡ (has_word (with_heads words) w && is_none (number_of k.dict w))
@@ -268,7 +256,7 @@ module _ (k : Kept) (sound : AreSound k) where
         untested : has_word (All tests) w ≡ false
         untested = false_from_ne_true (has_word (All tests) w) (λ h.
             let test = entailing (declared_of k) (axioms_of k) tests w (among_from_has_word (All tests) w h) in
-            let number = met_numbered k sound (length file.bytes) test.0 test.1 in
+            let number = met_numbered k sound draft.size test.0 test.1 in
             let found = up_has_number k sound number.0 test.0 w number.1 test.2 in
             none-some found.0 (sym none ∙ number_from_word k.dict sound.dict w found.0 found.1))
 
@@ -281,7 +269,7 @@ module _ (k : Kept) (sound : AreSound k) where
         ∙ (row_counted k.limits.props off
         ∙ ap length (numbers_same k.limits.props off (get row 0) (λ n lt. sym (value_at last row k.limits.props n off last_shape turned lt))))))
 
-    pub file_told : IsTold k file row fresh
+    pub file_told : IsTold k draft row fresh
     file_told = record {
       count = told_count;
       shape = same_shape last row 1 k.limits.props 0 (λ bit. not (get last 0 bit)) last_shape turned;
@@ -292,19 +280,19 @@ module _ (k : Kept) (sound : AreSound k) where
     }
 
   -- ---- and measured
-  module _ (file : File) (row : Rows) (fresh : List (List ℕ)) (told : IsTold k file row fresh) where
-    described_is : IsCounted (get row 0) fresh (described_by k file)
+  module _ (draft : Draft) (row : Rows) (fresh : List (List ℕ)) (told : IsTold k draft row fresh) where
+    described_is : IsCounted (get row 0) fresh (described_by k draft)
     described_is = record {
-      sorted = sorted_all_up (declared_of k) (axioms_of k) (own_words (declared_of k) file);
-      named = λ n lt on. ap (λ (o : Option (List ℕ)). is_some o) (one_of (described_by k file) (word_of k.dict n) (sym (told.numbers n lt) ∙ on)).1;
-      numbered = λ w n is. sym (told.numbers n (numbered_below k sound w n is) ∙ ap (is_one_of (described_by k file)) is);
+      sorted = sorted_all_up (declared_of k) (axioms_of k) (draft.assigned ++ draft.own ++ met_tests (declared_of k) draft.size);
+      named = λ n lt on. ap (λ (o : Option (List ℕ)). is_some o) (one_of (described_by k draft) (word_of k.dict n) (sym (told.numbers n lt) ∙ on)).1;
+      numbered = λ w n is. sym (told.numbers n (numbered_below k sound w n is) ∙ ap (is_one_of (described_by k draft)) is);
       once = told.once;
       new = told.new;
       others = told.others;
     }
 
-    pub words_measured : true_count row 0 + length fresh ≡ length (described_by k file)
-    words_measured = omega (arith, told.count, counted (get row 0) fresh (described_by k file) described_is)
+    pub words_measured : true_count row 0 + length fresh ≡ length (described_by k draft)
+    words_measured = omega (arith, told.count, counted (get row 0) fresh (described_by k draft) described_is)
 
     pub few_numbers : true_count row 0 ≤ k.limits.props
     few_numbers = omega (arith, told.count, few_where k.limits.props (get row 0) (numbers_where k.limits.props (get row 0)) refl)

@@ -1,7 +1,6 @@
 -- The declared tests that so many bytes meet, word by word.
-use Rattle.std.proofs.Common.{◌≡◌, refl, sym, ap, ◌∙◌, ℕ, zero, suc, ◌+◌, ◌-◌, ◌<◌, ◌≤◌, Bool, true, false, ◌&&◌, cond, Option, Some, None, List, [], ◌∷◌, ◌++◌, length, map, filter, take, arith, append-nil}
+use Rattle.lis_store.proofs.Common.{rules, ◌≡◌, refl, sym, ap, ◌∙◌, ℕ, zero, suc, ◌+◌, ◌-◌, ◌<◌, ◌≤◌, Bool, true, false, ◌&&◌, cond, Option, Some, None, List, [], ◌∷◌, ◌++◌, length, map, filter, take, arith, append-nil, and_parts, take_more, take_all, slice_get_within, get_or_from_slice_get, Among, among_filter, word_of, test_of, is_met, met_tests, Kept, AreSound, is_declared, declared_of, declared_has_number}
 use Rattle.std.specs.List.{slice_get}
-use Rattle.lis_store.proofs.Common.{and_parts, take_more, take_all, slice_get_within, get_or_from_slice_get, Among, among_filter, word_of, test_of, is_met, met_tests, Kept, AreSound, is_declared, declared_of, declared_has_number}
 use Rattle.std.proofs.lemmas.List.{map-append}
 use Rattle.std.proofs.lemmas.List.Elements.{filter-append}
 use Rattle.lis_eval.proofs.Members.{past_end}
@@ -22,11 +21,7 @@ not_both true false e h = absurd cc
 not_both false b e h = refl
 
 fails : (test more : List ℕ → Bool) (w : List ℕ) → (test w && more w) ≡ false → filter test (filter more (w ∷ [])) ≡ []
-fails test more w h = by (more w) refl
-  where
-    by : (b : Bool) → more w ≡ b → filter test (cond b (w ∷ []) []) ≡ []
-    by true e = ap (λ t. cond t (w ∷ []) []) (not_both (test w) (more w) e h)
-    by false e = refl
+fails test more w h = search (rules, not_both)
 
 module _ (k : Kept) (size i : ℕ) (e : List ℕ × ℕ) (at : slice_get k.dict.entries i ≡ Some e) where
   abbrev met : List ℕ → Bool

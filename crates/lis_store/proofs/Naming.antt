@@ -1,19 +1,9 @@
 -- The numbers of words.
-use Rattle.std.proofs.Common.{◌≡◌, ◌⊎◌, refl, sym, ap, ap₂, ◌∙◌, subst, inl, inr, ℕ, ◌<◌, ◌≤◌, ◌==◌, not, ◌||◌, if◌then◌else◌, Bool, true, false, List, [], ◌∷◌, ◌++◌, length, filter, Option, Some, None, is_some, option_to_list, arith}
-use Rattle.lis_store.proofs.Common.{Less, nat_cmp, nat_cmp_total, tied_itself, AllByRecursion, flat_map, IsStrictlySortedBy, or-false, cases_eq, ne_eqb, not_from_false, list_any-append, same_Some, Among, among_flat_map, filter_among, below_tail, sorted_tail, HasShape, get, with_row, Dict, IsDict, number_of, word_of, word_from_number, number_from_word, number_below, word_cmp, same_word, same_word_decides, among_from_has_word, among_set_of, sorted_set_of, among_where, where_among, numbers_same, sorted_where, some_number}
+use Rattle.lis_store.proofs.Common.{◌≡◌, ◌⊎◌, refl, sym, ap, ap₂, ◌∙◌, subst, inl, inr, ℕ, ◌<◌, ◌≤◌, ◌==◌, not, ◌||◌, if◌then◌else◌, Bool, true, false, List, [], ◌∷◌, ◌++◌, length, filter, Option, Some, None, is_some, option_to_list, arith, Less, nat_cmp, nat_cmp_total, tied_itself, AllByRecursion, flat_map, IsStrictlySortedBy, or-false, cases_eq, ne_eqb, not_from_false, list_any-append, same_Some, Among, among_flat_map, filter_among, below_tail, sorted_tail, HasShape, get, with_row, Dict, IsDict, number_of, word_of, word_from_number, number_from_word, number_below, word_cmp, same_word, same_word_decides, among_from_has_word, among_set_of, sorted_set_of, among_where, where_among, numbers_same, sorted_where, some_number, both_ways, eq-eqb, false_from_ne_true, flat_map_among, has_number, numbers_where, filter_drops, has_word_from_among, set_of_among, same_words, same_tests, words_told, among_from_number, number_from_among, only_word}
 use Rattle.std.proofs.Math.Bool.{or-true}
-use Rattle.std.proofs.lemmas.Bool.{both_ways, eq-eqb, false_from_ne_true, not_from_true}
-use Rattle.lis_graph.proofs.Members.{flat_map_among}
+use Rattle.std.proofs.lemmas.Bool.{not_from_true}
 use Rattle.lis_bits.specs.Rows.{Rows}
 use Rattle.lis_bits.proofs.Laws.{get-with_row_same, length-with_row}
-use Rattle.lis_content.specs.Content.{has_number}
-use Rattle.lis_ext.specs.Numbers.{numbers_where}
-use Rattle.lis_laws.proofs.Counts.{filter_drops}
-use Rattle.lis_laws.proofs.Members.{has_word_from_among, set_of_among, same_words}
-use Rattle.lis_laws.proofs.Locals.{same_tests}
-use Rattle.lis_kept.specs.Telling.{words_told}
-use Rattle.lis_kept.proofs.Filing.{among_from_number, number_from_among}
-use Rattle.lis_kept.proofs.Known.{only_word}
 use Rattle.lis_store.specs.Adding.{is_one_of, numbers_named, AreNumbered}
 
 -- ---- one of these words

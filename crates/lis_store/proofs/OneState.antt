@@ -1,8 +1,7 @@
 -- What an image spells is one state.
-use Rattle.std.proofs.Common.{◌≡◌, refl, sym, ap, ap₂, ◌∙◌, subst, ℕ, suc, Bool, List, [], ◌∷◌, length, slice_get, Option, Some, IsTrue, arith}
-use Rattle.lis_store.proofs.Common.{part, block, replayed, is_prop, Limits, image_blocks, State, axiom_slots}
+use Rattle.lis_store.proofs.Common.{◌≡◌, refl, sym, ap, ap₂, ◌∙◌, subst, ℕ, suc, Bool, List, [], ◌∷◌, length, slice_get, Option, Some, IsTrue, arith, part, block, replayed, is_prop, Limits, image_blocks, State, axiom_slots, prop_bytes, axiom_bytes, file_bytes}
 use Rattle.lis_slots.specs.Slots.{Slots}
-use Rattle.lis_fields.specs.Layouts.{prop_bytes, axiom_bytes, is_axiom, file_bytes, is_file}
+use Rattle.lis_fields.specs.Layouts.{is_axiom, is_file}
 use Rattle.lis_fields.proofs.OneSpelling.{super_once, prop_once, axiom_once, file_once}
 use Rattle.lis_kept.specs.Areas.{property_slots, file_slots}
 use Rattle.lis_store.specs.Stands.{Contents, AreSlots, spelled_state, Spells, Stands}

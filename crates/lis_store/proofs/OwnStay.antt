@@ -1,9 +1,6 @@
 -- Links of words by themselves, between words that keep their numbers.
-use Rattle.std.proofs.Common.{◌≡◌, refl, sym, ap₂, ◌∙◌, subst, ℕ, true, List, Option, Some, None, IsSome}
-use Rattle.std.proofs.lemmas.Bool.{both_ways}
-use Rattle.lis_store.proofs.Common.{same_Some, Dict, IsDict, number_of, word_of, number_from_word, word_from_number, has_word, head_bytes, Head, Weaker, among_from_has_word, Kept, is_own_link, AreSound, declared_of, some_word, some_number, declared_has_number}
-use Rattle.lis_model.specs.State.{links}
-use Rattle.lis_laws.proofs.Chains.{OwnLink, own_link}
+use Rattle.lis_store.proofs.Common.{◌≡◌, refl, sym, ap₂, ◌∙◌, subst, ℕ, true, List, Option, Some, None, IsSome, both_ways, same_Some, Dict, IsDict, number_of, word_of, number_from_word, word_from_number, has_word, head_bytes, Head, Weaker, among_from_has_word, Kept, is_own_link, AreSound, declared_of, some_word, some_number, declared_has_number, links, OwnLink}
+use Rattle.lis_laws.proofs.Chains.{own_link}
 use Rattle.lis_kept.proofs.OwnLinks.{own_to_none}
 
 -- words that were there before

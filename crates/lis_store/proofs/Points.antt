@@ -1,6 +1,5 @@
 -- Points that are put into a set one after another: which set they make, and how long it is.
-use Rattle.std.proofs.Common.{◌≡◌, ◌⊎◌, refl, sym, ap, ◌∙◌, subst, inl, inr, ◌+◌, List, [], ◌∷◌, length, arith}
-use Rattle.lis_store.proofs.Common.{Ordering, Less, Equal, Greater, match_ordering, insert_key, AllByRecursion, IsStrictlySortedBy, Among, among_insert_key, below_tail, sorted_tail, sorted_nil}
+use Rattle.lis_store.proofs.Common.{◌≡◌, ◌⊎◌, refl, sym, ap, ◌∙◌, subst, inl, inr, ◌+◌, List, [], ◌∷◌, length, arith, Ordering, Less, Equal, Greater, match_ordering, insert_key, AllByRecursion, IsStrictlySortedBy, Among, among_insert_key, below_tail, sorted_tail, sorted_nil}
 use Rattle.std.specs.Ordering.{ordering_reverse}
 use Rattle.std.specs.Cmp.{IsTotalOrder}
 use Rattle.std.proofs.lemmas.Map.Lookups.{CmpEqualImpliesEq}

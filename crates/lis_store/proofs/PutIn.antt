@@ -1,21 +1,13 @@
 -- A file that is admitted: its words may be learnt, and its numbers are in form.
-use Rattle.std.proofs.Common.{◌≡◌, ◌⊎◌, refl, sym, ap, ap₂, ◌∙◌, subst, inl, inr, ℕ, ◌^◌, ◌≤◌, nat_lt, nat_le, ◌&&◌, ◌||◌, cond, Bool, true, false, List, [], ◌∷◌, ◌++◌, length, is_some, IsSome, arith}
-use Rattle.lis_store.proofs.Common.{flat_map, list_all, IsStrictlyIncreasing, nat_cmp, nat_cmp_total, and_parts, or_cases, lt-ltb, is_rising, Among, among_filter, among_append, among_left, among_flat_map, members_le, sorted_from_rising, number_of, word_of, are_blocks, is_record, word_cmp, has_word, is_plain_word, is_valued, is_head, is_built_in, head_bytes, with_word, with_words, derived_words, State, File, heads, up, all_up, own_words, file_words, is_assignable, met_tests, plain_not_valued, among_heads, up_self, all_weaker, rising_from_sorted, derived_built_in, word_order, among_with_words, with_words_new, sorted_with_words, among_from_has_word, Kept, AreSound, is_sound_record, is_declared, declared_of, axioms_of, among_where, sorted_where, few_properties}
-use Rattle.std.proofs.lemmas.Bool.{and_from, or_left, or_right, both_ways, le-leb}
+use Rattle.std.proofs.Common.{◌^◌}
+use Rattle.lis_store.proofs.Common.{◌≡◌, ◌⊎◌, refl, sym, ap, ap₂, ◌∙◌, subst, inl, inr, ℕ, ◌≤◌, nat_lt, nat_le, ◌&&◌, ◌||◌, cond, Bool, true, false, List, [], ◌∷◌, ◌++◌, length, is_some, IsSome, arith, flat_map, list_all, IsStrictlyIncreasing, nat_cmp, nat_cmp_total, and_parts, or_cases, lt-ltb, is_rising, Among, among_filter, among_append, among_left, among_flat_map, members_le, sorted_from_rising, number_of, word_of, are_blocks, is_record, word_cmp, has_word, is_plain_word, is_valued, is_head, is_built_in, head_bytes, with_word, with_words, State, heads, up, all_up, is_assignable, met_tests, plain_not_valued, among_heads, up_self, all_weaker, rising_from_sorted, word_order, among_with_words, with_words_new, sorted_with_words, among_from_has_word, Kept, AreSound, is_sound_record, is_declared, declared_of, axioms_of, among_where, sorted_where, few_properties, and_from, or_left, or_right, both_ways, le-leb, flat_map-append, IsStrictlyIncreasing-from_sorted, flat_map_among, words, has_number, all_among, all_from, with_words_old, set_of_among, number_from_among}
 use Rattle.std.proofs.lemmas.List.Sums.{fold-append}
-use Rattle.std.proofs.lemmas.Grind.{flat_map-append}
-use Rattle.std.proofs.lemmas.Map.Keys.{IsStrictlyIncreasing-from_sorted}
-use Rattle.lis_graph.proofs.Members.{flat_map_among}
-use Rattle.lis_dict.specs.Dict.{words}
-use Rattle.lis_content.specs.Content.{has_number}
 use Rattle.lis_fields.specs.Layouts.{are_short, are_tags}
 use Rattle.lis_fields.proofs.Parts.{record_from}
 use Rattle.lis_words.specs.Words.{built_in_heads}
 use Rattle.lis_laws.proofs.Apart.{head_built_in}
 use Rattle.lis_laws.proofs.Chains.{up_own, links_head}
-use Rattle.lis_laws.proofs.Counts.{all_among, all_from}
-use Rattle.lis_laws.proofs.Members.{with_words_old, set_of_among}
-use Rattle.lis_kept.proofs.Filing.{number_from_among}
+use Rattle.lis_store.specs.Drafts.{Draft}
 use Rattle.lis_store.specs.Admitting.{described_by, known_with, IsAdmitted}
 use Rattle.lis_store.specs.Adding.{is_one_of, numbers_named, AreNumbered, behind_head, with_heads, may_learn, HasWordRoom, LearnsAll, learnt_words}
 use Rattle.lis_store.specs.ReplacingIn.{MayComeIn, record_of}
@@ -58,8 +50,8 @@ built_in_may k word own = by (is_valued word) refl
 pub learnable_from : (k : Kept) (words : List (List ℕ)) → list_all (is_assignable (declared_of k)) words ≡ true → list_all (may_learn k) words ≡ true
 learnable_from k words h = all_weaker (is_assignable (declared_of k)) (may_learn k) words (λ word m one. assignable_may k word one) h
 
-pub derived_may : (k : Kept) (name bytes : List ℕ) → list_all (may_learn k) (derived_words name bytes) ≡ true
-derived_may k name bytes = all_from (may_learn k) (derived_words name bytes) (λ word m. built_in_may k word (derived_built_in name bytes word m))
+pub own_may : (k : Kept) (words : List (List ℕ)) → list_all is_built_in words ≡ true → list_all (may_learn k) words ≡ true
+own_may k words h = all_weaker is_built_in (may_learn k) words (λ word m one. built_in_may k word one) h
 
 -- ---- what words entail has them and their heads
 pub head_entailed : (declared : List (List ℕ)) (axioms : List (List ℕ × List ℕ)) (own : List (List ℕ)) (word : List ℕ) → Among (with_heads own) word → Among (all_up declared axioms own) word
@@ -82,68 +74,69 @@ behind_itself own word m = flat_map_among behind_head own word word m (by (is_va
     by false = inl refl
 
 -- a file that is admitted
-pub may_come : (p : Kept) (file : File) → IsAdmitted p file → MayComeIn p file
-may_come p file admitted = record {
+pub may_come : (p : Kept) (draft : Draft) → IsAdmitted p draft → MayComeIn p draft
+may_come p draft admitted = record {
   name = admitted.name;
   new = admitted.new;
   set = admitted.set;
   assignable = admitted.assignable;
   few = admitted.few;
+  own = admitted.own;
+  few_own = admitted.few_own;
   short = admitted.short;
   room = admitted.room;
   small = admitted.small;
 }
 
 -- ---- the file
-module _ {p : Kept} (sound : AreSound p) {file : File} (may : MayComeIn p file) where
-  abbrev derived : List (List ℕ)
-  derived = derived_words file.name file.bytes
-
+module _ {p : Kept} (sound : AreSound p) {draft : Draft} (may : MayComeIn p draft) where
   abbrev tests : Kept → List (List ℕ)
-  tests k = met_tests (declared_of k) (length file.bytes)
+  tests k = met_tests (declared_of k) draft.size
 
   -- its words and their heads are words of its description
-  pub heads_described : (word : List ℕ) → Among (with_heads (learnt_words file)) word → Among (described_by p file) word
+  pub heads_described : (word : List ℕ) → Among (with_heads (learnt_words draft)) word → Among (described_by p draft) word
   heads_described word m =
-      head_entailed (declared_of p) (axioms_of p) (own_words (declared_of p) file) word
-      (subst (λ ws. Among ws word) (sym (flat_map-append behind_head (learnt_words file) (tests p))) (among_left (with_heads (learnt_words file)) (with_heads (tests p)) word m))
+      head_entailed (declared_of p) (axioms_of p) (learnt_words draft ++ tests p) word
+      (subst (λ ws. Among ws word) (sym (flat_map-append behind_head (learnt_words draft) (tests p))) (among_left (with_heads (learnt_words draft)) (with_heads (tests p)) word m))
 
-  pub assigned_may : list_all (may_learn p) file.assigned ≡ true
-  assigned_may = learnable_from p file.assigned may.assignable
+  pub assigned_may : list_all (may_learn p) draft.assigned ≡ true
+  assigned_may = learnable_from p draft.assigned may.assignable
 
   -- the words and their heads are words of the description
-  words_fit : HasWordRoom p (with_heads (learnt_words file))
-  words_fit =
+  pub no_more_known : length (with_words (words p.dict) (with_heads (learnt_words draft))) ≤ length (known_with p draft)
+  no_more_known =
       let old = sorted_from_rising word_cmp word_order (words p.dict) sound.dict.rising in
-      let le = members_le word_cmp word_order (with_words (words p.dict) (with_heads (learnt_words file))) (known_with p file)
-      (sorted_with_words (words p.dict) (with_heads (learnt_words file)) old) (sorted_with_words (words p.dict) (described_by p file) old)
-      (λ word m. by word (among_with_words (words p.dict) (with_heads (learnt_words file)) word m)) in
-      omega (arith, le, may.room)
+      members_le word_cmp word_order (with_words (words p.dict) (with_heads (learnt_words draft))) (known_with p draft)
+      (sorted_with_words (words p.dict) (with_heads (learnt_words draft)) old) (sorted_with_words (words p.dict) (described_by p draft) old)
+      (λ word m. by word (among_with_words (words p.dict) (with_heads (learnt_words draft)) word m))
     where
-      by : (word : List ℕ) → Among (words p.dict) word ⊎ Among (with_heads (learnt_words file)) word → Among (known_with p file) word
-      by word (inl m) = with_words_old (words p.dict) (described_by p file) word m
-      by word (inr m) = with_words_new (words p.dict) (described_by p file) word (heads_described word m)
+      by : (word : List ℕ) → Among (words p.dict) word ⊎ Among (with_heads (learnt_words draft)) word → Among (known_with p draft) word
+      by word (inl m) = with_words_old (words p.dict) (described_by p draft) word m
+      by word (inr m) = with_words_new (words p.dict) (described_by p draft) word (heads_described word m)
 
-  heads_split : with_heads (learnt_words file) ≡ with_heads file.assigned ++ with_heads derived
-  heads_split = flat_map-append behind_head file.assigned derived
+  words_fit : HasWordRoom p (with_heads (learnt_words draft))
+  words_fit = omega (arith, no_more_known, may.room)
 
-  pub assigned_room : HasWordRoom p (with_heads file.assigned)
+  heads_split : with_heads (learnt_words draft) ≡ with_heads draft.assigned ++ with_heads draft.own
+  heads_split = flat_map-append behind_head draft.assigned draft.own
+
+  pub assigned_room : HasWordRoom p (with_heads draft.assigned)
   assigned_room =
       let whole = ap (λ ws. length (with_words (words p.dict) ws)) heads_split in
-      let parts = ap (λ (ws : List (List ℕ)). length ws) (fold-append with_word (words p.dict) (with_heads file.assigned) (with_heads derived)) in
-      omega (arith, whole, parts, words_grow (with_words (words p.dict) (with_heads file.assigned)) (with_heads derived), words_fit)
+      let parts = ap (λ (ws : List (List ℕ)). length ws) (fold-append with_word (words p.dict) (with_heads draft.assigned) (with_heads draft.own)) in
+      omega (arith, whole, parts, words_grow (with_words (words p.dict) (with_heads draft.assigned)) (with_heads draft.own), words_fit)
 
-  pub derived_room : {q : Kept} → LearnsAll (with_heads file.assigned) p q → HasWordRoom q (with_heads derived)
-  derived_room {q} learns = room_left p q (with_heads file.assigned) learns (with_heads derived) (subst (λ ws. HasWordRoom p ws) heads_split words_fit)
+  pub own_room : {q : Kept} → LearnsAll (with_heads draft.assigned) p q → HasWordRoom q (with_heads draft.own)
+  own_room {q} learns = room_left p q (with_heads draft.assigned) learns (with_heads draft.own) (subst (λ ws. HasWordRoom p ws) heads_split words_fit)
 
-  pub both_learnt : {q r : Kept} {ws : List (List ℕ)} → LearnsAll (with_heads file.assigned) p q → ws ≡ derived → LearnsAll (with_heads ws) q r → LearnsAll (with_heads (learnt_words file)) p r
-  both_learnt {q} {r} first is second =
+  pub both_learnt : {q r : Kept} → LearnsAll (with_heads draft.assigned) p q → LearnsAll (with_heads draft.own) q r → LearnsAll (with_heads (learnt_words draft)) p r
+  both_learnt {q} {r} first second =
       subst (λ ws. LearnsAll ws p r) (sym heads_split)
-      (learns_more p q r (with_heads file.assigned) (with_heads derived) first (subst (λ ws. LearnsAll (with_heads ws) q r) is second))
+      (learns_more p q r (with_heads draft.assigned) (with_heads draft.own) first second)
 
-  module _ {r : Kept} (learns : LearnsAll (with_heads (learnt_words file)) p r) where
-    pub own_numbered : AreNumbered r.dict (learnt_words file)
-    own_numbered word h = number_learnt p r (with_heads (learnt_words file)) learns word (behind_itself (learnt_words file) word (among_from_has_word (learnt_words file) word h))
+  module _ {r : Kept} (learns : LearnsAll (with_heads (learnt_words draft)) p r) where
+    pub own_numbered : AreNumbered r.dict (learnt_words draft)
+    own_numbered word h = number_learnt p r (with_heads (learnt_words draft)) learns word (behind_itself (learnt_words draft) word (among_from_has_word (learnt_words draft) word h))
 
     declared_same : declared_of r ≡ declared_of p
     declared_same = ap (λ (s : State). s.declared) (learns.state (λ n. []))
@@ -151,10 +144,10 @@ module _ {p : Kept} (sound : AreSound p) {file : File} (may : MayComeIn p file) 
     axioms_same : axioms_of r ≡ axioms_of p
     axioms_same = ap (λ (s : State). s.axioms) (learns.state (λ n. []))
 
-    pub entailed_is : all_up (declared_of r) (axioms_of r) (learnt_words file ++ tests r) ≡ described_by p file
-    entailed_is = ap₂ (λ (declared : List (List ℕ)) (axioms : List (List ℕ × List ℕ)). file_words declared axioms file) declared_same axioms_same
+    pub entailed_is : all_up (declared_of r) (axioms_of r) (learnt_words draft ++ tests r) ≡ described_by p draft
+    entailed_is = ap₂ (λ declared axioms. all_up declared axioms (learnt_words draft ++ met_tests declared draft.size)) declared_same axioms_same
 
-    pub entailed_short : length (all_up (declared_of r) (axioms_of r) (learnt_words file ++ tests r)) ≤ 128
+    pub entailed_short : length (all_up (declared_of r) (axioms_of r) (learnt_words draft ++ tests r)) ≤ 128
     entailed_short = omega (arith, ap length entailed_is, may.short)
 
 -- ---- numbers in form
@@ -177,14 +170,14 @@ module _ (r : Kept) (sound : AreSound r) (words : List (List ℕ)) where
       ap is_some (one_of words (word_of r.dict n) (named_one r.dict sound.dict words n m)).1)
 
 -- ---- its record
-pub record_sound : {p r : Kept} {file : File} → MayComeIn p file → AreSound r → LearnsAll (with_heads (learnt_words file)) p r → (blocks : List ℕ) → are_blocks p.limits.version (length file.bytes) blocks ≡ true
-    → list_all (λ n. nat_lt n p.limits.blocks) blocks ≡ true → is_sound_record r.limits.version r.dict r.limits.blocks (record_of (numbers_named r.dict file.assigned) file blocks) ≡ true
-record_sound {p} {r} {file} may sound learns blocks formed below =
-    let rec = record_of (numbers_named r.dict file.assigned) file blocks in
+pub record_sound : {p r : Kept} {draft : Draft} → MayComeIn p draft → AreSound r → LearnsAll (with_heads (learnt_words draft)) p r → (blocks : List ℕ) → are_blocks p.limits.version draft.size blocks ≡ true
+    → list_all (λ n. nat_lt n p.limits.blocks) blocks ≡ true → is_sound_record r.limits.version r.dict r.limits.blocks (record_of (numbers_named r.dict draft.assigned) draft blocks) ≡ true
+record_sound {p} {r} {draft} may sound learns blocks formed below =
+    let rec = record_of (numbers_named r.dict draft.assigned) draft blocks in
     and_from (is_record r.limits.version rec && list_all (λ n. is_some (word_of r.dict n)) rec.tags) (list_all (λ n. nat_lt n r.limits.blocks) blocks)
     (and_from (is_record r.limits.version rec) (list_all (λ n. is_some (word_of r.dict n)) rec.tags)
-    (ap (λ (k : Kept). is_record k.limits.version rec) learns.parts ∙ record_from p.limits.version rec may.name may.small (named_tags r sound file.assigned may.few) formed)
-    (named_worded r sound file.assigned))
+    (ap (λ (k : Kept). is_record k.limits.version rec) learns.parts ∙ record_from p.limits.version rec may.name may.small (named_tags r sound draft.assigned may.few) formed)
+    (named_worded r sound draft.assigned))
     (ap (λ (k : Kept). list_all (λ n. nat_lt n k.limits.blocks) blocks) learns.parts ∙ below)
 
 -- a slot without numbers has the empty set

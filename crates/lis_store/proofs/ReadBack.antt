@@ -1,10 +1,8 @@
 -- The bytes of a file, as they are read.
-use Rattle.std.proofs.Common.{◌≡◌, sym, ap, ◌∙◌, subst, ℕ, nat_lt, List, IsTrue, arith}
+use Rattle.lis_store.proofs.Common.{◌≡◌, sym, ap, ◌∙◌, subst, ℕ, nat_lt, List, IsTrue, arith, content_blocks, FileRecord, Limits, data_start, image_blocks, bytes_told, blocks_told, all_among, all_from}
 use Rattle.lis_content.specs.Content.{are_within}
-use Rattle.lis_store.proofs.Common.{content_blocks, FileRecord, Limits, data_start, image_blocks, bytes_told, blocks_told}
 use Rattle.lis_content.specs.Large.{file_content}
 use Rattle.lis_content.proofs.Numbers.{within_if_below}
-use Rattle.lis_laws.proofs.Counts.{all_among, all_from}
 use Rattle.lis_store.specs.Contents.{AreContentsWithin}
 use Rattle.lis_store.proofs.FileBlocks.{content_told, content_among}
 

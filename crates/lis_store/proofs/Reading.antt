@@ -1,15 +1,12 @@
 -- One block of a file's bytes.
-use Rattle.std.proofs.Common.{◌≡◌, ◌⊎◌, refl, sym, ap, ◌∙◌, subst, inl, inr, ℕ, zero, suc, ◌+◌, ◌-◌, ◌*◌, ◌<◌, ◌≤◌, List, [], ◌∷◌, ◌++◌, length, get_or, take, drop, replicate, slice_index, nat_lt, true, Option, Some, IsSomeAnd, arith}
-use Rattle.lis_store.proofs.Common.{flat_map, cases_lt, lt-ltb, take_all, length-take-le, Meaning, part, Fits, looked, is_large, slot_count, content_blocks, Among, FileRecord, size_fits, Filed, slot_of, rec_at, data_start, State, File, bytes_told, filed_at_slot}
+use Rattle.lis_store.proofs.Common.{◌≡◌, ◌⊎◌, refl, sym, ap, ◌∙◌, subst, inl, inr, ℕ, zero, suc, ◌+◌, ◌-◌, ◌*◌, ◌<◌, ◌≤◌, List, [], ◌∷◌, ◌++◌, length, get_or, take, drop, replicate, slice_index, nat_lt, true, Option, Some, IsSomeAnd, arith, flat_map, cases_lt, lt-ltb, take_all, length-take-le, Meaning, part, Fits, looked, is_large, slot_count, content_blocks, Among, FileRecord, size_fits, Filed, slot_of, rec_at, data_start, State, File, bytes_told, filed_at_slot, Entry, file_of}
 use Rattle.std.proofs.lemmas.Bool.{cond-true}
 use Rattle.std.proofs.lemmas.List.{take_at, take-take, take-append-le, drop-drop, drop_at, drop-take}
 use Rattle.lis_journal.specs.Images.{held_in}
 use Rattle.lis_journal.proofs.Fitting.{fits_held}
-use Rattle.lis_journal.specs.Record.{Entry}
 use Rattle.lis_content.specs.Content.{are_within}
 use Rattle.lis_content.specs.Large.{index_home, block_within}
 use Rattle.lis_model.specs.State.{blocks_needed}
-use Rattle.lis_model.specs.Changes.{file_of}
 use Rattle.lis_kept.proofs.BlocksTaken.{slot_within}
 use Rattle.lis_store.specs.Stored.{Stored, IsSound, StoreFits, IsIndex}
 use Rattle.lis_dict.proofs.Places.{among_at}
@@ -63,17 +60,17 @@ pub record HasBlock (k : Stored) (slot n : ℕ) (rec : FileRecord) (ns : List �
   pub numbers : ns ≡ rec.blocks
   pub sized : size ≡ rec.size
 
-pub has_block : (k : Stored) (slot n : ℕ) (rec inside : FileRecord) (ns : List ℕ) → IsSound k → rec_at k.parts.catalog slot ≡ Some rec
-    → IsSomeAnd (rec_at k.parts.catalog slot) (λ (r : FileRecord). 4096 * n < r.size) → inside ≡ rec → ns ≡ inside.blocks → HasBlock k slot n rec ns inside.size
-has_block k slot n rec inside ns sound is_rec within is_it numbers = record {
+pub has_block : {k now : Stored} {slot : ℕ} {rec inside : FileRecord} {ns : List ℕ} (n : ℕ) → k ≡ now → IsSound k → rec_at k.parts.catalog slot ≡ Some rec
+    → IsSomeAnd (rec_at now.parts.catalog slot) (λ (r : FileRecord). 4096 * n < r.size) → inside ≡ rec → ns ≡ inside.blocks → HasBlock k slot n rec ns inside.size
+has_block {slot = slot} n view sound is_rec within is_it numbers = record {
   sound = sound;
   is_rec = is_rec;
-  within = subst (λ (o : Option FileRecord). IsSomeAnd o (λ (r : FileRecord). 4096 * n < r.size)) is_rec within;
+  within = subst (λ (o : Option FileRecord). IsSomeAnd o (λ (r : FileRecord). 4096 * n < r.size)) (sym (ap (λ (s : Stored). rec_at s.parts.catalog slot) view) ∙ is_rec) within;
   numbers = numbers ∙ ap (λ (r : FileRecord). r.blocks) is_it;
   sized = ap (λ (r : FileRecord). r.size) is_it;
 }
 
-module _ (k : Stored) (slot n : ℕ) (rec : FileRecord) (ns : List ℕ) (size : ℕ) (has : HasBlock k slot n rec ns size) where
+module _ {k : Stored} {slot n : ℕ} {rec : FileRecord} {ns : List ℕ} {size : ℕ} (has : HasBlock k slot n rec ns size) where
   abbrev filed : Filed
   filed = record { slot = slot; rec = rec }
 

@@ -1,25 +1,95 @@
--- Descriptions that are made anew: what holds of memory then.
-use Rattle.std.proofs.Common.{◌≡◌, ◌⊎◌, refl, sym, ap, ap₂, ◌∙◌, subst, inl, inr, ℕ, ◌+◌, ◌<◌, ◌≤◌, ◌++◌, ◌&&◌, ◌||◌, Bool, true, false, if◌then◌else◌, List, [], ◌∷◌, length, map, filter, take, not, length-append, Option, Some, None, is_some, IsSome, arith}
-use Rattle.std.proofs.lemmas.Bool.{both_ways, false_from_ne_true}
-use Rattle.lis_store.proofs.Common.{length-map, length-take-le, list_all, Among, among_append, among_filter, word_of, rec_at, slot_is_below, Ext, has, numbers_at, differs, FileRecord, is_test, Kept, block_of, is_marked, marked_count, is_had, had_at, AreSound, FreeSlotsAreEmpty}
+-- Descriptions that become others, slot by slot, and those that are made anew: what holds of memory then, and how much is edited and marked.
+use Rattle.lis_store.proofs.Common.{◌≡◌, ◌⊎◌, inl, inr, refl, subst, ℕ, zero, suc, ◌+◌, ◌≤◌, Bool, true, false, cond, List, [], ◌∷◌, ◌++◌, length, count_by, arith, length-append, sym, ap, ap₂, ◌∙◌, ◌<◌, map, get_or-set_same, get_or-set_other, length-set, if◌then◌else◌, filter, take, not, Option, Some, is_some, IsSome, both_ways, false_from_ne_true, sum_by-cons, Among, among_left, among_right, is_taken, Kept, is_marked, marked_count, cases_lt, numbers_at, differs, IsSaved, block_of, Describes, among_where, map_all, length-map, length-take-le, list_all, among_append, among_filter, word_of, rec_at, slot_is_below, Ext, has, FileRecord, is_test, is_had, had_at, AreSound, FreeSlotsAreEmpty, among_map, map_among, numbers_where, Rows, has_number, all_among, all_from, is_linked, common_steps}
+use Rattle.lis_kept.proofs.Marking.{marked_within, marked_only}
+use Rattle.std.proofs.lemmas.List.FromFn.{sum_by-map-range_with_len_more}
+use Rattle.lis_store.specs.Redescribing.{Gives, turned_at, IsTurnedRow, Redescribes}
+use Rattle.lis_store.proofs.Edits.{AreEditsFew}
 use Rattle.std.proofs.lemmas.List.Filters.{length-filter_both}
-use Rattle.lis_graph.proofs.Members.{map_among}
-use Rattle.lis_content.specs.Content.{has_number}
-use Rattle.lis_laws.proofs.Counts.{all_among, all_from}
-use Rattle.lis_kept.specs.Areas.Area.{Rows}
-use Rattle.lis_kept.specs.Links.{is_linked}
 use Rattle.lis_kept.proofs.WordLess.{had_from}
-use Rattle.lis_store.proofs.MarkedMore.{marked_more}
 use Rattle.lis_store.specs.Closing.{is_concerned, is_base, added, base_at, has_words, closure, anew, rebuilt}
-use Rattle.lis_store.specs.Redescribing.{IsTurnedRow, Redescribes}
 use Rattle.lis_store.specs.declared.closing.Rebuild.{Rebuild}
 use Rattle.lis_store.specs.declared.closing.Rebuild.TheVariants.{Having, Losing, Meeting}
 use Rattle.lis_store.specs.Stored.{AreClosed, DescriptionsAreShort, TestsAreMet}
 use Rattle.lis_store.proofs.Closed.{closure_closed}
-use Rattle.lis_store.proofs.Edits.{AreEditsFew}
 use Rattle.lis_store.proofs.FileTests.{tests_stay}
-use Rattle.lis_store.proofs.Redescribed.{same_here, given_then, redescribed_edits}
 
+-- ---- how many blocks are marked
+abbrev taken_from : List Bool → ℕ → List ℕ
+taken_from [] i = []
+taken_from (true ∷ bits) i = i ∷ taken_from bits (suc i)
+taken_from (false ∷ bits) i = taken_from bits (suc i)
+
+taken_count : (bits : List Bool) (i : ℕ) → length (taken_from bits i) ≡ count_by (λ (b : Bool). b) bits
+taken_count [] i = omega arith
+taken_count (true ∷ bits) i = omega (arith, taken_count bits (suc i), sum_by-cons (λ (b : Bool). cond b 1 0) true bits)
+taken_count (false ∷ bits) i = omega (arith, taken_count bits (suc i), sum_by-cons (λ (b : Bool). cond b 1 0) false bits)
+
+taken_among : (bits : List Bool) (i n : ℕ) → is_taken bits n ≡ true → Among (taken_from bits i) (i + n)
+taken_among [] i n is = absurd (both_ways false refl is)
+taken_among (true ∷ bits) i zero is = inl (omega arith)
+taken_among (false ∷ bits) i zero is = absurd (both_ways false refl is)
+taken_among (true ∷ bits) i (suc n) is = let next : suc i + n ≡ i + suc n = omega arith in inr (subst (λ m. Among (taken_from bits (suc i)) m) next (taken_among bits (suc i) n is))
+taken_among (false ∷ bits) i (suc n) is = let next : suc i + n ≡ i + suc n = omega arith in subst (λ m. Among (taken_from bits (suc i)) m) next (taken_among bits (suc i) n is)
+
+-- marks that were there, or are of these blocks
+pub marked_more : (p q : Kept) (blocks : List ℕ) → ((block : ℕ) → is_marked q block ≡ true → (is_marked p block ≡ true) ⊎ Among blocks block) → marked_count q ≤ marked_count p + length blocks
+marked_more p q blocks within =
+    let few = marked_within q.marks (taken_from p.marks 0 ++ blocks) (λ block is. by block (within block is)) in
+    omega (arith, few, length-append (taken_from p.marks 0) blocks, taken_count p.marks 0)
+  where
+    by : (block : ℕ) → (is_marked p block ≡ true) ⊎ Among blocks block → Among (taken_from p.marks 0 ++ blocks) block
+    by block (inl was) = let same : 0 + block ≡ block = omega arith in among_left (taken_from p.marks 0) blocks block (subst (λ m. Among (taken_from p.marks 0) m) same (taken_among p.marks 0 block was))
+    by block (inr new) = among_right (taken_from p.marks 0) blocks block new
+
+-- ---- one slot more
+-- nothing is done yet
+pub redescribed_none : (sets : ℕ → List ℕ) (p : Kept) → Redescribes sets 0 p p
+redescribed_none sets p = grind (arith, common_steps)
+
+module _ (sets : ℕ → List ℕ) (n : ℕ) (p q : Kept) (so_far : Redescribes sets n p q) where
+  -- the next slot is as it was at first
+  pub same_here : numbers_at q.ext n ≡ numbers_at p.ext n
+  same_here = so_far.others n (omega arith)
+
+  module _ (r : Kept) (inside : n < length p.ext.sets) (one : Gives n (sets n) q r) where
+    -- the slot, in the terms of what was at first
+    record Turn : Type 0 where
+      parts : r ≡ record p { ext = r.ext; marks = r.marks }
+      props : r.ext.props ≡ p.ext.props
+      slots : length r.ext.sets ≡ length p.ext.sets
+      here : numbers_at r.ext n ≡ sets n
+      elsewhere : (slot : ℕ) → (slot ≡ n → ⊥) → numbers_at r.ext slot ≡ numbers_at q.ext slot
+      saved : (at : ℕ → List ℕ) → IsSaved q at → IsSaved r at
+      within : (block : ℕ) → is_marked r block ≡ true → (is_marked q block ≡ true) ⊎ IsTurnedRow p sets block
+      edits : r.ext.edits ≤ q.ext.edits + length (turned_at p sets n)
+      no_fewer : q.ext.edits ≤ r.ext.edits
+
+    module _ (describes : Describes n (sets n) q r) where
+      turned_is : numbers_where q.ext.props (differs (numbers_at q.ext n) (sets n)) ≡ turned_at p sets n
+      turned_is = ap₂ (λ m ns. numbers_where m (differs ns (sets n))) so_far.props same_here
+
+      described_turn : Turn
+      described_turn = grind (arith, common_steps, length-set, get_or-set_same, get_or-set_other, marked_only, turned_is, among_map, among_where)
+
+    same_turn : sets n ≡ numbers_at q.ext n → r ≡ q → Turn
+    same_turn had is = grind (arith, common_steps)
+
+    turn : Turn
+    turn = grind (arith, common_steps, described_turn, same_turn)
+
+    pub redescribed_more : Redescribes sets (n + 1) p r
+    redescribed_more = grind (arith, common_steps, turn, sum_by-map-range_with_len_more, cases_lt)
+
+-- ---- all slots
+module _ (sets : ℕ → List ℕ) (files : ℕ) (p q : Kept) (all : Redescribes sets files p q) (count : length p.ext.sets ≡ files) (past : (slot : ℕ) → files ≤ slot → sets slot ≡ numbers_at p.ext slot) where
+  pub given_then : (slot : ℕ) → numbers_at q.ext slot ≡ sets slot
+  given_then slot = grind (arith, common_steps, cases_lt)
+
+  -- rows are edited at most as often as their bits differ, and the count does not fall
+  pub redescribed_edits : AreEditsFew p.ext q.ext
+  redescribed_edits = grind (arith, common_steps, given_then, map_all)
+
+-- ---- descriptions that are made anew
 -- ---- a slot that is not reached yet becomes what it becomes at first
 module _ (n : ℕ) (p : Kept) (ext : Ext) (marks : List Bool) (here : numbers_at ext n ≡ numbers_at p.ext n) where
   abbrev so_far : Kept
@@ -69,32 +139,12 @@ filter_few test xs = let both = length-filter_both test (λ n. not (test n)) (λ
 
 -- there is room for one more
 pub base_room : (how : Rebuild) (test : ℕ → Bool) (xs items : List ℕ) (i : ℕ) → i < length xs → length xs ≤ 128 → items ≡ added how ++ filter test (take i xs) → length items < 129
-base_room how test xs items i lt few are =
-    omega (
-      arith,
-      ap (λ (ns : List ℕ). length ns) are,
-      length-append (added how) (filter test (take i xs)),
-      added_few how,
-      filter_few test (take i xs),
-      length-take-le i xs (omega (arith, lt)),
-      lt,
-      few,
-    )
+base_room how test xs items i lt few are = grind (arith, common_steps, length-append, added_few, filter_few, length-take-le)
 
 -- each has a word
 pub base_words : (k : Kept) (how : Rebuild) (slot : ℕ) → has_words k how ≡ true → list_all (λ n. is_some (word_of k.dict n)) (numbers_at k.ext slot) ≡ true
     → list_all (λ n. is_some (word_of k.dict n)) (base_at k how slot) ≡ true
-base_words k how slot words named = all_from (λ n. is_some (word_of k.dict n)) (base_at k how slot) (λ n m. by n (among_append (added how) (filter (is_base k how slot) (numbers_at k.ext slot)) n m))
-  where
-    new : (h : Rebuild) → has_words k h ≡ true → (n : ℕ) → Among (added h) n → is_some (word_of k.dict n) ≡ true
-    new (Having number) some n none = absurd none
-    new (Losing left right) some n none = absurd none
-    new (Meeting test number) some n (inl same) = subst (λ i. is_some (word_of k.dict i) ≡ true) same some
-    new (Meeting test number) some n (inr none) = absurd none
-
-    by : (n : ℕ) → Among (added how) n ⊎ Among (filter (is_base k how slot) (numbers_at k.ext slot)) n → is_some (word_of k.dict n) ≡ true
-    by n (inl m) = new how words n m
-    by n (inr m) = all_among (λ i. is_some (word_of k.dict i)) (numbers_at k.ext slot) n named (among_filter (is_base k how slot) (numbers_at k.ext slot) n m).0
+base_words k how slot words named = grind (arith, common_steps, all_from, among_append, all_among, among_filter)
 
 -- ---- memory then
 -- Descriptions of files were made anew.
@@ -105,14 +155,11 @@ pub record IsRebuilt (concerned : ℕ → Bool) (base : ℕ → List ℕ) (k m :
 
 -- a number at which two descriptions differ is gained or lost
 pub turned_cases : (old new : List ℕ) (n : ℕ) → differs old new n ≡ true → ((has_number new n ≡ true) × (has_number old n ≡ false)) ⊎ ((has_number old n ≡ true) × (has_number new n ≡ false))
-turned_cases old new n turned = by (has_number old n) (has_number new n) refl refl turned
-  where
-    by : (a b : Bool) → has_number old n ≡ a → has_number new n ≡ b → ((b && not a) || (a && not b)) ≡ true
-        → ((has_number new n ≡ true) × (has_number old n ≡ false)) ⊎ ((has_number old n ≡ true) × (has_number new n ≡ false))
-    by true true was is h = absurd (both_ways false refl h)
-    by true false was is h = inr (was, is)
-    by false true was is h = inl (is, was)
-    by false false was is h = absurd (both_ways false refl h)
+turned_cases old new n turned = grind (arith, common_steps, both_ways)
+
+-- one at which they are alike does not turn
+pub unturned : (old new : List ℕ) (n : ℕ) → has_number new n ≡ has_number old n → differs old new n ≡ false
+unturned old new n same = grind (arith, common_steps)
 
 -- some slot has a number, or none has
 pub some_had : (e : Ext) (n : ℕ) → ((slot : ℕ) × (has e n slot ≡ true)) ⊎ ((slot : ℕ) → has e n slot ≡ false)
@@ -124,11 +171,7 @@ some_had e n = by (is_had e n) refl
 
 -- a slot that has a number has a file
 pub had_filed : (k : Kept) → FreeSlotsAreEmpty k → (n slot : ℕ) → has k.ext n slot ≡ true → IsSome (rec_at k.catalog slot)
-had_filed k free n slot had = by (rec_at k.catalog slot) refl
-  where
-    by : (o : Option FileRecord) → rec_at k.catalog slot ≡ o → is_some {T = FileRecord} (rec_at k.catalog slot) ≡ true
-    by None none = absurd (both_ways (has k.ext n slot) (free slot none n) had)
-    by (Some rec) is = ap (λ (o : Option FileRecord). is_some o) is
+had_filed k free n slot had = grind (arith, common_steps, both_ways)
 
 module _ {concerned : ℕ → Bool} {base : ℕ → List ℕ} {k m : Kept} (r : IsRebuilt concerned base k m) where
   abbrev pub made : Kept
@@ -189,13 +232,9 @@ module _ {concerned : ℕ → Bool} {base : ℕ → List ℕ} {k m : Kept} (r : 
       → ((slot n : ℕ) → concerned slot ≡ true → differs (numbers_at k.ext slot) (closure k (base slot)) n ≡ true → Among rows n) → marked_count m ≤ marked_count k + 128
   few_made some rows few within = by some
     where
-      unturned : (c : Bool) → ((c && not c) || (c && not c)) ≡ false
-      unturned true = refl
-      unturned false = refl
-
       turned_row : (slot n : ℕ) → (b : Bool) → concerned slot ≡ b → differs (numbers_at k.ext slot) (if b then closure k (base slot) else numbers_at k.ext slot) n ≡ true → (concerned slot ≡ true) × Among rows n
       turned_row slot n true here turned = (here, within slot n here turned)
-      turned_row slot n false other turned = absurd (both_ways (differs (numbers_at k.ext slot) (numbers_at k.ext slot) n) (unturned (has k.ext n slot)) turned)
+      turned_row slot n false other turned = absurd (both_ways (differs (numbers_at k.ext slot) (numbers_at k.ext slot) n) (unturned (numbers_at k.ext slot) (numbers_at k.ext slot) n refl) turned)
 
       by : ((slot : ℕ) × (concerned slot ≡ true)) ⊎ ((slot : ℕ) → concerned slot ≡ false) → marked_count m ≤ marked_count k + 128
       by (inl one) =

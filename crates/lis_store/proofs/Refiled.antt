@@ -1,15 +1,11 @@
 -- What memory comes to when a file has come into it, in the place of another or into a free slot.
-use Rattle.std.proofs.Common.{◌≡◌, refl, sym, ap, ◌∙◌, subst, ℕ, ◌+◌, ◌<◌, ◌≤◌, ◌==◌, zero, suc, not, Bool, true, List, [], length, map, filter, set, Option, None, Some, is_some, IfSome, IsSome, IsSomeAnd, arith}
-use Rattle.lis_store.proofs.Common.{ne_eqb, not_from_false, length-map, Among, filter_among, Filed, rec_at, Ext, numbers_at, FileRecord, Limits, State, File, blocks_taken, used_blocks, file_added, file_removed, Kept, IsSaved, block_of, is_marked, marked_count, AreSound, emptied, blocks_told, Tells, filed_at_slot}
-use Rattle.std.proofs.lemmas.Bool.{eq-eqb}
+use Rattle.lis_store.proofs.Common.{◌≡◌, refl, sym, ap, ◌∙◌, subst, ℕ, ◌+◌, ◌<◌, ◌≤◌, ◌==◌, zero, suc, not, Bool, true, List, [], length, map, filter, set, Option, None, Some, is_some, IfSome, IsSome, IsSomeAnd, arith, ne_eqb, not_from_false, length-map, Among, filter_among, Filed, rec_at, Ext, numbers_at, FileRecord, Limits, State, File, blocks_taken, used_blocks, file_added, file_removed, Kept, IsSaved, block_of, is_marked, marked_count, AreSound, emptied, blocks_told, Tells, filed_at_slot, eq-eqb, map_among, given, filter_drops, Files}
 use Rattle.std.proofs.lemmas.List.{set-get_or}
-use Rattle.lis_graph.proofs.Members.{map_among}
-use Rattle.lis_content.specs.Content.{given}
 use Rattle.lis_content.proofs.Numbers.{length-given}
-use Rattle.lis_laws.proofs.Counts.{filter_drops}
-use Rattle.lis_kept.specs.Areas.Area.{Files}
+use Rattle.lis_store.specs.Drafts.{Draft, with_own, AreOwnWords}
 use Rattle.lis_store.specs.Replacing.{MayReplace}
-use Rattle.lis_store.specs.ReplacingIn.{AreInForm, MayPut, MayComeIn, MakesRoom, IsVacant, RefilesIn, record_in}
+use Rattle.lis_store.specs.ReplacingIn.{AreInForm, MayPut, MayComeIn, MakesRoom, IsVacant, RefilesIn, record_in, file_gone}
+use Rattle.lis_store.specs.Contents.{blocks_gone}
 use Rattle.lis_store.proofs.Differing.{none_rising}
 use Rattle.lis_store.proofs.Edits.{AreEditsFew}
 use Rattle.lis_store.proofs.Housed.{IsHoused, housed_given}
@@ -61,21 +57,21 @@ vacant_free p slot form below none spare = record {
   form = subst (λ (k : Kept). AreInForm k) (sym (emptied_is p slot form none)) form;
 }
 
-pub may_there : (asked : Option ℕ) (p : Kept) (file : File) → MayPut p asked file → IfSome asked (λ s. IsSome (rec_at p.catalog s))
-may_there None p file may = tt
-may_there (Some s) p file may = by (rec_at p.catalog s) may
+pub may_there : (asked : Option ℕ) (p : Kept) (draft : Draft) → MayPut p asked draft → IfSome asked (λ s. IsSome (rec_at p.catalog s))
+may_there None p draft may = tt
+may_there (Some s) p draft may = by (rec_at p.catalog s) may
   where
-    by : (o : Option FileRecord) → IsSomeAnd o (λ (rec : FileRecord). MayReplace p s rec file) → is_some o ≡ true
+    by : (o : Option FileRecord) → IsSomeAnd o (λ (rec : FileRecord). MayReplace p s rec draft) → is_some o ≡ true
     by None may = absurd may
     by (Some rec) may = refl
 
-pub may_comes : (asked : Option ℕ) (p v : Kept) (slot : ℕ) (file : File) → AreInForm p → IfSome asked (λ s. slot ≡ s) → MayPut p asked file → MakesRoom slot (record_in p asked) p v → MayComeIn v file
-may_comes None p v slot file form is may same = subst (λ (k : Kept). MayComeIn k file) (sym same) (may_come p file may)
-may_comes (Some s) p v slot file form is may makes = by (rec_at p.catalog s) may makes
+pub may_comes : (asked : Option ℕ) (p v : Kept) (slot : ℕ) (draft : Draft) → AreInForm p → IfSome asked (λ s. slot ≡ s) → MayPut p asked draft → MakesRoom slot (record_in p asked) p v → MayComeIn v draft
+may_comes None p v slot draft form is may same = subst (λ (k : Kept). MayComeIn k draft) (sym same) (may_come p draft may)
+may_comes (Some s) p v slot draft form is may makes = by (rec_at p.catalog s) may makes
   where
-    by : (o : Option FileRecord) → IsSomeAnd o (λ (rec : FileRecord). MayReplace p s rec file) → MakesRoom slot o p v → MayComeIn v file
+    by : (o : Option FileRecord) → IsSomeAnd o (λ (rec : FileRecord). MayReplace p s rec draft) → MakesRoom slot o p v → MayComeIn v draft
     by None may makes = absurd may
-    by (Some rec) may makes = coming p v slot rec form makes file (subst (λ n. MayReplace p n rec file) (sym is) may)
+    by (Some rec) may makes = coming p v slot rec form makes draft (subst (λ n. MayReplace p n rec draft) (sym is) may)
 
 -- what stays where room is made
 record Stays (p v : Kept) : Type 0 where
@@ -101,7 +97,7 @@ pub limits_room : (gone : Option FileRecord) (slot : ℕ) (p v : Kept) → Makes
 limits_room gone slot p v makes = (stays gone slot p v makes).limits
 
 -- ---- memory is in form
-module _ {gone : Option FileRecord} {file : File} {blocks : List ℕ} {p q : Kept} (r : RefilesIn gone file blocks p q) where
+module _ {gone : Option FileRecord} {draft : Draft} {blocks : List ℕ} {p q : Kept} (r : RefilesIn gone draft blocks p q) where
   abbrev stay : Stays p r.vacated
   stay = stays gone r.slot p r.vacated r.makes
 
@@ -124,22 +120,13 @@ module _ {gone : Option FileRecord} {file : File} {blocks : List ℕ} {p q : Kep
   edits_refiled = subst (λ (e : Ext). AreEditsFew e q.ext) stay.ext (edits_settled r.vacant r.may r.settles)
 
 -- 513 blocks more at most are marked
-pub few_refiled : (gone : Option FileRecord) {file : File} {blocks : List ℕ} {p q : Kept} → AreInForm p → RefilesIn gone file blocks p q → marked_count q ≤ marked_count p + 513
+pub few_refiled : (gone : Option FileRecord) {draft : Draft} {blocks : List ℕ} {p q : Kept} → AreInForm p → RefilesIn gone draft blocks p q → marked_count q ≤ marked_count p + 513
 few_refiled None form r = omega (arith, few_settled r.vacant r.may r.settles, ap (λ (k : Kept). marked_count k) r.makes)
-few_refiled (Some rec) {file} {blocks} {p} form r =
+few_refiled (Some rec) {draft} {blocks} {p} form r =
     let home = ap (λ (l : Limits). is_marked r.vacated (block_of l Files r.slot)) (stays (Some rec) r.slot p r.vacated r.makes).limits ∙ r.makes.slot_marked in
     omega (arith, few_again r.vacant r.may r.settles home, r.makes.marks.few, form.short r.slot)
 
 -- ---- the state that it tells
--- the blocks of a file that goes, and the state without it
-abbrev pub blocks_gone : Limits → (ℕ → List ℕ) → Option FileRecord → List ℕ
-blocks_gone limits at None = []
-blocks_gone limits at (Some rec) = blocks_told limits at rec
-
-abbrev pub file_gone : State → Option FileRecord → State
-file_gone s None = s
-file_gone s (Some rec) = file_removed s rec.name
-
 -- memory tells the same, whatever is marked
 tells_marked : {o : Kept} {at : ℕ → List ℕ} {s : State} (marks : List Bool) → Tells o at s → Tells (record o { marks = marks }) at s
 tells_marked marks tells = record {
@@ -167,16 +154,17 @@ tells_room (Some rec) o taken marks v slot form makes free sound {at} {s} tells 
     subst T (sym (left_is (retaken o taken marks) v slot rec form makes)) (tells_without o taken marks v slot rec form makes sound at s tells (emptied o slot).ext refl v.marks)
 
 -- Then blocks hold the bytes of the file that comes.
-pub tells_refiled : {gone : Option FileRecord} {file : File} {blocks : List ℕ} {q : Kept} (o : Kept) (taken marks : List Bool) → AreInForm (retaken o taken marks) → RefilesIn gone file blocks (retaken o taken marks) q
-    → AreSound o → {at there : ℕ → List ℕ} {s : State} → Tells o at s → {held : List ℕ} → IsHoused o.limits o.taken taken (blocks_gone o.limits at gone) held file.bytes blocks at there
+pub tells_refiled : (file : File) (own : List (List ℕ)) {gone : Option FileRecord} {blocks : List ℕ} {q : Kept} (o : Kept) (taken marks : List Bool) → AreInForm (retaken o taken marks)
+    → RefilesIn gone (with_own file own) blocks (retaken o taken marks) q
+    → AreSound o → {at there : ℕ → List ℕ} {s : State} → Tells o at s → AreOwnWords (file_gone s gone).declared (file_gone s gone).axioms own file → {held : List ℕ} → IsHoused o.limits o.taken taken (blocks_gone o.limits at gone) held file.bytes blocks at there
     → used_blocks (file_gone s gone) + blocks_taken (file_gone s gone).limits.version (length file.bytes) ≤ (file_gone s gone).limits.blocks → Tells q there (file_added (file_gone s gone) file)
-tells_refiled {gone} {file} {blocks} o taken marks form r sound {at} {there} tells {held} housed room =
+tells_refiled file own {gone} {blocks} o taken marks form r sound {at} {there} tells are_own {held} housed room =
     let v = r.vacated in
     let was = given o.taken (blocks_gone o.limits at gone) in
     let stay = stays gone r.slot (retaken o taken marks) v r.makes in
     let H : Limits → List Bool → Type 0 = λ limits ts. IsHoused limits was ts [] held file.bytes blocks at there in
     let as_many : length was ≡ length v.taken =
     omega (arith, length-given o.taken (blocks_gone o.limits at gone), sound.blocks, r.vacant.sound.blocks, ap (λ (l : Limits). l.blocks) stay.limits) in
-    tells_settled r.vacant r.may r.settles was (sound_retaken (emptied v r.slot) was v.marks r.vacant.form.sound as_many refl)
-    (tells_room gone o taken marks v r.slot form r.makes r.vacant.free sound tells)
+    tells_settled file own r.vacant r.may r.settles was (sound_retaken (emptied v r.slot) was v.marks r.vacant.form.sound as_many refl)
+    (tells_room gone o taken marks v r.slot form r.makes r.vacant.free sound tells) are_own
     (subst (λ l. H l v.taken) (sym stay.limits) (subst (λ ts. H o.limits ts) (sym stay.taken) (housed_given housed))) room

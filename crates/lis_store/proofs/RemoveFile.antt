@@ -1,8 +1,5 @@
 -- A call that takes a file away.
-use Rattle.std.proofs.Common.{◌≡◌, refl, sym, ap, ◌∙◌, subst, ℕ, ◌+◌, ◌≤◌, not, Bool, true, false, cond, List, length, set, Some, Result, Err, arith}
-use Rattle.lis_store.proofs.Common.{Meaning, Held, looked, Asks, slot_of, rec_at, rec_at-slot_of, Ext, Formula, FileRecord, NoFileHere, bitmap_start, image_blocks, State, Situation, Outcome, refused, rm, file_removed, Kept, IsSaved, marked_count, AreSound}
-use Rattle.lis_model.specs.Step.{changed}
-use Rattle.lis_kept.specs.Changes.{Gives}
+use Rattle.lis_store.proofs.Common.{◌≡◌, refl, sym, ap, ◌∙◌, subst, ℕ, ◌+◌, ◌≤◌, not, Bool, true, false, cond, List, length, set, Some, Result, Err, arith, Meaning, Held, looked, Asks, slot_of, rec_at, rec_at-slot_of, Ext, Formula, FileRecord, NoFileHere, bitmap_start, image_blocks, State, Situation, Outcome, refused, rm, file_removed, Kept, IsSaved, marked_count, AreSound, changed, Gives}
 use Rattle.lis_store.specs.declared.change.Change.{Change}
 use Rattle.lis_store.specs.declared.change.Change.TheVariants.{Refused, Disk}
 use Rattle.lis_store.specs.Stored.{Stored, IsSound, StoreHolds}

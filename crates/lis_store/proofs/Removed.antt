@@ -1,8 +1,5 @@
 -- What a file that is taken out comes to.
-use Rattle.std.proofs.Common.{◌≡◌, refl, sym, ap, ◌∙◌, subst, ℕ, ◌+◌, ◌<◌, ◌≤◌, Bool, List, [], length, set, arith}
-use Rattle.lis_content.specs.Content.{given}
-use Rattle.lis_store.proofs.Common.{Ext, numbers_at, differs, FileRecord, State, file_removed, Kept, IsSaved, marked_count, AreSound, blocks_told, Tells}
-use Rattle.lis_ext.specs.Numbers.{numbers_where}
+use Rattle.lis_store.proofs.Common.{◌≡◌, refl, sym, ap, ◌∙◌, subst, ℕ, ◌+◌, ◌<◌, ◌≤◌, Bool, List, [], length, set, arith, given, Ext, numbers_at, differs, FileRecord, State, file_removed, Kept, IsSaved, marked_count, AreSound, blocks_told, Tells, numbers_where}
 use Rattle.lis_store.specs.Saving.{IsReady}
 use Rattle.lis_store.specs.ReplacingIn.{AreInForm}
 use Rattle.lis_store.specs.Removing.{TakesOut}

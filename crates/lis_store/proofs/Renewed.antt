@@ -1,13 +1,10 @@
 -- Bytes that come into blocks in the place of others, and what the disk keeps meanwhile.
-use Rattle.std.proofs.Common.{◌≡◌, refl, sym, ap, ap₂, ◌∙◌, subst, ℕ, true, false, Bool, List, [], ◌∷◌, length, Option, Some, None, Result, Ok, Err, OnErr, IsSomeAnd, IsTrue, set, get_or-set_same, arith}
-use Rattle.std.proofs.lemmas.Bool.{both_ways, false_from_ne_true}
-use Rattle.lis_store.proofs.Common.{ArrayVec, Meaning, Leaves, Held, block, replayed, looked, Fits, KeepsPast, are_free, has_home, is_large, Asks, homes_of, stays_marked, among_homes, FileRecord, bitmap_start, data_start, Kept, is_marked, AreSound, blocks_told, Puts}
-use Rattle.lis_ports.proofs.Moments.{leaves_weaken, leaves_then}
-use Rattle.lis_journal.specs.Images.{KeepsBut, StandsBut, is_among}
+use Rattle.std.proofs.Common.{OnErr}
+use Rattle.lis_store.proofs.Common.{◌≡◌, refl, sym, ap, ap₂, ◌∙◌, subst, ℕ, true, false, Bool, List, [], ◌∷◌, length, Option, Some, None, Result, Ok, Err, IsSomeAnd, IsTrue, set, get_or-set_same, arith, both_ways, false_from_ne_true, ArrayVec, Meaning, Leaves, Held, block, replayed, looked, Fits, KeepsPast, are_free, has_home, is_large, Asks, homes_of, stays_marked, among_homes, FileRecord, bitmap_start, data_start, Kept, is_marked, AreSound, blocks_told, Puts, leaves_weaken, leaves_then, is_among, given, marked, Gives}
+use Rattle.lis_journal.specs.Images.{KeepsBut, StandsBut}
 use Rattle.lis_journal.proofs.Fitting.{fits_but}
 use Rattle.lis_journal.proofs.Phases.{stands_less}
-use Rattle.lis_content.specs.Content.{given, marked}
-use Rattle.lis_kept.specs.Changes.{Marks, Takes, Gives}
+use Rattle.lis_kept.specs.Changes.{Marks, Takes}
 use Rattle.lis_store.specs.declared.change.Change.{Change}
 use Rattle.lis_store.specs.declared.change.Change.TheVariants.{Refused, Disk}
 use Rattle.lis_store.specs.Contents.{ContentTorn, IsRenewed, Renews, ContentPut, ContentGiven, ContentRenewed}
@@ -36,11 +33,11 @@ unplaced_stands : (journal : Held) {m : Meaning} {kept : ℕ → List ℕ} (more
 unplaced_stands journal {m} {kept} more none fits image is =
     stands_less journal.blocks journal.placed more kept image (λ n absent. ap (λ ns. is_among ns n) none) (fits_but journal fits image is)
 
--- ---- blocks are taken twice
-module _ (p mid q : Kept) (sound : AreSound p) (ts us : List Bool) (one : Takes ts p mid) (two : Takes us mid q) where
-  marked_mid : is_marked mid (bitmap_start p.limits) ≡ true
-  marked_mid = ap (λ (x : Kept). is_marked x (bitmap_start p.limits)) one.parts ∙ get_or-set_same p.marks (bitmap_start p.limits) true false (omega (arith, sound.marks))
+-- ---- blocks are taken, once or twice
+marked_bitmap : (p q : Kept) → AreSound p → (ts : List Bool) → Takes ts p q → is_marked q (bitmap_start p.limits) ≡ true
+marked_bitmap p q sound ts takes = ap (λ (x : Kept). is_marked x (bitmap_start p.limits)) takes.parts ∙ get_or-set_same p.marks (bitmap_start p.limits) true false (omega (arith, sound.marks))
 
+module _ (p mid q : Kept) (sound : AreSound p) (ts us : List Bool) (one : Takes ts p mid) (two : Takes us mid q) where
   pub twice_parts : q ≡ record p { taken = q.taken; marks = q.marks }
   twice_parts =
       let taken : List Bool → List Bool → Kept = λ t m. record mid { taken = t; marks = m } in
@@ -54,7 +51,35 @@ module _ (p mid q : Kept) (sound : AreSound p) (ts us : List Bool) (one : Takes 
   pub twice_bitmap : is_marked q (bitmap_start p.limits) ≡ true
   twice_bitmap =
       ap (λ (x : Kept). is_marked x (bitmap_start p.limits)) two.parts
-      ∙ stays_marked mid.marks (bitmap_start mid.limits ∷ []) (bitmap_start p.limits) marked_mid
+      ∙ stays_marked mid.marks (bitmap_start mid.limits ∷ []) (bitmap_start p.limits) (marked_bitmap p mid sound ts one)
+
+-- ---- no blocks are given back
+pub renews_alone : (p q : Kept) (bytes numbers : List ℕ) (old new : Held) (before after : Meaning) → AreSound p → Puts bytes numbers p q old new before after → Renews bytes numbers None p q old new before after
+renews_alone p q bytes numbers old new before after sound puts = record {
+  parts = subst (λ (x : Kept). x ≡ record p { taken = x.taken; marks = x.marks }) (sym puts.takes.parts) refl;
+  marks = record { saved = puts.takes.marks.saved; few = omega (arith, puts.takes.marks.few) };
+  bitmap = marked_bitmap p q sound (marked p.taken puts.blocks) puts.takes;
+  in_form = puts.in_form;
+  below = puts.below;
+  image = puts.image;
+  broken = puts.broken;
+  few_staged = puts.few_staged;
+  unplaced = puts.unplaced;
+  spare = puts.blocks;
+  were_free = puts.fills.were_free;
+  placed = puts.placed;
+  moments = puts.moments;
+  past = puts.fills.past;
+  blocks = puts.blocks;
+  distinct = puts.fills.distinct;
+  renewed = λ kept fits. record { lands = puts.lands kept fits; stays = puts.stays kept fits; trades = Last puts.fills.were_free (ap (λ (x : Kept). x.taken) puts.takes.parts) };
+}
+
+pub put_alone : (p q : Kept) (bytes : List ℕ) (old new : Held) (before after : Meaning) (result : Result (ArrayVec ℕ) Change) → AreSound p → ContentPut bytes p q old new before after result
+    → ContentRenewed bytes None p q old new before after result
+put_alone p q bytes old new before after (Ok numbers) sound puts = renews_alone p q bytes numbers.items old new before after sound puts
+put_alone p q bytes old new before after (Err (Refused refusal)) sound never = never
+put_alone p q bytes old new before after (Err Disk) sound torn = torn
 
 -- ---- the blocks of the other file are given back first
 module _ (p q : Kept) (ts ms : List Bool) (rec : FileRecord) (bytes numbers : List ℕ) (old new : Held) (before asked after : Meaning) (sound : AreSound p) (unplaced : old.placed ≡ []) (small : is_large (length bytes) ≡ false)
@@ -72,7 +97,7 @@ module _ (p q : Kept) (ts ms : List Bool) (rec : FileRecord) (bytes numbers : Li
   pub first_past : (kept : ℕ → List ℕ) → Fits old before kept → KeepsPast old.blocks before after
   first_past kept fits n le = puts.fills.past kept (asks.fits kept fits) n le ∙ ap (block n) (asks.same fits.honest).bytes
 
-  first_renewed : (kept : ℕ → List ℕ) → Fits old before kept → IsRenewed bytes numbers puts.blocks rec p q kept old new after
+  first_renewed : (kept : ℕ → List ℕ) → Fits old before kept → IsRenewed bytes numbers puts.blocks (Some rec) p q kept old new after
   first_renewed kept fits =
       let asked_fits = asks.fits kept fits in
       record {
@@ -83,7 +108,7 @@ module _ (p q : Kept) (ts ms : List Bool) (rec : FileRecord) (bytes numbers : Li
             First (subst (λ xs. IsTrue (are_free xs puts.blocks)) gave puts.fills.were_free) (ap (λ (x : Kept). x.taken) puts.takes.parts ∙ ap (λ xs. marked xs puts.blocks) gave);
       }
 
-  pub renews_first : Renews bytes numbers rec p q old new before after
+  pub renews_first : Renews bytes numbers (Some rec) p q old new before after
   renews_first = record {
     parts = twice_parts p freed q sound ts (marked ts puts.blocks) gives.takes puts.takes;
     marks = twice_marks p freed q sound ts (marked ts puts.blocks) gives.takes puts.takes;
@@ -147,7 +172,7 @@ module _ (p : Kept) (ts ms : List Bool) (bytes numbers : List ℕ) (old new : He
       by false small = torn [] refl (λ _. refl) (λ n among. absurd (both_ways (is_among new.placed n) (ap (λ ns. is_among ns n) (puts.unplaced small)) among))
 
   module _ (q : Kept) (rec : FileRecord) (gives : Gives rec put q new placed) where
-    last_renewed : (kept : ℕ → List ℕ) → Fits old before kept → IsRenewed bytes numbers puts.blocks rec p q kept old new after
+    last_renewed : (kept : ℕ → List ℕ) → Fits old before kept → IsRenewed bytes numbers puts.blocks (Some rec) p q kept old new after
     last_renewed kept fits =
         let landed = puts.lands kept fits in
         record {
@@ -158,7 +183,7 @@ module _ (p : Kept) (ts ms : List Bool) (bytes numbers : List ℕ) (old new : He
               (gives.given landed.kept landed.fits ∙ ap (λ xs. given xs (blocks_told p.limits (looked new.staged landed.kept) rec)) (ap (λ (x : Kept). x.taken) puts.takes.parts));
         }
 
-    pub renews_last : Renews bytes numbers rec p q old new before after
+    pub renews_last : Renews bytes numbers (Some rec) p q old new before after
     renews_last = record {
       parts = twice_parts p put q sound (marked p.taken puts.blocks) q.taken puts.takes gives.takes;
       marks = twice_marks p put q sound (marked p.taken puts.blocks) q.taken puts.takes gives.takes;
@@ -193,16 +218,16 @@ torn_first bytes p old before after unplaced asks = record {
 
 -- ---- the same, over what memory keeps in between
 pub renews_given : (p mid q : Kept) (rec : FileRecord) (bytes numbers : List ℕ) (old new : Held) (before asked after : Meaning) → AreSound p → old.placed ≡ [] → is_large (length bytes) ≡ false
-    → Gives rec p mid old before → Asks old before asked → Puts bytes numbers mid q old new asked after → Renews bytes numbers rec p q old new before after
+    → Gives rec p mid old before → Asks old before asked → Puts bytes numbers mid q old new asked after → Renews bytes numbers (Some rec) p q old new before after
 renews_given p mid q rec bytes numbers old new before asked after sound unplaced small gives asks puts =
-    let P : Kept → Type 0 = λ x. Gives rec p x old before → Puts bytes numbers x q old new asked after → Renews bytes numbers rec p q old new before after in
+    let P : Kept → Type 0 = λ x. Gives rec p x old before → Puts bytes numbers x q old new asked after → Renews bytes numbers (Some rec) p q old new before after in
     subst P (sym gives.takes.parts)
     (λ gave put. renews_first p q mid.taken (set p.marks (bitmap_start p.limits) true) rec bytes numbers old new before asked after sound unplaced small gave asks put) gives puts
 
 pub renews_placed : (p mid q : Kept) (rec : FileRecord) (bytes numbers : List ℕ) (old new : Held) (before placed after : Meaning) → AreSound p
-    → Puts bytes numbers p mid old new before placed → Gives rec mid q new placed → Asks new placed after → Renews bytes numbers rec p q old new before after
+    → Puts bytes numbers p mid old new before placed → Gives rec mid q new placed → Asks new placed after → Renews bytes numbers (Some rec) p q old new before after
 renews_placed p mid q rec bytes numbers old new before placed after sound puts gives asks =
-    let P : Kept → Type 0 = λ x. Puts bytes numbers p x old new before placed → Gives rec x q new placed → Renews bytes numbers rec p q old new before after in
+    let P : Kept → Type 0 = λ x. Puts bytes numbers p x old new before placed → Gives rec x q new placed → Renews bytes numbers (Some rec) p q old new before after in
     subst P (sym puts.takes.parts)
     (λ put gave. renews_last p (marked p.taken puts.blocks) (set p.marks (bitmap_start p.limits) true) bytes numbers old new before placed after sound put asks q rec gave) puts gives
 
@@ -215,29 +240,29 @@ torn_placed p mid q bytes numbers old new before placed after sound puts same as
 
 -- ---- how it ends
 pub lost_last : (T : Type 0) (p mid q : Kept) (rec : FileRecord) (bytes numbers : List ℕ) (old new : Held) (before placed after : Meaning) (change : Change) (result : Result (ArrayVec ℕ) Change) → AreSound p
-    → Puts bytes numbers p mid old new before placed → ContentGiven {T = T} rec mid q new placed after (Err change) → result ≡ Err change → ContentRenewed bytes rec p q old new before after result
+    → Puts bytes numbers p mid old new before placed → ContentGiven {T = T} rec mid q new placed after (Err change) → result ≡ Err change → ContentRenewed bytes (Some rec) p q old new before after result
 lost_last T p mid q rec bytes numbers old new before placed after change result sound puts gave ends =
-    subst (λ r. ContentRenewed bytes rec p q old new before after r) (sym ends) (by change gave)
+    subst (λ r. ContentRenewed bytes (Some rec) p q old new before after r) (sym ends) (by change gave)
   where
-    by : (x : Change) → ContentGiven {T = T} rec mid q new placed after (Err x) → ContentRenewed bytes rec p q old new before after (Err x)
+    by : (x : Change) → ContentGiven {T = T} rec mid q new placed after (Err x) → ContentRenewed bytes (Some rec) p q old new before after (Err x)
     by (Refused refusal) never = never
     by Disk lost = torn_placed p mid q bytes numbers old new before placed after sound puts lost.0 lost.1
 
 pub lost_first : (T : Type 0) (p q : Kept) (rec : FileRecord) (bytes : List ℕ) (old : Held) (before after : Meaning) (change : Change) (result : Result (ArrayVec ℕ) Change) → old.placed ≡ []
-    → ContentGiven {T = T} rec p q old before after (Err change) → result ≡ Err change → ContentRenewed bytes rec p q old old before after result
+    → ContentGiven {T = T} rec p q old before after (Err change) → result ≡ Err change → ContentRenewed bytes (Some rec) p q old old before after result
 lost_first T p q rec bytes old before after change result unplaced gave ends =
-    subst (λ r. ContentRenewed bytes rec p q old old before after r) (sym ends) (by change gave)
+    subst (λ r. ContentRenewed bytes (Some rec) p q old old before after r) (sym ends) (by change gave)
   where
-    by : (x : Change) → ContentGiven {T = T} rec p q old before after (Err x) → ContentRenewed bytes rec p q old old before after (Err x)
+    by : (x : Change) → ContentGiven {T = T} rec p q old before after (Err x) → ContentRenewed bytes (Some rec) p q old old before after (Err x)
     by (Refused refusal) never = never
     by Disk lost = let P : Kept → Type 0 = λ x. ContentTorn bytes p x old old before after in subst P (sym lost.0) (torn_first bytes p old before after unplaced lost.1)
 
 -- a put of a content that is not large fails never
 pub put_last : (p mid q : Kept) (rec : FileRecord) (bytes : List ℕ) (old new : Held) (before asked after : Meaning) (result : Result (ArrayVec ℕ) Change) → AreSound p → old.placed ≡ [] → is_large (length bytes) ≡ false
-    → Gives rec p mid old before → Asks old before asked → ContentPut bytes mid q old new asked after result → OnErr result (is_large (length bytes) ≡ true) → ContentRenewed bytes rec p q old new before after result
+    → Gives rec p mid old before → Asks old before asked → ContentPut bytes mid q old new asked after result → OnErr result (is_large (length bytes) ≡ true) → ContentRenewed bytes (Some rec) p q old new before after result
 put_last p mid q rec bytes old new before asked after result sound unplaced small gives asks put torn = by result put torn
   where
-    by : (r : Result (ArrayVec ℕ) Change) → ContentPut bytes mid q old new asked after r → OnErr r (is_large (length bytes) ≡ true) → ContentRenewed bytes rec p q old new before after r
+    by : (r : Result (ArrayVec ℕ) Change) → ContentPut bytes mid q old new asked after r → OnErr r (is_large (length bytes) ≡ true) → ContentRenewed bytes (Some rec) p q old new before after r
     by (Ok numbers) puts none = renews_given p mid q rec bytes numbers.items old new before asked after sound unplaced small gives asks puts
     by (Err (Refused refusal)) never none = never
     by (Err Disk) lost large = absurd (both_ways (is_large (length bytes)) small large)

@@ -1,58 +1,89 @@
--- Calls in which a file takes the place of another.
-use Rattle.std.proofs.Common.{◌≡◌, refl, sym, ap, ap₂, ◌∙◌, subst, ℕ, ◌+◌, ◌≤◌, ◌==◌, ◌&&◌, not, nat_lt, is_some, cond, true, false, Bool, IsSomeAnd, List, [], length, Option, Some, None, Result, Err, arith}
-use Rattle.lis_store.proofs.Common.{list_all, and_parts, eqb-true, Meaning, Held, Fits, KeepsPast, looked, Filed, slot_of, rec_at, is_large, word_of, same_word, FileRecord, are_blocks, is_record, Limits, bitmap_start, data_start, image_blocks, State, File, blocks_taken, used_blocks, new_file, file_removed, file_replaced, Situation, Outcome, same_word_decides, Kept, IsSaved, is_marked, marked_count, is_sound_record, AreSound, bytes_told, blocks_told, Tells, record_in_form, filed_at_slot}
-use Rattle.lis_graph.proofs.Members.{among_from_any}
-use Rattle.lis_ports.proofs.Moments.{leaves_weaken}
-use Rattle.lis_journal.specs.Images.{StandsBut}
-use Rattle.lis_model.specs.Step.{changed}
+-- Calls in which a file comes into a free slot, or takes the place of another.
+use Rattle.lis_store.proofs.Common.{◌≡◌, refl, sym, ap, ap₂, ◌∙◌, subst, ℕ, ◌+◌, ◌≤◌, ◌==◌, ◌&&◌, not, nat_lt, is_some, cond, true, false, Bool, IsSome, IfSome, IsSomeAnd, List, [], length, Option, Some, None, Result, arith, list_all, and_parts, eqb-true, Meaning, Held, Fits, KeepsPast, looked, Filed, slot_of, rec_at, is_large, word_of, same_word, FileRecord, are_blocks, is_record, Limits, bitmap_start, data_start, image_blocks, State, File, blocks_taken, used_blocks, derived_words, new_file, file_added, file_removed, file_replaced, file_limit, Situation, Outcome, same_word_decides, Kept, IsSaved, is_marked, marked_count, is_sound_record, AreSound, bytes_told, blocks_told, Tells, record_in_form, filed_at_slot, among_from_any, leaves_weaken, StandsBut, changed, file_told}
+use Rattle.lis_catalog.proofs.Laws.{slot_of-rec_at}
 use Rattle.lis_laws.proofs.Counts.{filter_sum_drops}
-use Rattle.lis_kept.specs.Telling.{file_told}
 use Rattle.lis_store.specs.declared.change.Change.{Change}
-use Rattle.lis_store.specs.declared.change.Change.TheVariants.{Refused, Disk}
 use Rattle.lis_store.specs.Stands.{Stands}
 use Rattle.lis_store.specs.Stored.{Stored, IsSound, StoreHolds}
 use Rattle.lis_store.specs.Changes.{Holds}
-use Rattle.lis_store.specs.Contents.{ContentPut, ContentRenewed, IsRenewed, Renews}
+use Rattle.lis_store.specs.Contents.{blocks_gone, IsRenewed, Renews, Trades}
 use Rattle.lis_store.specs.Saving.{settled, ArePlaced, Saves}
-use Rattle.lis_store.specs.Instead.{free_instead}
+use Rattle.lis_store.specs.Drafts.{Draft, with_own, draft_of, AreOwnWords}
+use Rattle.lis_store.specs.Instead.{free_for}
 use Rattle.lis_store.specs.Replacing.{MayReplace}
-use Rattle.lis_store.specs.ReplacingIn.{AreInForm, RefilesIn, record_in}
+use Rattle.lis_store.specs.ReplacingIn.{AreInForm, MayPut, RefilesIn, record_in, file_gone}
 use Rattle.lis_store.proofs.Cleaned.{none_marked}
 use Rattle.lis_store.proofs.Elsewhere.{saved_there, no_home_before}
-use Rattle.lis_store.proofs.Facts.{filed_named, size_of_filed, file_of_filed}
-use Rattle.lis_store.proofs.Housed.{IsHoused, stay_housed, trades_housed}
+use Rattle.lis_store.proofs.Facts.{size_of_filed, file_of_filed}
+use Rattle.lis_store.proofs.FreeBlocks.{used_told, version_told}
+use Rattle.lis_store.proofs.Housed.{IsHoused, stay_housed, trades_housed, alone_housed}
 use Rattle.lis_store.proofs.Renewed.{stands_same}
 use Rattle.lis_store.proofs.Edits.{AreEditsFew}
-use Rattle.lis_store.proofs.Refiled.{form_refiled, limits_refiled, axioms_refiled, saved_refiled, marked_refiled, edits_refiled, few_refiled, tells_refiled}
+use Rattle.lis_store.proofs.Refiled.{form_refiled, limits_refiled, axioms_refiled, saved_refiled, marked_refiled, edits_refiled, few_refiled, tells_refiled, may_there}
 use Rattle.lis_store.proofs.Retaken.{in_form, settled_sound, retaken, form_retaken}
 use Rattle.lis_store.proofs.SavedAlone.{alone_placed, unplaced_stands}
 use Rattle.lis_store.proofs.Steps.{pairs_same, small_or_alone, holds_behind, but_stands}
-use Rattle.lis_store.proofs.ToldBy.{told_held}
+use Rattle.lis_store.proofs.ToldBy.{ToldBy, told_held}
 use Rattle.lis_store.proofs.WriteFile.{found_there, written_enough}
 
-may_retaken : (p : Kept) (taken marks : List Bool) (slot : ℕ) (rec : FileRecord) (file : File) → MayReplace p slot rec file → MayReplace (retaken p taken marks) slot rec file
-may_retaken p taken marks slot rec file may = record {
+may_retaken : (p : Kept) (taken marks : List Bool) (slot : ℕ) (rec : FileRecord) (draft : Draft) → MayReplace p slot rec draft → MayReplace (retaken p taken marks) slot rec draft
+may_retaken p taken marks slot rec draft may = record {
   there = may.there;
   name = may.name;
   new = may.new;
   set = may.set;
   assignable = may.assignable;
   few = may.few;
+  own = may.own;
+  few_own = may.few_own;
   short = may.short;
   room = may.room;
   small = may.small;
 }
 
+-- a file that may be put into a slot may be where other blocks are taken
+put_retaken : (p : Kept) (taken marks : List Bool) (slot : Option ℕ) (draft : Draft) → MayPut p slot draft → MayPut (retaken p taken marks) slot draft
+put_retaken p taken marks None draft may = record {
+  name = may.name;
+  new = may.new;
+  set = may.set;
+  assignable = may.assignable;
+  few = may.few;
+  own = may.own;
+  few_own = may.few_own;
+  slots = may.slots;
+  short = may.short;
+  room = may.room;
+  small = may.small;
+}
+put_retaken p taken marks (Some slot) draft may = by (rec_at p.catalog slot) may
+  where
+    by : (o : Option FileRecord) → IsSomeAnd o (λ (rec : FileRecord). MayReplace p slot rec draft) → IsSomeAnd o (λ (rec : FileRecord). MayReplace (retaken p taken marks) slot rec draft)
+    by None may = absurd may
+    by (Some rec) may = may_retaken p taken marks slot rec draft may
+
+put_small : (p : Kept) (slot : Option ℕ) (draft : Draft) → MayPut p slot draft → draft.size ≤ file_limit p.limits.version
+put_small p None draft may = may.small
+put_small p (Some slot) draft may = by (rec_at p.catalog slot) may
+  where
+    by : (o : Option FileRecord) → IsSomeAnd o (λ (rec : FileRecord). MayReplace p slot rec draft) → draft.size ≤ file_limit p.limits.version
+    by None may = absurd may
+    by (Some rec) may = may.small
+
+record_retaken : (p : Kept) (taken marks : List Bool) (slot : Option ℕ) → record_in (retaken p taken marks) slot ≡ record_in p slot
+record_retaken p taken marks None = refl
+record_retaken p taken marks (Some slot) = refl
+
 -- ---- memory tells the next state, from wherever the bytes come
-module _ (old : Stored) (taken marks : List Bool) (q : Kept) (j : Held) (rec : FileRecord) (file : File) (numbers : List ℕ) (sound : IsSound old) (sound_p : AreSound (retaken old.parts taken marks))
-    (again : RefilesIn (Some rec) file numbers (retaken old.parts taken marks) q) where
+module _ (old : Stored) (taken marks : List Bool) (q : Kept) (j : Held) (gone : Option FileRecord) (draft : Draft) (numbers : List ℕ) (sound : IsSound old) (sound_p : AreSound (retaken old.parts taken marks))
+    (again : RefilesIn gone draft numbers (retaken old.parts taken marks) q) where
   abbrev o : Kept
   o = old.parts
 
   abbrev p : Kept
   p = retaken o taken marks
 
-  abbrev form : AreInForm p
+  pub form : AreInForm p
   form = form_retaken o taken marks sound_p (in_form old sound)
 
   pub limits_then : q.limits ≡ o.limits
@@ -63,7 +94,7 @@ module _ (old : Stored) (taken marks : List Bool) (q : Kept) (j : Held) (rec : F
       settled_sound q j (form_refiled again) (pairs_same o q (axioms_refiled again) sound.pairs) (sym image ∙ (sound.image ∙ ap image_blocks (sym limits_then))) unbroken
 
   pub replaced_marks : marked_count q ≤ marked_count p + 513
-  replaced_marks = few_refiled (Some rec) form again
+  replaced_marks = few_refiled gone form again
 
   pub replaced_bitmap : is_marked p (bitmap_start o.limits) ≡ true → is_marked q (bitmap_start q.limits) ≡ true
   replaced_bitmap is = ap (λ (x : Limits). is_marked q (bitmap_start x)) limits_then ∙ marked_refiled again (bitmap_start o.limits) is
@@ -71,57 +102,61 @@ module _ (old : Stored) (taken marks : List Bool) (q : Kept) (j : Held) (rec : F
   pub replaced_edits : AreEditsFew o.ext q.ext
   replaced_edits = edits_refiled again
 
+module _ (old : Stored) (taken marks : List Bool) (q : Kept) (j : Held) (gone : Option FileRecord) (file : File) (own : List (List ℕ)) (numbers : List ℕ) (sound : IsSound old)
+    (sound_p : AreSound (retaken old.parts taken marks)) (again : RefilesIn gone (with_own file own) numbers (retaken old.parts taken marks) q) where
+  abbrev parts_before : Kept
+  parts_before = old.parts
+
   pub replaced_holds : {T : Type 0} (base : State) (now : Situation) (new : Stored) (before after : Meaning) (result : Result T Change) (outcome : Outcome) (at kept : ℕ → List ℕ) (held : List ℕ)
-      → o.limits ≡ base.limits → (tells : Tells o at now.state) → IsSaved p at → IsHoused o.limits o.taken taken (blocks_told o.limits at rec) held file.bytes numbers at (looked j.staged kept)
+      → parts_before.limits ≡ base.limits → (tells : Tells parts_before at now.state) → AreOwnWords (file_gone now.state gone).declared (file_gone now.state gone).axioms own file → IsSaved (retaken parts_before taken marks) at
+      → IsHoused parts_before.limits parts_before.taken taken (blocks_gone parts_before.limits at gone) held file.bytes numbers at (looked j.staged kept)
       → Fits j before kept → ((image : List ℕ) → StandsBut j.blocks j.placed kept image → Stands image base)
-      → used_blocks now.state + blocks_taken now.state.limits.version (length file.bytes) ≤ now.state.limits.blocks + blocks_taken now.state.limits.version (length (bytes_told o.limits at rec))
-      → outcome ≡ changed now (file_replaced now.state rec.name file) → Saves q j new before after result → Holds base now outcome new before after result
-  replaced_holds base now new before after result outcome at kept held limits tells saved housed fits stands room done saves =
+      → used_blocks (file_gone now.state gone) + blocks_taken (file_gone now.state gone).limits.version (length file.bytes) ≤ (file_gone now.state gone).limits.blocks
+      → outcome ≡ changed now (file_added (file_gone now.state gone) file) → Saves q j new before after result → Holds base now outcome new before after result
+  replaced_holds base now new before after result outcome at kept held limits tells are_own saved housed fits stands room done saves =
+      let draft = with_own file own in
       let there = looked j.staged kept in
-      saves base now outcome (file_replaced now.state rec.name file) kept fits (limits_then ∙ limits) stands
+      saves base now outcome (file_added (file_gone now.state gone) file) kept fits (limits_then old taken marks q j gone draft numbers sound sound_p again ∙ limits) stands
       (λ sound_then. record {
-        tells = tells_refiled o taken marks form again sound.parts tells housed (room_without now.state tells room);
-        saved = saved_refiled again there (saved_there p at there sound_p.range (λ n low lt. housed.same n (no_home_before (data_start o.limits) n held lt)) saved);
+        tells = tells_refiled file own parts_before taken marks (form old taken marks q j gone draft numbers sound sound_p again) again sound.parts tells are_own housed room;
+        saved = saved_refiled again there (saved_there (retaken parts_before taken marks) at there sound_p.range (λ n low lt. housed.same n (no_home_before (data_start parts_before.limits) n held lt)) saved);
       })
       done
-    where
-      -- without the file its blocks are not used
-      room_without : (s : State) → Tells o at s → used_blocks s + blocks_taken s.limits.version (length file.bytes) ≤ s.limits.blocks + blocks_taken s.limits.version (length (bytes_told o.limits at rec))
-          → used_blocks (file_removed s rec.name) + blocks_taken s.limits.version (length file.bytes) ≤ s.limits.blocks
-      room_without s tells room =
-          let filed : Filed = record { slot = again.slot; rec = rec } in
-          let told : File = file_told o.limits o.dict at filed in
-          let gone = (same_word_decides rec.name rec.name).1 refl in
-          let fewer = filter_sum_drops (λ (f : File). blocks_taken s.limits.version (length f.bytes)) (λ (f : File). not (same_word f.name rec.name)) s.files told
-          (file_of_filed o at s sound.parts sound.free tells filed (filed_at_slot o.catalog sound.parts.catalog again.slot rec again.makes.there)) (ap not gone) in
-          omega (arith, room, fewer)
+
+-- without a file its blocks are not used
+room_without : (old : Stored) (s : State) → IsSound old → {at : ℕ → List ℕ} → Tells old.parts at s → (slot : ℕ) (rec : FileRecord) → rec_at old.parts.catalog slot ≡ Some rec → (size : ℕ)
+    → used_blocks s + blocks_taken s.limits.version size ≤ s.limits.blocks + blocks_taken s.limits.version (length (bytes_told old.parts.limits at rec))
+    → used_blocks (file_removed s rec.name) + blocks_taken s.limits.version size ≤ s.limits.blocks
+room_without old s sound {at} tells slot rec there size room =
+    let parts = old.parts in
+    let filed : Filed = record { slot = slot; rec = rec } in
+    let told : File = file_told parts.limits parts.dict at filed in
+    let gone = (same_word_decides rec.name rec.name).1 refl in
+    let fewer = filter_sum_drops (λ (f : File). blocks_taken s.limits.version (length f.bytes)) (λ (f : File). not (same_word f.name rec.name)) s.files told
+    (file_of_filed parts at s sound.parts sound.free tells filed (filed_at_slot parts.catalog sound.parts.catalog slot rec there)) (ap not gone) in
+    omega (arith, room, fewer)
 
 -- ---- other bytes
-some_of : {X : Type 0} {P : X → Type 0} (o : Option X) → IsSomeAnd o P → (x : X) × (o ≡ Some x) × P x
-some_of None none = absurd none
-some_of (Some x) is = (x, refl, is)
+pub anew_there : {old now : Stored} → old ≡ now → (slot : Option ℕ) (draft : Draft) → MayPut now.parts slot draft → IfSome slot (λ s. IsSome (rec_at old.parts.catalog s))
+anew_there {old} same slot draft may = may_there slot old.parts draft (subst (λ (o : Stored). MayPut o.parts slot draft) (sym same) may)
+
+pub anew_small : {old now : Stored} → old ≡ now → (slot : Option ℕ) (draft : Draft) → MayPut now.parts slot draft → draft.size ≤ file_limit old.parts.limits.version
+anew_small {old} same slot draft may = put_small old.parts slot draft (subst (λ (o : Stored). MayPut o.parts slot draft) (sym same) may)
 
 -- What a call asks speaks of the store's value `now`, and what is proved of its parts, `old`.
-module _ {old now : Stored} (same : old ≡ now) {mid : Kept} {j : Held} (slot : ℕ) (name : List ℕ) (assigned : List (List ℕ)) (bytes numbers : List ℕ) (sound : IsSound old) (sound_mid : AreSound mid)
-    (asked : IsSomeAnd (rec_at now.parts.catalog slot) (λ (x : FileRecord). MayReplace now.parts slot x (new_file name assigned bytes))) {before placed : Meaning}
-    (all : (rec : FileRecord) → rec_at old.parts.catalog slot ≡ Some rec → Renews bytes numbers rec old.parts mid old.journal j before placed) where
+module _ {old now : Stored} (same : old ≡ now) {mid : Kept} {j : Held} (slot : Option ℕ) (name : List ℕ) (assigned : List (List ℕ)) (bytes numbers : List ℕ) (sound : IsSound old) (sound_mid : AreSound mid)
+    (asked : MayPut now.parts slot (draft_of (new_file name assigned bytes))) {before placed : Meaning} (renews : Renews bytes numbers (record_in old.parts slot) old.parts mid old.journal j before placed) where
   abbrev k : Kept
   k = old.parts
 
   abbrev file : File
   file = new_file name assigned bytes
 
-  first : IsSomeAnd (rec_at k.catalog slot) (λ (x : FileRecord). MayReplace k slot x file)
-  first = subst (λ (o : Stored). IsSomeAnd (rec_at o.parts.catalog slot) (λ (x : FileRecord). MayReplace o.parts slot x file)) (sym same) asked
+  abbrev goes : Option FileRecord
+  goes = record_in k slot
 
-  found : (rec : FileRecord) × (rec_at k.catalog slot ≡ Some rec) × MayReplace k slot rec file
-  found = some_of (rec_at k.catalog slot) first
-
-  abbrev rec : FileRecord
-  rec = found.0
-
-  renews : Renews bytes numbers rec k mid old.journal j before placed
-  renews = all rec found.1
+  first : MayPut k slot (draft_of file)
+  first = subst (λ (o : Stored). MayPut o.parts slot (draft_of file)) (sym same) asked
 
   abbrev renewed : Kept
   renewed = retaken k mid.taken mid.marks
@@ -145,13 +180,11 @@ module _ {old now : Stored} (same : old ≡ now) {mid : Kept} {j : Held} (slot :
   pub mid_below : list_all (λ n. nat_lt n mid.limits.blocks) numbers ≡ true
   mid_below = ap (λ (x : Limits). list_all (λ n. nat_lt n x.blocks) numbers) mid_same ∙ renews.below
 
-  pub mid_first : IsSomeAnd (rec_at mid.catalog slot) (λ (x : FileRecord). MayReplace mid slot x file)
-  mid_first =
-      let P : Kept → Type 0 = λ k. IsSomeAnd (rec_at k.catalog slot) (λ (x : FileRecord). MayReplace k slot x file) in
-      subst P (sym renews.parts) (subst (λ o. IsSomeAnd o (λ (x : FileRecord). MayReplace renewed slot x file)) (sym found.1) (may_retaken k mid.taken mid.marks slot rec file found.2))
+  pub mid_first : MayPut mid slot (draft_of file)
+  mid_first = subst (λ (x : Kept). MayPut x slot (draft_of file)) (sym renews.parts) (put_retaken k mid.taken mid.marks slot (draft_of file) first)
 
   pub mid_short : length bytes ≤ 1048576
-  mid_short = by (k.limits.version == 2) found.2.small
+  mid_short = by (k.limits.version == 2) (put_small k slot (draft_of file) first)
     where
       by : (two : Bool) → length bytes ≤ cond two 1048576 65536 → length bytes ≤ 1048576
       by true le = le
@@ -160,17 +193,14 @@ module _ {old now : Stored} (same : old ≡ now) {mid : Kept} {j : Held} (slot :
   pub mid_image : j.blocks ≡ now.journal.blocks
   mid_image = renews.image ∙ ap (λ (o : Stored). o.journal.blocks) same
 
-  pub mid_unplaced : is_large (length bytes) ≡ false → j.placed ≡ []
-  mid_unplaced = renews.unplaced
-
-  module _ {q : Kept} (again_mid : RefilesIn (record_in mid (Some slot)) file numbers mid q) where
-    abbrev again : RefilesIn (Some rec) file numbers renewed q
+  module _ {q : Kept} (again_mid : RefilesIn (record_in mid slot) (draft_of file) numbers mid q) where
+    again : RefilesIn goes (draft_of file) numbers renewed q
     again =
-        let R : Option FileRecord → Kept → Type 0 = λ gone k. RefilesIn gone file numbers k q in
-        subst (λ gone. R gone renewed) found.1 (subst (λ (x : Kept). RefilesIn (rec_at x.catalog slot) file numbers x q) renews.parts again_mid)
+        subst (λ g. RefilesIn g (draft_of file) numbers renewed q) (record_retaken k mid.taken mid.marks slot)
+        (subst (λ (x : Kept). RefilesIn (record_in x slot) (draft_of file) numbers x q) renews.parts again_mid)
 
     written_same : q.limits ≡ k.limits
-    written_same = limits_then old mid.taken mid.marks q j rec file numbers sound sound_renewed again
+    written_same = limits_then old mid.taken mid.marks q j goes (draft_of file) numbers sound sound_renewed again
 
     pub written_limits : q.limits ≡ now.parts.limits
     written_limits = written_same ∙ ap (λ (o : Stored). o.parts.limits) same
@@ -179,7 +209,7 @@ module _ {old now : Stored} (same : old ≡ now) {mid : Kept} {j : Held} (slot :
     written_image = renews.image ∙ (sound.image ∙ ap image_blocks (sym written_same))
 
     pub written_edits : AreEditsFew k.ext q.ext
-    written_edits = replaced_edits old mid.taken mid.marks q j rec file numbers sound sound_renewed again
+    written_edits = replaced_edits old mid.taken mid.marks q j goes (draft_of file) numbers sound sound_renewed again
 
     module _ (unbroken_now : now.is_broken ≡ false) where
       unbroken : old.is_broken ≡ false
@@ -189,19 +219,19 @@ module _ {old now : Stored} (same : old ≡ now) {mid : Kept} {j : Held} (slot :
       written_unbroken = renews.broken ∙ sound.journal unbroken
 
       pub written_sound : AreSound q → IsSound (settled q j)
-      written_sound = replaced_sound old mid.taken mid.marks q j rec file numbers sound sound_renewed again (sym renews.image) written_unbroken
+      written_sound = replaced_sound old mid.taken mid.marks q j goes (draft_of file) numbers sound sound_renewed again (sym renews.image) written_unbroken
 
       pub written_placed : ArePlaced q j
       written_placed n among =
           let at = among_from_any (λ b. data_start k.limits + b == n) renews.spare (renews.placed n among) in
           let bitmap = subst (λ (x : Kept). is_marked x (bitmap_start k.limits) ≡ true) renews.parts renews.bitmap in (
             omega (arith, eqb-true (data_start k.limits + at.0) n at.2, ap data_start written_same),
-            replaced_bitmap old mid.taken mid.marks q j rec file numbers sound sound_renewed again bitmap,
+            replaced_bitmap old mid.taken mid.marks q j goes (draft_of file) numbers sound sound_renewed again bitmap,
           )
 
       pub written_room : length j.staged + marked_count q ≤ 575
       written_room =
-          let some = replaced_marks old mid.taken mid.marks q j rec file numbers sound sound_renewed again in
+          let some = replaced_marks old mid.taken mid.marks q j goes (draft_of file) numbers sound sound_renewed again in
           omega (arith, some, sound.few unbroken, renews.few_staged, renews.marks.few, none_marked k (sound.clean unbroken), ap (λ (x : Kept). marked_count x) renews.parts)
 
     -- from a state that memory told
@@ -209,22 +239,48 @@ module _ {old now : Stored} (same : old ≡ now) {mid : Kept} {j : Held} (slot :
       abbrev s : State
       s = was.state
 
-      abbrev filed : Filed
-      filed = record { slot = slot; rec = rec }
-
       abbrev at : ℕ → List ℕ
       at = looked old.journal.staged holds.kept
 
-      comes : IsRenewed bytes numbers renews.blocks rec k mid holds.kept old.journal j placed
+      comes : IsRenewed bytes numbers renews.blocks goes k mid holds.kept old.journal j placed
       comes = renews.renewed holds.kept holds.journal
+
+      abbrev then_at : ℕ → List ℕ
+      then_at = looked j.staged comes.lands.kept
 
       saved_at : IsSaved renewed at
       saved_at = subst (λ (x : Kept). IsSaved x at) renews.parts (renews.marks.saved at (λ area n lt unmarked. holds.written area n lt))
 
-      housed : IsHoused k.limits k.taken mid.taken (blocks_told k.limits at rec) renews.blocks bytes numbers at (looked j.staged comes.lands.kept)
-      housed =
-          (trades_housed k sound.parts at (looked j.staged comes.lands.kept) s holds.tells filed (filed_at_slot k.catalog sound.parts.catalog slot rec found.1) mid.taken renews.blocks bytes numbers renews.distinct
-          comes.lands.holds comes.lands.same comes.trades)
+      -- a file that goes stands in a slot
+      gone_slot : (o : Option ℕ) (rec : FileRecord) → record_in k o ≡ Some rec → (n : ℕ) × (rec_at k.catalog n ≡ Some rec)
+      gone_slot None rec is = absurd cc
+      gone_slot (Some n) rec is = (n, is)
+
+      housed : IsHoused k.limits k.taken mid.taken (blocks_gone k.limits at goes) renews.blocks bytes numbers at then_at
+      housed = by goes refl comes.trades
+        where
+          by : (o : Option FileRecord) → goes ≡ o → Trades k.limits o k.taken mid.taken renews.blocks at then_at → IsHoused k.limits k.taken mid.taken (blocks_gone k.limits at o) renews.blocks bytes numbers at then_at
+          by None is trades = alone_housed k.limits k.taken mid.taken renews.blocks bytes numbers at then_at sound.parts.blocks renews.distinct comes.lands.holds comes.lands.same trades
+          by (Some rec) is trades =
+              let found = gone_slot slot rec is in
+              trades_housed k sound.parts at then_at s holds.tells (record { slot = found.0; rec = rec }) (filed_at_slot k.catalog sound.parts.catalog found.0 rec found.1) mid.taken renews.blocks bytes numbers renews.distinct
+              comes.lands.holds comes.lands.same trades
+
+      -- its blocks are enough
+      room : blocks_taken k.limits.version (length bytes) ≤ free_for k goes
+          → used_blocks (file_gone s goes) + blocks_taken (file_gone s goes).limits.version (length bytes) ≤ (file_gone s goes).limits.blocks
+      room enough = by goes refl enough
+        where
+          fits : ToldBy old s
+          fits = told_held old before base s sound holds
+
+          by : (o : Option FileRecord) → goes ≡ o → blocks_taken k.limits.version (length bytes) ≤ free_for k o
+              → used_blocks (file_gone s o) + blocks_taken (file_gone s o).limits.version (length bytes) ≤ (file_gone s o).limits.blocks
+          by None is free = omega (arith, free, used_told old s sound fits, ap (λ v. blocks_taken v (length bytes)) (version_told old s sound fits))
+          by (Some rec) is free =
+              let found = gone_slot slot rec is in
+              room_without old s sound holds.tells found.0 rec found.1 (length bytes)
+              (written_enough old s sound fits rec.name found.0 rec (slot_of-rec_at k.catalog found.0 rec sound.parts.catalog found.1) found.1 (length bytes) free)
 
       -- what is kept but for placed blocks stands for the base
       module _ (alone : is_large (length bytes) ≡ true → old.journal.staged ≡ []) where
@@ -238,34 +294,24 @@ module _ {old now : Stored} (same : old ≡ now) {mid : Kept} {j : Held} (slot :
             (stands_same old.journal.blocks j.placed comes.lands.kept holds.kept image comes.stays (subst (λ n. StandsBut n j.placed comes.lands.kept image) renews.image but))
 
         -- where its blocks are enough
-        replaces : {T : Type 0} (new : Stored) (after : Meaning) (result : Result T Change) → rec.name ≡ name
-            → used_blocks s + blocks_taken s.limits.version (length bytes) ≤ s.limits.blocks + blocks_taken s.limits.version (length (bytes_told k.limits at rec)) → Saves q j new placed after result
-            → Holds base was (changed was (file_replaced s name file)) new before after result
-        replaces new after result named enough saves =
-            let outcome = changed was (file_replaced s name file) in
+        replaces : {T : Type 0} (new : Stored) (after : Meaning) (result : Result T Change) → blocks_taken k.limits.version (length bytes) ≤ free_for k goes → Saves q j new placed after result
+            → Holds base was (changed was (file_added (file_gone s goes) file)) new before after result
+        replaces new after result enough saves =
+            let outcome = changed was (file_added (file_gone s goes) file) in
             holds_behind base was outcome new before placed after result (leaves_weaken (λ image. Stands image base) (renews.moments holds.kept holds.journal) stands_old)
             (subst (λ n. KeepsPast n before placed) (sound.image ∙ ap image_blocks holds.limits) (renews.past holds.kept holds.journal))
-            (replaced_holds old mid.taken mid.marks q j rec file numbers sound sound_renewed again base was new placed after result outcome at comes.lands.kept renews.blocks
-            holds.limits holds.tells saved_at housed comes.lands.fits stands_then enough (ap (λ n. changed was (file_replaced s n file)) (sym named)) saves)
+            (replaced_holds old mid.taken mid.marks q j goes file (derived_words name bytes) numbers sound sound_renewed again base was new placed after result outcome at comes.lands.kept renews.blocks
+            holds.limits holds.tells refl saved_at housed comes.lands.fits stands_then (room enough) refl saves)
 
-    pub written_holds : {T : Type 0} (base : State) (was : Situation) → StoreHolds now before base was.state → slot_of now.parts.catalog name ≡ Some slot
-        → ((r : FileRecord) → rec_at now.parts.catalog slot ≡ Some r → blocks_taken now.parts.limits.version (length bytes) ≤ free_instead now.parts r)
+    pub written_holds : {T : Type 0} (base : State) (was : Situation) → StoreHolds now before base was.state → blocks_taken now.parts.limits.version (length bytes) ≤ free_for now.parts (record_in now.parts slot)
         → (is_large (length bytes) ≡ true → now.journal.staged ≡ []) → (new : Stored) (after : Meaning) (result : Result T Change) → Saves q j new placed after result
-        → Holds base was (changed was (file_replaced was.state name file)) new before after result
-    written_holds base was holds_now named_now enough_now alone_now new after result saves =
+        → Holds base was (changed was (file_added (file_gone was.state (record_in now.parts slot)) file)) new before after result
+    written_holds base was holds_now enough_now alone_now new after result saves =
         let A : Stored → Type 0 = λ o. is_large (length bytes) ≡ true → o.journal.staged ≡ [] in
-        let N : Stored → Type 0 = λ o. slot_of o.parts.catalog name ≡ Some slot in
-        let E : Stored → Type 0 = λ o. (r : FileRecord) → rec_at o.parts.catalog slot ≡ Some r → blocks_taken o.parts.limits.version (length bytes) ≤ free_instead o.parts r in
+        let E : Stored → Type 0 = λ o. blocks_taken o.parts.limits.version (length bytes) ≤ free_for o.parts (record_in o.parts slot) in
         let holds : StoreHolds old before base was.state = subst (λ (o : Stored). StoreHolds o before base was.state) (sym same) holds_now in
-        let named : N old = subst N (sym same) named_now in
-        replaces base was holds (subst A (sym same) alone_now) new after result (filed_named k sound.parts name slot rec named found.1).1
-        (written_enough old was.state sound (told_held old before base was.state sound holds) name slot rec named found.1 (length bytes) (subst E (sym same) enough_now rec found.1)) saves
-
--- where the disk fails while they are put
-pub renewed_lost : (bytes : List ℕ) (gone : FileRecord) (p q : Kept) (old new : Held) (before after : Meaning) (change : Change) → ContentRenewed bytes gone p q old new before after (Err change)
-    → ContentPut bytes p q old new before after (Err change)
-renewed_lost bytes gone p q old new before after (Refused refusal) never = never
-renewed_lost bytes gone p q old new before after Disk torn = torn
+        subst (λ (o : Stored). Holds base was (changed was (file_added (file_gone was.state (record_in o.parts slot)) file)) new before after result) same
+        (replaces base was holds (subst A (sym same) alone_now) new after result (subst E (sym same) enough_now) saves)
 
 -- ---- another name and other words, and the same bytes
 -- the blocks of a file are those of a record that has its size
@@ -280,10 +326,9 @@ module _ {old now : Stored} (same : old ≡ now) (sound : IsSound old) (name : L
   sound_rec : is_sound_record old.parts.limits.version old.parts.dict old.parts.limits.blocks there.0 ≡ true
   sound_rec = sound.parts.records slot there.0 there.1
 
-  pub still_in_form : {bytes read : List ℕ} → bytes ≡ read → ((rec : FileRecord) → rec_at old.parts.catalog slot ≡ Some rec → length read ≡ rec.size)
-      → are_blocks old.parts.limits.version (length bytes) numbers ≡ true
-  still_in_form is size =
-      ap₂ (are_blocks old.parts.limits.version) (ap length is ∙ size there.0 there.1) blocks_are
+  pub still_in_form : {size : ℕ} → ((rec : FileRecord) → rec_at old.parts.catalog slot ≡ Some rec → size ≡ rec.size) → are_blocks old.parts.limits.version size numbers ≡ true
+  still_in_form size =
+      ap₂ (are_blocks old.parts.limits.version) (size there.0 there.1) blocks_are
       ∙ (record_in_form old.parts.limits.version old.parts.dict old.parts.limits.blocks there.0 sound_rec).blocks
 
   pub still_below : list_all (λ n. nat_lt n old.parts.limits.blocks) numbers ≡ true
@@ -291,19 +336,12 @@ module _ {old now : Stored} (same : old ≡ now) (sound : IsSound old) (name : L
       ap (list_all (λ n. nat_lt n old.parts.limits.blocks)) blocks_are
       ∙ (and_parts (is_record old.parts.limits.version there.0 && list_all (λ n. is_some (word_of old.parts.dict n)) there.0.tags) (list_all (λ n. nat_lt n old.parts.limits.blocks) there.0.blocks) sound_rec).1
 
-module _ {old now : Stored} (same : old ≡ now) (sound : IsSound old) (name : List ℕ) {slot : ℕ} (named : slot_of now.parts.catalog name ≡ Some slot) {q : Kept} {file : File} {numbers : List ℕ}
-    (refiles : RefilesIn (record_in old.parts (Some slot)) file numbers old.parts q) where
-  abbrev gone : FileRecord
-  gone = (found_there same sound name named).0
-
-  abbrev refiled : RefilesIn (Some gone) file numbers old.parts q
-  refiled = subst (λ o. RefilesIn o file numbers old.parts q) (found_there same sound name named).1 refiles
-
+module _ {old now : Stored} (same : old ≡ now) (sound : IsSound old) {gone : Option FileRecord} {q : Kept} {draft : Draft} {numbers : List ℕ} (refiled : RefilesIn gone draft numbers old.parts q) where
   abbrev old_parts : Kept
   old_parts = old.parts
 
   refiled_same : q.limits ≡ old_parts.limits
-  refiled_same = limits_then old old_parts.taken old_parts.marks q old.journal gone file numbers sound sound.parts refiled
+  refiled_same = limits_then old old_parts.taken old_parts.marks q old.journal gone draft numbers sound sound.parts refiled
 
   pub refiled_limits : q.limits ≡ now.parts.limits
   refiled_limits = refiled_same ∙ ap (λ (k : Stored). k.parts.limits) same
@@ -312,37 +350,36 @@ module _ {old now : Stored} (same : old ≡ now) (sound : IsSound old) (name : L
   refiled_image = sound.image ∙ ap image_blocks (sym refiled_same)
 
   pub refiled_edits : AreEditsFew old_parts.ext q.ext
-  refiled_edits = replaced_edits old old_parts.taken old_parts.marks q old.journal gone file numbers sound sound.parts refiled
+  refiled_edits = replaced_edits old old_parts.taken old_parts.marks q old.journal gone draft numbers sound sound.parts refiled
 
   module _ (unbroken_now : now.is_broken ≡ false) where
     was_unbroken : old.is_broken ≡ false
     was_unbroken = ap (λ (k : Stored). k.is_broken) same ∙ unbroken_now
 
     pub refiled_sound : AreSound q → IsSound (settled q old.journal)
-    refiled_sound = replaced_sound old old_parts.taken old_parts.marks q old.journal gone file numbers sound sound.parts refiled refl (sound.journal was_unbroken)
+    refiled_sound = replaced_sound old old_parts.taken old_parts.marks q old.journal gone draft numbers sound sound.parts refiled refl (sound.journal was_unbroken)
 
     pub refiled_placed : ArePlaced q old.journal
     refiled_placed = alone_placed old sound was_unbroken q
 
     pub refiled_room : length old.journal.staged + marked_count q ≤ 575
     refiled_room =
-        let some = replaced_marks old old_parts.taken old_parts.marks q old.journal gone file numbers sound sound.parts refiled in
+        let some = replaced_marks old old_parts.taken old_parts.marks q old.journal gone draft numbers sound sound.parts refiled in
         omega (arith, some, none_marked old_parts (sound.clean was_unbroken), sound.few was_unbroken)
 
 -- where the bytes of the file that was there are these
-pub refiled_holds : (old : Stored) (q : Kept) (slot : ℕ) (file : File) (rec : FileRecord) (sound : IsSound old) → old.is_broken ≡ false → rec_at old.parts.catalog slot ≡ Some rec → RefilesIn (Some rec) file rec.blocks old.parts q
+pub refiled_holds : (old : Stored) (q : Kept) (slot : ℕ) (file : File) (own : List (List ℕ)) (rec : FileRecord) (sound : IsSound old) → old.is_broken ≡ false → rec_at old.parts.catalog slot ≡ Some rec → RefilesIn (Some rec) (with_own file own) rec.blocks old.parts q
     → {T : Type 0} (base : State) (now : Situation) (new : Stored) (before after : Meaning) (result : Result T Change) (outcome : Outcome) (holds : StoreHolds old before base now.state)
-    → outcome ≡ changed now (file_replaced now.state rec.name file) → bytes_told old.parts.limits (looked old.journal.staged holds.kept) rec ≡ file.bytes
+    → AreOwnWords now.state.declared now.state.axioms own file → outcome ≡ changed now (file_replaced now.state rec.name file) → bytes_told old.parts.limits (looked old.journal.staged holds.kept) rec ≡ file.bytes
     → Saves q old.journal new before after result → Holds base now outcome new before after result
-refiled_holds old q slot file rec sound unbroken there again base now new before after result outcome holds done told saves =
+refiled_holds old q slot file own rec sound unbroken there again base now new before after result outcome holds are_own done told saves =
     let parts = old.parts in
     let s = now.state in
     let filed : Filed = record { slot = slot; rec = rec } in
     let of = filed_at_slot parts.catalog sound.parts.catalog slot rec there in
     let at : ℕ → List ℕ = looked old.journal.staged holds.kept in
     let size : rec.size ≡ length file.bytes = sym (size_of_filed old s sound (told_held old before base s sound holds) filed of) ∙ ap length told in
-    let room : used_blocks s + blocks_taken s.limits.version (length file.bytes) ≤ s.limits.blocks + blocks_taken s.limits.version (length (bytes_told parts.limits at rec)) =
-    omega (arith, holds.tells.formed.few_blocks, ap (λ bs. blocks_taken s.limits.version (length bs)) told) in
-    replaced_holds old parts.taken parts.marks q old.journal rec file rec.blocks sound sound.parts again base now new before after result outcome at holds.kept (blocks_told parts.limits at rec)
-    holds.limits holds.tells (λ area n lt unmarked. holds.written area n lt) (stay_housed parts at s holds.tells filed of file.bytes size told) holds.journal
+    let room = room_without old s sound holds.tells slot rec there (length file.bytes) (omega (arith, holds.tells.formed.few_blocks, ap (λ bs. blocks_taken s.limits.version (length bs)) told)) in
+    replaced_holds old parts.taken parts.marks q old.journal (Some rec) file own rec.blocks sound sound.parts again base now new before after result outcome at holds.kept (blocks_told parts.limits at rec)
+    holds.limits holds.tells are_own (λ area n lt unmarked. holds.written area n lt) (stay_housed parts at s holds.tells filed of file.bytes size told) holds.journal
     (unplaced_stands old sound unbroken base s before holds) room done saves

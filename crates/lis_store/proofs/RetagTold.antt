@@ -1,21 +1,19 @@
 -- The row of `mv`, told by what a store keeps, is the row of the state; and what holds where it refuses nothing.
-use Rattle.std.proofs.Common.{◌≡◌, refl, sym, ap, ap₂, ◌∙◌, ℕ, ◌≤◌, nat_lt, Bool, true, false, not, cond, ◌&&◌, is_some, option_to_list, Some, None, List, [], ◌∷◌, ◌++◌, length, filter}
-use Rattle.lis_store.proofs.Common.{list_any, list_all, flat_map, ltb-false, not-false, IsStrictlySortedBy-filter, slot_of, rec_at, word_of, FileRecord, among_filter, Formula, resolved, text_words, word_cmp, has_word, is_file_name, is_built_in, is_head, Refusal, UnknownProperty, NoFileHere, State, File, is_assignable, place_words, new_file, file_replaced, Situation, refused, retagged, mv, word_order, sorted_set_of, sorted_with_words, rising_from_sorted, file_of_name, Kept, declared_of}
-use Rattle.std.proofs.lemmas.Bool.{and_from, both_ways}
+use Rattle.lis_store.proofs.Common.{◌≡◌, refl, sym, ap, ap₂, ◌∙◌, ℕ, ◌≤◌, nat_lt, Bool, true, false, not, cond, ◌&&◌, is_some, option_to_list, Some, None, List, [], ◌∷◌, ◌++◌, length, filter, arith, list_any, list_all, flat_map, ltb-false, not-false, IsStrictlySortedBy-filter, slot_of, rec_at, word_of, FileRecord, among_filter, Formula, resolved, text_words, word_cmp, has_word, is_file_name, is_built_in, is_head, Refusal, UnknownProperty, NoFileHere, State, File, is_assignable, place_words, new_file, file_replaced, Situation, refused, retagged, mv, word_order, sorted_set_of, sorted_with_words, rising_from_sorted, file_of_name, Kept, declared_of, and_from, both_ways, file_of, changed, tags_at, all_among, all_from, words_told}
 use Rattle.lis_grammar.specs.Places.Resolution.{NewPlace}
 use Rattle.lis_model.specs.declared.refusal.Refusal.TheVariants.{NotAPlace, NotAssignable, TooManyAssigned, BuiltIn}
-use Rattle.lis_model.specs.Changes.{file_of}
-use Rattle.lis_model.specs.Step.{changed, here_checks, room_checks, tags_at, mv_checks, mv_to}
-use Rattle.lis_laws.proofs.Counts.{all_among, all_from}
+use Rattle.lis_model.specs.Step.{here_checks, room_checks, mv_checks, mv_to}
 use Rattle.lis_laws.proofs.Named.{gone_free}
-use Rattle.lis_kept.specs.Telling.{words_told}
 use Rattle.lis_store.specs.Stored.{Stored, IsSound}
 use Rattle.lis_store.proofs.ToldBy.{ToldBy}
 use Rattle.lis_store.specs.Changes.{first_refusal}
 use Rattle.lis_store.specs.Judging.{is_among}
 use Rattle.lis_store.specs.Instead.{instead_checks}
 use Rattle.lis_store.specs.Replacing.{MayReplace}
-use Rattle.lis_store.specs.Retagging.{moved_from, retag_checks}
+use Rattle.lis_store.specs.Drafts.{Draft, drafted, own_kept}
+use Rattle.lis_store.specs.Retagging.{words_moved, moved_draft, retag_checks}
+use Rattle.lis_store.proofs.Facts.{size_told}
+use Rattle.lis_store.proofs.OwnKept.{own_built_in, own_told}
 use Rattle.lis_store.proofs.InsteadMay.{given_assignable, may_stand, sized_small}
 use Rattle.lis_store.proofs.InsteadTold.{old_given, here_row, instead_row}
 use Rattle.lis_store.proofs.Judged.{same_behind, judged_refused, judged_done, all_pass}
@@ -45,8 +43,8 @@ module _ (k : Stored) (s : State) (sound : IsSound k) (fits : ToldBy k s) (place
   abbrev pub new_of : List Formula → File
   new_of next = new_file old.name (retagged old.assigned (tags_at place) (tags_at next)) old.bytes
 
-  abbrev moved : List Formula → File
-  moved next = moved_from kept rec place next name old.bytes
+  abbrev moved : List Formula → Draft
+  moved next = moved_draft kept slot rec place next name
 
   -- the checks that the words that would be known do not matter for
   abbrev front : List Formula → List (List ℕ) → List (List ℕ) → List (List ℕ) → List (Bool × Refusal)
@@ -68,8 +66,11 @@ module _ (k : Stored) (s : State) (sound : IsSound k) (fits : ToldBy k s) (place
       here_row k s sound fits place name slot rec there (retag_checks kept place next words slot rec (moved next)) (mv_checks now next words (new_of next) made) (λ at.
       let given = words_told kept.dict rec.tags in
       let was = old_given k s sound fits name slot rec at.0 at.1 in
+      let ws = words_moved kept rec place next in
+      let own = own_kept kept slot in
       same_behind (front next words (declared_of kept) given) (instead_checks kept slot (moved next)) (room_checks made) (λ passes.
-      instead_row k s sound fits place name slot rec there at (moved next) made
+      ap (λ n. first_refusal (instead_checks kept slot (drafted name n ws own))) (sym (size_told k s sound fits name slot rec at.0 at.1))
+      ∙ instead_row k s sound fits place name slot rec there at (new_file name ws old.bytes) own (own_told k s sound fits name slot rec at.0 at.1 ws) made
       (ap₂ (λ n ws. file_replaced s n (new_file n (retagged ws (tags_at place) (tags_at next)) old.bytes)) (sym (file_of_name s.files name)) (sym was)) (gone_free s name)
       (moved_pass (is_assignable (declared_of kept)) given (tags_at place) (tags_at next)
       (given_assignable k sound slot rec at.1 fits.kept s fits.tells) (not-false (list_all (is_assignable (declared_of kept)) (tags_at next)) passes.1.1.1.0)) [] [] refl)
@@ -110,7 +111,7 @@ pub mv_nowhere : (k : Stored) (s : State) → IsSound k → ToldBy k s → (plac
     → mv (record { state = s; place = place }) name text ≡ refused (record { state = s; place = place }) NoFileHere
 mv_nowhere k s sound fits place next name text leads none =
     let rec : FileRecord = record { name = []; size = 0; tags = []; blocks = [] } in
-    let rest = retag_checks k.parts place next (text_words text) 0 rec (moved_from k.parts rec place next name (file_of s.files name).bytes) in
+    let rest = retag_checks k.parts place next (text_words text) 0 rec (moved_draft k.parts 0 rec place next name) in
     mv_refused k s sound fits place name 0 rec (λ here. absurd (both_ways (is_among k.parts place name) none here)) text next NoFileHere leads
     (ap (λ b. cond (not b) (Some NoFileHere) (first_refusal rest)) none)
 
@@ -119,13 +120,13 @@ module _ (k : Stored) (sound : IsSound k) (slot : ℕ) (rec : FileRecord) (is_re
   abbrev p : Kept
   p = k.parts
 
-  pub mv_may : (name bytes : List ℕ) (words : List (List ℕ)) → rec.name ≡ name → is_file_name name ≡ true → length bytes ≤ rec.size
-      → first_refusal (retag_checks p here next words slot rec (moved_from p rec here next name bytes)) ≡ None → MayReplace p slot rec (moved_from p rec here next name bytes)
-  mv_may name bytes words named form sized none =
-      let file = moved_from p rec here next name bytes in
-      let row = all_pass (retag_checks p here next words slot rec file) none in
-      may_stand k sound slot rec is_rec file form (λ differ. absurd (differ (sym named)))
-      (rising_from_sorted word_cmp word_order file.assigned
+  pub mv_may : (name : List ℕ) (words : List (List ℕ)) → rec.name ≡ name → is_file_name name ≡ true → length (own_kept p slot) ≤ 128
+      → first_refusal (retag_checks p here next words slot rec (moved_draft p slot rec here next name)) ≡ None → MayReplace p slot rec (moved_draft p slot rec here next name)
+  mv_may name words named form few_own none =
+      let draft = moved_draft p slot rec here next name in
+      let row = all_pass (retag_checks p here next words slot rec draft) none in
+      may_stand k sound slot rec is_rec draft form (λ differ. absurd (differ (sym named)))
+      (rising_from_sorted word_cmp word_order draft.assigned
       (sorted_with_words (filter (λ word. not (has_word (tags_at here) word)) (words_told p.dict rec.tags)) (tags_at next)
       (IsStrictlySortedBy-filter word_cmp (λ word. not (has_word (tags_at here) word)) (words_told p.dict rec.tags) (sorted_set_of (flat_map (λ n. option_to_list (word_of p.dict n)) rec.tags)))))
-      (ltb-false 16 (length file.assigned) row.1.1.1.1.0) (sized_small k sound slot rec is_rec bytes sized) [] row.1.1.1.1.1
+      (ltb-false 16 (length draft.assigned) row.1.1.1.1.0) (own_built_in p slot) few_own (sized_small k sound slot rec is_rec rec.size (omega arith)) [] row.1.1.1.1.1

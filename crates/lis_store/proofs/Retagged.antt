@@ -1,11 +1,6 @@
 -- What a file is refused for that would move to another place, as the calls ask it.
-use Rattle.std.proofs.Common.{◌≡◌, refl, sym, ap, ap₂, ◌∙◌, inl, inr, ◌⊎◌, ℕ, ◌<◌, Bool, true, false, not, cond, ◌||◌, IsSome, List, [], ◌∷◌, ◌++◌, length, filter, take, get_or, ◌+◌, arith}
-use Rattle.lis_store.proofs.Common.{list_any, flat_map, IsStrictlySortedBy, list_any-append, IsStrictlySortedBy-filter, Among, word_cmp, same_word, has_word, Formula, Node, nodes_of, with_words, place_words, retagged, among_with_words, with_words_new, among_set_of, sorted_with_words}
-use Rattle.std.proofs.lemmas.Bool.{leb-false}
+use Rattle.lis_store.proofs.Common.{◌≡◌, refl, sym, ap, ap₂, ◌∙◌, inl, inr, ◌⊎◌, ℕ, ◌<◌, Bool, true, false, not, cond, ◌||◌, IsSome, List, [], ◌∷◌, ◌++◌, length, filter, take, get_or, ◌+◌, arith, list_any, flat_map, IsStrictlySortedBy, list_any-append, IsStrictlySortedBy-filter, Among, word_cmp, same_word, has_word, Formula, Node, nodes_of, with_words, place_words, retagged, among_with_words, with_words_new, among_set_of, sorted_with_words, leb-false, set_of, tags_at, with_words_old, set_of_among, same_words}
 use Rattle.std.proofs.lemmas.List.Elements.{filter_more}
-use Rattle.lis_model.specs.Sets.{set_of}
-use Rattle.lis_model.specs.Step.{tags_at}
-use Rattle.lis_laws.proofs.Members.{with_words_old, set_of_among, same_words}
 use Rattle.lis_laws.proofs.Locals.{filter_same}
 use Rattle.lis_store.specs.Assigning.{node_tags, Takes}
 use Rattle.lis_store.proofs.Assigned.{has_both, tags_of_nodes}

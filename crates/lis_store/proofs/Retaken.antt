@@ -1,38 +1,8 @@
--- Memory in form, and where other blocks are taken.
-use Rattle.std.proofs.Common.{◌≡◌, ◌∙◌, ℕ, Bool, false, refl, List, length, arith}
-use Rattle.lis_store.proofs.Common.{Held, image_blocks, Kept, AreSound}
+-- Memory in form, where other blocks are taken and where nothing is marked, and stores over it.
+use Rattle.lis_store.proofs.Common.{◌≡◌, refl, sym, ap, ◌∙◌, ◌≤◌, Bool, true, false, List, [], length, replicate, IsTrue, arith, length-replicate, Held, are_whole, image_blocks, Kept, AreSound}
 use Rattle.lis_store.specs.Stored.{Stored, PairsAreApart, IsSound}
-use Rattle.lis_store.specs.Saving.{settled}
+use Rattle.lis_store.specs.Saving.{clean, settled}
 use Rattle.lis_store.specs.ReplacingIn.{AreInForm}
-use Rattle.lis_store.proofs.Cleaned.{clean_is, sound_clean, in_use_clean, tests_clean}
-
--- ---- stores in form
-pub in_form : (k : Stored) → IsSound k → AreInForm k.parts
-in_form k sound = record {
-  sound = sound.parts;
-  free = sound.free;
-  closed = sound.closed;
-  short = sound.short;
-  in_use = sound.in_use;
-  tests = sound.tests;
-}
-
-pub settled_sound : (q : Kept) (j : Held) → AreInForm q → PairsAreApart q → j.blocks ≡ image_blocks q.limits → j.is_broken ≡ false → IsSound (settled q j)
-settled_sound q j form pairs image unbroken = record {
-  parts = sound_clean q form.sound;
-  free = form.free;
-  pairs = pairs;
-  closed = form.closed;
-  short = form.short;
-  in_use = in_use_clean q form.in_use;
-  tests = tests_clean q form.tests;
-  image = image;
-  journal = λ _. unbroken;
-  few = λ _. omega arith;
-  whole = λ _. refl;
-  placed = λ _. refl;
-  clean = λ _. clean_is q;
-}
 
 -- ---- where other blocks are taken
 module _ (p : Kept) (taken marks : List Bool) where
@@ -70,3 +40,40 @@ sound_retaken o taken marks sound as_many as_long = record {
   settled = sound.settled;
   marks = omega (arith, sound.marks, as_long);
 }
+
+form_clean : (k : Kept) → AreInForm k → AreInForm (clean k)
+form_clean k form =
+    let unset = replicate (length k.marks) false in
+    form_retaken k k.taken unset (sound_retaken k k.taken unset form.sound refl (length-replicate (length k.marks) false)) form
+
+-- ---- stores in form
+pub in_form : (k : Stored) → IsSound k → AreInForm k.parts
+in_form k sound = record { sound = sound.parts; free = sound.free; closed = sound.closed; short = sound.short; in_use = sound.in_use; tests = sound.tests }
+
+-- one at rest
+pub sound_at : (q : Kept) (j : Held) (b : Bool) → AreInForm q → PairsAreApart q → j.blocks ≡ image_blocks q.limits → j.is_broken ≡ false → length j.staged ≤ 44 → IsTrue (are_whole j.staged) → j.placed ≡ []
+    → q.marks ≡ replicate (length q.marks) false → IsSound (record { parts = q; journal = j; is_broken = b })
+sound_at q j b form pairs image unbroken few whole placed unmarked = assumption
+
+-- and one that is broken
+pub sound_lost : (q : Kept) (j : Held) → AreInForm q → PairsAreApart q → j.blocks ≡ image_blocks q.limits → IsSound (record { parts = q; journal = j; is_broken = true })
+sound_lost q j form pairs image = record {
+  parts = form.sound;
+  free = form.free;
+  pairs = pairs;
+  closed = form.closed;
+  short = form.short;
+  tests = form.tests;
+  in_use = form.in_use;
+  image = image;
+  journal = λ e. absurd cc;
+  few = λ e. absurd cc;
+  whole = λ e. absurd cc;
+  placed = λ e. absurd cc;
+  clean = λ e. absurd cc;
+}
+
+pub settled_sound : (q : Kept) (j : Held) → AreInForm q → PairsAreApart q → j.blocks ≡ image_blocks q.limits → j.is_broken ≡ false → IsSound (settled q j)
+settled_sound q j form pairs image unbroken =
+    sound_at (clean q) (record j { staged = []; placed = [] }) false (form_clean q form) pairs image unbroken (omega arith) refl refl
+    (ap (λ n. replicate n false) (sym (length-replicate (length q.marks) false)))

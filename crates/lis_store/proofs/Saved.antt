@@ -1,63 +1,33 @@
--- How parts are saved.
-use Rattle.std.proofs.Common.{◌≡◌, ◌⊎◌, ℕ, zero, suc, ◌+◌, ◌<◌, ◌≤◌, ◌||◌, Bool, true, false, List, [], ◌∷◌, length, Result, Ok, Err, refl, sym, ap, ◌∙◌, subst, inl, inr, IsTrue, arith}
-use Rattle.std.proofs.lemmas.Bool.{eq-eqb, false_from_ne_true}
-use Rattle.lis_store.proofs.Common.{Meaning, Leaves, Held, are_whole, Fits, KeepsPast, looked, bitmap_start, data_start, image_blocks, State, Situation, Outcome, Kept, IsWritten, Properties, Axioms, Bitmap, AreSound, Tells}
-use Rattle.lis_ports.proofs.Moments.{leaves_none, leaves_weaken}
+-- How parts are saved, and what is held back is committed.
+use Rattle.lis_store.proofs.Common.{◌≡◌, ◌⊎◌, ℕ, zero, suc, ◌+◌, ◌<◌, ◌≤◌, ◌||◌, Bool, true, false, List, [], ◌∷◌, length, Result, Ok, Err, refl, sym, ap, ◌∙◌, subst, inl, inr, IsTrue, arith, eq-eqb, false_from_ne_true, contains_from_among, Meaning, Leaves, Held, are_whole, Fits, KeepsPast, looked, bitmap_start, data_start, image_blocks, State, Situation, Outcome, Kept, IsWritten, Properties, Axioms, Bitmap, AreSound, Tells, leaves_weaken, Entry, StandsBut, is_among, changed, Files, Rows}
+use Rattle.lis_ports.proofs.Moments.{leaves_none}
 use Rattle.lis_journal.specs.Journal.{OpenRecords}
-use Rattle.lis_journal.specs.Record.{Entry}
-use Rattle.lis_journal.specs.Images.{StandsFor, StandsBut, StandsForAllOrNone, FitsAt, is_among}
+use Rattle.lis_journal.specs.Images.{StandsFor, StandsForAllOrNone, FitsAt}
 use Rattle.lis_model.specs.Image.{properties_start}
-use Rattle.lis_model.specs.Step.{changed}
 use Rattle.lis_kept.specs.Areas.{Area, spelled}
-use Rattle.lis_kept.specs.Areas.Area.{Files, Rows}
 use Rattle.lis_kept.specs.Staging.{Stages}
 use Rattle.lis_store.specs.declared.change.Change.{Change}
 use Rattle.lis_store.specs.declared.change.Change.TheVariants.{Refused, Disk}
 use Rattle.lis_store.specs.Stands.{Stands}
-use Rattle.lis_store.specs.Stored.{IsSound, StoreHolds}
-use Rattle.lis_store.specs.Changes.{Holds, HeldEnded}
+use Rattle.lis_store.specs.Stored.{Stored, IsSound, StoreHolds}
+use Rattle.lis_store.specs.Changes.{Holds, HeldEnded, Commits, CommitEnded}
 use Rattle.lis_store.specs.Saving.{clean, settled, ArePlaced, IsReady, KeepsStaged, SaveEnded}
 use Rattle.lis_store.proofs.Elsewhere.{tells_there}
-use Rattle.lis_store.proofs.Standing.{stands_all_but, change_stands}
+use Rattle.lis_store.proofs.Retaken.{in_form, sound_at, sound_lost}
+use Rattle.lis_store.proofs.Told.{retold}
+use Rattle.lis_store.proofs.Standing.{stands_all_but, stands_none_but, change_stands}
 
 -- ---- what holds of the store afterwards
 module _ (p : Kept) (j x : Held) (settles : IsSound (settled p j)) (image : x.blocks ≡ j.blocks) where
   pub sound_held : (q : Kept) (b : Bool) → q ≡ clean p → x.is_broken ≡ false → length x.staged ≤ 44 → IsTrue (are_whole x.staged) → x.placed ≡ [] → IsSound (record { parts = q; journal = x; is_broken = b })
   sound_held q b is unbroken few whole placed =
-      subst (λ (k : Kept). IsSound (record { parts = k; journal = x; is_broken = b })) (sym is) (record {
-        parts = settles.parts;
-        free = settles.free;
-        pairs = settles.pairs;
-        closed = settles.closed;
-        short = settles.short;
-        tests = settles.tests;
-        in_use = settles.in_use;
-        image = image ∙ settles.image;
-        journal = λ _. unbroken;
-        few = λ _. few;
-        whole = λ _. whole;
-        placed = λ _. placed;
-        clean = λ _. settles.clean refl;
-      })
+      subst (λ (k : Kept). IsSound (record { parts = k; journal = x; is_broken = b })) (sym is)
+      (sound_at (clean p) x b (in_form (settled p j) settles) settles.pairs (image ∙ settles.image) unbroken few whole placed (settles.clean refl))
 
   pub sound_broken : (q : Kept) (b : Bool) → q ≡ clean p → b ≡ true → IsSound (record { parts = q; journal = x; is_broken = b })
   sound_broken q b is broken =
       subst (λ (k : Kept). IsSound (record { parts = k; journal = x; is_broken = b })) (sym is)
-      (subst (λ c. IsSound (record { parts = clean p; journal = x; is_broken = c })) (sym broken) (record {
-        parts = settles.parts;
-        free = settles.free;
-        pairs = settles.pairs;
-        closed = settles.closed;
-        short = settles.short;
-        tests = settles.tests;
-        in_use = settles.in_use;
-        image = image ∙ settles.image;
-        journal = λ e. absurd cc;
-        few = λ e. absurd cc;
-        whole = λ e. absurd cc;
-        placed = λ e. absurd cc;
-        clean = λ e. absurd cc;
-      }))
+      (subst (λ c. IsSound (record { parts = clean p; journal = x; is_broken = c })) (sym broken) (sound_lost (clean p) x (in_form (settled p j) settles) settles.pairs (image ∙ settles.image)))
 
   -- behind a commit of more than nothing
   pub sound_committed : {T : Type 0} (mid : Held) (before after : Meaning) (q : Kept) (b : Bool) (result : Result T Change) → q ≡ clean p → mid.is_broken ≡ false → 0 < length mid.staged
@@ -101,18 +71,8 @@ written_clean p at written area n lt = written area n lt ∙ by area
     by Bitmap = refl
 
 tells_clean : (p : Kept) (at : ℕ → List ℕ) (s : State) → Tells p at s → Tells (clean p) at s
-tells_clean p at s tells = record {
-  super = tells.super;
-  state = tells.state;
-  formed = tells.formed;
-  used = tells.used;
-  described = tells.described;
-  taken = λ n lt is. let b = tells.taken n lt is in record { file = b.file; kept = b.kept; has = b.has };
-  given = tells.given;
-  indexed = tells.indexed;
-  apart = tells.apart;
-  one_use = tells.one_use;
-}
+tells_clean p at s tells =
+    retold p (clean p) refl (λ f m n tag. refl) at s s tells refl tells.state tells.formed tells.used (λ f m. tells.described f (contains_from_among p.catalog.entries f m))
 
 -- ---- what becomes of a change whose blocks are staged
 module _ (p : Kept) (j mid : Held) (before : Meaning) (stages : Stages p j mid) (sound : AreSound p) (settles : IsSound (settled p j)) (image_is : j.blocks ≡ image_blocks p.limits)
@@ -205,3 +165,54 @@ module _ (p : Kept) (j mid : Held) (before : Meaning) (stages : Stages p j mid) 
             )
         by (Err (Refused refusal)) keeps never = absurd (let e : false ≡ true = never in cc)
         by (Err Disk) keeps broken = broken
+
+-- ---- a commit of what is held back
+module _ {T : Type 0} (old : Stored) (x : Held) (b : Bool) (before after : Meaning) (result : Result T Change) (sound : IsSound old) (unbroken : old.is_broken ≡ false)
+    (keeps : KeepsStaged old.journal x before after result) (idle : old.journal.staged ≡ [] → x ≡ old.journal) (ends : SaveEnded b result) where
+  -- nothing is placed behind a commit, and where there was none
+  none_after : (0 < length old.journal.staged → x.placed ≡ []) → x.placed ≡ []
+  none_after some = by old.journal.staged idle some
+    where
+      by : (es : List Entry) → (es ≡ [] → x ≡ old.journal) → (0 < length es → x.placed ≡ []) → x.placed ≡ []
+      by [] none some = ap (λ (h : Held). h.placed) (none refl) ∙ sound.placed unbroken
+      by (e ∷ es) none some = some (omega arith)
+
+  pub committed_sound : IsSound (record { parts = old.parts; journal = x; is_broken = b })
+  committed_sound = by result keeps ends
+    where
+      by : (r : Result T Change) → KeepsStaged old.journal x before after r → SaveEnded b r → IsSound (record { parts = old.parts; journal = x; is_broken = b })
+      by (Ok done) keeps whole =
+          let none = ap (λ (h : Held). h.staged) keeps.done in
+          sound_at old.parts x b (in_form old sound) sound.pairs (ap (λ (h : Held). h.blocks) keeps.done ∙ sound.image) (ap (λ (h : Held). h.is_broken) keeps.done ∙ sound.journal unbroken)
+          (omega (arith, ap (λ (es : List Entry). length es) none)) (ap are_whole none) (none_after keeps.none_placed) (sound.clean unbroken)
+      by (Err (Refused refusal)) keeps never = absurd (let e : false ≡ true = never in cc)
+      by (Err Disk) keeps broken =
+          subst (λ c. IsSound (record { parts = old.parts; journal = x; is_broken = c })) (sym broken)
+          (sound_lost old.parts x (in_form old sound) sound.pairs (ap (λ (h : Held). h.blocks) keeps.broken ∙ sound.image))
+
+  pub committed : (base s : State) → StoreHolds old before base s → Commits base s (record { parts = old.parts; journal = x; is_broken = b }) before after result
+  committed base s holds = record {
+    moments = leaves_weaken (λ image. Stands image base ⊎ Stands image s) (keeps.moments kept holds.journal) one_of;
+    past = subst (λ n. KeepsPast n before after) (sound.image ∙ ap image_blocks holds.limits) (keeps.past kept holds.journal);
+    ended = by result keeps ends;
+  }
+    where
+      kept : ℕ → List ℕ
+      kept = holds.kept
+
+      one_of : (image : List ℕ) → StandsForAllOrNone old.journal.blocks old.journal.placed kept old.journal.staged image → Stands image base ⊎ Stands image s
+      one_of image (inl but) = inl (holds.stands image (stands_none_but old.journal.blocks old.journal.placed kept image (sound.placed unbroken) but))
+      one_of image (inr all) =
+          inr (change_stands old old.journal.blocks (looked old.journal.staged kept) s sound.parts sound.free sound.pairs holds.tells holds.written sound.image image all)
+
+      by : (r : Result T Change) → KeepsStaged old.journal x before after r → SaveEnded b r → CommitEnded s (record { parts = old.parts; journal = x; is_broken = b }) after r
+      by (Ok done) keeps whole = record {
+        kept = looked old.journal.staged kept;
+        journal = keeps.kept kept holds.journal;
+        unbroken = whole;
+        settled = ap (λ (h : Held). h.staged) keeps.done;
+        tells = holds.tells;
+        written = holds.written;
+      }
+      by (Err (Refused refusal)) keeps never = absurd (let e : false ≡ true = never in cc)
+      by (Err Disk) keeps broken = broken

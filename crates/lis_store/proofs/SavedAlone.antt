@@ -1,15 +1,20 @@
 -- Calls that change memory alone before they are saved.
-use Rattle.std.proofs.Common.{◌≡◌, ◌∙◌, ℕ, false, List, Result}
-use Rattle.lis_store.proofs.Common.{Meaning, looked, State, Situation, Outcome, Kept, AreSound}
-use Rattle.lis_journal.specs.Images.{StandsBut}
-use Rattle.lis_model.specs.Step.{changed}
+use Rattle.lis_store.proofs.Common.{◌≡◌, sym, ap, ◌∙◌, subst, ℕ, ◌+◌, ◌≤◌, false, List, length, Result, Meaning, looked, State, Situation, Outcome, Kept, AreSound, marked_count, StandsBut, changed}
 use Rattle.lis_store.specs.declared.change.Change.{Change}
 use Rattle.lis_store.specs.Stands.{Stands}
 use Rattle.lis_store.specs.Stored.{Stored, IsSound, StoreHolds}
 use Rattle.lis_store.specs.Changes.{Holds}
-use Rattle.lis_store.specs.Saving.{ArePlaced, IsReady, Saves}
+use Rattle.lis_store.specs.Saving.{settled, ArePlaced, IsReady, Saves}
+use Rattle.lis_store.proofs.Edits.{AreEditsFew}
 use Rattle.lis_store.proofs.Saved.{none_are_placed}
 use Rattle.lis_store.proofs.Standing.{stands_none_but}
+
+-- What a change of words or axioms makes of the memory of a store.
+pub record IsChange (old : Stored) (q : Kept) : Type 0 where
+  pub settles : AreSound q → IsSound (settled q old.journal)
+  pub limits : q.limits ≡ old.parts.limits
+  pub room : length old.journal.staged + marked_count q ≤ 575
+  pub edits : AreEditsFew old.parts.ext q.ext
 
 module _ (old : Stored) (sound : IsSound old) (unbroken : old.is_broken ≡ false) where
   -- nothing is placed
@@ -20,8 +25,15 @@ module _ (old : Stored) (sound : IsSound old) (unbroken : old.is_broken ≡ fals
   unplaced_stands base s before holds image but = holds.stands image (stands_none_but old.journal.blocks old.journal.placed holds.kept image (sound.placed unbroken) but)
 
   -- what is kept by then as before, and tells the next state
-  pub saves_alone : {T : Type 0} (q : Kept) (new : Stored) (before after : Meaning) (result : Result T Change) → Saves q old.journal new before after result
-      → (base : State) (now : Situation) (outcome : Outcome) (t : State) (holds : StoreHolds old before base now.state) → q.limits ≡ old.parts.limits
-      → (AreSound q → IsReady q (looked old.journal.staged holds.kept) t) → outcome ≡ changed now t → Holds base now outcome new before after result
-  saves_alone q new before after result saves base now outcome t holds limits ready is =
-      saves base now outcome t holds.kept holds.journal (limits ∙ holds.limits) (unplaced_stands base now.state before holds) ready is
+  pub saves_alone : {T : Type 0} {q : Kept} {new : Stored} {before after : Meaning} {result : Result T Change} {base : State} {outcome : Outcome} → IsChange old q → Saves q old.journal new before after result
+      → (now : Situation) (t : State) (holds : StoreHolds old before base now.state) → IsReady q (looked old.journal.staged holds.kept) t → outcome ≡ changed now t → Holds base now outcome new before after result
+  saves_alone {before = before} {base = base} {outcome = outcome} change saves now t holds ready is =
+      saves base now outcome t holds.kept holds.journal (change.limits ∙ holds.limits) (unplaced_stands base now.state before holds) (λ _. ready) is
+
+-- ---- a store, as its view says of it
+module _ {old now : Stored} (view : old ≡ now) where
+  pub whole_view : now.is_broken ≡ false → old.is_broken ≡ false
+  whole_view whole = ap (λ (k : Stored). k.is_broken) view ∙ whole
+
+  pub held_view : {m : Meaning} {base s : State} → StoreHolds now m base s → StoreHolds old m base s
+  held_view {m} {base} {s} holds = subst (λ k. StoreHolds k m base s) (sym view) holds

@@ -1,18 +1,11 @@
 -- What memory keeps when a file has come into a vacant slot.
-use Rattle.std.proofs.Common.{◌≡◌, ◌⊎◌, refl, sym, ap, ap₂, ◌∙◌, subst, inl, inr, ℕ, zero, suc, ◌≤◌, if◌then◌else◌, Bool, true, false, List, [], length, get_or, set, Option, None, Some, is_some, arith, get_or-set_same, get_or-set_other}
-use Rattle.lis_store.proofs.Common.{cases_eq, ne_eqb, same_Some, Among, among_append, among_left, number_of, word_of, word_from_number, number_from_word, slot_of, rec_at, Ext, has, numbers_at, FileRecord, derived_words, File, up, all_up, own_words, file_words, is_test, test_of, is_met, met_tests, up_from_entails, entailing, among_from_has_word, Kept, block_of, AreSound, FreeSlotsAreEmpty, KeepsInUse, emptied, declared_of, axioms_of, is_used, AreUsed, test_by, link_named, named_all, some_number, used_flagged, used_had}
-use Rattle.std.proofs.lemmas.Bool.{both_ways, eq-eqb, false_from_ne_true}
-use Rattle.lis_content.specs.Content.{has_number}
+use Rattle.lis_store.proofs.Common.{◌≡◌, ◌⊎◌, refl, sym, ap, ap₂, ◌∙◌, subst, inl, inr, ℕ, zero, suc, if◌then◌else◌, Bool, true, false, List, [], length, get_or, set, Option, None, Some, is_some, arith, get_or-set_same, get_or-set_other, ◌++◌, cases_eq, ne_eqb, same_Some, Among, among_append, among_left, number_of, word_of, word_from_number, number_from_word, slot_of, rec_at, Ext, has, numbers_at, FileRecord, up, all_up, is_test, test_of, is_met, met_tests, up_from_entails, entailing, among_from_has_word, Kept, block_of, AreSound, FreeSlotsAreEmpty, KeepsInUse, emptied, declared_of, axioms_of, is_used, AreUsed, test_by, link_named, named_all, some_number, used_flagged, used_had, both_ways, eq-eqb, false_from_ne_true, has_number, up_trans, entailed_in, has_word_from_among, is_linked, used_left}
 use Rattle.lis_catalog.specs.Catalog.{with_filed}
 use Rattle.lis_catalog.proofs.Laws.{rec_at-with_filed}
-use Rattle.lis_laws.proofs.Chains.{up_trans}
-use Rattle.lis_laws.proofs.Closures.{entailed_in}
-use Rattle.lis_laws.proofs.Members.{has_word_from_among}
 use Rattle.lis_kept.specs.Areas.Area.{Files as FileArea}
-use Rattle.lis_kept.specs.Links.{is_linked}
-use Rattle.lis_kept.proofs.Used.{used_left}
 use Rattle.lis_kept.proofs.Without.{none_here}
 use Rattle.lis_store.specs.Stored.{AreClosed, DescriptionsAreShort, TestsAreMet}
+use Rattle.lis_store.specs.Drafts.{Draft}
 use Rattle.lis_store.specs.Admitting.{described_by}
 use Rattle.lis_store.specs.Adding.{is_one_of, AreNumbered, numbers_named, with_heads, learnt_words}
 use Rattle.lis_store.specs.ReplacingIn.{AreInForm, MayComeIn, IsVacant, SettlesIn, record_of}
@@ -25,7 +18,7 @@ use Rattle.lis_store.proofs.MetTests.{met_numbered}
 use Rattle.lis_store.proofs.Naming.{one_of, of_one, named_has, named_few}
 use Rattle.lis_store.proofs.PutIn.{heads_described, entailed_is, own_numbered, behind_itself}
 
-module _ {slot : ℕ} {old : List ℕ} {file : File} {blocks : List ℕ} {v q : Kept} (vacant : IsVacant slot old v) (may : MayComeIn v file) (settles : SettlesIn slot file blocks v q) where
+module _ {slot : ℕ} {old : List ℕ} {draft : Draft} {blocks : List ℕ} {v q : Kept} (vacant : IsVacant slot old v) (may : MayComeIn v draft) (settles : SettlesIn slot draft blocks v q) where
   -- what was kept, but for the description in the slot
   abbrev p : Kept
   p = emptied v slot
@@ -34,13 +27,13 @@ module _ {slot : ℕ} {old : List ℕ} {file : File} {blocks : List ℕ} {v q : 
   l = settles.learnt
 
   abbrev words : List (List ℕ)
-  words = described_by v file
+  words = described_by v draft
 
   abbrev numbers : List ℕ
   numbers = numbers_named l.dict words
 
   abbrev pub rec : FileRecord
-  rec = record_of (numbers_named l.dict file.assigned) file blocks
+  rec = record_of (numbers_named l.dict draft.assigned) draft blocks
 
   -- what is kept at the end
   abbrev last : Ext → List Bool → Kept
@@ -65,7 +58,7 @@ module _ {slot : ℕ} {old : List ℕ} {file : File} {blocks : List ℕ} {v q : 
   limits_same = ap (λ (x : Kept). x.limits) end_is
 
   -- ---- the slot
-  absent : slot_of v.catalog file.name ≡ None
+  absent : slot_of v.catalog draft.name ≡ None
   absent = may.new
 
   pub rec_here : rec_at end.catalog slot ≡ Some rec
@@ -93,7 +86,7 @@ module _ {slot : ℕ} {old : List ℕ} {file : File} {blocks : List ℕ} {v q : 
 
   -- ---- words
   -- each word that is learnt is one of the description
-  learnt_described : (word : List ℕ) → Among (with_heads (learnt_words file)) word → Among words word
+  learnt_described : (word : List ℕ) → Among (with_heads (learnt_words draft)) word → Among words word
   learnt_described = heads_described vacant.sound may
 
   sound_end : AreSound end
@@ -113,29 +106,29 @@ module _ {slot : ℕ} {old : List ℕ} {file : File} {blocks : List ℕ} {v q : 
       by : IsUsedFor p n → is_used end n ≡ true
       by (Flagged bit) = used_flagged end n bit
       by (HadAt at h) = had at h (cases_eq at slot)
-      by (NamedLeft left) = used_left end n (left_stays v l (with_heads (learnt_words file)) settles.own.learns vacant.sound n left)
+      by (NamedLeft left) = used_left end n (left_stays v l (with_heads (learnt_words draft)) settles.own.learns vacant.sound n left)
 
   used_then : AreUsed end
   used_then n some = from (word_of l.dict n) refl some
     where
-      by : (word : List ℕ) → word_of l.dict n ≡ Some word → (word_of v.dict n ≡ Some word) ⊎ Among (with_heads (learnt_words file)) word → is_used end n ≡ true
+      by : (word : List ℕ) → word_of l.dict n ≡ Some word → (word_of v.dict n ≡ Some word) ⊎ Among (with_heads (learnt_words draft)) word → is_used end n ≡ true
       by word is (inl was) = used_end n (vacant.form.in_use.used n (ap is_some was))
       by word is (inr m) = used_had end n slot (has_here n ∙ of_one words (word_of l.dict n) word is (learnt_described word m))
 
       from : (o : Option (List ℕ)) → word_of l.dict n ≡ o → is_some o ≡ true → is_used end n ≡ true
       from None is none = absurd (both_ways false refl none)
-      from (Some word) is known = by word is (word_before v l (with_heads (learnt_words file)) settles.own.learns vacant.sound settles.own.sound n word is)
+      from (Some word) is known = by word is (word_before v l (with_heads (learnt_words draft)) settles.own.learns vacant.sound settles.own.sound n word is)
 
   -- the words that the file was given are words of its description
-  given_word : (n : ℕ) → has_number rec.tags n ≡ true → (w : List ℕ) × (word_of l.dict n ≡ Some w) × Among file.assigned w
-  given_word n tag = one_of file.assigned (word_of l.dict n) (sym (named_has l.dict sound_end.dict file.assigned n) ∙ tag)
+  given_word : (n : ℕ) → has_number rec.tags n ≡ true → (w : List ℕ) × (word_of l.dict n ≡ Some w) × Among draft.assigned w
+  given_word n tag = one_of draft.assigned (word_of l.dict n) (sym (named_has l.dict sound_end.dict draft.assigned n) ∙ tag)
 
   tags_described : (n : ℕ) → has_number rec.tags n ≡ true → has q.ext n slot ≡ true
   tags_described n tag =
       let found = given_word n tag in
       has_here n
       ∙ of_one words (word_of l.dict n) found.0 found.1
-      (learnt_described found.0 (behind_itself (learnt_words file) found.0 (among_left file.assigned (derived_words file.name file.bytes) found.0 found.2)))
+      (learnt_described found.0 (behind_itself (learnt_words draft) found.0 (among_left draft.assigned (draft.own) found.0 found.2)))
 
   in_use_then : KeepsInUse end
   in_use_then = record {
@@ -157,7 +150,7 @@ module _ {slot : ℕ} {old : List ℕ} {file : File} {blocks : List ℕ} {v q : 
     given = λ at r there n tag. elim (cases_eq at slot) [
       | inl same ↦
           let found = given_word n (subst (λ (x : FileRecord). has_number x.tags n ≡ true) (sym (same_rec at r same there)) tag) in
-          ap (λ o. is_some {T = Bool × ℕ} (test_by o)) found.1 ∙ assigned_no_test v vacant.sound file.assigned may.assignable found.0 found.2
+          ap (λ o. is_some {T = Bool × ℕ} (test_by o)) found.1 ∙ assigned_no_test v vacant.sound draft.assigned may.assignable found.0 found.2
       | inr differ ↦ false_from_ne_true (is_some {T = Bool × ℕ} (test_by (word_of l.dict n))) (λ test.
           let w = tested_word (word_of l.dict n) test in
           both_ways (is_some {T = Bool × ℕ} (test_by (word_of v.dict n))) (vacant.form.tests.given at r (sym (rec_other at differ) ∙ there) n tag)
@@ -172,7 +165,7 @@ module _ {slot : ℕ} {old : List ℕ} {file : File} {blocks : List ℕ} {v q : 
               ap (has q.ext n) same
               ∙ (has_here n
               ∙ (ap (is_one_of words) w.1
-              ∙ (test_described v vacant.sound file may.assignable n w.0 was w.2
+              ∙ (test_described v vacant.sound draft may.assignable may.own n w.0 was w.2
               ∙ (ap (λ (x : FileRecord). is_met (test_of w.0) x.size) (same_rec at r same there) ∙ here))))
           | inr differ ↦
               has_other n at differ
@@ -183,20 +176,20 @@ module _ {slot : ℕ} {old : List ℕ} {file : File} {blocks : List ℕ} {v q : 
 
   -- ---- links
   abbrev own : List (List ℕ)
-  own = own_words (declared_of end) file
+  own = learnt_words draft ++ met_tests (declared_of end) draft.size
 
   entailed_end : all_up (declared_of end) (axioms_of end) own ≡ words
-  entailed_end = ap (λ (k : Kept). file_words (declared_of k) (axioms_of k) file) (sym settles.own.learns.parts) ∙ entailed_is vacant.sound may settles.own.learns
+  entailed_end = ap (λ (k : Kept). described_by k draft) (sym settles.own.learns.parts) ∙ entailed_is vacant.sound may settles.own.learns
 
   -- of its own words the tests are declared, and the others are learnt
   own_has_number : (w : List ℕ) → Among own w → (n : ℕ) × (word_of l.dict n ≡ Some w)
-  own_has_number w m = by (among_append (learnt_words file) (met_tests (declared_of end) (length file.bytes)) w m)
+  own_has_number w m = by (among_append (learnt_words draft) (met_tests (declared_of end) draft.size) w m)
     where
-      by : Among (learnt_words file) w ⊎ Among (met_tests (declared_of end) (length file.bytes)) w → (n : ℕ) × (word_of l.dict n ≡ Some w)
+      by : Among (learnt_words draft) w ⊎ Among (met_tests (declared_of end) draft.size) w → (n : ℕ) × (word_of l.dict n ≡ Some w)
       by (inl learnt) =
-          let number = some_number (number_of l.dict w) (own_numbered vacant.sound may settles.own.learns w (has_word_from_among (learnt_words file) w learnt)) in
+          let number = some_number (number_of l.dict w) (own_numbered vacant.sound may settles.own.learns w (has_word_from_among (learnt_words draft) w learnt)) in
           (number.0, word_from_number l.dict sound_end.dict w number.0 number.1)
-      by (inr met) = met_numbered end sound_end (length file.bytes) w met
+      by (inr met) = met_numbered end sound_end draft.size w met
 
   source : (word : List ℕ) → Among words word → (w : List ℕ) × Among own w × Among (up (declared_of end) (axioms_of end) w) word
   source word m = entailing (declared_of end) (axioms_of end) own word (subst (λ ws. Among ws word) (sym entailed_end) m)
@@ -225,7 +218,7 @@ module _ {slot : ℕ} {old : List ℕ} {file : File} {blocks : List ℕ} {v q : 
     | inl same ↦ ap (has q.ext b) same ∙ (has_here b ∙ link_described a b (sym (has_here a) ∙ (ap (has q.ext a) (sym same) ∙ h)) linked)
     | inr differ ↦
         let was : has p.ext a at ≡ true = sym (has_other a at differ) ∙ h in
-        let before = link_before v l (with_heads (learnt_words file)) settles.own.learns vacant.sound settles.own.sound a b (named_all p vacant.form.sound vacant.form.free a at was)
+        let before = link_before v l (with_heads (learnt_words draft)) settles.own.learns vacant.sound settles.own.sound a b (named_all p vacant.form.sound vacant.form.free a at was)
         (subst (λ (k : Kept). is_linked k a b ≡ true) (sym settles.own.learns.parts) linked) in
         has_other b at differ ∙ vacant.form.closed at a b was before
   ]

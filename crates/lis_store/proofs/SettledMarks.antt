@@ -1,26 +1,15 @@
 -- How much is marked when a file has come into a vacant slot, and how often rows are edited.
-use Rattle.std.proofs.Common.{◌≡◌, sym, ap, ◌∙◌, subst, ℕ, ◌+◌, ◌*◌, ◌<◌, ◌≤◌, Bool, true, false, cond, List, [], ◌∷◌, ◌++◌, length, set, map, count_by, length-append, arith}
-use Rattle.lis_store.proofs.Common.{sum_by-set, is_taken, stays_marked, Ext, numbers_at, differs, is_valued, head_bytes, derived_words, File, Kept, IsSaved, block_of, is_marked, marked_count}
+use Rattle.lis_store.proofs.Common.{◌≡◌, sym, ap, ◌∙◌, subst, ℕ, ◌+◌, ◌<◌, ◌≤◌, Bool, true, false, cond, List, [], ◌∷◌, length, set, map, count_by, arith, sum_by-set, is_taken, stays_marked, Ext, numbers_at, differs, Kept, IsSaved, block_of, is_marked, marked_count, numbers_where, words, Files, Rows}
 use Rattle.lis_content.proofs.Numbers.{below_if_taken}
-use Rattle.lis_ext.specs.Numbers.{numbers_where}
-use Rattle.lis_laws.proofs.Derived.{derived_few}
-use Rattle.lis_kept.specs.Areas.Area.{Files, Rows}
+use Rattle.lis_store.specs.Drafts.{Draft}
 use Rattle.lis_store.specs.Admitting.{described_by}
-use Rattle.lis_store.specs.Adding.{numbers_named, behind_head, with_heads, learnt_words}
+use Rattle.lis_store.specs.Adding.{numbers_named}
 use Rattle.lis_store.specs.ReplacingIn.{MayComeIn, IsVacant, SettlesIn}
 use Rattle.lis_store.proofs.Differing.{differ_few}
 use Rattle.lis_store.proofs.Edits.{AreEditsFew, edits_at}
-use Rattle.lis_store.proofs.PutIn.{named_rising}
+use Rattle.lis_store.proofs.PutIn.{no_more_known, named_rising}
+use Rattle.lis_store.proofs.Told.{few_with}
 use Rattle.lis_store.proofs.Settled.{described_is, set_here}
-
--- a word has one head at most
-heads_few : (words : List (List ℕ)) → length (with_heads words) ≤ 2 * length words
-heads_few [] = omega arith
-heads_few (word ∷ words) = omega (arith, heads_few words, length-append (behind_head word) (with_heads words), one (is_valued word))
-  where
-    one : (b : Bool) → length (cond b (head_bytes word ∷ []) [] ++ word ∷ []) ≤ 2
-    one true = omega arith
-    one false = omega arith
 
 -- a mark that is there already
 kept_true : (bits : List Bool) (n : ℕ) → is_taken bits n ≡ true → count_by (λ (b : Bool). b) (set bits n true) ≡ count_by (λ (b : Bool). b) bits
@@ -28,7 +17,7 @@ kept_true bits n is =
     let changed = sum_by-set (λ (b : Bool). cond b 1 0) bits n true false (below_if_taken bits n is) in
     omega (arith, changed, ap {B = ℕ} (λ (b : Bool). cond b 1 0) is)
 
-module _ {slot : ℕ} {old : List ℕ} {file : File} {blocks : List ℕ} {v q : Kept} (vacant : IsVacant slot old v) (may : MayComeIn v file) (settles : SettlesIn slot file blocks v q) where
+module _ {slot : ℕ} {old : List ℕ} {draft : Draft} {blocks : List ℕ} {v q : Kept} (vacant : IsVacant slot old v) (may : MayComeIn v draft) (settles : SettlesIn slot draft blocks v q) where
   abbrev l : Kept
   l = settles.learnt
 
@@ -36,7 +25,7 @@ module _ {slot : ℕ} {old : List ℕ} {file : File} {blocks : List ℕ} {v q : 
   d = settles.described
 
   abbrev numbers : List ℕ
-  numbers = numbers_named l.dict (described_by v file)
+  numbers = numbers_named l.dict (described_by v draft)
 
   abbrev changed : ℕ
   changed = length (numbers_where v.ext.props (differs old numbers))
@@ -52,12 +41,10 @@ module _ {slot : ℕ} {old : List ℕ} {file : File} {blocks : List ℕ} {v q : 
 
   few_described : marked_count d ≤ marked_count v + 384
   few_described =
-      let one = settles.own.learns.marks.few in
-      let heads_of = heads_few (learnt_words file) in
-      let own = length-append file.assigned (derived_words file.name file.bytes) in
+      let learnt : marked_count l ≤ marked_count v + 128 = omega (arith, settles.own.learns.few, ap (λ (ws : List (List ℕ)). length ws) settles.own.learns.words, no_more_known vacant.sound may, few_with (words v.dict) (described_by v draft), may.short) in
       let two = subst (λ (e : Ext). marked_count d ≤ marked_count l + length (numbers_where e.props (differs old numbers))) ext_before (settles.describes.marks old was).few in
-      let turned = differ_few v.ext.props old numbers vacant.rising (named_rising l settles.own.sound (described_by v file)) in
-      omega (arith, one, heads_of, own, may.few, derived_few file.name file.bytes, two, turned, vacant.few, settles.own.few)
+      let turned = differ_few v.ext.props old numbers vacant.rising (named_rising l settles.own.sound (described_by v draft)) in
+      omega (arith, learnt, two, turned, vacant.few, settles.own.few)
 
   pub few_settled : marked_count q ≤ marked_count v + 385
   few_settled = omega (arith, few_described, settles.files.marks.few)

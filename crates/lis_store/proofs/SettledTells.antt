@@ -1,17 +1,10 @@
 -- What memory tells when a file has come into a vacant slot.
-use Rattle.std.proofs.Common.{◌≡◌, ◌⊎◌, refl, sym, ap, ap₂, ◌∙◌, subst, inl, inr, ℕ, ◌+◌, ◌<◌, ◌≤◌, not, ◌&&◌, ◌||◌, Bool, true, false, List, [], length, is_some, IsSome, arith}
-use Rattle.lis_store.proofs.Common.{flat_map, list_all, Contains, and_parts, or_cases, length-map, same_Some, Among, among_from_contains, contains_from_among, among_left, among_insert_key, insert_key_old, sorted_from_rising, is_taken, Filed, slot_of, rec_at, numbers_at, FileRecord, word_cmp, SpellsSuper, Limits, data_start, State, File, file_cmp, up, own_words, description, is_assignable, file_limit, blocks_taken, used_blocks, new_file, file_added, word_order, sorted_set_of, among_from_has_word, Kept, AreSound, emptied, declared_of, axioms_of, bytes_told, blocks_told, state_of, HasIndex, Tells, filed_rec, filed_slot, filed_at_slot, words_known}
-use Rattle.std.proofs.lemmas.Bool.{both_ways, or_left, or_right, and_from, false_from_ne_true}
-use Rattle.lis_graph.proofs.Members.{map_among}
-use Rattle.lis_content.specs.Content.{has_number, are_distinct}
+use Rattle.lis_store.proofs.Common.{◌≡◌, ◌⊎◌, refl, sym, ap, ap₂, ◌∙◌, subst, inl, inr, ℕ, ◌+◌, ◌<◌, ◌≤◌, not, ◌&&◌, ◌||◌, Bool, true, false, List, [], ◌++◌, length, is_some, IsSome, arith, list_all, Contains, and_parts, or_cases, length-map, same_Some, Among, among_from_contains, contains_from_among, among_left, among_insert_key, insert_key_old, sorted_from_rising, is_taken, Filed, slot_of, rec_at, numbers_at, FileRecord, word_cmp, SpellsSuper, Limits, data_start, State, File, file_cmp, all_up, met_tests, description, is_assignable, file_limit, blocks_taken, used_blocks, new_file, file_added, word_order, sorted_all_up, among_from_has_word, Kept, AreSound, emptied, declared_of, axioms_of, bytes_told, blocks_told, state_of, HasIndex, Tells, filed_rec, filed_slot, filed_at_slot, words_known, both_ways, or_left, or_right, and_from, false_from_ne_true, map_among, has_number, are_distinct, known, has_word_from_among, words_told, file_told, number_from_among}
 use Rattle.lis_content.proofs.Laying.{home_new}
 use Rattle.lis_catalog.specs.Catalog.{filed_cmp}
-use Rattle.lis_model.specs.State.{known}
 use Rattle.lis_laws.specs.Changes.{FileFits}
-use Rattle.lis_laws.proofs.Forms as forms
-use Rattle.lis_laws.proofs.Members.{has_word_from_among}
-use Rattle.lis_kept.specs.Telling.{words_told, file_told, IsFileBlock}
-use Rattle.lis_kept.proofs.Filing.{number_from_among}
+use Rattle.lis_kept.specs.Telling.{IsFileBlock}
+use Rattle.lis_store.specs.Drafts.{Draft, with_own, AreOwnWords}
 use Rattle.lis_store.specs.Admitting.{described_by}
 use Rattle.lis_store.specs.Adding.{learnt_words}
 use Rattle.lis_store.specs.ReplacingIn.{MayComeIn, IsVacant, SettlesIn}
@@ -23,11 +16,12 @@ use Rattle.lis_store.proofs.Naming.{named_told}
 use Rattle.lis_store.proofs.PutIn.{own_numbered}
 use Rattle.lis_store.proofs.Settled.{end, end_is, rec, rec_here, set_here, set_other, described_is, form_end, described_numbered}
 use Rattle.lis_store.proofs.Told.{words_same}
+use Rattle.lis_laws.proofs.Forms as forms
 
 -- Memory without the description of the slot told s by what blocks hold. Then blocks hold the bytes of a file, which comes into the slot.
-module _ {slot : ℕ} {old : List ℕ} {file : File} {blocks : List ℕ} {v q : Kept} (vacant : IsVacant slot old v) (may : MayComeIn v file) (settles : SettlesIn slot file blocks v q)
-    (was : List Bool) (sound_o : AreSound (record (emptied v slot) { taken = was })) {at there : ℕ → List ℕ} {s : State} (tells : Tells (record (emptied v slot) { taken = was }) at s)
-    {held : List ℕ} (housed : IsHoused v.limits was v.taken [] held file.bytes blocks at there) where
+module _ (file : File) (own : List (List ℕ)) {slot : ℕ} {old : List ℕ} {blocks : List ℕ} {v q : Kept} (vacant : IsVacant slot old v) (may : MayComeIn v (with_own file own))
+    (settles : SettlesIn slot (with_own file own) blocks v q) (was : List Bool) (sound_o : AreSound (record (emptied v slot) { taken = was })) {at there : ℕ → List ℕ} {s : State} (tells : Tells (record (emptied v slot) { taken = was }) at s)
+    (are_own : AreOwnWords s.declared s.axioms own file) {held : List ℕ} (housed : IsHoused v.limits was v.taken [] held file.bytes blocks at there) where
   abbrev o : Kept
   o = record (emptied v slot) { taken = was }
 
@@ -39,6 +33,12 @@ module _ {slot : ℕ} {old : List ℕ} {file : File} {blocks : List ℕ} {v q : 
 
   abbrev t : State
   t = file_added s file
+
+  abbrev draft : Draft
+  draft = with_own file own
+
+  described_same : described_by v draft ≡ description s file
+  described_same = ap (λ (x : State). all_up x.declared x.axioms (file.assigned ++ own ++ met_tests x.declared (length file.bytes))) tells.state ∙ are_own
 
   sound : AreSound k
   sound = (form_end vacant may settles).sound
@@ -65,7 +65,7 @@ module _ {slot : ℕ} {old : List ℕ} {file : File} {blocks : List ℕ} {v q : 
   tags_told =
       named_told k.dict sound.dict file.assigned (sorted_from_rising word_cmp word_order file.assigned may.set) (λ word h.
       own_numbered vacant.sound may settles.own.learns word
-      (has_word_from_among (learnt_words file) word (among_left file.assigned _ word (among_from_has_word file.assigned word h))))
+      (has_word_from_among (learnt_words draft) word (among_left file.assigned _ word (among_from_has_word file.assigned word h))))
 
   state_then : state_of k there ≡ t
   state_then =
@@ -141,8 +141,8 @@ module _ {slot : ℕ} {old : List ℕ} {file : File} {blocks : List ℕ} {v q : 
   described_then =
       each (λ f. words_told k.dict (numbers_at k.ext f.slot) ≡ description t (told_then f))
       (ap (words_told k.dict) (set_here vacant may settles)
-      ∙ (named_told k.dict sound.dict (described_by v file) (sorted_set_of (flat_map (up (declared_of v) (axioms_of v)) (own_words (declared_of v) file))) (described_numbered vacant may settles)
-      ∙ (ap (λ (x : State). description x file) tells.state ∙ ap (description s) (sym told_new))))
+      ∙ (named_told k.dict sound.dict (described_by v draft) (sorted_all_up (declared_of v) (axioms_of v) (file.assigned ++ own ++ met_tests (declared_of v) (length file.bytes))) (described_numbered vacant may settles)
+      ∙ (described_same ∙ ap (description s) (sym told_new))))
       (λ f of.
       let ns = numbers_at o.ext f.slot in
       let here : IsSome (rec_at v.catalog f.slot) = ap is_some (filed_rec o.catalog sound_o.catalog f of) in
@@ -203,7 +203,7 @@ module _ {slot : ℕ} {old : List ℕ} {file : File} {blocks : List ℕ} {v q : 
       assigned_set = may.set;
       assigned = subst (λ (x : State). list_all (is_assignable x.declared) file.assigned ≡ true) tells.state may.assignable;
       few_assigned = may.few;
-      few_words = subst (λ (x : State). length (description x file) ≤ 128) tells.state may.short;
+      few_words = omega (arith, ap (λ (ws : List (List ℕ)). length ws) described_same, may.short);
       short = subst (λ (x : Limits). length file.bytes ≤ file_limit x.version) limits_are may.small;
       few_files = omega (arith, files_counted o at s sound_o vacant.form.free tells, vacant.spare, ap (λ (x : Limits). x.files) limits_are);
       few_known = known_then;

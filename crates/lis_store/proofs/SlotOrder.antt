@@ -1,15 +1,14 @@
 -- What slots hold, in the order of their numbers, has the parts of what a map's entries hold, in the order of its keys.
-use Rattle.std.proofs.Common.{◌≡◌, ◌⊎◌, refl, sym, ap, ◌∙◌, subst, inl, inr, ℕ, zero, suc, ◌+◌, ◌<◌, ◌≤◌, ◌==◌, eqb, true, false, not, cond, List, [], ◌∷◌, ◌++◌, map, Option, Some, None, IsTrue, arith, append_assoc, slice_get}
-use Rattle.lis_store.proofs.Common.{find, flat_map, range_with_len, AllByRecursion, and_parts, not-true, not_from_false, ne_eqb, cases_eq, slice_get_within, get_or_from_slice_get, Among, among_from_contains, contains_from_among, flat_all}
+use Rattle.std.proofs.Common.{eqb, append_assoc}
+use Rattle.lis_store.proofs.Common.{common_steps, ◌≡◌, refl, sym, ap, ◌∙◌, subst, inl, inr, ℕ, zero, suc, ◌+◌, ◌<◌, ◌≤◌, ◌==◌, true, false, not, cond, List, [], ◌∷◌, ◌++◌, map, Option, Some, None, IsTrue, arith, slice_get, find, flat_map, range_with_len, AllByRecursion, and_parts, not-true, not_from_false, ne_eqb, slice_get_within, get_or_from_slice_get, Among, among_from_contains, contains_from_among, flat_all, and_from, eq-eqb, has_number, are_distinct}
 use Rattle.std.specs.List.{IsDistinct}
 use Rattle.std.specs.List.Sorted.{IsPermutation}
-use Rattle.std.proofs.lemmas.Bool.{and_from, or_parts, or_from, eq-eqb}
+use Rattle.std.proofs.lemmas.Bool.{or_parts, or_from}
 use Rattle.std.proofs.lemmas.List.Concat.{flat_map-append}
 use Rattle.std.proofs.lemmas.List.FromFn.{length-map-range_with_len, get_or-map-range_with_len}
 use Rattle.std.proofs.lemmas.List.Sorted.{IsPermutation-refl, IsPermutation-trans, IsPermutation-append_comm, IsPermutation-append_left, IsPermutation-append_right, Contains-permutation}
 use Rattle.std.proofs.lemmas.Map.Keys.{IsDistinct-IsPermutation}
 use Rattle.lis_graph.proofs.Ranges.{among_range}
-use Rattle.lis_content.specs.Content.{has_number, are_distinct}
 use Rattle.lis_catalog.proofs.Slots.{turned}
 use Rattle.lis_kept.proofs.Filed.{each_once}
 
@@ -42,11 +41,7 @@ IsPermutation-behind xs ys zs all same =
 
 -- ---- numbers that stand once
 eqb_flips : (a b : ℕ) → eqb a b ≡ eqb b a
-eqb_flips a b = by (cases_eq a b)
-  where
-    by : (a ≡ b) ⊎ (a ≡ b → ⊥) → eqb a b ≡ eqb b a
-    by (inl same) = eq-eqb a b same ∙ sym (eq-eqb b a (sym same))
-    by (inr differ) = ne_eqb a b differ ∙ sym (ne_eqb b a (λ e. differ (sym e)))
+eqb_flips a b = grind (arith, common_steps, eq-eqb, ne_eqb)
 
 none_alike : (n : ℕ) (ns : List ℕ) → AllByRecursion (λ m. eqb n m ≡ false) ns → has_number ns n ≡ false
 none_alike n [] all = refl
@@ -64,25 +59,7 @@ distinct_permuted ns ms same apart = to_distinct ms (IsDistinct-IsPermutation eq
 slot_more : {X : Type 0} (g h : ℕ → List X) (k : ℕ) → g k ≡ [] → ((n : ℕ) → (k ≡ n → ⊥) → h n ≡ g n) → (a m : ℕ) → a ≤ k → k < a + m
     → IsPermutation (h k ++ flat_map g (range_with_len a m)) (flat_map h (range_with_len a m))
 slot_more g h k none same a zero low high = absurd (omega arith)
-slot_more g h k none same a (suc m) low high = by (cases_eq k a) (slot_more g h k none same (a + 1) m)
-  where
-    behind : (n : ℕ) → k ≡ a → Among (range_with_len (a + 1) m) n → k ≡ n → ⊥
-    behind n here there is = absurd (omega (arith, here, is, (among_range (a + 1) m n there).0))
-
-    by : (k ≡ a) ⊎ (k ≡ a → ⊥) → (a + 1 ≤ k → k < a + 1 + m → IsPermutation (h k ++ flat_map g (range_with_len (a + 1) m)) (flat_map h (range_with_len (a + 1) m)))
-        → IsPermutation (h k ++ (g a ++ flat_map g (range_with_len (a + 1) m))) (h a ++ flat_map h (range_with_len (a + 1) m))
-    by (inl here) more =
-        let rest = range_with_len (a + 1) m in
-        let others : flat_map g rest ≡ flat_map h rest = flat_all g h rest (λ n there. sym (same n (behind n here there))) in
-        IsPermutation-same (h k ++ (g a ++ flat_map g rest)) (h a ++ flat_map h rest)
-        (ap (λ n. h n ++ (g a ++ flat_map g rest)) here
-        ∙ (ap (λ xs. h a ++ (xs ++ flat_map g rest)) (ap g (sym here) ∙ none)
-        ∙ ap (λ xs. h a ++ xs) others))
-    by (inr differ) more =
-        let rest = range_with_len (a + 1) m in
-        let later = more (omega arith) (omega arith) in
-        subst (λ xs. IsPermutation (h k ++ (g a ++ flat_map g rest)) (xs ++ flat_map h rest)) (sym (same a differ))
-        (IsPermutation-behind (h k) (g a) (flat_map g rest) (flat_map h rest) later)
+slot_more g h k none same a (suc m) low high = grind (arith, common_steps, among_range, flat_all, IsPermutation-same, IsPermutation-behind, slot_more g h k none same (a + 1) m)
 
 -- ---- what entries hold, each in a slot of its own
 abbrev pub held : {E X : Type 0} → (E → List X) → Option E → List X

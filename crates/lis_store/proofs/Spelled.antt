@@ -1,42 +1,32 @@
 -- What memory tells of a state, the slots and blocks that it spells tell too.
-use Rattle.std.proofs.Common.{◌≡◌, ◌⊎◌, refl, sym, ap, ap₂, ◌∙◌, subst, inl, inr, ℕ, suc, ◌+◌, ◌/◌, ◌<◌, ◌≤◌, ◌==◌, ◌&&◌, nat_lt, Bool, true, false, is_some, Option, Some, None, option_map, option_to_list, List, [], ◌∷◌, ◌++◌, length, get_or, map, drop, replicate, slice_get, IsTrue, arith, append-nil}
-use Rattle.lis_store.proofs.Common.{insert_key, find, flat_map, list_all, range_with_len, and_parts, ltb-true, lt-ltb, cases_lt, get_or_past, length-map, slice_get_within, get_or_from_slice_get, Among, among_from_contains, contains_from_among, among_filter, among_flat_map, range_among, sorted_from_rising, is_taken, number_of, word_of, number_from_word, number_below, Filed, rec_at, has, numbers_at, FileRecord, is_prop, is_record, AxiomSlot, FreeAxiom, Pair, word_cmp, has_word, State, File, pair_cmp, file_cmp, description, file_limit, all_weaker, sorted_known, word_order, pair_exact, among_set_of, sorted_set_of, Kept, property_by, IsWritten, axiom_slots, Properties, Axioms, Bitmap, AreSound, FreeSlotsAreEmpty, bit_of, is_declared, declared_of, bytes_told, blocks_told, HasIndex, state_of, Tells, some_word, filed_rec, filed_at_slot, number_told, declared_word, declared_has_number, words_known, flat_all}
+use Rattle.std.proofs.Common.{option_map}
+use Rattle.lis_store.proofs.Common.{◌≡◌, ◌⊎◌, refl, sym, ap, ap₂, ◌∙◌, subst, inl, inr, ℕ, suc, ◌+◌, ◌/◌, ◌<◌, ◌≤◌, ◌==◌, ◌&&◌, nat_lt, Bool, true, false, is_some, Option, Some, None, option_to_list, List, [], ◌∷◌, ◌++◌, length, get_or, map, drop, replicate, slice_get, IsTrue, arith, append-nil, insert_key, find, flat_map, list_all, range_with_len, and_parts, ltb-true, lt-ltb, cases_lt, get_or_past, length-map, slice_get_within, get_or_from_slice_get, Among, among_from_contains, contains_from_among, among_filter, among_flat_map, range_among, sorted_from_rising, is_taken, number_of, word_of, number_from_word, number_below, Filed, rec_at, has, numbers_at, FileRecord, is_prop, is_record, AxiomSlot, FreeAxiom, Pair, word_cmp, has_word, State, File, pair_cmp, file_cmp, description, file_limit, all_weaker, sorted_known, word_order, pair_exact, among_set_of, sorted_set_of, Kept, property_by, IsWritten, axiom_slots, Properties, Axioms, Bitmap, AreSound, FreeSlotsAreEmpty, bit_of, is_declared, declared_of, bytes_told, blocks_told, HasIndex, state_of, Tells, some_word, filed_rec, filed_at_slot, number_told, declared_word, declared_has_number, words_known, flat_all, and_from, false_from_ne_true, among_map, map_among, flat_map_among, marked, has_number, are_distinct, words, prop_bytes, axiom_bytes, file_bytes, set_of, known, all_among, all_from, set_of_among, same_words, same_tests, Files, Rows, words_told, file_told, among_from_number, one_number}
 use Rattle.std.specs.List.{fold}
 use Rattle.std.specs.List.Sorted.{IsPermutation}
-use Rattle.std.proofs.lemmas.Bool.{and_from, false_from_ne_true}
 use Rattle.std.proofs.lemmas.List.{get_or-drop, length-drop}
 use Rattle.std.proofs.lemmas.Option.{slice_get-get_or}
 use Rattle.std.proofs.lemmas.List.Concat.{flat_map_single}
 use Rattle.std.proofs.lemmas.List.Folds.{flat_map-map}
 use Rattle.std.proofs.lemmas.List.FromFn.{length-map-range_with_len, get_or-map-range_with_len}
 use Rattle.std.proofs.lemmas.List.Sorted.{IsPermutation-sym, length_permutation}
-use Rattle.lis_graph.proofs.Members.{among_map, map_among, flat_map_among}
 use Rattle.lis_blockmap.specs.Bitmap.{bitmap_bytes}
 use Rattle.lis_slots.specs.Slots.{slot}
 use Rattle.lis_bits.specs.Bytes.{bits_bytes}
 use Rattle.lis_bits.proofs.Numbers.{bytes_same}
-use Rattle.lis_content.specs.Content.{marked, has_number, are_distinct}
-use Rattle.lis_dict.specs.Dict.{words}
 use Rattle.lis_dict.proofs.Laws.{number_from_among}
-use Rattle.lis_fields.specs.Layouts.{prop_bytes, axiom_bytes, is_axiom, file_bytes, is_file, are_short, are_distinct as distinct, slot_blocks}
+use Rattle.lis_fields.specs.Layouts.{is_axiom, is_file, are_short, are_distinct as distinct, slot_blocks}
 use Rattle.lis_fields.proofs.Parts.{record_tests, few_blocks}
 use Rattle.lis_fields.specs.declared.slots.PropSlot.{PropSlot}
 use Rattle.lis_fields.specs.declared.slots.PropSlot.TheVariants.{Free as FreeProp, Declared}
 use Rattle.lis_fields.specs.declared.slots.FileSlot.{FileSlot}
 use Rattle.lis_fields.specs.declared.slots.FileSlot.TheVariants.{Free as FreeFile}
-use Rattle.lis_model.specs.Sets.{set_of}
-use Rattle.lis_model.specs.State.{known}
-use Rattle.lis_laws.proofs.Counts.{all_among, all_from}
 use Rattle.lis_laws.proofs.Forms.{file_order}
-use Rattle.lis_laws.proofs.Members.{set_of_among, same_words}
-use Rattle.lis_laws.proofs.Locals.{same_tests}
 use Rattle.lis_kept.specs.Kept.{property_at, axiom_at, file_by, record_at}
 use Rattle.lis_kept.specs.Areas.{property_slots, file_slots, row_slots}
-use Rattle.lis_kept.specs.Areas.Area.{Files, Rows}
-use Rattle.lis_kept.specs.Telling.{words_told, pair_by, pair_told, pairs_told, file_told}
+use Rattle.lis_kept.specs.Telling.{pair_by, pair_told, pairs_told}
 use Rattle.lis_kept.proofs.Formed.{axioms_formed, records_formed}
-use Rattle.lis_kept.proofs.Filing.{among_from_number, number_from_among as has_from_among, same_distinct}
-use Rattle.lis_kept.proofs.Known.{placed_at, only_pair, one_number, declared_set}
+use Rattle.lis_kept.proofs.Filing.{number_from_among as has_from_among, same_distinct}
+use Rattle.lis_kept.proofs.Known.{placed_at, only_pair, declared_set}
 use Rattle.lis_store.specs.Stands.{Contents, AreSlots, word_in, declared_in, words_in, all_declared, word_at, pair_in, pairs_in, is_named_axiom, is_free_axiom, records_in, all_records, all_blocks, file_by as file_of_record, are_named, spelled_state, is_had_by, row_bit, Spells}
 use Rattle.lis_store.specs.Stored.{PairsAreApart}
 use Rattle.lis_store.proofs.SlotOrder.{given_at, flat_map-flat_map, permuted_among, distinct_permuted, held, held_at, slot_order}

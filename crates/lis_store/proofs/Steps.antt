@@ -1,10 +1,8 @@
 -- Contents that are put or given back before a change is saved: what is kept then, and what images stand for meanwhile.
-use Rattle.std.proofs.Common.{◌≡◌, ◌⊎◌, refl, sym, ap, ◌∙◌, subst, inl, inr, ℕ, true, false, Bool, List, [], length, set, slice_get, Result, Err, length-set}
-use Rattle.lis_store.proofs.Common.{Meaning, Leaves, Held, KeepsPast, block, are_free, has_home, is_large, Asks, homes_of, among_homes, AxiomSlot, bitmap_start, data_start, image_blocks, State, Situation, Outcome, Kept, Puts}
-use Rattle.lis_ports.proofs.Moments.{leaves_weaken, leaves_then}
-use Rattle.lis_journal.specs.Images.{StandsBut, is_among}
+pub use Rattle.lis_store.proofs.Retaken.{sound_lost}
+use Rattle.lis_store.proofs.Common.{rules, ◌≡◌, ◌⊎◌, sym, ap, ◌∙◌, subst, inl, inr, ℕ, true, false, Bool, List, [], length, set, slice_get, Result, Err, length-set, Meaning, Leaves, Held, KeepsPast, block, are_free, has_home, is_large, Asks, homes_of, among_homes, AxiomSlot, bitmap_start, data_start, image_blocks, State, Situation, Outcome, Kept, leaves_weaken, leaves_then, StandsBut, is_among}
 use Rattle.lis_journal.proofs.Fitting.{fits_stand}
-use Rattle.lis_kept.specs.Changes.{Takes, Fills}
+use Rattle.lis_kept.specs.Changes.{Takes}
 use Rattle.lis_store.specs.declared.change.Change.{Change}
 use Rattle.lis_store.specs.declared.change.Change.TheVariants.{Disk}
 use Rattle.lis_store.specs.Stands.{Stands}
@@ -14,7 +12,7 @@ use Rattle.lis_store.specs.Contents.{ContentTorn}
 use Rattle.lis_store.specs.ReplacingIn.{AreInForm}
 use Rattle.lis_store.proofs.Holding.{held_fits}
 use Rattle.lis_store.proofs.OneState.{one_state}
-use Rattle.lis_store.proofs.Renewed.{stands_same, stands_homes}
+use Rattle.lis_store.proofs.Renewed.{stands_homes}
 use Rattle.lis_store.proofs.Retaken.{form_retaken, sound_retaken}
 use Rattle.lis_store.proofs.Standing.{stands_none_but, placed_stand, fitting_stands}
 
@@ -31,51 +29,20 @@ pub pairs_same : (o q : Kept) → q.axioms ≡ o.axioms → PairsAreApart o → 
 pairs_same o q same pairs slot other left right is also =
     pairs slot other left right (ap (λ (axioms : List AxiomSlot). slice_get axioms slot) (sym same) ∙ is) (ap (λ (axioms : List AxiomSlot). slice_get axioms other) (sym same) ∙ also)
 
--- a store that is broken is in form where its memory is
-pub sound_lost : (q : Kept) (j : Held) → AreInForm q → PairsAreApart q → j.blocks ≡ image_blocks q.limits → IsSound (record { parts = q; journal = j; is_broken = true })
-sound_lost q j form pairs image = record {
-  parts = form.sound;
-  free = form.free;
-  pairs = pairs;
-  closed = form.closed;
-  short = form.short;
-  tests = form.tests;
-  in_use = form.in_use;
-  image = image;
-  journal = λ e. absurd cc;
-  few = λ e. absurd cc;
-  whole = λ e. absurd cc;
-  placed = λ e. absurd cc;
-  clean = λ e. absurd cc;
-}
-
 -- a content is not large, or it is alone
 pub small_or_alone : {X Y : Type 0} (size : ℕ) (placed : List X) (staged : List Y) → (is_large size ≡ false → placed ≡ []) → (is_large size ≡ true → staged ≡ []) → (placed ≡ []) ⊎ (staged ≡ [])
-small_or_alone size placed staged small large = by (is_large size) small large
-  where
-    by : (b : Bool) → (b ≡ false → placed ≡ []) → (b ≡ true → staged ≡ []) → (placed ≡ []) ⊎ (staged ≡ [])
-    by true small large = inr (large refl)
-    by false small large = inl (small refl)
+small_or_alone size placed staged small large = search (rules)
 
 -- ---- images
 -- While the image stands for the base, a change is yet to begin.
 pub holds_behind : {T : Type 0} (base : State) (now : Situation) (outcome : Outcome) (new : Stored) (before mid after : Meaning) (result : Result T Change)
     → Leaves before mid (λ image. Stands image base) → KeepsPast (image_blocks base.limits) before mid → Holds base now outcome new mid after result → Holds base now outcome new before after result
-holds_behind base now outcome new before mid after result first past holds = record {
-  moments = leaves_then (leaves_weaken (λ image. (Stands image base ⊎ Stands image now.state) ⊎ Stands image outcome.next.state) first (λ image stands. inl (inl stands))) holds.moments;
-  past = λ n le. holds.past n le ∙ past n le;
-  ended = holds.ended;
-}
+holds_behind base now outcome new before mid after result first past holds = search (rules, leaves_then, leaves_weaken)
 
 -- A change that the disk fails before it begins.
 pub holds_lost : {T : Type 0} (base : State) (now : Situation) (outcome : Outcome) (new : Stored) (before after : Meaning) (result : Result T Change)
     → Leaves before after (λ image. Stands image base) → KeepsPast (image_blocks base.limits) before after → new.is_broken ≡ true → result ≡ Err Disk → Holds base now outcome new before after result
-holds_lost base now outcome new before after result first past broken ends =
-    subst (λ r. Holds base now outcome new before after r) (sym ends) (record {
-      moments = leaves_weaken (λ image. (Stands image base ⊎ Stands image now.state) ⊎ Stands image outcome.next.state) first (λ image stands. inl (inl stands));
-      past = past;
-      ended = broken;
-    })
+holds_lost base now outcome new before after result first past broken ends = search (rules, leaves_weaken)
 
 module _ (old : Stored) (base s : State) (before : Meaning) (sound : IsSound old) (holds : StoreHolds old before base s) where
   image_is : old.journal.blocks ≡ image_blocks base.limits
@@ -105,25 +72,6 @@ module _ (old : Stored) (base s : State) (before : Meaning) (sound : IsSound old
             let same : s ≡ base = one_state before.bytes s base ((fitting_stands before old s sound fits).reads) (holds.stands before.bytes reads) in
             subst (λ (t : State). Stands image t) same
             (placed_stand old holds.kept spare s sound fits.tells fits.written free image (stands_homes old.journal.blocks (data_start old.parts.limits) blocks spare holds.kept image among but))
-
-  -- once a content is put
-  pub put_stands : (bytes numbers : List ℕ) (mid : Kept) (new : Held) (after : Meaning) (puts : Puts bytes numbers old.parts mid old.journal new before after)
-      → (is_large (length bytes) ≡ true → old.journal.staged ≡ []) → (image : List ℕ) → StandsBut new.blocks new.placed (puts.lands holds.kept holds.journal).kept image → Stands image base
-  put_stands bytes numbers mid new after puts alone image but =
-      let lands = puts.lands holds.kept holds.journal in
-      but_stands new.placed puts.blocks puts.fills.were_free puts.placed (small_or_alone (length bytes) new.placed old.journal.staged puts.unplaced alone) image
-      (stands_same old.journal.blocks new.placed lands.kept holds.kept image (puts.stays holds.kept holds.journal)
-      (subst (λ n. StandsBut n new.placed lands.kept image) puts.image but))
-
-  -- while it is put
-  pub puts_stand : (bytes numbers : List ℕ) (mid : Kept) (new : Held) (after : Meaning) (puts : Puts bytes numbers old.parts mid old.journal new before after)
-      → (is_large (length bytes) ≡ true → old.journal.staged ≡ []) → Leaves before after (λ image. Stands image base)
-  puts_stand bytes numbers mid new after puts alone =
-      leaves_weaken (λ image. Stands image base) (puts.moments holds.kept holds.journal)
-      (but_stands new.placed puts.blocks puts.fills.were_free puts.placed (small_or_alone (length bytes) new.placed old.journal.staged puts.unplaced alone))
-
-  pub puts_past : (blocks : List ℕ) (after : Meaning) → Fills blocks old.parts old.journal before after → KeepsPast (image_blocks base.limits) before after
-  puts_past blocks after fills = subst (λ n. KeepsPast n before after) image_is (fills.past holds.kept holds.journal)
 
   -- where the disk fails while a content is put
   module _ (bytes : List ℕ) (mid : Kept) (new : Held) (after : Meaning) (torn : ContentTorn bytes old.parts mid old.journal new before after) (alone : is_large (length bytes) ≡ true → old.journal.staged ≡ []) where

@@ -1,60 +1,40 @@
 -- A word that is declared under others: the files that meet it have it, where it is a test, and all that the others entail.
-use Rattle.std.proofs.Common.{◌≡◌, ◌⊎◌, refl, sym, ap, ap₂, ◌∙◌, subst, inl, inr, ℕ, ◌+◌, ◌<◌, ◌≤◌, nat_lt, ◌&&◌, ◌||◌, not, Bool, true, false, List, [], ◌∷◌, ◌++◌, length, Option, Some, None, is_some, IsSome, arith, Result, Err, if◌then◌else◌}
-use Rattle.lis_store.proofs.Common.{list_any, range_with_len, and_parts, or_cases, cases_eq, not-true, ltb-false, same_Some, Among, contains_from_among, range_among, word_of, rec_at, Filed, slot_is_below, Ext, has, numbers_at, differs, FileRecord, is_valued, is_test, test_of, plain_not_test, with_word, is_met, State, up, File, all_up, own_words, description, WellFormed, under, Kept, marked_count, IsSaved, AreSound, FreeSlotsAreEmpty, KeepsInUse, declared_of, axioms_of, is_used, bytes_told, state_of, AreUsed, Tells, test_by, among_where, where_among, sorted_where, filed_rec, named_all, some_word, among_axiom, among_word, word_among, declared_has_number, used_flagged, used_had, met_weaker, Meaning, Held, Formula, Refusal, image_blocks, declared_under, Situation, words_at, mkdir, link_named, linked_up, Head, Weaker, fun_ext}
-use Rattle.std.proofs.lemmas.Bool.{or_right, both_ways, false_from_ne_true}
-use Rattle.lis_graph.proofs.Members.{among_from_any, any_from_among}
-use Rattle.lis_content.specs.Content.{has_number}
-use Rattle.lis_ext.specs.Numbers.{numbers_where}
+use Rattle.lis_store.proofs.Common.{◌≡◌, ◌⊎◌, refl, sym, ap, ap₂, ◌∙◌, subst, inl, inr, ℕ, ◌+◌, ◌<◌, ◌≤◌, nat_lt, ◌&&◌, ◌||◌, Bool, true, false, List, [], ◌∷◌, ◌++◌, length, Option, Some, None, is_some, IsSome, arith, Result, if◌then◌else◌, list_any, range_with_len, or_cases, cases_eq, ltb-false, same_Some, Among, contains_from_among, range_among, word_of, rec_at, Filed, slot_is_below, Ext, has, numbers_at, differs, FileRecord, is_valued, is_test, test_of, plain_not_test, with_word, is_met, State, up, File, all_up, own_words, description, WellFormed, under, Kept, marked_count, IsSaved, AreSound, FreeSlotsAreEmpty, KeepsInUse, declared_of, axioms_of, bytes_told, state_of, AreUsed, Tells, test_by, among_where, where_among, sorted_where, filed_rec, named_all, some_word, among_axiom, among_word, word_among, declared_has_number, used_had, met_weaker, Meaning, Held, Formula, Refusal, image_blocks, declared_under, Situation, refused, words_at, mkdir, link_named, linked_up, Head, Weaker, fun_ext, or_right, both_ways, false_from_ne_true, among_from_any, any_from_among, has_number, numbers_where, known, all_among, is_linked, words_told, file_told, among_from_number, number_from_among, one_number, same_tests, changed, all_up_has, declarable_not_valued, link_cases}
 use Rattle.lis_words.specs.Words.{is_property}
 use Rattle.lis_model.specs.Tests.{are_weaker}
-use Rattle.lis_model.specs.State.{known}
-use Rattle.lis_laws.proofs.Apart.{declarable_not_valued}
 use Rattle.lis_laws.proofs.Chains.{tests_by}
-use Rattle.lis_laws.proofs.Counts.{all_among}
-use Rattle.lis_laws.proofs.Forms as forms
-use Rattle.lis_kept.specs.Links.{is_linked}
-use Rattle.lis_kept.specs.Telling.{words_told, file_told}
 use Rattle.lis_kept.specs.Under.{is_plain_by, DeclaresUnder}
-use Rattle.lis_kept.proofs.Filing.{among_from_number, number_from_among}
-use Rattle.lis_kept.proofs.Known.{one_number}
 use Rattle.lis_store.specs.Closing.{is_entailed, is_gained, is_met_at, is_met_by, closure, anew, base_at, rebuilt, wider}
 use Rattle.lis_store.specs.Redescribing.{Redescribes}
 use Rattle.lis_store.specs.Stored.{DescriptionsAreShort, TestsAreMet, Stored, PairsAreApart, IsSound, StoreHolds}
 use Rattle.lis_store.specs.Testing.{is_crowded, has_crowded, tested, DeclaresTested, MayDeclare}
-use Rattle.lis_kept.proofs.Used.{used_left}
-use Rattle.lis_store.proofs.HeadsUsed.{IsUsedFor, used_for}
-use Rattle.lis_store.proofs.HeadsUsed.IsUsedFor.{Flagged, HadAt, NamedLeft}
+use Rattle.lis_store.proofs.HeadsUsed.{use_stays}
 use Rattle.lis_store.proofs.Edits.{AreEditsFew}
 use Rattle.lis_store.proofs.Closed.{few_within, closure_told, closure_named, closure_has, led_plain}
-use Rattle.lis_laws.proofs.Locals.{same_tests}
-use Rattle.lis_model.specs.Step.{changed, mkdir_checks}
-use Rattle.lis_laws.proofs.Closures.{all_up_has}
+use Rattle.lis_model.specs.Step.{mkdir_checks}
 use Rattle.lis_store.specs.Saving.{settled, Saves}
 use Rattle.lis_store.specs.Judging.{word_checks}
 use Rattle.lis_store.specs.Changes.{Holds, first_refusal}
 use Rattle.lis_store.specs.declared.change.Change.{Change}
-use Rattle.lis_store.specs.declared.change.Change.TheVariants.{Refused}
 use Rattle.lis_store.proofs.Cleaned.{none_marked}
-use Rattle.lis_store.proofs.SavedAlone.{saves_alone}
+use Rattle.lis_store.proofs.SavedAlone.{IsChange, saves_alone}
 use Rattle.lis_store.proofs.ToldBy.{told_held}
 use Rattle.lis_store.proofs.Facts.{file_of_filed, size_of_filed}
-use Rattle.lis_store.proofs.Judged.{judged_refused, judged_done, change_refused, all_pass}
-use Rattle.lis_store.proofs.Told.{words_same}
+use Rattle.lis_store.proofs.Judged.{judged_refused, judged_done, all_pass}
+use Rattle.lis_store.proofs.Told.{words_same, retold}
 use Rattle.lis_store.specs.ReplacingIn.{AreInForm}
-use Rattle.lis_store.proofs.Rebuilt.{IsRebuilt, set_by, had_filed, free_made, short_made, closed_made, made_edits, few_made}
+use Rattle.lis_store.proofs.Rebuilt.{IsRebuilt, turned_cases, set_by, had_filed, free_made, short_made, closed_made, made_edits, few_made}
 use Rattle.lis_store.proofs.Under.{gained_up, unmet_closed, own_then, still_there, test_there, unmet_same}
 use Rattle.lis_store.proofs.Declared.{parts_are, word_new, word_other, named_other, word_kept, unnumbered, in_use_then, apart_then, marked_then, told_then, right_some, mkdir_alike}
-use Rattle.lis_store.proofs.Crowded.{wider_told, unknown}
+use Rattle.lis_store.proofs.Crowded.{wider_told, unknown, full_at}
 use Rattle.lis_store.proofs.Entailment.{up_has_number, closed_up}
 use Rattle.lis_store.proofs.FileTests.{tested_word}
 use Rattle.lis_store.proofs.Retaken.{settled_sound, in_form}
-use Rattle.lis_store.proofs.Retold.{retold}
 use Rattle.lis_laws.proofs.Reached.{OneLink}
-use Rattle.lis_laws.proofs.Leads.{link_cases}
 use Rattle.lis_laws.proofs.Steps.{mkdir_fits}
-use Rattle.std.specs.Prelude.{filter}
+use Rattle.lis_dict.proofs.Places.{filter_all}
 use Rattle.lis_store.specs.declared.closing.Rebuild.TheVariants.{Meeting}
-use Rattle.lis_store.proofs.Full.{full_at}
+use Rattle.lis_laws.proofs.Forms as forms
 
 -- ---- the sizes of files
 -- a slot whose file meets a test has one
@@ -67,12 +47,8 @@ some_rec None h = absurd (both_ways false refl h)
 some_rec (Some rec) h = (rec, refl)
 
 -- ---- descriptions that are made anew
-filter_all : (ns : List ℕ) → filter (λ n. true) ns ≡ ns
-filter_all [] = refl
-filter_all (n ∷ ns) = ap (λ ms. n ∷ ms) (filter_all ns)
-
 pub base_is : (k : Kept) (test : Bool × ℕ) (number slot : ℕ) → base_at k (Meeting test number) slot ≡ number ∷ numbers_at k.ext slot
-base_is k test number slot = ap (λ ns. number ∷ ns) (filter_all (numbers_at k.ext slot))
+base_is k test number slot = ap (λ ns. number ∷ ns) (filter_all (λ n. true) (numbers_at k.ext slot) (λ n m. refl))
 
 pub tested_is : (k : Kept) (test : Bool × ℕ) (number : ℕ) → rebuilt k (Meeting test number) ≡ tested k (Some test) number
 tested_is k test number = ap (anew k (is_met_at k (Some test))) (fun_ext (base_is k test number))
@@ -324,18 +300,13 @@ module _ {p made : Kept} {word : List ℕ} {rights : List ℕ} (form : AreInForm
 
     used_then : KeepsInUse end
     used_then = record {
-      used = λ n some. by n (used_for made n (keeps.used n some));
+      used = λ n some. use_stays made end n (λ set. set) (λ lefts. lefts) (λ slot was. used_had end n slot (old_on n slot (ap (λ (e : Ext). has e n slot) (sym ext_same) ∙ was))) (keeps.used n some);
       tags = λ slot rec is n tag. old_on n slot (ap (λ (e : Ext). has e n slot) (sym ext_same) ∙ keeps.tags slot rec is n tag);
       rights = keeps.rights;
     }
       where
         keeps : KeepsInUse made
         keeps = in_use_then form.sound may stands form.in_use
-
-        by : (n : ℕ) → IsUsedFor made n → is_used end n ≡ true
-        by n (Flagged bit) = used_flagged end n bit
-        by n (HadAt slot was) = used_had end n slot (old_on n slot (ap (λ (e : Ext). has e n slot) (sym ext_same) ∙ was))
-        by n (NamedLeft lefts) = used_left end n lefts
 
     sound_then : (j : Held) → PairsAreApart p → j.blocks ≡ image_blocks p.limits → j.is_broken ≡ false → AreSound q → IsSound (settled q j)
     sound_then j pairs image unbroken after =
@@ -360,7 +331,7 @@ module _ {p made : Kept} {word : List ℕ} {rights : List ℕ} (form : AreInForm
     rows = number ∷ numbers_where p.ext.props (is_gained p rights)
 
     turned_row : (slot n : ℕ) → meets slot ≡ true → differs (numbers_at made.ext slot) (gained slot) n ≡ true → Among rows n
-    turned_row slot n met turned = by (or_cases (has_number (gained slot) n && not (has made.ext n slot)) (has made.ext n slot && not (has_number (gained slot) n)) turned)
+    turned_row slot n met turned = by (turned_cases (numbers_at made.ext slot) (gained slot) n turned)
       where
         gets : has made.ext n slot ≡ false → (has p.ext n slot ≡ true) ⊎ (is_gained p rights n ≡ true) → n < p.ext.props → Among rows n
         gets none (inl had_it) below = absurd (both_ways (has made.ext n slot) none (ap (λ (e : Ext). has e n slot) ext_same ∙ had_it))
@@ -372,11 +343,9 @@ module _ {p made : Kept} {word : List ℕ} {rights : List ℕ} (form : AreInForm
             let passes = among_where p.ext.props (λ m. has p.ext m slot || is_gained p rights m) n (among_from_number (wider p (is_gained p rights) slot) n more) in
             gets none (or_cases (has p.ext n slot) (is_gained p rights n) passes.1) passes.0
 
-        by : ((has_number (gained slot) n && not (has made.ext n slot)) ≡ true) ⊎ ((has made.ext n slot && not (has_number (gained slot) n)) ≡ true) → Among rows n
-        by (inl more) = let both = and_parts (has_number (gained slot) n) (not (has made.ext n slot)) more in new (not-true (has made.ext n slot) both.1) (gains slot met n both.0)
-        by (inr fewer) =
-            let both = and_parts (has made.ext n slot) (not (has_number (gained slot) n)) fewer in
-            absurd (both_ways (has_number (gained slot) n) (not-true (has_number (gained slot) n) both.1) (gained_has slot n (ap (λ (e : Ext). has e n slot) (sym ext_same) ∙ both.0)))
+        by : ((has_number (gained slot) n ≡ true) × (has made.ext n slot ≡ false)) ⊎ ((has made.ext n slot ≡ true) × (has_number (gained slot) n ≡ false)) → Among rows n
+        by (inl more) = new more.1 (gains slot met n more.0)
+        by (inr fewer) = absurd (both_ways (has_number (gained slot) n) fewer.1 (gained_has slot n (ap (λ (e : Ext). has e n slot) (sym ext_same) ∙ fewer.0)))
 
     rows_few : (slot : ℕ) → meets slot ≡ true → length rows ≤ 128
     rows_few slot met =
@@ -464,33 +433,34 @@ module _ {p made : Kept} {word : List ℕ} {rights : List ℕ} (form : AreInForm
           (subst (λ (k : Kept). AreUsed k) (sym anew_is.redescribes.parts) used_then.used) described
 
 -- ---- a call that declares a word
-module _ {old : Stored} {word : List ℕ} {rights : List ℕ} {q : Kept} (sound : IsSound old) (may : MayDeclare old.parts word rights) (declares : DeclaresTested word rights old.parts q) where
-  pub declared_sound : old.is_broken ≡ false → AreSound q → IsSound (settled q old.journal)
-  declared_sound unbroken = sound_then (in_form old sound) may declares.stands declares.sound declares.gives old.journal sound.pairs sound.image (sound.journal unbroken)
+module _ {old : Stored} {word : List ℕ} {rights numbers : List ℕ} {q : Kept} (sound : IsSound old) (unbroken : old.is_broken ≡ false) (may_be : MayDeclare old.parts word numbers) (same : rights ≡ numbers)
+    (declares : DeclaresTested word rights old.parts q) where
+  may : MayDeclare old.parts word rights
+  may = subst (λ (ns : List ℕ). MayDeclare old.parts word ns) (sym same) may_be
 
-  pub declared_limits : q.limits ≡ old.parts.limits
-  declared_limits = limits_then (in_form old sound) may declares.stands declares.sound declares.gives
+  pub declared_change : IsChange old q
+  declared_change = record {
+    settles = sound_then (in_form old sound) may declares.stands declares.sound declares.gives old.journal sound.pairs sound.image (sound.journal unbroken);
+    limits = limits_then (in_form old sound) may declares.stands declares.sound declares.gives;
+    room =
+        let more = few_more (in_form old sound) may declares.stands declares.sound declares.gives in
+        omega (arith, (marked_then sound.parts may declares.stands).few, none_marked old.parts (sound.clean unbroken), may.short, more, sound.few unbroken);
+    edits = edits_then (in_form old sound) may declares.stands declares.sound declares.gives;
+  }
 
-  pub declared_edits : AreEditsFew old.parts.ext q.ext
-  declared_edits = edits_then (in_form old sound) may declares.stands declares.sound declares.gives
-
-  pub declared_marks : old.is_broken ≡ false → length old.journal.staged + marked_count q ≤ 575
-  declared_marks unbroken =
-      let more = few_more (in_form old sound) may declares.stands declares.sound declares.gives in
-      omega (arith, (marked_then sound.parts may declares.stands).few, none_marked old.parts (sound.clean unbroken), may.short, more, sound.few unbroken)
-
-  pub declared_holds : {T : Type 0} (new : Stored) (before after : Meaning) (result : Result T Change) → Saves q old.journal new before after result → (place : List Formula) → is_property word ≡ true
-      → words_told old.parts.dict rights ≡ words_at place → first_refusal (word_checks old.parts place word) ≡ None → old.is_broken ≡ false → (base s : State) → StoreHolds old before base s
+  pub declared_holds : {T : Type 0} {new : Stored} {before after : Meaning} {result : Result T Change} {base : State} → Saves q old.journal new before after result → (place : List Formula) → is_property word ≡ true
+      → words_told old.parts.dict numbers ≡ words_at place → first_refusal (word_checks old.parts place word) ≡ None → (s : State) → StoreHolds old before base s
       → Holds base (record { state = s; place = place }) (mkdir (record { state = s; place = place }) word) new before after result
-  declared_holds new before after result saves place kept told none unbroken base s holds =
+  declared_holds {before = before} {base = base} saves place kept named none s holds =
       let now : Situation = record { state = s; place = place } in
       let t : State = declared_under s word (words_at place) in
       let fits = told_held old before base s sound holds in
+      let told : words_told old.parts.dict rights ≡ words_at place = ap (words_told old.parts.dict) same ∙ named in
       let passes : first_refusal (mkdir_checks now word t) ≡ None = mkdir_alike sound fits place word kept ∙ none in
       let formed : WellFormed t = forms.declares s fits.tells.formed word (words_at place) (mkdir_fits now word kept (all_pass (mkdir_checks now word t) passes)) in
       let saved : IsSaved old.parts fits.kept = λ area n lt unmarked. holds.written area n lt in
-      saves_alone old sound unbroken q new before after result saves base now (mkdir now word) t holds declared_limits
-      (λ _. record {
+      saves_alone old sound unbroken declared_change saves now t holds
+      (record {
         tells = subst (λ ws. Tells q fits.kept (declared_under s word ws)) told
             (tells_then (in_form old sound) may declares.stands declares.sound declares.gives fits.kept fits.tells
             (unknown sound fits (words_told old.parts.dict rights) rights refl word (declarable_not_valued word may.form) may.new) (size_of_filed old s sound fits)
@@ -500,11 +470,9 @@ module _ {old : Stored} {word : List ℕ} {rights : List ℕ} {q : Kept} (sound 
       (judged_done now (mkdir_checks now word t) (changed now t) passes)
 
 -- one that is refused
-pub declared_refused : {T : Type 0} (old : Stored) (m : Meaning) (place : List Formula) (word : List ℕ) (refusal : Refusal) (result : Result T Change) → IsSound old → is_property word ≡ true
-    → first_refusal (word_checks old.parts place word) ≡ Some refusal → result ≡ Err (Refused refusal)
-    → (base s : State) → StoreHolds old m base s → Holds base (record { state = s; place = place }) (mkdir (record { state = s; place = place }) word) old m m result
-declared_refused old m place word refusal result sound kept first ends base s holds =
+pub declared_refused : {old : Stored} {m : Meaning} {base : State} → IsSound old → (place : List Formula) (word : List ℕ) (refusal : Refusal) → is_property word ≡ true
+    → first_refusal (word_checks old.parts place word) ≡ Some refusal → (s : State) → StoreHolds old m base s → mkdir (record { state = s; place = place }) word ≡ refused (record { state = s; place = place }) refusal
+declared_refused {old} {m} {base} sound place word refusal kept first s holds =
     let now : Situation = record { state = s; place = place } in
     let t : State = declared_under s word (words_at place) in
-    change_refused old m base now (mkdir now word) refusal result holds
-    (judged_refused now (mkdir_checks now word t) (changed now t) refusal (mkdir_alike sound (told_held old m base s sound holds) place word kept ∙ first)) ends
+    judged_refused now (mkdir_checks now word t) (changed now t) refusal (mkdir_alike sound (told_held old m base s sound holds) place word kept ∙ first)

@@ -1,7 +1,5 @@
 -- What memory tells by what a disk keeps, whether changes are held back or not.
-use Rattle.std.proofs.Common.{◌≡◌, inr, ℕ, ◌+◌, ◌<◌, ◌==◌, Bool, true, false, cond, List, [], ◌∷◌, length, arith}
-use Rattle.lis_store.proofs.Common.{and_parts, eqb-true, Meaning, looked, are_whole, data_start, State, IsWritten, Tells}
-use Rattle.lis_journal.specs.Record.{Entry}
+use Rattle.lis_store.proofs.Common.{◌≡◌, inr, ℕ, ◌+◌, ◌<◌, ◌==◌, Bool, true, false, cond, List, [], ◌∷◌, length, arith, and_parts, eqb-true, Meaning, looked, are_whole, data_start, State, IsWritten, Tells, Entry}
 use Rattle.lis_journal.specs.Images.{look}
 use Rattle.lis_journal.proofs.Fitting.{kept_whole}
 use Rattle.lis_store.specs.Stored.{Stored, IsSound, StoreFits, StoreHolds}

@@ -1,13 +1,12 @@
 -- A fault of the disk while a call puts contents or gives them back: the store is broken, and tells what it did.
-use Rattle.std.proofs.Common.{◌≡◌, sym, ◌∙◌, subst, ℕ, true, false, Bool, List, [], length, Result, Err}
-use Rattle.lis_store.proofs.Common.{Meaning, Held, is_large, State, Situation, Outcome, Kept, AreSound}
+use Rattle.lis_store.proofs.Common.{refl, ap, Option, ◌≡◌, sym, ◌∙◌, subst, ℕ, true, false, Bool, List, [], length, Result, Err, Meaning, Held, is_large, State, Situation, Outcome, Kept, AreSound, FileRecord}
 use Rattle.lis_store.specs.declared.change.Change.{Change}
 use Rattle.lis_store.specs.declared.change.Change.TheVariants.{Refused, Disk}
 use Rattle.lis_store.specs.Stored.{Stored, IsSound, StoreHolds}
 use Rattle.lis_store.specs.Changes.{Holds}
-use Rattle.lis_store.specs.Contents.{ContentTorn, ContentEnded}
-use Rattle.lis_store.proofs.Retaken.{retaken, form_retaken, in_form}
-use Rattle.lis_store.proofs.Steps.{sound_lost, holds_lost, torn_stand, torn_past}
+use Rattle.lis_store.specs.Contents.{ContentTorn, ContentEnded, ContentRenewed}
+use Rattle.lis_store.proofs.Retaken.{retaken, form_retaken, in_form, sound_lost}
+use Rattle.lis_store.proofs.Steps.{holds_lost, torn_stand, torn_past}
 
 module _ (old : Stored) (bytes : List ℕ) (q : Kept) (j : Held) (sound : IsSound old) (before after : Meaning) (torn : ContentTorn bytes old.parts q old.journal j before after) where
   pub torn_sound : AreSound q → IsSound (record { parts = q; journal = j; is_broken = true })
@@ -25,3 +24,26 @@ module _ (old : Stored) (bytes : List ℕ) (q : Kept) (j : Held) (sound : IsSoun
 pub ended_broken : (T : Type 0) (b : Bool) (change : Change) → ContentEnded {T = T} b (Err change) → b ≡ true
 ended_broken T b (Refused refusal) never = absurd (let e : false ≡ true = never in cc)
 ended_broken T b Disk broken = broken
+
+-- ---- the disk fails while they are put
+put_err : (bytes : List ℕ) (replaced : Option FileRecord) (p q : Kept) (old new : Held) (before after : Meaning) (change : Change) → ContentRenewed bytes replaced p q old new before after (Err change)
+    → (change ≡ Disk) × ContentTorn bytes p q old new before after
+put_err bytes replaced p q old new before after (Refused refusal) never = absurd (let e : false ≡ true = never in cc)
+put_err bytes replaced p q old new before after Disk torn = (refl, torn)
+
+module _ (T : Type 0) (old : Stored) (sound : IsSound old) (bytes : List ℕ) (replaced : Option FileRecord) (q : Kept) (j : Held) (b : Bool) (change : Change) (before after : Meaning)
+    (put : ContentRenewed bytes replaced old.parts q old.journal j before after (Err change)) (ended : ContentEnded {T = T} b (Err change)) where
+  lost : (change ≡ Disk) × ContentTorn bytes old.parts q old.journal j before after
+  lost = put_err bytes replaced old.parts q old.journal j before after change put
+
+  broken : b ≡ true
+  broken = ended_broken T b change ended
+
+  pub lost_sound : AreSound q → IsSound (record { parts = q; journal = j; is_broken = b })
+  lost_sound after_sound =
+      subst (λ c. IsSound (record { parts = q; journal = j; is_broken = c })) (sym broken) (torn_sound old bytes q j sound before after lost.1 after_sound)
+
+  pub lost_holds : {U : Type 0} (base : State) (now : Situation) (outcome : Outcome) (result : Result U Change) → result ≡ Err change → (is_large (length bytes) ≡ true → old.journal.staged ≡ [])
+      → StoreHolds old before base now.state → Holds base now outcome (record { parts = q; journal = j; is_broken = b }) before after result
+  lost_holds base now outcome result ends alone holds =
+      torn_holds old bytes q j sound before after lost.1 base now outcome (record { parts = q; journal = j; is_broken = b }) result holds alone broken (ends ∙ ap Err lost.0)

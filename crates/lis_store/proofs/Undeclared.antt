@@ -1,53 +1,39 @@
 -- What a declaration that is taken back comes to.
-use Rattle.std.proofs.Common.{◌≡◌, ◌⊎◌, refl, sym, ap, ap₂, ◌∙◌, subst, inl, inr, ℕ, ◌+◌, ◌≤◌, ◌==◌, not, ◌&&◌, ◌||◌, Bool, true, false, if◌then◌else◌, List, [], ◌∷◌, length, slice_get, Option, Some, None, is_some, IsSome, Result, Err, arith, eq-eqb, get_or-set_other}
-use Rattle.lis_store.proofs.Common.{list_any, and_parts, cases_eq, ne_eqb, not_from_false, not-true, not-false, same_Some, Among, contains_from_among, among_filter, filter_among, Meaning, looked, is_taken, number_of, word_of, word_from_number, Filed, rec_at, has, numbers_at, FileRecord, Pair, is_prop, same_word, head_bytes, is_valued, is_test, has_word, Refusal, image_blocks, State, File, WellFormed, heads, own_words, description, is_met, Situation, rmdir, sorted_all_up, filter_le, same_word_decides, Kept, property_by, block_of, is_marked, marked_count, is_own_link, has_pair, AreSound, FreeSlotsAreEmpty, KeepsInUse, bit_of, is_declared, declared_of, state_of, is_head_by, is_left_of, is_left_head_of, is_had, is_named_left, is_used, Tells, test_by, filed_rec, among_word, word_among, among_slot, used_flagged, used_had, differs}
-use Rattle.std.proofs.lemmas.Bool.{or_left, both_ways, false_from_ne_true}
-use Rattle.lis_graph.proofs.Members.{any_from_among}
-use Rattle.lis_content.specs.Content.{has_number}
+use Rattle.std.proofs.Common.{eq-eqb}
+use Rattle.lis_store.proofs.Common.{◌≡◌, ◌⊎◌, refl, sym, ap, ap₂, ◌∙◌, subst, inl, inr, ℕ, ◌≤◌, ◌==◌, not, ◌&&◌, ◌||◌, Bool, true, false, if◌then◌else◌, List, [], ◌∷◌, length, slice_get, Option, Some, None, is_some, IsSome, Result, arith, get_or-set_other, list_any, and_parts, cases_eq, ne_eqb, not_from_false, not-true, not-false, same_Some, Among, contains_from_among, among_filter, filter_among, Meaning, looked, is_taken, number_of, word_of, word_from_number, Filed, rec_at, has, numbers_at, FileRecord, Pair, same_word, head_bytes, is_valued, is_test, has_word, Refusal, image_blocks, State, File, WellFormed, own_words, description, is_met, Situation, refused, rmdir, sorted_all_up, filter_le, same_word_decides, Kept, block_of, is_marked, marked_count, is_own_link, has_pair, AreSound, FreeSlotsAreEmpty, KeepsInUse, bit_of, is_declared, declared_of, state_of, is_head_by, is_left_of, is_left_head_of, is_had, is_named_left, Tells, test_by, filed_rec, among_word, word_among, among_slot, used_had, differs, or_left, both_ways, false_from_ne_true, any_from_among, has_number, changed, same_tests, Rows, is_linked, words_told, file_told, among_from_number, number_from_among, one_number}
 use Rattle.lis_content.proofs.Numbers.{neither}
-use Rattle.lis_model.specs.State.{is_declarable}
 use Rattle.lis_model.specs.Changes.{undeclared}
-use Rattle.lis_model.specs.Step.{changed, is_in_use, rmdir_checks}
+use Rattle.lis_model.specs.Step.{is_in_use, rmdir_checks}
 use Rattle.lis_laws.proofs.Chains.{head_no_test}
-use Rattle.lis_laws.proofs.Forms as forms
 use Rattle.lis_laws.proofs.Known.{described_within}
 use Rattle.lis_laws.proofs.Sources.{test_had}
-use Rattle.lis_laws.proofs.Locals.{same_tests}
-use Rattle.lis_kept.specs.Areas.Area.{Rows}
-use Rattle.lis_kept.specs.Links.{is_linked}
-use Rattle.lis_kept.specs.Telling.{words_told, file_told}
 use Rattle.lis_kept.specs.Undeclaring.{is_right_of, is_named_by, is_needed, MayUndeclare, Undeclares}
-use Rattle.lis_kept.proofs.Filing.{among_from_number, number_from_among}
-use Rattle.lis_kept.proofs.Known.{one_number}
 use Rattle.lis_kept.proofs.Numbered.{Numbers, numbers_are}
 use Rattle.lis_kept.proofs.OwnLinks.{own_head, unnamed_to}
-use Rattle.lis_kept.proofs.Used.{any_or, used_left}
-use Rattle.lis_kept.proofs.Needed.{may_undeclare}
-use Rattle.lis_kept.proofs.NeededTold.{needed_told}
+use Rattle.lis_kept.proofs.Used.{any_or}
+use Rattle.lis_kept.proofs.NeededTold.{may_undeclare, needed_told}
 use Rattle.lis_store.specs.Stored.{Stored, PairsAreApart, AreClosed, TestsAreMet, IsSound, StoreHolds}
-use Rattle.lis_store.specs.Saving.{settled, Saves}
+use Rattle.lis_store.specs.Saving.{Saves}
 use Rattle.lis_store.specs.Judging.{is_needed_by, undeclare_checks, IsUndeclarable}
 use Rattle.lis_store.specs.Redescribing.{IsTurnedRow}
+use Rattle.lis_store.specs.ReplacingIn.{AreInForm}
 use Rattle.lis_store.specs.Testing.{without_number, undescribed, UndeclaresUnmet}
 use Rattle.lis_store.specs.Changes.{Holds, first_refusal}
 use Rattle.lis_store.specs.declared.change.Change.{Change}
-use Rattle.lis_store.specs.declared.change.Change.TheVariants.{Refused}
-use Rattle.lis_store.proofs.SavedAlone.{saves_alone}
+use Rattle.lis_store.proofs.SavedAlone.{IsChange, saves_alone}
 use Rattle.lis_store.proofs.Facts.{described_told, file_of_filed}
-use Rattle.lis_store.proofs.HeadsUsed.{IsUsedFor, used_for}
-use Rattle.lis_store.proofs.HeadsUsed.IsUsedFor.{Flagged, HadAt, NamedLeft}
-use Rattle.lis_store.proofs.Judged.{judged_refused, judged_done, change_refused, same_first}
+use Rattle.lis_store.proofs.HeadsUsed.{use_stays}
+use Rattle.lis_store.proofs.Judged.{judged_refused, judged_done, same_first}
 use Rattle.lis_store.proofs.Cleaned.{none_marked}
 use Rattle.lis_store.proofs.Edits.{AreEditsFew}
-use Rattle.lis_store.proofs.Redescribed.{given_then, redescribed_edits}
-use Rattle.lis_store.proofs.Told.{words_same}
+use Rattle.lis_store.proofs.Rebuilt.{given_then, redescribed_edits, marked_more, unturned}
+use Rattle.lis_store.proofs.Told.{words_same, retold}
 use Rattle.lis_store.proofs.Declared.{declared_told}
-use Rattle.lis_store.proofs.MarkedMore.{marked_more}
 use Rattle.lis_store.proofs.Without.{without_past, is_other}
 use Rattle.lis_laws.proofs.Touched.{had_test, undeclared_split}
 use Rattle.lis_store.proofs.FileTests.{tested_word}
 use Rattle.lis_store.proofs.Retaken.{settled_sound}
-use Rattle.lis_store.proofs.Retold.{retold}
+use Rattle.lis_laws.proofs.Forms as forms
 
 -- ---- a declared word
 module _ (k : Kept) (sound : AreSound k) (word : List ℕ) (n : ℕ) (numbered : number_of k.dict word ≡ Some n) (declared : is_declared k word ≡ true) where
@@ -56,9 +42,6 @@ module _ (k : Kept) (sound : AreSound k) (word : List ℕ) (n : ℕ) (numbered :
 
   bit : is_taken k.declared n ≡ true
   bit = ap (bit_of k.declared) (sym numbered) ∙ declared
-
-  form : is_declarable word ≡ true
-  form = sym (ap is_prop (ap₂ property_by word_at_number bit)) ∙ sound.properties n
 
   -- it may be taken back where nothing needs it, once no description has it
   module _ (in_use : KeepsInUse k) (closed : AreClosed k) (tests : TestsAreMet k) (unneeded : is_needed k n ≡ false) where
@@ -144,19 +127,10 @@ module _ (k : Kept) (sound : AreSound k) (at : ℕ → List ℕ) (now : Situatio
   used_same there (Some n) numbered = in_use_told k sound word n numbered there at now.state free tells
 
   rmdir_alike : first_refusal (rmdir_checks now.state word) ≡ first_refusal (undeclare_checks k word)
-  rmdir_alike = same_first (rmdir_checks now.state word) (undeclare_checks k word) (
-    refl,
-    refl,
-    λ own. (
-      refl,
-      refl,
-      λ valued. (
-        refl,
-        ap not (declared_told k at now.state tells word),
-        λ there. (refl, used_same (sym (declared_told k at now.state tells word) ∙ not-false (has_word now.state.declared word) there) (number_of k.dict word) refl, λ _. tt),
-      ),
-    ),
-  )
+  rmdir_alike =
+      let told = declared_told k at now.state tells word in
+      let used = λ (there : not (has_word now.state.declared word) ≡ false). used_same (sym told ∙ not-false (has_word now.state.declared word) there) (number_of k.dict word) refl in
+      same_first (rmdir_checks now.state word) (undeclare_checks k word) (refl, refl, λ own. (refl, refl, λ valued. (refl, ap not told, λ there. (refl, used there, λ _. tt))))
 
 -- ---- a declaration that is taken back
 module _ {old : Stored} {word : List ℕ} {number : ℕ} (sound : IsSound old) (may : IsUndeclarable old.parts word number) where
@@ -169,7 +143,7 @@ module _ {old : Stored} {word : List ℕ} {number : ℕ} (sound : IsSound old) (
   pub undeclared_named : word_of p.dict number ≡ Some word
   undeclared_named = word_at_number p sound.parts word number may.numbered may.declared
 
-  module _ {q : Kept} (gone : UndeclaresUnmet number p q) where
+  module _ {q : Kept} (unbroken : old.is_broken ≡ false) (gone : UndeclaresUnmet number p q) where
     abbrev made : Kept
     made = gone.made
 
@@ -228,7 +202,11 @@ module _ {old : Stored} {word : List ℕ} {number : ℕ} (sound : IsSound old) (
 
     in_use_then : KeepsInUse q
     in_use_then = record {
-      used = λ n some. let differ = word_before n some in undeclares.used n some ∙ by n differ (used_for p n (sound.in_use.used n (ap is_some (sym (stays n differ)) ∙ some)));
+      used = λ n some.
+          let differ = word_before n some in
+          undeclares.used n some
+          ∙ use_stays p made n (λ set. ap (λ (k : Kept). is_taken k.declared n) gone.takes.parts ∙ set) (λ lefts. ap (λ (k : Kept). is_named_left k n) gone.takes.parts ∙ lefts)
+          (λ slot was. used_had made n slot (ap (λ (k : Kept). has k.ext n slot) (sym q_parts) ∙ then_had n slot was differ)) (sound.in_use.used n (ap is_some (sym (stays n differ)) ∙ some));
       tags = λ slot rec is n tag. let was = rec_was slot rec is in then_had n slot (sound.in_use.tags slot rec was n tag) (not_tag slot rec was n tag);
       rights = λ slot left right is.
           let was = subst (λ (k : Kept). slice_get k.axioms slot ≡ Some (Pair left right)) q_is is in
@@ -236,59 +214,51 @@ module _ {old : Stored} {word : List ℕ} {number : ℕ} (sound : IsSound old) (
           ∙ (get_or-set_other made.declared number right false false (undeclared_may.rights slot left right was)
           ∙ (ap (λ (k : Kept). is_taken k.declared right) gone.takes.parts ∙ sound.in_use.rights slot left right was));
     }
-      where
-        by : (n : ℕ) → (n ≡ number → ⊥) → IsUsedFor p n → is_used made n ≡ true
-        by n differ (Flagged bit) = used_flagged made n (ap (λ (k : Kept). is_taken k.declared n) gone.takes.parts ∙ bit)
-        by n differ (HadAt slot was) = used_had made n slot (ap (λ (k : Kept). has k.ext n slot) (sym q_parts) ∙ then_had n slot was differ)
-        by n differ (NamedLeft lefts) = used_left made n (ap (λ (k : Kept). is_named_left k n) gone.takes.parts ∙ lefts)
 
-    pub undeclared_sound : old.is_broken ≡ false → AreSound q → IsSound (settled q old.journal)
-    undeclared_sound unbroken after =
-        settled_sound q old.journal (record {
-          sound = after;
-          free = λ slot none n. false_from_ne_true (has q.ext n slot) (λ had.
-              both_ways (has p.ext n slot) (sound.free slot (subst (λ (k : Kept). rec_at k.catalog slot ≡ None) q_is none) n) (had_then n slot had).0);
-          closed = closed_then after;
-          short = λ slot. omega (arith, ap length (set_then slot), filter_le (is_other number) (numbers_at p.ext slot), sound.short slot);
-          in_use = in_use_then;
-          tests = record {
-            given = λ slot rec is n tag.
-                let was = rec_was slot rec is in
-                ap (λ o. is_some {T = Bool × ℕ} (test_by o)) (stays n (not_tag slot rec was n tag)) ∙ sound.tests.given slot rec was n tag;
-            met = λ slot rec is n test.
-                let differ = word_before n (ap is_some (tested_word (word_of q.dict n) test).1) in
-                let same = stays n differ in
-                has_same n slot differ
-                ∙ (sound.tests.met slot rec (rec_was slot rec is) n (ap (λ o. is_some {T = Bool × ℕ} (test_by o)) (sym same) ∙ test) ∙ ap (λ o. is_met (test_by o) rec.size) (sym same));
-          };
-        }) (subst (λ (k : Kept). PairsAreApart k) (sym q_is) sound.pairs) (subst (λ (k : Kept). old.journal.blocks ≡ image_blocks k.limits) (sym q_is) sound.image) (sound.journal unbroken)
-
-    pub undeclared_limits : q.limits ≡ p.limits
-    undeclared_limits = ap (λ (k : Kept). k.limits) q_is
-
-    pub undeclared_edits : AreEditsFew p.ext q.ext
-    undeclared_edits =
-        subst (λ (k : Kept). AreEditsFew p.ext k.ext) (sym q_parts) (redescribed_edits (without_number p number) p.limits.files p made gone.takes sound.parts.files (without_past p sound.parts number))
+    form_then : AreSound q → AreInForm q
+    form_then after = record {
+      sound = after;
+      free = λ slot none n. false_from_ne_true (has q.ext n slot) (λ had.
+          both_ways (has p.ext n slot) (sound.free slot (subst (λ (k : Kept). rec_at k.catalog slot ≡ None) q_is none) n) (had_then n slot had).0);
+      closed = closed_then after;
+      short = λ slot. omega (arith, ap length (set_then slot), filter_le (is_other number) (numbers_at p.ext slot), sound.short slot);
+      in_use = in_use_then;
+      tests = record {
+        given = λ slot rec is n tag.
+            let was = rec_was slot rec is in
+            ap (λ o. is_some {T = Bool × ℕ} (test_by o)) (stays n (not_tag slot rec was n tag)) ∙ sound.tests.given slot rec was n tag;
+        met = λ slot rec is n test.
+            let differ = word_before n (ap is_some (tested_word (word_of q.dict n) test).1) in
+            let same = stays n differ in
+            has_same n slot differ
+            ∙ (sound.tests.met slot rec (rec_was slot rec is) n (ap (λ o. is_some {T = Bool × ℕ} (test_by o)) (sym same) ∙ test) ∙ ap (λ o. is_met (test_by o) rec.size) (sym same));
+      };
+    }
 
     -- the rows that change are that of the number
-    pub undeclared_marks : old.is_broken ≡ false → length old.journal.staged + marked_count q ≤ 575
-    undeclared_marks unbroken =
+    few_marked : marked_count q ≤ 2
+    few_marked =
         let more = marked_more p made (block_of p.limits Rows number ∷ []) (λ block is. by block (gone.takes.within block is)) in
-        omega (arith, undeclares.marks.few, more, none_marked p (sound.clean unbroken), sound.few unbroken)
+        omega (arith, undeclares.marks.few, more, none_marked p (sound.clean unbroken))
       where
-        same : (c : Bool) → ((c && not c) || (c && not c)) ≡ false
-        same true = refl
-        same false = refl
-
         turned : (slot n : ℕ) → differs (numbers_at p.ext slot) (without_number p number slot) n ≡ true → (n ≡ number) ⊎ (n ≡ number → ⊥) → n ≡ number
         turned slot n turns (inl is) = is
         turned slot n turns (inr differ) =
             absurd (both_ways (differs (numbers_at p.ext slot) (without_number p number slot) n)
-            (ap (λ b. (b && not (has p.ext n slot)) || (has p.ext n slot && not b)) (sym (ap (λ ns. has_number ns n) (set_then slot)) ∙ has_same n slot differ) ∙ same (has p.ext n slot)) turns)
+            (unturned (numbers_at p.ext slot) (without_number p number slot) n (sym (ap (λ ns. has_number ns n) (set_then slot)) ∙ has_same n slot differ)) turns)
 
         by : (block : ℕ) → (is_marked p block ≡ true) ⊎ IsTurnedRow p (without_number p number) block → (is_marked p block ≡ true) ⊎ Among (block_of p.limits Rows number ∷ []) block
         by block (inl was) = inl was
         by block (inr row) = inr (inl (sym (row.is ∙ ap (block_of p.limits Rows) (turned row.slot row.number row.turned (cases_eq row.number number)))))
+
+    pub undeclared_change : IsChange old q
+    undeclared_change = record {
+      settles = λ after.
+          settled_sound q old.journal (form_then after) (subst (λ (k : Kept). PairsAreApart k) (sym q_is) sound.pairs) (subst (λ (k : Kept). old.journal.blocks ≡ image_blocks k.limits) (sym q_is) sound.image) (sound.journal unbroken);
+      limits = ap (λ (k : Kept). k.limits) q_is;
+      room = omega (arith, few_marked, sound.few unbroken);
+      edits = subst (λ (k : Kept). AreEditsFew p.ext k.ext) (sym q_parts) (redescribed_edits (without_number p number) p.limits.files p made gone.takes sound.parts.files (without_past p sound.parts number));
+    }
 
     -- ---- the state that it tells
     module _ (at : ℕ → List ℕ) (s : State) (tells : Tells p at s) where
@@ -335,19 +305,17 @@ module _ {old : Stored} {word : List ℕ} {number : ℕ} (sound : IsSound old) (
           (undeclares.state at ∙ (ap₂ (λ (k : Kept) (w : List ℕ). undeclared (state_of k at) w) gone.takes.parts same_word_gone ∙ ap (λ (x : State). undeclared x word) tells.state))
           (forms.undeclares s tells.formed word unused) in_use_then.used described
 
-    pub undeclared_holds : {T : Type 0} (new : Stored) (before after : Meaning) (result : Result T Change) → Saves q old.journal new before after result → first_refusal (undeclare_checks p word) ≡ None
-        → old.is_broken ≡ false → (base : State) (now : Situation) → StoreHolds old before base now.state → Holds base now (rmdir now word) new before after result
-    undeclared_holds new before after result saves none unbroken base now fits =
+    pub undeclared_holds : {T : Type 0} {new : Stored} {before after : Meaning} {result : Result T Change} {base : State} → Saves q old.journal new before after result → first_refusal (undeclare_checks p word) ≡ None
+        → (now : Situation) → StoreHolds old before base now.state → Holds base now (rmdir now word) new before after result
+    undeclared_holds saves none now fits =
         let at = looked old.journal.staged fits.kept in
-        saves_alone old sound unbroken q new before after result saves base now (rmdir now word) (undeclared now.state word) fits undeclared_limits
-        (λ _. record { tells = tells_undeclared at now.state fits.tells; saved = undeclares.marks.saved at (gone.takes.saved at (λ area n lt unmarked. fits.written area n lt)) })
+        saves_alone old sound unbroken undeclared_change saves now (undeclared now.state word) fits
+        (record { tells = tells_undeclared at now.state fits.tells; saved = undeclares.marks.saved at (gone.takes.saved at (λ area n lt unmarked. fits.written area n lt)) })
         (judged_done now (rmdir_checks now.state word) (changed now (undeclared now.state word)) (rmdir_alike p sound.parts at now sound.free fits.tells word ∙ none))
 
 -- one that is refused
-pub undeclared_refused : {T : Type 0} (old : Stored) (m : Meaning) (word : List ℕ) (refusal : Refusal) (result : Result T Change) → IsSound old
-    → first_refusal (undeclare_checks old.parts word) ≡ Some refusal → result ≡ Err (Refused refusal)
-    → (base : State) (now : Situation) → StoreHolds old m base now.state → Holds base now (rmdir now word) old m m result
-undeclared_refused old m word refusal result sound first ends base now fits =
-    change_refused old m base now (rmdir now word) refusal result fits
-    (judged_refused now (rmdir_checks now.state word) (changed now (undeclared now.state word)) refusal
-    (rmdir_alike old.parts sound.parts (looked old.journal.staged fits.kept) now sound.free fits.tells word ∙ first)) ends
+pub undeclared_refused : {old : Stored} {m : Meaning} {base : State} → IsSound old → (word : List ℕ) (refusal : Refusal) → first_refusal (undeclare_checks old.parts word) ≡ Some refusal
+    → (now : Situation) → StoreHolds old m base now.state → rmdir now word ≡ refused now refusal
+undeclared_refused {old} sound word refusal first now fits =
+    judged_refused now (rmdir_checks now.state word) (changed now (undeclared now.state word)) refusal
+    (rmdir_alike old.parts sound.parts (looked old.journal.staged fits.kept) now sound.free fits.tells word ∙ first)

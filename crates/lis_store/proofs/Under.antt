@@ -1,17 +1,13 @@
 -- What a word comes to that is declared under others: the links that are new, and the words that files have then.
-use Rattle.std.proofs.Common.{◌≡◌, ◌⊎◌, ℕ, ◌+◌, Bool, true, false, List, [], ◌∷◌, ◌++◌, length, refl, sym, ap, subst, inl, inr, arith}
-use Rattle.lis_store.proofs.Common.{IsStrictlySortedBy, Among, among_append, among_left, among_right, among_insert_key, insert_key_old, sorted_insert_key, word_cmp, is_valued, test_of, with_word, is_met, State, File, WellFormed, pair_cmp, all_up, own_words, description, with_axiom, declared_under, word_exact, word_order, pair_exact, among_set_of, Head, Weaker, entailing, all_up_closed, sorted_all_up, OwnWord, own_word, own_from, met_weaker, known_from, Assigned, Derived, Met, linked_up, under}
-use Rattle.std.proofs.lemmas.Bool.{both_ways}
+use Rattle.lis_store.proofs.Common.{common_steps, ◌≡◌, ◌⊎◌, ℕ, ◌+◌, Bool, true, false, List, [], ◌∷◌, ◌++◌, length, refl, sym, ap, subst, inl, inr, arith, IsStrictlySortedBy, Among, among_append, among_left, among_right, among_insert_key, insert_key_old, sorted_insert_key, word_cmp, is_valued, test_of, with_word, is_met, State, File, WellFormed, pair_cmp, all_up, own_words, description, with_axiom, declared_under, word_exact, word_order, pair_exact, among_set_of, Head, Weaker, entailing, all_up_closed, sorted_all_up, OwnWord, own_word, own_from, met_weaker, known_from, Assigned, Derived, Met, linked_up, under, both_ways, set_of, known, set_of_among, same_words, all_up_has, Left}
 use Rattle.lis_graph.proofs.Members.{insert_key_new}
 use Rattle.lis_graph.proofs.Sets.{same_sets}
-use Rattle.lis_model.specs.Sets.{set_of}
 use Rattle.lis_model.specs.Tests.{are_weaker}
-use Rattle.lis_model.specs.State.{known}
-use Rattle.lis_laws.proofs.Members.{pair_order, set_of_among, same_words}
+use Rattle.lis_laws.proofs.Members.{pair_order}
 use Rattle.lis_laws.proofs.Chains.{Pairs, tests_by, up_wider}
-use Rattle.lis_laws.proofs.Closures.{all_up_has, all_up_within}
+use Rattle.lis_laws.proofs.Closures.{all_up_within}
 use Rattle.lis_laws.proofs.Sources.{test_had}
-use Rattle.lis_laws.proofs.Sources.Source.{Declared, Left, Described}
+use Rattle.lis_laws.proofs.Sources.Source.{Declared, Described}
 use Rattle.lis_laws.proofs.Reached.{OneLink, described_link, all_up_keeps}
 use Rattle.lis_laws.proofs.Known.{described_within}
 use Rattle.lis_laws.proofs.Forms.{under_old, among_under}
@@ -22,8 +18,7 @@ use Rattle.lis_store.proofs.Points.{AllApart, length-insert_key}
 module _ (word : List ℕ) where
   pub under_new : (axioms : Pairs) (words : List (List ℕ)) (q : List ℕ) → Among words q → Among (under word axioms words) (word, q)
   under_new axioms [] q m = absurd m
-  under_new axioms (w ∷ words) q (inl same) =
-      subst (λ v. Among (under word (with_axiom axioms (word, w)) words) (word, v)) same (under_old word (with_axiom axioms (word, w)) words (word, w) (insert_key_new pair_cmp pair_exact axioms (word, w)))
+  under_new axioms (w ∷ words) q (inl same) = grind (arith, common_steps, under, under_old, insert_key_new, pair_exact)
   under_new axioms (w ∷ words) q (inr m) = under_new (with_axiom axioms (word, w)) words q m
 
   under_sorted : (axioms : Pairs) (words : List (List ℕ)) → IsStrictlySortedBy pair_cmp axioms → IsStrictlySortedBy pair_cmp (under word axioms words)
@@ -31,11 +26,7 @@ module _ (word : List ℕ) where
   under_sorted axioms (q ∷ words) sorted = under_sorted (with_axiom axioms (word, q)) words (sorted_insert_key pair_cmp pair_order axioms (word, q) sorted)
 
   under_more : (axioms : Pairs) (some more : List (List ℕ)) → ((q : List ℕ) → Among some q → Among more q) → (e : List ℕ × List ℕ) → Among (under word axioms some) e → Among (under word axioms more) e
-  under_more axioms some more within e m = by (among_under word axioms some e m)
-    where
-      by : Among axioms e ⊎ IsUnder word some e → Among (under word axioms more) e
-      by (inl old) = under_old word axioms more e old
-      by (inr new) = subst (λ (x : List ℕ × List ℕ). Among (under word axioms more) x) new.2 (under_new axioms more new.0 (within new.0 new.1))
+  under_more axioms some more within e m = grind (arith, common_steps, among_under, under, under_old, under_new)
 
   -- to a set of words it is the same axioms
   pub under_set : (axioms : Pairs) → IsStrictlySortedBy pair_cmp axioms → (words : List (List ℕ)) → under word axioms words ≡ under word axioms (set_of words)

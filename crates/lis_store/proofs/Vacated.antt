@@ -1,19 +1,15 @@
 -- What is in use where a file is gone whose slot is still described, and the words that may be forgotten then.
-use Rattle.std.proofs.Common.{◌≡◌, ◌⊎◌, refl, sym, ap, ◌∙◌, subst, inl, inr, ℕ, ◌+◌, ◌<◌, ◌≤◌, ◌==◌, not, ◌&&◌, Bool, true, false, if◌then◌else◌, [], ◌∷◌, length, set, Option, Some, None, is_some, arith, length-set, get_or-set_same}
-use Rattle.lis_store.proofs.Common.{IsStrictlyIncreasing, cases_eq, ne_eqb, is_taken, stays_marked, word_of, slot_of, rec_at, has, numbers_at, FileRecord, same_word, File, same_word_decides, Kept, block_of, AreSound, state_of, is_used, MayForget, emptied, among_slots, left_out, used_flagged, used_had}
-use Rattle.std.proofs.lemmas.Bool.{both_ways, eq-eqb}
+use Rattle.lis_store.proofs.Common.{◌≡◌, ◌⊎◌, refl, sym, ap, ◌∙◌, subst, inl, inr, ℕ, ◌<◌, ◌==◌, not, ◌&&◌, Bool, true, false, if◌then◌else◌, [], ◌∷◌, length, set, Option, Some, None, is_some, arith, length-set, get_or-set_same, IsStrictlyIncreasing, cases_eq, ne_eqb, is_taken, stays_marked, word_of, slot_of, rec_at, has, numbers_at, FileRecord, same_word, same_word_decides, Kept, block_of, AreSound, state_of, is_used, MayForget, emptied, among_slots, left_out, used_flagged, used_had, both_ways, eq-eqb, has_number, Files, used_left}
 use Rattle.std.proofs.lemmas.Map.Entries.{option_filter}
-use Rattle.lis_content.specs.Content.{has_number}
 use Rattle.lis_catalog.specs.Catalog.{without_slot}
 use Rattle.lis_catalog.proofs.Laws.{rec_at-without_slot, slot_of-without_slot, slot_of-rec_at, filtered_none, filtered_one}
-use Rattle.lis_kept.specs.Areas.Area.{Files}
 use Rattle.lis_kept.specs.Forgetting.{ForgetsWithout}
 use Rattle.lis_kept.specs.Changes.{Drops}
 use Rattle.lis_kept.proofs.Dropped.{file_slot_below}
 use Rattle.lis_kept.proofs.Without.{none_here, same_elsewhere}
-use Rattle.lis_kept.proofs.Used.{used_left}
 use Rattle.lis_store.specs.Stored.{AreClosed}
 use Rattle.lis_store.specs.Removing.{Vacates}
+use Rattle.lis_store.specs.Drafts.{Draft}
 use Rattle.lis_store.specs.Replacing.{MayReplace}
 use Rattle.lis_store.specs.ReplacingIn.{AreInForm}
 use Rattle.lis_store.proofs.HeadsUsed.{IsUsedFor, used_for, head_used}
@@ -73,15 +69,15 @@ module _ (p : Kept) (slot : ℕ) (rec : FileRecord) (form : AreInForm p) (there 
   pub none_before : (at : ℕ) → (at ≡ slot → ⊥) → rec_at (without_slot p.catalog slot) at ≡ None → rec_at p.catalog at ≡ None
   none_before at differ none = sym (rec_at-without_slot p.catalog slot at ∙ ap (λ c. if c then None else rec_at p.catalog at) (ne_eqb at slot differ)) ∙ none
 
-  pub name_vacant : (file : File) → MayReplace p slot rec file → slot_of (without_slot p.catalog slot) file.name ≡ None
-  name_vacant file may = slot_of-without_slot p.catalog slot file.name form.sound.catalog ∙ by (same_word file.name rec.name) refl
+  pub name_vacant : (draft : Draft) → MayReplace p slot rec draft → slot_of (without_slot p.catalog slot) draft.name ≡ None
+  name_vacant draft may = slot_of-without_slot p.catalog slot draft.name form.sound.catalog ∙ by (same_word draft.name rec.name) refl
     where
-      by : (b : Bool) → same_word file.name rec.name ≡ b → option_filter (λ (n : ℕ). not (n == slot)) (slot_of p.catalog file.name) ≡ None
+      by : (b : Bool) → same_word draft.name rec.name ≡ b → option_filter (λ (n : ℕ). not (n == slot)) (slot_of p.catalog draft.name) ≡ None
       by true same =
-          filtered_one slot slot (slot_of p.catalog file.name)
-          (ap (slot_of p.catalog) ((same_word_decides file.name rec.name).0 same) ∙ slot_of-rec_at p.catalog slot rec form.sound.catalog there) refl
+          filtered_one slot slot (slot_of p.catalog draft.name)
+          (ap (slot_of p.catalog) ((same_word_decides draft.name rec.name).0 same) ∙ slot_of-rec_at p.catalog slot rec form.sound.catalog there) refl
       by false other =
-          filtered_none slot (slot_of p.catalog file.name) (may.new (λ same. both_ways (same_word file.name rec.name) other ((same_word_decides file.name rec.name).1 same)))
+          filtered_none slot (slot_of p.catalog draft.name) (may.new (λ same. both_ways (same_word draft.name rec.name) other ((same_word_decides draft.name rec.name).1 same)))
 
   -- ---- what is in use without the description
   pub used_elsewhere : (n at : ℕ) → (at ≡ slot → ⊥) → has p.ext n at ≡ true → is_used (emptied p slot) n ≡ true

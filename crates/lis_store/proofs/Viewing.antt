@@ -1,19 +1,11 @@
 -- What memory keeps is a view, and its rows and its taxonomy tell of it.
-use Rattle.std.proofs.Common.{◌≡◌, ℕ, ◌==◌, ◌&&◌, nat_lt, nat_le, if◌then◌else◌, Bool, true, false, List, map, is_some, Option, Some, None, refl, sym, ap, ap₂, ◌∙◌, subst, eq-eqb, arith}
-use Rattle.lis_store.proofs.Common.{list_any, Contains, and_parts, eqb-true, ltb-true, length-map, same_Some, Among, among_from_contains, contains_from_among, number_of, word_of, number_below, Filed, slot_of, rec_at, has, numbers_at, Taxonomy, leads, entails_decides, FileRecord, same_word, has_word, test_of, up, is_met, same_word_decides, among_from_has_word, Placed, Kept, AreSound, FreeSlotsAreEmpty, declared_of, axioms_of, test_by, TellsLinks, filed_rec, filed_slot, filed_at_slot, among_word, number_told}
-use Rattle.std.proofs.lemmas.Bool.{and_from, both_ways}
-use Rattle.lis_graph.proofs.Members.{among_from_any, any_from_among, among_map, map_among}
-use Rattle.lis_dict.specs.Dict.{words}
+use Rattle.std.proofs.Common.{eq-eqb}
+use Rattle.lis_store.proofs.Common.{common_steps, ◌≡◌, ℕ, ◌==◌, ◌&&◌, nat_lt, Bool, true, List, map, is_some, Option, Some, None, refl, sym, ap, ap₂, ◌∙◌, subst, arith, list_any, Contains, and_parts, eqb-true, ltb-true, length-map, same_Some, Among, among_from_contains, contains_from_among, number_of, word_of, number_below, Filed, slot_of, rec_at, has, numbers_at, Taxonomy, leads, entails_decides, FileRecord, same_word, has_word, test_of, up, is_met, same_word_decides, among_from_has_word, Placed, Kept, AreSound, FreeSlotsAreEmpty, declared_of, axioms_of, test_by, TellsLinks, filed_rec, filed_slot, filed_at_slot, among_word, number_told, and_from, both_ways, among_from_any, any_from_among, among_map, map_among, words, has_word_from_among, all_among, same_tests, words_told}
 use Rattle.lis_dict.proofs.Laws.{among_from_word, number_from_among, word_from_among}
-use Rattle.lis_grammar.specs.Formula.Formula.{SizeAtLeast, SizeBelow}
 use Rattle.lis_model.specs.Tests.{step_by}
 use Rattle.lis_model.specs.Table.{Entry, entails}
 use Rattle.lis_model.specs.Listing.{holds}
-use Rattle.lis_laws.proofs.Members.{has_word_from_among}
-use Rattle.lis_laws.proofs.Counts.{all_among}
-use Rattle.lis_laws.proofs.Locals.{same_tests}
 use Rattle.lis_eval.specs.View.{file_in, IsView, TellsFiles, TellsEntailment}
-use Rattle.lis_kept.specs.Telling.{words_told}
 use Rattle.lis_store.specs.Stored.{AreClosed, TestsAreMet}
 use Rattle.lis_store.specs.Seen.{placed, seen_of, table_of}
 use Rattle.lis_kept.proofs.Entailed.{leads_from_up, up_from_leads}
@@ -22,11 +14,7 @@ use Rattle.lis_store.proofs.Facts.{any_is_found}
 
 -- the step of a test asks for the size
 size_asked : (word : List ℕ) (test : Bool × ℕ) (file : Entry) → holds (step_by (Some test) word) file ≡ is_met (Some test) file.size
-size_asked word test file = by test.0
-  where
-    by : (at_least : Bool) → holds (if at_least then SizeAtLeast test.1 else SizeBelow test.1) file ≡ (if at_least then nat_le test.1 file.size else nat_lt file.size test.1)
-    by true = refl
-    by false = refl
+size_asked word test file = grind (arith, common_steps)
 
 module _ (k : Kept) (sound : AreSound k) where
   abbrev Numbered : Type 0
@@ -53,20 +41,7 @@ module _ (k : Kept) (sound : AreSound k) where
 
   -- ---- what words entail
   table_apart : (p q : List ℕ) → entails (table_of k) p q ≡ true → Among (up (declared_of k) (axioms_of k) p) q
-  table_apart p q h = by found.0 found.1 (and_parts (same_word (found.0).0 p) (has_word (found.0).1 q) found.2)
-    where
-      found : (row : List ℕ × List (List ℕ)) × Among (table_of k).entailed row × ((same_word row.0 p && has_word row.1 q) ≡ true)
-      found = among_from_any (λ (row : List ℕ × List (List ℕ)). same_word row.0 p && has_word row.1 q) (table_of k).entailed h
-
-      at : (w : List ℕ) → w ≡ p → Among (up (declared_of k) (axioms_of k) w) q → Among (up (declared_of k) (axioms_of k) p) q
-      at w same = subst (λ v. Among (up (declared_of k) (axioms_of k) v) q) same
-
-      by : (row : List ℕ × List (List ℕ)) → Among (table_of k).entailed row → (same_word row.0 p ≡ true) × (has_word row.1 q ≡ true) → Among (up (declared_of k) (axioms_of k) p) q
-      by row m tests =
-          let source = among_map (λ (w : List ℕ). (w, up (declared_of k) (axioms_of k) w)) (words k.dict) row m in
-          let left = ap (λ (r : List ℕ × List (List ℕ)). r.0) source.2 in
-          let right = ap (λ (r : List ℕ × List (List ℕ)). r.1) source.2 in
-          at source.0 (left ∙ (same_word_decides row.0 p).0 tests.0) (subst (λ (ws : List (List ℕ)). Among ws q) (sym right) (among_from_has_word row.1 q tests.1))
+  table_apart p q h = grind (arith, common_steps, and_parts, among_from_any, among_map, same_word_decides, among_from_has_word)
 
   table_made : (p q : List ℕ) → Among (words k.dict) p → Among (up (declared_of k) (axioms_of k) p) q → entails (table_of k) p q ≡ true
   table_made p q m h =

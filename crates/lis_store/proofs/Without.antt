@@ -1,16 +1,11 @@
 -- Descriptions without one number.
-use Rattle.std.proofs.Common.{◌≡◌, refl, sym, ap, ◌∙◌, subst, ℕ, ◌≤◌, ◌==◌, not, cond, Bool, true, false, List, [], ◌∷◌, filter, slice_get, Some, is_some, IsSome, arith}
-use Rattle.lis_store.proofs.Common.{list_all, IsStrictlyIncreasing, nat_cmp, not-true, get_or_past, IsStrictlySortedBy-filter, Among, among_filter, is_taken, word_of, rec_at, has, numbers_at, Pair, Kept, AreSound, is_head_by, is_had, is_named_left, had_at}
-use Rattle.std.proofs.lemmas.Bool.{both_ways, false_from_ne_true, eq-eqb}
-use Rattle.std.proofs.lemmas.Map.Keys.{sorted_from_strictly_increasing, IsStrictlyIncreasing-from_sorted}
-use Rattle.lis_content.specs.Content.{has_number}
+use Rattle.lis_store.proofs.Common.{◌≡◌, refl, sym, ap, ◌∙◌, subst, ℕ, ◌≤◌, ◌==◌, not, cond, Bool, true, false, List, [], ◌∷◌, filter, slice_get, Some, is_some, IsSome, arith, list_all, IsStrictlyIncreasing, nat_cmp, not-true, get_or_past, IsStrictlySortedBy-filter, Among, among_filter, is_taken, word_of, rec_at, has, numbers_at, Pair, Kept, AreSound, is_head_by, is_had, is_named_left, had_at, both_ways, false_from_ne_true, eq-eqb, IsStrictlyIncreasing-from_sorted, has_number, all_from, among_from_number, number_from_among}
+use Rattle.std.proofs.lemmas.Map.Keys.{sorted_from_strictly_increasing}
 use Rattle.lis_content.proofs.Numbers.{neither}
-use Rattle.lis_laws.proofs.Counts.{all_from}
 use Rattle.lis_kept.specs.Undeclaring.{MayUndeclare}
-use Rattle.lis_kept.proofs.Filing.{among_from_number, number_from_among}
 use Rattle.lis_store.specs.Redescribing.{Redescribes}
 use Rattle.lis_store.specs.Testing.{without_number, undescribed}
-use Rattle.lis_store.proofs.Redescribed.{same_here, given_then}
+use Rattle.lis_store.proofs.Rebuilt.{same_here, given_then}
 
 abbrev pub is_other : ℕ → ℕ → Bool
 is_other number n = not (n == number)

@@ -1,10 +1,6 @@
 -- The calls that write and rename a file.
-use Rattle.std.proofs.Common.{◌≡◌, refl, sym, ap, ap₂, ◌∙◌, subst, ℕ, ◌+◌, ◌≤◌, ◌==◌, not, cond, Bool, true, false, List, [], length, Option, Some, None, Result, Err, IsSomeAnd, arith}
-use Rattle.lis_store.proofs.Common.{list_all, ltb-false, Meaning, slot_of, rec_at, rec_at-slot_of, FileRecord, is_file_name, Formula, Refusal, NoFileHere, LargeFile, State, File, file_limit, is_assignable, blocks_taken, used_blocks, new_file, file_replaced, Situation, Payload, free_blocks, write, rename, Kept, AreSound, declared_of, bytes_told}
-use Rattle.std.proofs.lemmas.Bool.{both_ways, le-ltb}
-use Rattle.lis_model.specs.Changes.{file_of}
-use Rattle.lis_model.specs.Step.{changed}
-use Rattle.lis_kept.specs.Telling.{words_told}
+use Rattle.lis_store.proofs.Common.{◌≡◌, sym, ap, ap₂, ◌∙◌, subst, ℕ, ◌+◌, ◌≤◌, ◌==◌, nat_lt, not, cond, Bool, true, false, List, [], ◌∷◌, length, Some, None, Result, Err, IsSomeAnd, arith, ltb-false, Meaning, slot_of, rec_at, rec_at-slot_of, FileRecord, is_file_name, Formula, Refusal, NoFileHere, NoSpace, LargeFile, State, File, file_limit, blocks_taken, used_blocks, new_file, file_removed, file_replaced, Situation, Payload, free_blocks, write, rename, Kept, bytes_told, both_ways, file_of, changed, words_told}
+use Rattle.std.proofs.lemmas.Bool.{le-ltb}
 use Rattle.lis_kept.proofs.Filed.{record_named}
 use Rattle.lis_store.specs.declared.change.Change.{Change}
 use Rattle.lis_store.specs.declared.change.Change.TheVariants.{Refused}
@@ -12,11 +8,13 @@ use Rattle.lis_store.specs.Stored.{Stored, IsSound, StoreHolds}
 use Rattle.lis_store.proofs.ToldBy.{ToldBy, told_held}
 use Rattle.lis_store.specs.Changes.{Holds, first_refusal}
 use Rattle.lis_store.specs.Judging.{is_among}
-use Rattle.lis_store.specs.Instead.{given_before, free_instead, overwriting_checks, renaming_checks, write_checks_of, rename_checks_of}
+use Rattle.lis_store.specs.Instead.{given_before, free_instead, free_for, overwriting_checks, renaming_checks, write_checks_of, rename_checks_of}
+use Rattle.lis_store.specs.Drafts.{draft_of}
 use Rattle.lis_store.specs.Replacing.{MayReplace}
+use Rattle.lis_store.specs.ReplacingIn.{file_gone, MayPutBytes}
 use Rattle.lis_store.proofs.Facts.{filed_named}
-use Rattle.lis_store.proofs.Here.{none_here}
-use Rattle.lis_store.proofs.InsteadMay.{write_may, rename_may}
+use Rattle.lis_store.proofs.InsteadMay.{may_stand, given_set, given_few, sized_small}
+use Rattle.lis_store.proofs.Admitted.{none_there, derived_own, derived_few_own}
 use Rattle.lis_store.proofs.InsteadTold.{free_told, old_is, old_given, write_refused, write_done, rename_refused, rename_done}
 use Rattle.lis_store.proofs.FreeBlocks.{used_told, version_told}
 use Rattle.lis_store.proofs.Judged.{all_pass, change_refused}
@@ -45,11 +43,13 @@ module _ (k : Stored) (sound : IsSound k) (place : List Formula) (name : List �
   same_name = (filed_named k.parts sound.parts name slot rec named there).1
 
   write_first : (bytes : List ℕ) (size : ℕ) → size ≤ file_limit k.parts.limits.version → length bytes ≡ size
-      → first_refusal (overwriting_checks k.parts slot rec (given_before k.parts rec name bytes) size) ≡ None → MayReplace k.parts slot rec (given_before k.parts rec name bytes)
+      → first_refusal (overwriting_checks k.parts slot rec (given_before k.parts rec name bytes) size) ≡ None → MayReplace k.parts slot rec (draft_of (given_before k.parts rec name bytes))
   write_first bytes size most long none =
-      write_may k sound slot rec there place name bytes size same_name
-      (subst (λ n. is_file_name n ≡ true) same_name (record_named k.parts.limits.version k.parts.dict k.parts.limits.blocks rec (sound.parts.records slot rec there))) long
-      (rest_of_write k.parts place name slot rec (given_before k.parts rec name bytes) size most here ∙ none)
+      let file = given_before k.parts rec name bytes in
+      may_stand k sound slot rec there (draft_of file)
+      (subst (λ n. is_file_name n ≡ true) same_name (record_named k.parts.limits.version k.parts.dict k.parts.limits.blocks rec (sound.parts.records slot rec there))) (λ differ. absurd (differ (sym same_name)))
+      (given_set k sound slot rec there) (given_few k sound slot rec there) (derived_own name bytes) (derived_few_own name bytes) (omega (arith, most, long))
+      ((nat_lt (free_instead k.parts rec) (blocks_taken k.parts.limits.version size), NoSpace) ∷ []) (all_pass (overwriting_checks k.parts slot rec file size) none)
 
   -- blocks that are enough for other bytes
   write_enough : (bytes : List ℕ) (size : ℕ) → length bytes ≡ size
@@ -60,9 +60,12 @@ module _ (k : Stored) (sound : IsSound k) (place : List Formula) (name : List �
       omega (arith, enough, ap (blocks_taken k.parts.limits.version) long)
 
   pub rename_first : (other bytes : List ℕ) → is_file_name other ≡ true → length bytes ≡ rec.size
-      → first_refusal (renaming_checks k.parts slot (given_before k.parts rec other bytes)) ≡ None → MayReplace k.parts slot rec (given_before k.parts rec other bytes)
+      → first_refusal (renaming_checks k.parts slot (given_before k.parts rec other bytes)) ≡ None → MayReplace k.parts slot rec (draft_of (given_before k.parts rec other bytes))
   rename_first other bytes form size none =
-      rename_may k sound slot rec there place name other bytes form (omega (arith, size)) (rest_of_rename k.parts place name slot (given_before k.parts rec other bytes) here ∙ none)
+      let file = given_before k.parts rec other bytes in
+      let row = all_pass (renaming_checks k.parts slot file) none in
+      may_stand k sound slot rec there (draft_of file) form (λ differ. none_there (slot_of k.parts.catalog other) row.0) (given_set k sound slot rec there) (given_few k sound slot rec there)
+      (derived_own other bytes) (derived_few_own other bytes) (sized_small k sound slot rec there (length bytes) (omega (arith, size))) [] row.1
 
 -- ---- calls that are done
 module _ (k : Stored) (s : State) (sound : IsSound k) (fits : ToldBy k s) (name : List ℕ) (slot : ℕ) (rec : FileRecord)
@@ -137,25 +140,24 @@ module _ {old now : Stored} (same : old ≡ now) (sound : IsSound old) (place : 
   -- what is asked of parts in which a file makes way for these bytes
   abbrev pub WriteAsks : Kept → Type 0
   WriteAsks k =
-      (slot_of k.catalog name ≡ Some slot)
-      × IsSomeAnd (rec_at k.catalog slot) (λ (rec : FileRecord). MayReplace k slot rec (new_file name words bytes))
-      × (list_all (is_assignable (declared_of k)) words ≡ true)
-      × ((rec : FileRecord) → rec_at k.catalog slot ≡ Some rec → blocks_taken k.limits.version (length bytes) ≤ free_instead k rec)
+      MayPutBytes k (Some slot) (new_file name words bytes)
+      × ((s : State) → file_gone s (rec_at k.catalog slot) ≡ file_removed s name)
 
   pub write_asks : {k : Kept} → k ≡ now.parts → WriteAsks k
   write_asks is = subst (λ (k : Kept). WriteAsks k) (sym is) (subst (λ (k : Stored). WriteAsks k.parts) same asks)
     where
-      may : MayReplace p slot found.0 (new_file name words bytes)
+      may : MayReplace p slot found.0 (draft_of (new_file name words bytes))
       may =
-          subst (λ ws. MayReplace p slot found.0 (new_file name ws bytes)) (sym (words_are found.0 found.1))
+          subst (λ ws. MayReplace p slot found.0 (draft_of (new_file name ws bytes))) (sym (words_are found.0 found.1))
           (write_first old sound place name slot found.0 named found.1 here bytes size small long (row found.0 found.1))
 
       asks : WriteAsks p
       asks = (
-        named,
-        subst (λ o. IsSomeAnd o (λ (rec : FileRecord). MayReplace p slot rec (new_file name words bytes))) (sym found.1) may,
-        may.assignable,
-        λ rec there. write_enough old sound place name slot rec named there here bytes size long (row rec there),
+        (
+          subst (λ o. IsSomeAnd o (λ (rec : FileRecord). MayReplace p slot rec (draft_of (new_file name words bytes)))) (sym found.1) may,
+          subst (λ o. blocks_taken p.limits.version (length bytes) ≤ free_for p o) (sym found.1) (write_enough old sound place name slot found.0 named found.1 here bytes size long (row found.0 found.1)),
+        ),
+        λ s. ap (file_gone s) found.1 ∙ ap (file_removed s) found.2,
       )
 
   pub write_does : (m : Meaning) (base s : State) → StoreHolds now m base s
@@ -165,17 +167,6 @@ module _ {old now : Stored} (same : old ≡ now) (sound : IsSound old) (place : 
       written_done old s sound (told_held old m base s sound held) name slot found.0 named found.1 place here words (words_are found.0 found.1) (record { size = size; bytes = bytes }) small (row found.0 found.1)
 
 -- ---- calls that are refused
--- the slot of a name, where there is one
-pub slot_there : (k : Kept) → AreSound k → (place : List Formula) (name : List ℕ)
-    → (slot : ℕ) × (rec : FileRecord) × (is_among k place name ≡ true → (slot_of k.catalog name ≡ Some slot) × (rec_at k.catalog slot ≡ Some rec))
-slot_there k sound place name = by (slot_of k.catalog name) refl
-  where
-    by : (o : Option ℕ) → slot_of k.catalog name ≡ o
-        → (slot : ℕ) × (rec : FileRecord) × (is_among k place name ≡ true → (slot_of k.catalog name ≡ Some slot) × (rec_at k.catalog slot ≡ Some rec))
-    by None none =
-        (0, record { name = []; size = 0; tags = []; blocks = [] }, λ some. absurd (both_ways (is_among k place name) (none_here k sound place name none) some))
-    by (Some slot) is = let found = rec_at-slot_of k.catalog name slot sound.catalog is in (slot, found.0, λ some. (is, found.1))
-
 module _ {T : Type 0} (old : Stored) (m : Meaning) (place : List Formula) (name : List ℕ) (result : Result T Change) (sound : IsSound old) (base s : State) (holds : StoreHolds old m base s) where
   abbrev now : Situation
   now = record { state = s; place = place }
@@ -191,16 +182,18 @@ module _ {T : Type 0} (old : Stored) (m : Meaning) (place : List Formula) (name 
     renamed_refused other refusal first ends =
         change_refused old m base now (rename now name other) refusal result holds (rename_refused old s sound (told_held old m base s sound holds) place name slot rec there other refusal first) ends
 
+  -- where the file is not here, its slot and its record do not matter
+  abbrev any_rec : FileRecord
+  any_rec = record { name = []; size = 0; tags = []; blocks = [] }
+
   pub written_nowhere : (payload : Payload) → payload.size ≤ file_limit old.parts.limits.version → is_among old.parts place name ≡ false → result ≡ Err (Refused NoFileHere)
       → Holds base now (write now name payload) old m m result
   written_nowhere payload small none ends =
-      let at = slot_there old.parts sound.parts place name in
-      let rest = first_refusal (overwriting_checks old.parts at.0 at.1 (given_before old.parts at.1 name payload.bytes) payload.size) in
-      written_refused at.0 at.1 at.2 payload NoFileHere
+      let rest = first_refusal (overwriting_checks old.parts 0 any_rec (given_before old.parts any_rec name payload.bytes) payload.size) in
+      written_refused 0 any_rec (λ some. absurd (both_ways (is_among old.parts place name) none some)) payload NoFileHere
       (ap (λ b. cond b (Some LargeFile) (cond (not (is_among old.parts place name)) (Some NoFileHere) rest)) (le-ltb (file_limit old.parts.limits.version) payload.size small) ∙ ap (λ b. cond (not b) (Some NoFileHere) rest) none) ends
 
   pub renamed_nowhere : (other : List ℕ) → is_among old.parts place name ≡ false → result ≡ Err (Refused NoFileHere) → Holds base now (rename now name other) old m m result
   renamed_nowhere other none ends =
-      let at = slot_there old.parts sound.parts place name in
-      let rest = first_refusal (renaming_checks old.parts at.0 (given_before old.parts at.1 other (file_of s.files name).bytes)) in
-      renamed_refused at.0 at.1 at.2 other NoFileHere (ap (λ b. cond (not b) (Some NoFileHere) rest) none) ends
+      let rest = first_refusal (renaming_checks old.parts 0 (given_before old.parts any_rec other (file_of s.files name).bytes)) in
+      renamed_refused 0 any_rec (λ some. absurd (both_ways (is_among old.parts place name) none some)) other NoFileHere (ap (λ b. cond (not b) (Some NoFileHere) rest) none) ends

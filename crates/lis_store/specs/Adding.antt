@@ -1,16 +1,16 @@
 -- Words of a file that comes into memory.
-use Rattle.std.specs.Prelude.{◌≡◌, ℕ, ◌≤◌, Bool, true, false, ◌&&◌, ◌||◌, if◌then◌else◌, Option, is_some, Some, None, List, [], ◌∷◌, ◌++◌, length, IsSome}
+use Rattle.std.specs.Prelude.{◌≡◌, ℕ, ◌+◌, ◌≤◌, Bool, true, false, ◌&&◌, ◌||◌, if◌then◌else◌, Option, is_some, Some, None, List, [], ◌∷◌, ◌++◌, length, IsSome}
 use Rattle.std.specs.List.{flat_map}
 use Rattle.lis_dict.specs.Dict.{Dict, words, number_of, word_of}
 use Rattle.lis_ext.specs.Numbers.{numbers_where}
 use Rattle.lis_words.specs.Words.{has_word, is_valued, head_bytes, is_head, is_built_in}
 use Rattle.lis_model.specs.Sets.{with_words}
-use Rattle.lis_model.specs.Derived.{derived_words}
-use Rattle.lis_model.specs.State.{File, heads}
+use Rattle.lis_model.specs.State.{heads}
 use Rattle.lis_kept.specs.Kept.{Kept}
-use Rattle.lis_kept.specs.Areas.{is_marked}
+use Rattle.lis_kept.specs.Areas.{is_marked, marked_count}
 use Rattle.lis_kept.specs.Telling.{state_of}
 use Rattle.lis_kept.specs.Changes.{Marks}
+use Rattle.lis_store.specs.Drafts.{Draft}
 
 -- ---- numbers of words
 -- there is a word, and it is one of these
@@ -44,15 +44,16 @@ may_learn k word =
 abbrev pub HasWordRoom : Kept → List (List ℕ) → Type 0
 HasWordRoom k more = length (with_words (words k.dict) more) ≤ k.limits.props
 
--- These words have numbers now, and each word that had one keeps it.
+-- These words have numbers now, and each word that had one keeps it. No more blocks are marked than there are new words.
 pub record LearnsAll (more : List (List ℕ)) (p q : Kept) : Type 0 where
   pub parts : q ≡ record p { dict = q.dict; marks = q.marks }
   pub marks : Marks (length more) p q
+  pub few : marked_count q + length (words p.dict) ≤ marked_count p + length (words q.dict)
   pub marked : (block : ℕ) → is_marked p block ≡ true → is_marked q block ≡ true
   pub words : words q.dict ≡ with_words (words p.dict) more
   pub keeps : (n : ℕ) (word : List ℕ) → word_of p.dict n ≡ Some word → word_of q.dict n ≡ Some word
   pub state : (at : ℕ → List ℕ) → state_of q at ≡ state_of p at
 
--- The words of a file that are learnt with it: those that it was given, and the derived ones. Tests that it meets are declared.
-abbrev pub learnt_words : File → List (List ℕ)
-learnt_words file = file.assigned ++ derived_words file.name file.bytes
+-- The words of a file that are learnt with it: those that it was given, and those that it has by itself. Tests that it meets are declared.
+abbrev pub learnt_words : Draft → List (List ℕ)
+learnt_words draft = draft.assigned ++ draft.own

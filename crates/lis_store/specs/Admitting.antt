@@ -10,20 +10,22 @@ use Rattle.lis_words.specs.Words.{is_built_in, is_file_name, word_cmp}
 use Rattle.lis_model.specs.declared.refusal.Refusal.{Refusal}
 use Rattle.lis_model.specs.declared.refusal.Refusal.TheVariants.{UnknownProperty, NotAPlace, NameTaken, NotAssignable, TooManyAssigned, LargeDescription, LargeFile, NoFileRoom, NoPropertyRoom, NoSpace, BuiltIn}
 use Rattle.lis_model.specs.Sets.{with_words}
-use Rattle.lis_model.specs.State.{File, file_words, is_assignable, file_limit, blocks_taken}
+use Rattle.lis_model.specs.State.{File, all_up, is_assignable, file_limit, blocks_taken}
 use Rattle.lis_model.specs.Changes.{new_file}
 use Rattle.lis_model.specs.Places.{place_words}
 use Rattle.lis_model.specs.Step.{is_head_or_test, assigned_at}
+use Rattle.lis_model.specs.Tests.{met_tests}
 use Rattle.lis_kept.specs.Kept.{Kept}
 use Rattle.lis_kept.specs.Telling.{declared_of, axioms_of}
+use Rattle.lis_store.specs.Drafts.{Draft, draft_of}
 
 -- the description that a file would have
-abbrev pub described_by : Kept → File → List (List ℕ)
-described_by k file = file_words (declared_of k) (axioms_of k) file
+abbrev pub described_by : Kept → Draft → List (List ℕ)
+described_by k draft = all_up (declared_of k) (axioms_of k) (draft.assigned ++ draft.own ++ met_tests (declared_of k) draft.size)
 
 -- the words that would be known with it
-abbrev pub known_with : Kept → File → List (List ℕ)
-known_with k file = with_words (words k.dict) (described_by k file)
+abbrev pub known_with : Kept → Draft → List (List ℕ)
+known_with k draft = with_words (words k.dict) (described_by k draft)
 
 -- what the name, the place and the named words are refused for
 abbrev pub named_checks : Kept → List Formula → List (List ℕ) → File → List (Bool × Refusal)
@@ -37,30 +39,32 @@ named_checks k place words file =
     ∷ []
 
 -- whether there is room for the file, and for its words
-abbrev pub room_checks : Kept → File → ℕ → List (Bool × Refusal)
-room_checks k file size =
+abbrev pub room_checks : Kept → Draft → ℕ → List (Bool × Refusal)
+room_checks k draft size =
     (nat_le k.limits.files (length k.catalog.entries), NoFileRoom)
-    ∷ (nat_lt 128 (length (described_by k file)), LargeDescription)
-    ∷ (nat_lt k.limits.props (length (known_with k file)), NoPropertyRoom)
+    ∷ (nat_lt 128 (length (described_by k draft)), LargeDescription)
+    ∷ (nat_lt k.limits.props (length (known_with k draft)), NoPropertyRoom)
     ∷ (nat_lt (free_count k.taken) (blocks_taken k.limits.version size), NoSpace)
     ∷ []
 
 abbrev pub file_checks : Kept → List Formula → List (List ℕ) → File → ℕ → List (Bool × Refusal)
 file_checks k place words file size =
-    (nat_lt (file_limit k.limits.version) size, LargeFile) ∷ named_checks k place words file ++ room_checks k file size
+    (nat_lt (file_limit k.limits.version) size, LargeFile) ∷ named_checks k place words file ++ room_checks k (draft_of file) size
 
 -- the row of `add`
 abbrev pub add_checks_of : Kept → List Formula → List ℕ → List (List ℕ) → List ℕ → ℕ → List (Bool × Refusal)
 add_checks_of k place name words bytes size = file_checks k place words (new_file name (assigned_at place words) bytes) size
 
 -- A file that a row of no refusal lets in.
-pub record IsAdmitted (k : Kept) (file : File) : Type 0 where
-  pub name : IsTrue (is_file_name file.name)
-  pub new : slot_of k.catalog file.name ≡ None
-  pub set : IsTrue (is_rising word_cmp file.assigned)
-  pub assignable : IsTrue (list_all (is_assignable (declared_of k)) file.assigned)
-  pub few : length file.assigned ≤ 16
+pub record IsAdmitted (k : Kept) (draft : Draft) : Type 0 where
+  pub name : IsTrue (is_file_name draft.name)
+  pub new : slot_of k.catalog draft.name ≡ None
+  pub set : IsTrue (is_rising word_cmp draft.assigned)
+  pub assignable : IsTrue (list_all (is_assignable (declared_of k)) draft.assigned)
+  pub few : length draft.assigned ≤ 16
+  pub own : IsTrue (list_all is_built_in draft.own)
+  pub few_own : length draft.own ≤ 128
   pub slots : length k.catalog.entries < k.limits.files
-  pub short : length (described_by k file) ≤ 128
-  pub room : length (known_with k file) ≤ k.limits.props
-  pub small : length file.bytes ≤ file_limit k.limits.version
+  pub short : length (described_by k draft) ≤ 128
+  pub room : length (known_with k draft) ≤ k.limits.props
+  pub small : draft.size ≤ file_limit k.limits.version

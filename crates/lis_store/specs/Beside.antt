@@ -7,10 +7,10 @@ use Rattle.lis_ext.specs.Numbers.{numbers_where}
 use Rattle.lis_model.specs.declared.refusal.Refusal.{Refusal}
 use Rattle.lis_model.specs.declared.refusal.Refusal.TheVariants.{LargeDescription, NoPropertyRoom}
 use Rattle.lis_model.specs.Sets.{with_words}
-use Rattle.lis_model.specs.State.{File}
 use Rattle.lis_kept.specs.Kept.{Kept}
 use Rattle.lis_kept.specs.Telling.{is_used}
 use Rattle.lis_kept.specs.Forgetting.{emptied}
+use Rattle.lis_store.specs.Drafts.{Draft}
 use Rattle.lis_store.specs.Admitting.{described_by}
 use Rattle.lis_store.specs.Replacing.{words_without}
 
@@ -20,14 +20,14 @@ words_beside k None = words k.dict
 words_beside k (Some slot) = words_without k slot
 
 -- with the words of a file's description
-abbrev pub known_beside : Kept → Option ℕ → File → List (List ℕ)
-known_beside k old file = with_words (words_beside k old) (described_by k file)
+abbrev pub known_beside : Kept → Option ℕ → Draft → List (List ℕ)
+known_beside k old draft = with_words (words_beside k old) (described_by k draft)
 
 -- what the words of the file are refused for
-abbrev pub words_checks : Kept → Option ℕ → File → List (Bool × Refusal)
-words_checks k old file =
-    (nat_lt 128 (length (described_by k file)), LargeDescription)
-    ∷ (nat_lt k.limits.props (length (known_beside k old file)), NoPropertyRoom)
+abbrev pub words_checks : Kept → Option ℕ → Draft → List (Bool × Refusal)
+words_checks k old draft =
+    (nat_lt 128 (length (described_by k draft)), LargeDescription)
+    ∷ (nat_lt k.limits.props (length (known_beside k old draft)), NoPropertyRoom)
     ∷ []
 
 -- the description in the slot has the number, which is not in the row, and nothing else uses it

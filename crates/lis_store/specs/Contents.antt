@@ -1,5 +1,5 @@
 -- How the contents of files are put on the disk, and given back.
-use Rattle.std.specs.Prelude.{◌≡◌, ℕ, ◌+◌, ◌≤◌, nat_lt, Bool, true, false, List, [], length, Result, Ok, Err, IsTrue}
+use Rattle.std.specs.Prelude.{◌≡◌, ℕ, ◌+◌, ◌≤◌, nat_lt, Bool, true, false, Option, None, Some, List, [], length, Result, Ok, Err, IsTrue}
 use Rattle.std.specs.List.{list_all}
 use Rattle.arrayvec.specs.ArrayVec.{ArrayVec}
 use Rattle.lis_ports.specs.Meaning.{Meaning}
@@ -54,22 +54,27 @@ ContentGiven rec p q journal before after (Ok done) = Gives rec p q journal befo
 ContentGiven rec p q journal before after (Err (Refused refusal)) = false ≡ true
 ContentGiven rec p q journal before after (Err Disk) = (q ≡ p) × Asks journal before after
 
--- The blocks of a file are given back and others taken. In version 1 they are given back first, and may be used again; in version 2 the
--- others were free.
-pub data Trades (limits : Limits) (rec : FileRecord) (taken now : List Bool) (blocks : List ℕ) (at there : ℕ → List ℕ) : Type 0 where
-  First : IsTrue (are_free (given taken (blocks_told limits at rec)) blocks) → now ≡ marked (given taken (blocks_told limits at rec)) blocks
-      → Trades limits rec taken now blocks at there
-  Last : IsTrue (are_free taken blocks) → now ≡ given (marked taken blocks) (blocks_told limits there rec) → Trades limits rec taken now blocks at there
+-- the blocks of the file of a record, if there is one
+abbrev pub blocks_gone : Limits → (ℕ → List ℕ) → Option FileRecord → List ℕ
+blocks_gone limits at None = []
+blocks_gone limits at (Some rec) = blocks_told limits at rec
 
--- By what the disk kept: these blocks hold the bytes, for which those of the file of a record are given back.
-pub record IsRenewed (bytes numbers blocks : List ℕ) (rec : FileRecord) (p q : Kept) (was : ℕ → List ℕ) (old new : Held) (after : Meaning) : Type 0 where
+-- The blocks of a file, if there is one, are given back and others taken. In version 1 they are given back first, and may be used again; in version 2 the
+-- others were free.
+pub data Trades (limits : Limits) (gone : Option FileRecord) (taken now : List Bool) (blocks : List ℕ) (at there : ℕ → List ℕ) : Type 0 where
+  First : IsTrue (are_free (given taken (blocks_gone limits at gone)) blocks) → now ≡ marked (given taken (blocks_gone limits at gone)) blocks
+      → Trades limits gone taken now blocks at there
+  Last : IsTrue (are_free taken blocks) → now ≡ given (marked taken blocks) (blocks_gone limits there gone) → Trades limits gone taken now blocks at there
+
+-- By what the disk kept: these blocks hold the bytes, for which those of the file of a record are given back, if there is one.
+pub record IsRenewed (bytes numbers blocks : List ℕ) (gone : Option FileRecord) (p q : Kept) (was : ℕ → List ℕ) (old new : Held) (after : Meaning) : Type 0 where
   pub lands : Lands p.limits bytes numbers blocks (looked old.staged was) new after
   pub stays : (n : ℕ) → is_among new.placed n ≡ false → lands.kept n ≡ was n
-  pub trades : Trades p.limits rec p.taken q.taken blocks (looked old.staged was) (looked new.staged lands.kept)
+  pub trades : Trades p.limits gone p.taken q.taken blocks (looked old.staged was) (looked new.staged lands.kept)
 
--- Bytes are put into blocks in the place of those of the file of a record. At any moment a crash leaves all blocks as before but placed ones,
+-- Bytes are put into blocks, in the place of those of the file of a record if there is one. At any moment a crash leaves all blocks as before but placed ones,
 -- which are among spare ones that were free.
-pub record Renews (bytes numbers : List ℕ) (rec : FileRecord) (p q : Kept) (old new : Held) (before after : Meaning) : Type 0 where
+pub record Renews (bytes numbers : List ℕ) (gone : Option FileRecord) (p q : Kept) (old new : Held) (before after : Meaning) : Type 0 where
   pub parts : q ≡ record p { taken = q.taken; marks = q.marks }
   pub marks : Marks 2 p q
   pub bitmap : is_marked q (bitmap_start p.limits) ≡ true
@@ -86,9 +91,9 @@ pub record Renews (bytes numbers : List ℕ) (rec : FileRecord) (p q : Kept) (ol
   pub past : (kept : ℕ → List ℕ) → Fits old before kept → KeepsPast old.blocks before after
   pub blocks : List ℕ
   pub distinct : IsTrue (are_distinct blocks)
-  pub renewed : (kept : ℕ → List ℕ) → Fits old before kept → IsRenewed bytes numbers blocks rec p q kept old new after
+  pub renewed : (kept : ℕ → List ℕ) → Fits old before kept → IsRenewed bytes numbers blocks gone p q kept old new after
 
-abbrev pub ContentRenewed : List ℕ → FileRecord → Kept → Kept → Held → Held → Meaning → Meaning → Result (ArrayVec ℕ) Change → Type 0
-ContentRenewed bytes rec p q old new before after (Ok numbers) = Renews bytes numbers.items rec p q old new before after
-ContentRenewed bytes rec p q old new before after (Err (Refused refusal)) = false ≡ true
-ContentRenewed bytes rec p q old new before after (Err Disk) = ContentTorn bytes p q old new before after
+abbrev pub ContentRenewed : List ℕ → Option FileRecord → Kept → Kept → Held → Held → Meaning → Meaning → Result (ArrayVec ℕ) Change → Type 0
+ContentRenewed bytes replaced p q old new before after (Ok numbers) = Renews bytes numbers.items replaced p q old new before after
+ContentRenewed bytes replaced p q old new before after (Err (Refused refusal)) = false ≡ true
+ContentRenewed bytes replaced p q old new before after (Err Disk) = ContentTorn bytes p q old new before after

@@ -6,9 +6,10 @@ use Rattle.lis_ext.specs.Numbers.{numbers_where}
 use Rattle.lis_dict.specs.Dict.{number_of, word_of}
 use Rattle.lis_words.specs.Words.{has_word}
 use Rattle.lis_model.specs.Noted.{are_distinct}
-use Rattle.lis_model.specs.State.{File, heads, all_up}
+use Rattle.lis_model.specs.State.{heads, all_up}
 use Rattle.lis_kept.specs.Kept.{Kept}
 use Rattle.lis_kept.specs.Telling.{declared_of, axioms_of}
+use Rattle.lis_store.specs.Drafts.{Draft}
 use Rattle.lis_store.specs.Adding.{is_one_of}
 use Rattle.lis_store.specs.Admitting.{described_by}
 
@@ -30,14 +31,14 @@ pub record Gathers (k : Kept) (more : List (List ℕ)) (old new : Rows) (fresh w
   pub noted : (word : List ℕ) → has_word wider word ≡ (has_word fresh word || (has_word more word && is_none (number_of k.dict word)))
 
 -- The row has the numbers of the words that the file's description would have, where they have any.
-abbrev pub HasNumbers : Kept → Rows → File → Type 0
-HasNumbers k row file = (n : ℕ) → n < k.limits.props → get row 0 n ≡ is_one_of (described_by k file) (word_of k.dict n)
+abbrev pub HasNumbers : Kept → Rows → Draft → Type 0
+HasNumbers k row draft = (n : ℕ) → n < k.limits.props → get row 0 n ≡ is_one_of (described_by k draft) (word_of k.dict n)
 
 -- A description is told: the row has the numbers of its words, and `fresh` has those that have no number, each once.
-pub record IsTold (k : Kept) (file : File) (row : Rows) (fresh : List (List ℕ)) : Type 0 where
+pub record IsTold (k : Kept) (draft : Draft) (row : Rows) (fresh : List (List ℕ)) : Type 0 where
   pub shape : HasShape row 1 k.limits.props
-  pub numbers : HasNumbers k row file
+  pub numbers : HasNumbers k row draft
   pub count : true_count row 0 ≡ length (numbers_where k.limits.props (get row 0))
   pub once : IsTrue (are_distinct fresh)
   pub new : (word : List ℕ) → has_word fresh word ≡ true → number_of k.dict word ≡ None
-  pub others : (word : List ℕ) → number_of k.dict word ≡ None → has_word (described_by k file) word ≡ has_word fresh word
+  pub others : (word : List ℕ) → number_of k.dict word ≡ None → has_word (described_by k draft) word ≡ has_word fresh word

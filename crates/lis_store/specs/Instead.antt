@@ -1,5 +1,5 @@
 -- What a file is refused for that would come into the place of another, told by what a store keeps.
-use Rattle.std.specs.Prelude.{ℕ, ◌+◌, ◌==◌, nat_lt, not, if◌then◌else◌, Bool, is_some, Some, List, [], ◌∷◌, ◌++◌, length, filter}
+use Rattle.std.specs.Prelude.{ℕ, ◌+◌, ◌==◌, nat_lt, not, if◌then◌else◌, Bool, is_some, Option, None, Some, List, [], ◌∷◌, ◌++◌, length, filter}
 use Rattle.std.specs.List.{list_all}
 use Rattle.lis_blockmap.specs.Bitmap.{free_count, is_taken}
 use Rattle.lis_catalog.specs.Catalog.{slot_of}
@@ -11,6 +11,7 @@ use Rattle.lis_model.specs.State.{File, is_assignable, file_limit, blocks_taken}
 use Rattle.lis_model.specs.Changes.{new_file}
 use Rattle.lis_kept.specs.Kept.{Kept}
 use Rattle.lis_kept.specs.Telling.{declared_of, words_told}
+use Rattle.lis_store.specs.Drafts.{Draft, draft_of}
 use Rattle.lis_store.specs.Judging.{is_among}
 use Rattle.lis_store.specs.Beside.{words_checks}
 
@@ -22,22 +23,27 @@ given_before k rec name bytes = new_file name (words_told k.dict rec.tags) bytes
 -- ---- rows
 -- What the words of the file in the place of that in the slot are refused for. A file of a state has words that may be given; what memory
 -- keeps does not say so by itself.
-abbrev pub instead_checks : Kept → ℕ → File → List (Bool × Refusal)
-instead_checks k slot file =
-    (not (list_all (is_assignable (declared_of k)) file.assigned), UnknownProperty) ∷ words_checks k (Some slot) file
+abbrev pub instead_checks : Kept → ℕ → Draft → List (Bool × Refusal)
+instead_checks k slot draft =
+    (not (list_all (is_assignable (declared_of k)) draft.assigned), UnknownProperty) ∷ words_checks k (Some slot) draft
 
 -- How many blocks are free for other bytes of the file of a record. In version 1 those that it has, which are taken, may be used again; in
 -- version 2 they stay until the command is done.
 abbrev pub free_instead : Kept → FileRecord → ℕ
 free_instead k rec = if k.limits.version == 2 then free_count k.taken else free_count k.taken + length (filter (is_taken k.taken) rec.blocks)
 
+-- or for a file's bytes, in the place of that of a record if there is one
+abbrev pub free_for : Kept → Option FileRecord → ℕ
+free_for k None = free_count k.taken
+free_for k (Some rec) = free_instead k rec
+
 abbrev pub overwriting_checks : Kept → ℕ → FileRecord → File → ℕ → List (Bool × Refusal)
 overwriting_checks k slot rec file size =
-    instead_checks k slot file
+    instead_checks k slot (draft_of file)
     ++ (nat_lt (free_instead k rec) (blocks_taken k.limits.version size), NoSpace) ∷ []
 
 abbrev pub renaming_checks : Kept → ℕ → File → List (Bool × Refusal)
-renaming_checks k slot file = (is_some (slot_of k.catalog file.name), NameTaken) ∷ instead_checks k slot file
+renaming_checks k slot file = (is_some (slot_of k.catalog file.name), NameTaken) ∷ instead_checks k slot (draft_of file)
 
 -- the rows of `write` and of `rename`, and that the words may be given, as those of each file of a state may
 abbrev pub write_checks_of : Kept → List Formula → List ℕ → ℕ → FileRecord → File → ℕ → List (Bool × Refusal)

@@ -7,6 +7,7 @@ pub mod Seen
 pub mod Laws
 pub mod Saving
 pub mod Judging
+pub mod Drafts
 pub mod Admitting
 pub mod Assigning
 pub mod Placing

@@ -8,12 +8,12 @@ use Rattle.lis_grammar.specs.Places.{Resolution}
 use Rattle.lis_grammar.specs.Places.Resolution.{NewPlace, BeyondLimits, Unreadable}
 use Rattle.lis_model.specs.declared.refusal.Refusal.{Refusal}
 use Rattle.lis_model.specs.declared.refusal.Refusal.TheVariants.{BadFormula, UnknownProperty, LargeFormula, NotAPlace, NotAssignable, TooManyAssigned, BuiltIn}
-use Rattle.lis_model.specs.State.{File, is_assignable}
-use Rattle.lis_model.specs.Changes.{new_file}
+use Rattle.lis_model.specs.State.{is_assignable}
 use Rattle.lis_model.specs.Places.{place_words}
 use Rattle.lis_model.specs.Step.{tags_at, retagged}
 use Rattle.lis_kept.specs.Kept.{Kept}
 use Rattle.lis_kept.specs.Telling.{words_told, declared_of}
+use Rattle.lis_store.specs.Drafts.{Draft, drafted, own_kept}
 use Rattle.lis_store.specs.Instead.{instead_checks}
 
 -- the place that a text makes of a place, or why it is refused
@@ -26,8 +26,9 @@ led_by (NewPlace place) = Ok place
 abbrev pub words_moved : Kept → FileRecord → List Formula → List Formula → List (List ℕ)
 words_moved k rec here there = retagged (words_told k.dict rec.tags) (tags_at here) (tags_at there)
 
-abbrev pub moved_from : Kept → FileRecord → List Formula → List Formula → List ℕ → List ℕ → File
-moved_from k rec here there name bytes = new_file name (words_moved k rec here there) bytes
+-- the file of a record, which has the words by itself that its description has kept
+abbrev pub moved_draft : Kept → ℕ → FileRecord → List Formula → List Formula → List ℕ → Draft
+moved_draft k slot rec here there name = drafted name rec.size (words_moved k rec here there) (own_kept k slot)
 
 -- ---- rows
 -- what the words of a text are refused for
@@ -45,5 +46,5 @@ places_checks k here there words =
 abbrev pub moving_checks : Kept → List Formula → List Formula → List (List ℕ) → FileRecord → List (Bool × Refusal)
 moving_checks k here there words rec = places_checks k here there words ++ (nat_lt 16 (length (words_moved k rec here there)), TooManyAssigned) ∷ []
 
-abbrev pub retag_checks : Kept → List Formula → List Formula → List (List ℕ) → ℕ → FileRecord → File → List (Bool × Refusal)
-retag_checks k here there words slot rec file = moving_checks k here there words rec ++ instead_checks k slot file
+abbrev pub retag_checks : Kept → List Formula → List Formula → List (List ℕ) → ℕ → FileRecord → Draft → List (Bool × Refusal)
+retag_checks k here there words slot rec draft = moving_checks k here there words rec ++ instead_checks k slot draft

@@ -8,12 +8,14 @@ ghost use Rattle.lis_model.specs.Changes.{new_file};
 ghost use Rattle.lis_model.specs.State.{file_limit, blocks_taken};
 ghost use Rattle.lis_model.specs.Step.{is_head_or_test, assigned_at};
 ghost use Rattle.lis_eval.specs.Room.{HasRoom};
+ghost use Rattle.lis_store.specs.Drafts.{drafted, draft_of};
 ghost use Rattle.lis_store.specs.Admitting.{named_checks, room_checks, add_checks_of};
 ghost use Rattle.lis_store.specs.Changes.{Judges};
 
 use crate::assigning::{are_assignable, assigned, has_words};
-use crate::describing::measure;
+use crate::describing::{Draft, measure};
 use arrayvec::ArrayVec;
+use lis_derive::derive_words;
 use lis_eval::Scratch;
 use lis_kept::Parts;
 use lis_model::command::Tags;
@@ -109,7 +111,38 @@ fn may_name(
     }
 }
 
-// Whether there is room for a new file of these words.
+// Whether there is room for a new file, of so many bytes.
+fn has_room_for(
+    parts: &Parts,
+    scratch: &mut Scratch,
+    draft: Draft,
+    size: u64,
+) -> Result<(), Refusal>
+    requires few { length draft.assigned.now ≤ 16 }
+    requires few_own { length draft.own.now ≤ 128 }
+    requires room { HasRoom scratch.old parts.now.limits }
+    ensures room { HasRoom scratch.new parts.now.limits }
+    ensures row { Judges (room_checks parts.now
+        (drafted draft.entry.name.now draft.entry.size draft.entry.assigned.now draft.entry.own.now) size) result }
+{
+    let limits = parts.limits();
+    if parts.file_count() >= limits.files {
+        return Err(Refusal::NoFileRoom);
+    }
+    let measure = measure(parts, &mut scratch.candidates, None, draft);
+    if measure.words > MAX_DESCRIPTION {
+        return Err(Refusal::LargeDescription);
+    }
+    if measure.known > limits.props {
+        return Err(Refusal::NoPropertyRoom);
+    }
+    if blocks_taken(limits.version, size) > u64::from(parts.free_blocks()) {
+        return Err(Refusal::NoSpace);
+    }
+    Ok(())
+}
+
+// As `has_room_for`, with the words that are derived from these bytes.
 fn has_room(
     parts: &Parts,
     scratch: &mut Scratch,
@@ -121,23 +154,16 @@ fn has_room(
     requires few { length words.now ≤ 16 }
     requires room { HasRoom scratch.old parts.now.limits }
     ensures room { HasRoom scratch.new parts.now.limits }
-    ensures row { Judges (room_checks parts.now (new_file name.now words.now payload.now) size) result }
+    ensures row { Judges (room_checks parts.now (draft_of (new_file name.now words.now payload.now)) size) result }
 {
-    let limits = parts.limits();
-    if parts.file_count() >= limits.files {
-        return Err(Refusal::NoFileRoom);
-    }
-    let measure = measure(parts, &mut scratch.candidates, None, name, words, payload);
-    if measure.words > MAX_DESCRIPTION {
-        return Err(Refusal::LargeDescription);
-    }
-    if measure.known > limits.props {
-        return Err(Refusal::NoPropertyRoom);
-    }
-    if blocks_taken(limits.version, size) > u64::from(parts.free_blocks()) {
-        return Err(Refusal::NoSpace);
-    }
-    Ok(())
+    let derived = derive_words(name, payload);
+    let draft = Draft {
+        name,
+        size: payload.len() as u64,
+        assigned: words,
+        own: derived.as_slice(),
+    };
+    has_room_for(parts, scratch, draft, size)
 }
 
 /// The words that a new file is given, or what it is refused for. Where there are more bytes than a file may have, only their

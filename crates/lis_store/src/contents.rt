@@ -1,6 +1,6 @@
 //! Contents of files that are put on the disk, put in the place of others, and given back. A fault of the disk breaks the store.
 
-ghost use Rattle.std.specs.Prelude.{◌≡◌, ◌+◌, ◌*◌, ◌≤◌, ℕ, List, Bool, Some, true, false, [], length, IsSome, IsTrue, OnOk, OnErr, Ok};
+ghost use Rattle.std.specs.Prelude.{◌≡◌, ◌+◌, ◌*◌, ◌≤◌, ℕ, List, Bool, Some, true, false, [], length, IsSome, IfSome, IsTrue, OnOk, OnErr, Ok};
 ghost use Rattle.lis_ports.specs.Calls.{DiskFaultEnds};
 ghost use Rattle.lis_ports.specs.Runs.{IsDiskRun};
 ghost use Rattle.lis_blockmap.specs.Bitmap.{free_count};
@@ -10,7 +10,8 @@ ghost use Rattle.lis_fields.specs.Records.{FileRecord};
 ghost use Rattle.lis_model.specs.Image.{image_blocks};
 ghost use Rattle.lis_model.specs.State.{blocks_taken, file_limit};
 ghost use Rattle.lis_kept.specs.Sound.{AreSound};
-ghost use Rattle.lis_store.specs.Instead.{free_instead};
+ghost use Rattle.lis_store.specs.Instead.{free_instead, free_for};
+ghost use Rattle.lis_store.specs.ReplacingIn.{record_in};
 ghost use Rattle.lis_store.specs.Changes.{HasChangeCause};
 ghost use Rattle.lis_store.specs.Contents.{ContentPut, ContentGiven, ContentRenewed, ContentEnded};
 
@@ -20,8 +21,8 @@ use lis_journal::Journal;
 use lis_kept::Parts;
 use lis_ports::Disk;
 
-/// Puts bytes into free blocks, and answers the numbers that a slot has of them.
-pub(crate) fn put_content<D: Disk>(
+// Puts bytes into free blocks, and answers the numbers that a slot has of them.
+fn put_content<D: Disk>(
     parts: &mut Parts,
     journal: &mut Journal,
     is_broken: &mut bool,
@@ -99,9 +100,9 @@ pub(crate) fn blocks_in(parts: &Parts, slot: u16) -> ArrayVec<u16, 16>
     numbers
 }
 
-/// Puts bytes into blocks in the place of those of the file in a slot, and answers the numbers that a slot has of them. In version 1 the
-/// blocks of that file may be used again; in version 2 they stay until the command is done.
-pub(crate) fn put_instead<D: Disk>(
+// Puts bytes into blocks in the place of those of the file in a slot, and answers the numbers that a slot has of them. In version 1 the
+// blocks of that file may be used again; in version 2 they stay until the command is done.
+fn put_instead<D: Disk>(
     parts: &mut Parts,
     journal: &mut Journal,
     is_broken: &mut bool,
@@ -121,7 +122,7 @@ pub(crate) fn put_instead<D: Disk>(
     requires room { length journal.old.staged + 16 ≤ 575 }
     requires long { 4096 * journal.old.blocks ≤ (D.meaning disk.old).len }
     ensures renewed { (rec : FileRecord) → rec_at parts.old.catalog slot ≡ Some rec
-        → ContentRenewed payload.now rec parts.old parts.new journal.old journal.new (D.meaning disk.old) (D.meaning disk.new) result }
+        → ContentRenewed payload.now (Some rec) parts.old parts.new journal.old journal.new (D.meaning disk.old) (D.meaning disk.new) result }
     ensures ended { ContentEnded is_broken.new result }
     ensures sound { AreSound parts.new }
     ensures run { IsDiskRun (D.meaning disk.old) (D.meaning disk.new) }
@@ -135,4 +136,38 @@ pub(crate) fn put_instead<D: Disk>(
     }
     give_content(parts, journal, is_broken, disk, slot)?;
     put_content(parts, journal, is_broken, disk, payload)
+}
+
+/// Puts bytes into blocks, in the place of those of the file in the slot if one is told, and answers the numbers that a slot has of them.
+pub(crate) fn put_anew<D: Disk>(
+    parts: &mut Parts,
+    journal: &mut Journal,
+    is_broken: &mut bool,
+    disk: &mut D,
+    slot: Option<u16>,
+    payload: &[u8],
+) -> Result<ArrayVec<u16, 16>, Change>
+    requires sound { AreSound parts.old }
+    requires there { IfSome slot (λ slot. IsSome (rec_at parts.old.catalog slot)) }
+    requires short { length payload.now ≤ file_limit parts.old.limits.version }
+    requires enough { blocks_taken parts.old.limits.version (length payload.now) ≤ free_for parts.old (record_in parts.old slot) }
+    requires image { journal.old.blocks ≡ image_blocks parts.old.limits }
+    requires unbroken { journal.old.is_broken ≡ false }
+    requires whole { is_broken.old ≡ false }
+    requires unplaced { journal.old.placed ≡ [] }
+    requires unstaged { is_large (length payload.now) ≡ true → journal.old.staged ≡ [] }
+    requires room { length journal.old.staged + 16 ≤ 575 }
+    requires long { 4096 * journal.old.blocks ≤ (D.meaning disk.old).len }
+    ensures renewed { ContentRenewed payload.now (record_in parts.old slot) parts.old parts.new journal.old journal.new
+        (D.meaning disk.old) (D.meaning disk.new) result }
+    ensures ended { ContentEnded is_broken.new result }
+    ensures sound { AreSound parts.new }
+    ensures run { IsDiskRun (D.meaning disk.old) (D.meaning disk.new) }
+    ensures cause { HasChangeCause (D.meaning disk.old).disk_faults (D.meaning disk.new).disk_faults result }
+    ensures first_fault { DiskFaultEnds (D.meaning disk.old) (D.meaning disk.new) }
+{
+    match slot {
+        None => put_content(parts, journal, is_broken, disk, payload),
+        Some(slot) => put_instead(parts, journal, is_broken, disk, slot, payload),
+    }
 }

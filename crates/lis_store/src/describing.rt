@@ -4,10 +4,10 @@ ghost use Rattle.std.specs.Prelude.{◌≡◌, ◌+◌, ◌*◌, ◌<◌, ◌≤
 ghost use Rattle.lis_bits.specs.Rows.{HasShape};
 ghost use Rattle.lis_catalog.specs.Catalog.{rec_at};
 ghost use Rattle.lis_words.specs.Words.{has_word};
-ghost use Rattle.lis_model.specs.Changes.{new_file};
 ghost use Rattle.lis_model.specs.State.{heads};
 ghost use Rattle.lis_kept.specs.Sound.{AreSound};
 ghost use Rattle.lis_kept.specs.Telling.{AreUsed};
+ghost use Rattle.lis_store.specs.Drafts.{drafted};
 ghost use Rattle.lis_store.specs.Admitting.{described_by};
 ghost use Rattle.lis_store.specs.Beside.{known_beside, is_leaving, leaving};
 ghost use Rattle.lis_store.specs.Describing.{with_heads, Gathers, IsTold};
@@ -15,12 +15,20 @@ ghost use Rattle.lis_store.specs.Describing.{with_heads, Gathers, IsTold};
 use crate::meeting::leave_out_met;
 use arrayvec::ArrayVec;
 use lis_bits::{Rows, and_not_row};
-use lis_derive::derive_words;
 use lis_kept::Parts;
 use lis_words::{Name, Word, head_of};
 
-/// The words that are new: as many as 64 words, which a file is given or which are derived from it, have with their heads.
-type Fresh = ArrayVec<Word, 128>;
+/// A file as a change tells it: of its bytes only how many they are, and which words it has by itself.
+#[derive(Clone, Copy)]
+pub(crate) struct Draft<'a> {
+    pub(crate) name: &'a Name,
+    pub(crate) size: u64,
+    pub(crate) assigned: &'a [Word],
+    pub(crate) own: &'a [Word],
+}
+
+/// The words that are new: as many as 144 words, which a file is given or has by itself, have with their heads.
+type Fresh = ArrayVec<Word, 288>;
 
 /// How many words a description has, and how many words would be known with them.
 #[derive(Clone, Copy, Debug, PartialEq, Eq)]
@@ -40,7 +48,7 @@ fn has(words: &[Word], word: &Word) -> bool
 fn gather(parts: &Parts, lacked: &mut Rows, fresh: &mut Fresh, word: &Word)
     requires sound { AreSound parts.now }
     requires shape { HasShape lacked.old 1 parts.now.limits.props }
-    requires room { length fresh.old.items < 128 }
+    requires room { length fresh.old.items < 288 }
     ensures { Gathers parts.now (word.now ∷ []) lacked.old lacked.new fresh.old.items fresh.new.items }
 {
     if let Some(number) = parts.number_of(word) {
@@ -57,7 +65,7 @@ fn gather(parts: &Parts, lacked: &mut Rows, fresh: &mut Fresh, word: &Word)
 fn gather_with_head(parts: &Parts, lacked: &mut Rows, fresh: &mut Fresh, word: &Word)
     requires sound { AreSound parts.now }
     requires shape { HasShape lacked.old 1 parts.now.limits.props }
-    requires room { length fresh.old.items + 1 < 128 }
+    requires room { length fresh.old.items + 1 < 288 }
     ensures { Gathers parts.now (word.now ∷ heads word.now) lacked.old lacked.new fresh.old.items fresh.new.items }
 {
     gather(parts, lacked, fresh, word);
@@ -70,7 +78,7 @@ fn gather_with_head(parts: &Parts, lacked: &mut Rows, fresh: &mut Fresh, word: &
 fn gather_all(parts: &Parts, lacked: &mut Rows, fresh: &mut Fresh, words: &[Word])
     requires sound { AreSound parts.now }
     requires shape { HasShape lacked.old 1 parts.now.limits.props }
-    requires room { length fresh.old.items + 2 * length words.now ≤ 128 }
+    requires room { length fresh.old.items + 2 * length words.now ≤ 288 }
     ensures { Gathers parts.now (with_heads words.now) lacked.old lacked.new fresh.old.items fresh.new.items }
 {
     for word in words {
@@ -78,25 +86,21 @@ fn gather_all(parts: &Parts, lacked: &mut Rows, fresh: &mut Fresh, words: &[Word
     }
 }
 
-// Tells the description of a file of a name, the words that it is given, and these bytes: `row`, a row of words to work in, has
-// then the numbers of its words. The answer is those that have none.
-fn tell(parts: &Parts, row: &mut Rows, name: &Name, words: &[Word], payload: &[u8]) -> Fresh
+// Tells the description of a file: `row`, a row of words to work in, has then the numbers of its words. The answer is those that
+// have none.
+fn tell(parts: &Parts, row: &mut Rows, draft: Draft) -> Fresh
     requires sound { AreSound parts.now }
     requires shape { HasShape row.old 1 parts.now.limits.props }
-    requires few { length words.now ≤ 16 }
-    ensures { IsTold parts.now (new_file name.now words.now payload.now) row.new result.items }
+    requires few { length draft.assigned.now ≤ 16 }
+    requires few_own { length draft.own.now ≤ 128 }
+    ensures { IsTold parts.now (drafted draft.entry.name.now draft.entry.size draft.entry.assigned.now draft.entry.own.now) row.new result.items }
 {
     // Rows of other rows are taken from a row, so it has at first what the file lacks.
     let mut fresh = ArrayVec::new();
     row.fill(0, true);
-    gather_all(parts, row, &mut fresh, words);
-    gather_all(
-        parts,
-        row,
-        &mut fresh,
-        derive_words(name, payload).as_slice(),
-    );
-    leave_out_met(parts, payload.len() as u64, row);
+    gather_all(parts, row, &mut fresh, draft.assigned);
+    gather_all(parts, row, &mut fresh, draft.own);
+    leave_out_met(parts, draft.size, row);
     row.negate(0);
     fresh
 }
@@ -138,26 +142,21 @@ fn leaving(parts: &Parts, row: &Rows, beside: Option<u16>) -> u32
     count
 }
 
-/// Measures what there would be with a file of a name, the words that it is given, and these bytes, in the place of that in a slot, if
-/// one is given. `row` is a row of words to work in.
-pub(crate) fn measure(
-    parts: &Parts,
-    row: &mut Rows,
-    beside: Option<u16>,
-    name: &Name,
-    words: &[Word],
-    payload: &[u8],
-) -> Extent
+/// Measures what there would be with a file, in the place of that in a slot, if one is given. `row` is a row of words to work in.
+pub(crate) fn measure(parts: &Parts, row: &mut Rows, beside: Option<u16>, draft: Draft) -> Extent
     requires sound { AreSound parts.now }
     requires there { IfSome beside (λ slot. IsSome (rec_at parts.now.catalog slot)) }
     requires used { IfSome beside (λ slot. AreUsed parts.now) }
     requires shape { HasShape row.old 1 parts.now.limits.props }
-    requires few { length words.now ≤ 16 }
+    requires few { length draft.assigned.now ≤ 16 }
+    requires few_own { length draft.own.now ≤ 128 }
     ensures shape { HasShape row.new 1 parts.now.limits.props }
-    ensures words { result.words ≡ length (described_by parts.now (new_file name.now words.now payload.now)) }
-    ensures known { result.known ≡ length (known_beside parts.now beside (new_file name.now words.now payload.now)) }
+    ensures words { result.words
+        ≡ length (described_by parts.now (drafted draft.entry.name.now draft.entry.size draft.entry.assigned.now draft.entry.own.now)) }
+    ensures known { result.known
+        ≡ length (known_beside parts.now beside (drafted draft.entry.name.now draft.entry.size draft.entry.assigned.now draft.entry.own.now)) }
 {
-    let fresh = tell(parts, row, name, words, payload).len() as u32;
+    let fresh = tell(parts, row, draft).len() as u32;
     Extent {
         words: row.count(0) + fresh,
         known: parts.word_count() + fresh - leaving(parts, row, beside),

@@ -1,6 +1,7 @@
 //! What a file is refused for that would come into the place of another.
 
 ghost use Rattle.std.specs.Prelude.{◌≡◌, ◌≤◌, Some, None, length, IsSome, IfOk};
+ghost use Rattle.std.specs.List.{flat_map};
 ghost use Rattle.std.specs.Option.{option_to_list};
 ghost use Rattle.lis_catalog.specs.Catalog.{slot_of, rec_at};
 ghost use Rattle.lis_dict.specs.Dict.{word_of};
@@ -9,17 +10,21 @@ ghost use Rattle.lis_model.specs.Changes.{new_file};
 ghost use Rattle.lis_eval.specs.Room.{HasRoom};
 ghost use Rattle.lis_kept.specs.Telling.{words_told, AreUsed};
 ghost use Rattle.lis_store.specs.Assigning.{Takes};
+ghost use Rattle.lis_store.specs.Drafts.{drafted, draft_of, own_word, own_kept};
 ghost use Rattle.lis_store.specs.Changes.{Judges};
+ghost use Rattle.lis_store.specs.Stored.{DescriptionsAreShort};
 ghost use Rattle.lis_store.specs.Instead.{given_before, free_instead, instead_checks, overwriting_checks, renaming_checks};
 
 use crate::admitting::{MAX_DESCRIPTION, blocks_taken};
 use crate::assigning::{all_assignable, put_word};
-use crate::describing::measure;
+use crate::describing::{Draft, measure};
+use crate::removing::numbers_at;
 use arrayvec::ArrayVec;
+use lis_derive::derive_words;
 use lis_eval::Scratch;
 use lis_kept::Parts;
 use lis_model::refusal::Refusal;
-use lis_words::{Name, Word};
+use lis_words::{Name, Word, is_builtin};
 
 // Puts the word of a number into a set of words, if there is one.
 fn put_number(parts: &Parts, words: &mut ArrayVec<Word, 16>, number: u16) -> bool
@@ -57,6 +62,56 @@ pub(crate) fn assigned_in(parts: &Parts, slot: u16) -> ArrayVec<Word, 16>
     words_of(parts, rec.tags.as_slice())
 }
 
+/// How many bytes the file in a slot has.
+pub(crate) fn size_in(parts: &Parts, slot: u16) -> u64
+    requires { IsSome (rec_at parts.now.catalog slot) }
+    ensures { (rec : FileRecord) → rec_at parts.now.catalog slot ≡ Some rec → result ≡ rec.size }
+{
+    let Some(rec) = parts.rec(slot) else {
+        unreachable!()
+    };
+    u64::from(rec.size)
+}
+
+// The word of a number, if it is built in.
+fn own_word(parts: &Parts, number: u16) -> Option<Word>
+    ensures { option_to_list result ≡ own_word parts.now number }
+{
+    let Some(word) = parts.word_of(number) else {
+        return None;
+    };
+    if is_builtin(&word) {
+        return Some(word);
+    }
+    None
+}
+
+// The built-in words that have these numbers.
+fn own_among(parts: &Parts, numbers: &[u16]) -> ArrayVec<Word, 128>
+    requires { length numbers.now ≤ 128 }
+    ensures words { result.items ≡ flat_map (own_word parts.now) numbers.now }
+    ensures few { length result.items ≤ 128 }
+{
+    let mut words = ArrayVec::new();
+    for number in numbers {
+        if let Some(word) = own_word(parts, *number) {
+            words.push(word);
+        }
+    }
+    words
+}
+
+/// The words that the file in a slot has by itself, as its description has kept them.
+pub(crate) fn own_in(parts: &Parts, slot: u16) -> ArrayVec<Word, 128>
+    requires there { IsSome (rec_at parts.now.catalog slot) }
+    requires short { DescriptionsAreShort parts.now }
+    ensures own { result.items ≡ own_kept parts.now slot }
+    ensures few { length result.items ≤ 128 }
+{
+    let numbers = numbers_at(parts.ext(), parts.limits().props, slot);
+    own_among(parts, numbers.as_slice())
+}
+
 // How many blocks are free for other bytes of the file in a slot.
 fn free_instead(parts: &Parts, slot: u16) -> u64
     requires { IsSome (rec_at parts.now.catalog slot) }
@@ -70,7 +125,38 @@ fn free_instead(parts: &Parts, slot: u16) -> u64
 }
 
 /// Whether the words of a file may stand in the place of those of the file in a slot.
-pub(crate) fn has_room_instead(
+pub(crate) fn may_stand_instead(
+    parts: &Parts,
+    scratch: &mut Scratch,
+    slot: u16,
+    draft: Draft,
+) -> Result<(), Refusal>
+    requires there { IsSome (rec_at parts.now.catalog slot) }
+    requires used { AreUsed parts.now }
+    requires few { length draft.assigned.now ≤ 16 }
+    requires few_own { length draft.own.now ≤ 128 }
+    requires room { HasRoom scratch.old parts.now.limits }
+    ensures room { HasRoom scratch.new parts.now.limits }
+    ensures row { Judges (instead_checks parts.now slot
+        (drafted draft.entry.name.now draft.entry.size draft.entry.assigned.now draft.entry.own.now)) result }
+{
+    let limits = parts.limits();
+    // The words of a told file may be given. Memory alone does not tell so.
+    if !all_assignable(parts, draft.assigned) {
+        return Err(Refusal::UnknownProperty);
+    }
+    let measure = measure(parts, &mut scratch.candidates, Some(slot), draft);
+    if measure.words > MAX_DESCRIPTION {
+        return Err(Refusal::LargeDescription);
+    }
+    if measure.known > limits.props {
+        return Err(Refusal::NoPropertyRoom);
+    }
+    Ok(())
+}
+
+// As `may_stand_instead`, with the words that are derived from these bytes.
+fn has_room_instead(
     parts: &Parts,
     scratch: &mut Scratch,
     slot: u16,
@@ -83,28 +169,16 @@ pub(crate) fn has_room_instead(
     requires few { length words.now ≤ 16 }
     requires room { HasRoom scratch.old parts.now.limits }
     ensures room { HasRoom scratch.new parts.now.limits }
-    ensures row { Judges (instead_checks parts.now slot (new_file name.now words.now payload.now)) result }
+    ensures row { Judges (instead_checks parts.now slot (draft_of (new_file name.now words.now payload.now))) result }
 {
-    let limits = parts.limits();
-    // The words of a told file may be given. Memory alone does not tell so.
-    if !all_assignable(parts, words) {
-        return Err(Refusal::UnknownProperty);
-    }
-    let measure = measure(
-        parts,
-        &mut scratch.candidates,
-        Some(slot),
+    let derived = derive_words(name, payload);
+    let draft = Draft {
         name,
-        words,
-        payload,
-    );
-    if measure.words > MAX_DESCRIPTION {
-        return Err(Refusal::LargeDescription);
-    }
-    if measure.known > limits.props {
-        return Err(Refusal::NoPropertyRoom);
-    }
-    Ok(())
+        size: payload.len() as u64,
+        assigned: words,
+        own: derived.as_slice(),
+    };
+    may_stand_instead(parts, scratch, slot, draft)
 }
 
 /// The words that the file in a slot was given, or what it is refused for with these bytes in the place of its own. `name` is its name.

@@ -7,9 +7,11 @@ ghost use Rattle.lis_fields.specs.Layouts.{are_blocks};
 ghost use Rattle.lis_model.specs.Changes.{new_file};
 ghost use Rattle.lis_eval.specs.Room.{HasRoom};
 ghost use Rattle.lis_kept.specs.Sound.{AreSound};
+ghost use Rattle.lis_store.specs.Drafts.{drafted, draft_of};
 ghost use Rattle.lis_store.specs.ReplacingIn.{AreInForm, record_in, MayPut, MayComeIn, IsVacant, MakesRoom, LearnsOwn, SettlesIn, RefilesIn};
 
 use crate::adding::{learn_words, numbers_entailed, numbers_of};
+use crate::describing::Draft;
 use crate::removing::vacate;
 use arrayvec::ArrayVec;
 use lis_derive::derive_words;
@@ -33,28 +35,22 @@ struct Room {
 }
 
 // Gives numbers to those words of a file that have none, and answers the numbers of its words.
-fn learn_own(
-    parts: &mut Parts,
-    scratch: &mut Scratch,
-    name: &Name,
-    assigned: &[Word],
-    payload: &[u8],
-) -> Numbers
+fn learn_own(parts: &mut Parts, scratch: &mut Scratch, draft: Draft) -> Numbers
     requires sound { AreSound parts.old }
-    requires may { MayComeIn parts.old (new_file name.now assigned.now payload.now) }
+    requires may { MayComeIn parts.old (drafted draft.name.now draft.size draft.assigned.now draft.own.now) }
     requires scratch { HasRoom scratch.old parts.old.limits }
     ensures scratch { HasRoom scratch.new parts.old.limits }
-    ensures learnt { LearnsOwn (new_file name.now assigned.now payload.now) result.tags.items result.all.items parts.old parts.new }
+    ensures learnt { LearnsOwn (drafted draft.entry.name.now draft.entry.size draft.entry.assigned.now draft.entry.own.now)
+        result.tags.items result.all.items parts.old parts.new }
 {
-    let derived = derive_words(name, payload);
-    learn_words(parts, assigned);
-    learn_words(parts, derived.as_slice());
-    let tags = numbers_of(parts, assigned, &mut scratch.candidates);
+    learn_words(parts, draft.assigned);
+    learn_words(parts, draft.own);
+    let tags = numbers_of(parts, draft.assigned, &mut scratch.candidates);
     let all = numbers_entailed(
         parts,
-        assigned,
-        derived.as_slice(),
-        payload.len() as u64,
+        draft.assigned,
+        draft.own,
+        draft.size,
         &mut scratch.candidates,
     );
     Numbers { tags, all }
@@ -97,40 +93,59 @@ fn make_room(parts: &mut Parts, slot: Option<u16>) -> Room
     }
 }
 
-// Files bytes in a slot without a file: their words come first, then the numbers of the description in the place of the old ones, and last
+// Files a file in a slot without one: their words come first, then the numbers of the description in the place of the old ones, and last
 // the record.
 fn settle_in(
     parts: &mut Parts,
     scratch: &mut Scratch,
     room: &Room,
-    name: &Name,
-    assigned: &[Word],
-    payload: &[u8],
+    draft: Draft,
     blocks: ArrayVec<u16, 16>,
 )
     requires vacant { IsVacant room.now.slot room.now.numbers.items parts.old }
-    requires may { MayComeIn parts.old (new_file name.now assigned.now payload.now) }
-    requires in_form { IsTrue (are_blocks parts.old.limits.version (length payload.now) blocks.items) }
+    requires may { MayComeIn parts.old (drafted draft.name.now draft.size draft.assigned.now draft.own.now) }
+    requires in_form { IsTrue (are_blocks parts.old.limits.version draft.size blocks.items) }
     requires below { IsTrue (list_all (λ n. nat_lt n parts.old.limits.blocks) blocks.items) }
     requires scratch { HasRoom scratch.old parts.old.limits }
     ensures scratch { HasRoom scratch.new parts.old.limits }
-    ensures settles { SettlesIn room.now.slot (new_file name.now assigned.now payload.now) blocks.items parts.old parts.new }
+    ensures settles { SettlesIn room.now.slot
+        (drafted draft.entry.name.now draft.entry.size draft.entry.assigned.now draft.entry.own.now) blocks.items parts.old parts.new }
 {
-    let numbers = learn_own(parts, scratch, name, assigned, payload);
+    let numbers = learn_own(parts, scratch, draft);
     parts.describe(room.slot, room.numbers.as_slice(), numbers.all.as_slice());
     parts.place_record(
         room.slot,
         FileRec {
-            name: name.copied(),
-            size: payload.len() as u32,
+            name: draft.name.copied(),
+            size: draft.size as u32,
             tags: numbers.tags,
             blocks,
         },
     );
 }
 
-/// Files bytes under a name, in the place of the file in the slot if one is told. They stand in these blocks, which are taken already. Words
-/// are derived from them.
+/// Files a file, in the place of the one in the slot if one is told. Its bytes stand in these blocks, which are taken already.
+pub(crate) fn refile_draft(
+    parts: &mut Parts,
+    scratch: &mut Scratch,
+    slot: Option<u16>,
+    draft: Draft,
+    blocks: ArrayVec<u16, 16>,
+)
+    requires form { AreInForm parts.old }
+    requires may { MayPut parts.old slot (drafted draft.name.now draft.size draft.assigned.now draft.own.now) }
+    requires in_form { IsTrue (are_blocks parts.old.limits.version draft.size blocks.items) }
+    requires below { IsTrue (list_all (λ n. nat_lt n parts.old.limits.blocks) blocks.items) }
+    requires scratch { HasRoom scratch.old parts.old.limits }
+    ensures scratch { HasRoom scratch.new parts.old.limits }
+    ensures refiles { RefilesIn (record_in parts.old slot)
+        (drafted draft.entry.name.now draft.entry.size draft.entry.assigned.now draft.entry.own.now) blocks.items parts.old parts.new }
+{
+    let room = make_room(parts, slot);
+    settle_in(parts, scratch, &room, draft, blocks);
+}
+
+/// As `refile_draft`, with the words that are derived from the file's bytes.
 pub(crate) fn refile(
     parts: &mut Parts,
     scratch: &mut Scratch,
@@ -141,13 +156,19 @@ pub(crate) fn refile(
     blocks: ArrayVec<u16, 16>,
 )
     requires form { AreInForm parts.old }
-    requires may { MayPut parts.old slot (new_file name.now assigned.now payload.now) }
+    requires may { MayPut parts.old slot (draft_of (new_file name.now assigned.now payload.now)) }
     requires in_form { IsTrue (are_blocks parts.old.limits.version (length payload.now) blocks.items) }
     requires below { IsTrue (list_all (λ n. nat_lt n parts.old.limits.blocks) blocks.items) }
     requires scratch { HasRoom scratch.old parts.old.limits }
     ensures scratch { HasRoom scratch.new parts.old.limits }
-    ensures refiles { RefilesIn (record_in parts.old slot) (new_file name.now assigned.now payload.now) blocks.items parts.old parts.new }
+    ensures refiles { RefilesIn (record_in parts.old slot) (draft_of (new_file name.now assigned.now payload.now)) blocks.items parts.old parts.new }
 {
-    let room = make_room(parts, slot);
-    settle_in(parts, scratch, &room, name, assigned, payload, blocks);
+    let derived = derive_words(name, payload);
+    let draft = Draft {
+        name,
+        size: payload.len() as u64,
+        assigned,
+        own: derived.as_slice(),
+    };
+    refile_draft(parts, scratch, slot, draft, blocks);
 }

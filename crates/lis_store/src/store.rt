@@ -7,10 +7,9 @@ ghost use Rattle.lis_ports.specs.Calls.{HasCause, IsUnchanged, DiskFaultEnds};
 ghost use Rattle.lis_catalog.specs.Catalog.{slot_of, rec_at};
 ghost use Rattle.lis_fields.specs.Records.{FileRecord};
 ghost use Rattle.lis_model.specs.declared.refusal.Refusal.{Refusal};
-ghost use Rattle.lis_blockmap.specs.Bitmap.{free_count};
 ghost use Rattle.lis_content.specs.Large.{is_large};
 ghost use Rattle.lis_model.specs.Changes.{file_of, new_file, file_added};
-ghost use Rattle.lis_model.specs.State.{State, file_limit, blocks_taken};
+ghost use Rattle.lis_model.specs.State.{State, file_limit};
 ghost use Rattle.lis_model.specs.Step.{Situation, changed, add, rm};
 ghost use Rattle.lis_eval.specs.Room.{HasRoom};
 ghost use Rattle.lis_kept.specs.Telling.{is_declared};
@@ -19,7 +18,7 @@ ghost use Rattle.lis_store.specs.Stored.{IsSound, StoreFits, StoreHolds, IsIndex
 ghost use Rattle.lis_store.specs.Judging.{is_among};
 ghost use Rattle.lis_store.specs.Changes.{Changes, Holds, Commits, CommitLeft, HasChangeCause, ChangeLeft, EditsFew};
 ghost use Rattle.lis_store.specs.Saving.{SaveEnded};
-ghost use Rattle.lis_store.specs.Admitting.{IsAdmitted};
+ghost use Rattle.lis_store.specs.ReplacingIn.{MayPutBytes, record_in, file_gone};
 
 mod declaring;
 mod linking;
@@ -29,7 +28,7 @@ mod unlinking;
 
 use crate::admitting::may_add;
 use crate::change::Change;
-use crate::contents::{give_content, put_content};
+use crate::contents::{give_content, put_anew};
 use crate::removing::take_out;
 use crate::replacing::refile;
 use crate::saving::{MOST_HELD, commit, hold, most_held};
@@ -354,27 +353,27 @@ impl Store {
         if is_large(payload.len() as u32) {
             self.commit(disk)?;
         }
-        self.put_file(disk, scratch, name, assigned.as_slice(), payload)
+        self.put_file(disk, scratch, None, name, assigned.as_slice(), payload)
     }
 
-    // Puts a file in that is admitted. A large one is committed at once.
+    // Puts a file in, in the place of the one in the slot if one is told. A large one is committed at once.
     fn put_file<D: Disk>(
         &mut self,
         disk: &mut D,
         scratch: &mut Scratch,
+        slot: Option<u16>,
         name: &Name,
         assigned: &[Word],
         payload: &[u8],
     ) -> Result<(), Change>
-        requires admitted { IsAdmitted self.old.parts (new_file name.now assigned.now payload.now) }
-        requires enough { blocks_taken self.old.parts.limits.version (length payload.now) ≤ free_count self.old.parts.taken }
+        requires may { MayPutBytes self.old.parts slot (new_file name.now assigned.now payload.now) }
         requires alone { is_large (length payload.now) ≡ true → self.old.journal.staged ≡ [] }
         requires scratch { HasRoom scratch.old self.old.parts.limits }
         requires unbroken { self.old.is_broken ≡ false }
         requires long { 4096 * self.old.journal.blocks ≤ (D.meaning disk.old).len }
         ensures scratch { HasRoom scratch.new self.old.parts.limits }
         ensures holds { (base : State) (now : Situation) → StoreHolds self.old (D.meaning disk.old) base now.state
-            → Holds base now (changed now (file_added now.state (new_file name.now assigned.now payload.now)))
+            → Holds base now (changed now (file_added (file_gone now.state (record_in self.old.parts slot)) (new_file name.now assigned.now payload.now)))
             self.new (D.meaning disk.old) (D.meaning disk.new) result }
         ensures settled { is_large (length payload.now) ≡ true → OnOk result (self.new.journal.staged ≡ []) }
         ensures limits { self.new.parts.limits ≡ self.old.parts.limits }
@@ -386,17 +385,18 @@ impl Store {
         ensures cause { HasChangeCause (D.meaning disk.old).disk_faults (D.meaning disk.new).disk_faults result }
         ensures first_fault { DiskFaultEnds (D.meaning disk.old) (D.meaning disk.new) }
     {
-        let blocks = put_content(
+        let blocks = put_anew(
             &mut self.parts,
             &mut self.journal,
             &mut self.is_broken,
             disk,
+            slot,
             payload,
         )?;
         refile(
             &mut self.parts,
             scratch,
-            None,
+            slot,
             name,
             assigned,
             payload,

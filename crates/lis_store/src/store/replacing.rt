@@ -1,33 +1,25 @@
 //! Calls that change a file.
 
-ghost use Rattle.std.specs.Prelude.{◌≡◌, ℕ, ◌*◌, ◌≤◌, true, false, [], Some, length, Err, IsTrue, OnOk, IsSomeAnd};
-ghost use Rattle.std.specs.List.{list_all};
+ghost use Rattle.std.specs.Prelude.{◌≡◌, ℕ, ◌*◌, ◌≤◌, false, [], length, Err, IsTrue, OnOk};
 ghost use Rattle.lis_ports.specs.Runs.{IsDiskRun};
-ghost use Rattle.lis_catalog.specs.Catalog.{slot_of, rec_at};
-ghost use Rattle.lis_content.specs.Large.{is_large};
-ghost use Rattle.lis_fields.specs.Records.{FileRecord};
 ghost use Rattle.lis_ports.specs.Calls.{IsUnchanged, DiskFaultEnds};
 ghost use Rattle.lis_model.specs.declared.refusal.Refusal.{Refusal};
-ghost use Rattle.lis_model.specs.State.{State, blocks_taken, file_limit, is_assignable};
-ghost use Rattle.lis_model.specs.Changes.{new_file, file_replaced};
-ghost use Rattle.lis_model.specs.Step.{Situation, changed, write, rename, mv};
+ghost use Rattle.lis_model.specs.State.{State, file_limit};
+ghost use Rattle.lis_model.specs.Step.{write, rename, mv};
 ghost use Rattle.lis_eval.specs.Room.{HasRoom};
 ghost use Rattle.lis_store.specs.declared.change.Change.TheVariants.{Refused};
 ghost use Rattle.lis_store.specs.Stored.{IsSound, StoreFits, StoreHolds};
-ghost use Rattle.lis_kept.specs.Telling.{declared_of};
-ghost use Rattle.lis_store.specs.Instead.{free_instead};
-ghost use Rattle.lis_store.specs.Replacing.{MayReplace};
-ghost use Rattle.lis_store.specs.Saving.{SaveEnded};
 ghost use Rattle.lis_store.specs.Changes.{Changes, Holds, HasChangeCause, ChangeLeft, EditsFew};
 
 use crate::admitting::file_limit;
 use crate::change::Change;
-use crate::contents::{blocks_in, put_instead};
+use crate::contents::blocks_in;
+use crate::describing::Draft;
 use crate::file_bytes::read_file;
-use crate::instead::{has_room_instead, may_rename, may_write};
-use crate::replacing::refile;
+use crate::instead::{may_rename, may_stand_instead, may_write, own_in, size_in};
+use crate::replacing::{refile, refile_draft};
 use crate::retagging::{led_by, may_move};
-use crate::saving::{MOST_HELD, hold, most_held};
+use crate::saving::{MOST_HELD, hold};
 use crate::store::Store;
 use lis_content::is_large;
 use lis_eval::Scratch;
@@ -111,66 +103,7 @@ impl Store {
         if is_large(payload.len() as u32) {
             self.commit(disk)?;
         }
-        self.put_other(disk, scratch, slot, name, words.as_slice(), payload)
-    }
-
-    // Puts other bytes in the place of those of the file in a slot. Large ones are committed at once.
-    fn put_other<D: Disk>(
-        &mut self,
-        disk: &mut D,
-        scratch: &mut Scratch,
-        slot: u16,
-        name: &Name,
-        assigned: &[Word],
-        payload: &[u8],
-    ) -> Result<(), Change>
-        requires named { slot_of self.old.parts.catalog name.now ≡ Some slot }
-        requires may { IsSomeAnd (rec_at self.old.parts.catalog slot) (λ (rec : FileRecord). MayReplace self.old.parts slot rec (new_file name.now assigned.now payload.now)) }
-        requires assignable { IsTrue (list_all (is_assignable (declared_of self.old.parts)) assigned.now) }
-        requires enough { (rec : FileRecord) → rec_at self.old.parts.catalog slot ≡ Some rec
-            → blocks_taken self.old.parts.limits.version (length payload.now) ≤ free_instead self.old.parts rec }
-        requires alone { is_large (length payload.now) ≡ true → self.old.journal.staged ≡ [] }
-        requires scratch { HasRoom scratch.old self.old.parts.limits }
-        requires unbroken { self.old.is_broken ≡ false }
-        requires long { 4096 * self.old.journal.blocks ≤ (D.meaning disk.old).len }
-        ensures scratch { HasRoom scratch.new self.old.parts.limits }
-        ensures holds { (base : State) (now : Situation) → StoreHolds self.old (D.meaning disk.old) base now.state
-            → Holds base now (changed now (file_replaced now.state name.now (new_file name.now assigned.now payload.now)))
-            self.new (D.meaning disk.old) (D.meaning disk.new) result }
-        ensures limits { self.new.parts.limits ≡ self.old.parts.limits }
-        ensures image { self.new.journal.blocks ≡ self.old.journal.blocks }
-        ensures ended { SaveEnded self.new.is_broken result }
-        ensures settled { is_large (length payload.now) ≡ true → OnOk result (self.new.journal.staged ≡ []) }
-        ensures edits { EditsFew self.old self.new }
-        ensures sound { IsSound self.new }
-        ensures run { IsDiskRun (D.meaning disk.old) (D.meaning disk.new) }
-        ensures cause { HasChangeCause (D.meaning disk.old).disk_faults (D.meaning disk.new).disk_faults result }
-        ensures first_fault { DiskFaultEnds (D.meaning disk.old) (D.meaning disk.new) }
-    {
-        let blocks = put_instead(
-            &mut self.parts,
-            &mut self.journal,
-            &mut self.is_broken,
-            disk,
-            slot,
-            payload,
-        )?;
-        refile(
-            &mut self.parts,
-            scratch,
-            Some(slot),
-            name,
-            assigned,
-            payload,
-            blocks,
-        );
-        hold(
-            &mut self.parts,
-            &mut self.journal,
-            &mut self.is_broken,
-            disk,
-            most_held(payload),
-        )
+        self.put_file(disk, scratch, Some(slot), name, words.as_slice(), payload)
     }
 
     /// Gives a file another name: `rename` at the place. Its bytes are read, since words are derived from them.
@@ -263,7 +196,7 @@ impl Store {
         )
     }
 
-    /// Moves a file to the place to which a text leads: `mv` at the place. Its bytes are read, since words are derived from them.
+    /// Moves a file to the place to which a text leads: `mv` at the place. Its bytes are not read: the words that it has by itself stay.
     pub fn retag<D: Disk>(
         &mut self,
         disk: &mut D,
@@ -279,8 +212,7 @@ impl Store {
         ensures changes { (s : State) → StoreFits self.old (D.meaning disk.old) s
             → Changes (record { state = s; place = place.now }) (mv (record { state = s; place = place.now }) name.now text.now)
             self.new (D.meaning disk.old) (D.meaning disk.new) result }
-        ensures untouched { (refusal : Refusal) → result ≡ Err (Refused refusal) → IsTrue (D.meaning disk.old).is_honest
-            → IsUnchanged (D.meaning disk.old) (D.meaning disk.new) }
+        ensures untouched { (refusal : Refusal) → result ≡ Err (Refused refusal) → disk.new ≡ disk.old }
         ensures limits { self.new.parts.limits ≡ self.old.parts.limits }
         ensures image { self.new.journal.blocks ≡ self.old.journal.blocks }
         ensures left { ChangeLeft self.old self.new result }
@@ -311,8 +243,7 @@ impl Store {
         ensures holds { (base : State) (s : State) → StoreHolds self.old (D.meaning disk.old) base s
             → Holds base (record { state = s; place = place.now }) (mv (record { state = s; place = place.now }) name.now text.now)
             self.new (D.meaning disk.old) (D.meaning disk.new) result }
-        ensures untouched { (refusal : Refusal) → result ≡ Err (Refused refusal) → IsTrue (D.meaning disk.old).is_honest
-            → IsUnchanged (D.meaning disk.old) (D.meaning disk.new) }
+        ensures untouched { (refusal : Refusal) → result ≡ Err (Refused refusal) → disk.new ≡ disk.old }
         ensures limits { self.new.parts.limits ≡ self.old.parts.limits }
         ensures image { self.new.journal.blocks ≡ self.old.journal.blocks }
         ensures left { ChangeLeft self.old self.new result }
@@ -330,28 +261,16 @@ impl Store {
             return Err(Change::Refused(Refusal::NoFileHere));
         };
         let words = may_move(&self.parts, slot, place, &next, text)?;
-        if let Err(fault) = read_file(&self.parts, &self.journal, disk, &mut self.bytes, slot) {
-            self.is_broken = true;
-            return Err(Change::from(fault));
-        }
-        has_room_instead(
-            &self.parts,
-            scratch,
-            slot,
+        let own = own_in(&self.parts, slot);
+        let draft = Draft {
             name,
-            words.as_slice(),
-            self.bytes.bytes(),
-        )?;
+            size: size_in(&self.parts, slot),
+            assigned: words.as_slice(),
+            own: own.as_slice(),
+        };
+        may_stand_instead(&self.parts, scratch, slot, draft)?;
         let blocks = blocks_in(&self.parts, slot);
-        refile(
-            &mut self.parts,
-            scratch,
-            Some(slot),
-            name,
-            words.as_slice(),
-            self.bytes.bytes(),
-            blocks,
-        );
+        refile_draft(&mut self.parts, scratch, Some(slot), draft, blocks);
         hold(
             &mut self.parts,
             &mut self.journal,

@@ -1,6 +1,4 @@
-use Rattle.std.proofs.Common.{is_some, refl, ap}
-use Rattle.std.proofs.lemmas.Bool.{false_from_ne_true, both_ways}
-use Rattle.lis_store.proofs.Common.{is_valued}
+use Rattle.lis_store.proofs.Common.{is_some, refl, ap, false_from_ne_true, both_ways, is_valued}
 use Rattle.lis_store.proofs.Learning.{head_form, head_bare, head_room, heads_learnt, no_head_learnt}
 use Rattle.lis_store.proofs.adding.learn_head.Goals as goal
 

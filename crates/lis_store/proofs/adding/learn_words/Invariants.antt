@@ -1,4 +1,4 @@
-use Rattle.std.proofs.Common.{take}
+use Rattle.lis_store.proofs.Common.{take}
 use Rattle.lis_store.specs.Adding.{with_heads, LearnsAll}
 use Rattle.lis_store.proofs.adding.learn_words.Given as goal
 

@@ -1,7 +1,4 @@
-use Rattle.std.proofs.Common.{◌≡◌, ◌∙◌, ◌+◌, not, ◌&&◌, List, [], ◌∷◌, ◌++◌, take, get_or, is_some, sym, ap, subst, arith}
-use Rattle.std.proofs.lemmas.Bool.{both_ways}
-use Rattle.lis_store.proofs.Common.{take_more, Contains-get_or, Among, among_from_contains, get, with_row, number_below}
-use Rattle.lis_laws.proofs.Members.{has_word_from_among}
+use Rattle.lis_store.proofs.Common.{◌≡◌, ◌∙◌, ◌+◌, not, ◌&&◌, List, [], ◌∷◌, ◌++◌, take, get_or, is_some, sym, ap, subst, arith, both_ways, take_more, Contains-get_or, Among, among_from_contains, get, with_row, number_below, has_word_from_among}
 use Rattle.lis_store.proofs.Entailed.{LeavesOut, leaves_none, leaves_one}
 use Rattle.lis_store.proofs.adding.leave_out.Goals as goal
 

@@ -1,4 +1,4 @@
-use Rattle.std.proofs.Common.{take}
+use Rattle.lis_store.proofs.Common.{take}
 use Rattle.lis_store.proofs.Entailed.{LeavesOut}
 use Rattle.lis_store.proofs.adding.leave_out.Given as goal
 

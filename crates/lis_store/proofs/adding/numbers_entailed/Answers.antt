@@ -1,6 +1,4 @@
-use Rattle.std.proofs.Common.{◌∙◌, ℕ, length, sym, ap, subst, arith}
-use Rattle.lis_store.proofs.Common.{HasShape, get, few_properties, Limits, met_tests, declared_of}
-use Rattle.lis_ext.specs.Numbers.{numbers_where}
+use Rattle.lis_store.proofs.Common.{◌∙◌, ℕ, length, sym, ap, subst, arith, HasShape, get, few_properties, Limits, met_tests, declared_of, numbers_where}
 use Rattle.lis_store.proofs.Entailed.{entailed_shape, entailed_numbers, entailed_few}
 use Rattle.lis_store.proofs.adding.numbers_entailed.Goals as goal
 

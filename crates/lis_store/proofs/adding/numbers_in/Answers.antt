@@ -1,5 +1,4 @@
-use Rattle.std.proofs.Common.{◌≡◌, ◌+◌, ◌<◌, ◌∙◌, [], ◌∷◌, ◌++◌, length, refl, ap, arith}
-use Rattle.lis_store.proofs.Common.{get}
+use Rattle.lis_store.proofs.Common.{◌≡◌, ◌+◌, ◌<◌, ◌∙◌, [], ◌∷◌, ◌++◌, length, refl, ap, arith, get}
 use Rattle.lis_store.proofs.Had.{found_below, found_one, found_past, found_room, found_all}
 use Rattle.lis_store.proofs.adding.numbers_in.Goals as goal
 

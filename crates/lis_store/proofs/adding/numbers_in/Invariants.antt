@@ -1,5 +1,4 @@
-use Rattle.std.proofs.Common.{◌≡◌, ◌-◌, ◌≤◌}
-use Rattle.lis_store.proofs.Common.{get}
+use Rattle.lis_store.proofs.Common.{◌≡◌, ◌-◌, ◌≤◌, get}
 use Rattle.lis_store.proofs.Had.{found_below}
 use Rattle.lis_store.proofs.adding.numbers_in.Given as goal
 

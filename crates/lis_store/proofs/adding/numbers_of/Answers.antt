@@ -1,10 +1,8 @@
-use Rattle.std.proofs.Common.{◌≡◌, ◌∙◌, ℕ, ◌+◌, ◌==◌, if◌then◌else◌, true, List, [], ◌∷◌, ◌++◌, length, take, sym, ap, subst, arith}
-use Rattle.lis_store.proofs.Common.{take_more, take_all, HasShape, get, with_row, number_below, few_properties, Limits}
+use Rattle.lis_store.proofs.Common.{◌≡◌, ◌∙◌, ℕ, ◌+◌, ◌==◌, if◌then◌else◌, true, List, [], ◌∷◌, ◌++◌, length, take, sym, ap, subst, arith, take_more, take_all, HasShape, get, with_row, number_below, few_properties, Limits, numbers_where}
 use Rattle.lis_bits.specs.Rows.{Rows}
-use Rattle.lis_ext.specs.Numbers.{numbers_where}
 use Rattle.lis_store.proofs.Naming.{ShowsNumbers, shows_none, shows_one, shows_same, shown_numbers, named_few}
-use Rattle.lis_store.proofs.adding.numbers_of.Goals as goal
 use Rattle.lis_store.proofs.adding.numbers_of.Goals.{in-Some, in_default}
+use Rattle.lis_store.proofs.adding.numbers_of.Goals as goal
 
 pub loop-word-init : goal.loop-word-init
 loop-word-init c = shows_none c.args.parts.now.dict c.args.parts.now.limits.props c.args.row.now c.fill.new.self c.requires.shape c.fill.ensures

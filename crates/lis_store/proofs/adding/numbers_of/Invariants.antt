@@ -1,4 +1,4 @@
-use Rattle.std.proofs.Common.{take}
+use Rattle.lis_store.proofs.Common.{take}
 use Rattle.lis_store.proofs.Naming.{ShowsNumbers}
 use Rattle.lis_store.proofs.adding.numbers_of.Given as goal
 

@@ -1,5 +1,5 @@
-use Rattle.std.proofs.Common.{◌∙◌, ap, Err}
-use Rattle.lis_store.proofs.Common.{err_from_is_err_and, new_file, assigned_at}
+use Rattle.lis_store.proofs.Common.{◌∙◌, ap, Err, err_from_is_err_and, new_file, assigned_at}
+use Rattle.lis_store.specs.Drafts.{draft_of}
 use Rattle.lis_store.specs.Admitting.{room_checks, add_checks_of}
 use Rattle.lis_store.proofs.Judged.{refused_first, judges_refused}
 use Rattle.lis_store.proofs.Admitted.{front_checks, room_refused}
@@ -11,7 +11,7 @@ returns-in_err-words-clause-row c =
     let p = err_from_is_err_and c.from_residual.result c.from_residual.ensures.1 in
     let file = new_file c.args.name.now (assigned_at c.args.place.now c.args.tags.now) c.args.payload.now in
     judges_refused (add_checks_of k c.args.place.now c.args.name.now c.args.tags.now c.args.payload.now c.args.size) c.from_residual.result c.in_err-words.field-0.0 (p.1 ∙ ap Err p.2)
-    (refused_first (front_checks k c.args.place.now c.args.tags.now file c.args.size) (room_checks k file c.args.size) c.in_err-words.field-0.0 c.in_err-words.ensures.row)
+    (refused_first (front_checks k c.args.place.now c.args.tags.now file c.args.size) (room_checks k (draft_of file) c.args.size) c.in_err-words.field-0.0 c.in_err-words.ensures.row)
 
 pub returns-in_err-has_room-clause-row : goal.returns-in_err-has_room-clause-row
 returns-in_err-has_room-clause-row c =

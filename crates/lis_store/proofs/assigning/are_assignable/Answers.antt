@@ -1,5 +1,4 @@
-use Rattle.std.proofs.Common.{◌∙◌, ◌&&◌, sym, ap}
-use Rattle.lis_store.proofs.Common.{list_all, is_assignable, declared_of}
+use Rattle.lis_store.proofs.Common.{◌∙◌, ◌&&◌, sym, ap, list_all, is_assignable, declared_of}
 use Rattle.lis_store.specs.Assigning.{node_tags}
 use Rattle.lis_store.proofs.Assigned.{all_assigned}
 use Rattle.lis_store.proofs.assigning.are_assignable.Goals as goal

@@ -1,6 +1,4 @@
-use Rattle.std.proofs.Common.{◌∙◌, sym, subst, length}
-use Rattle.lis_store.proofs.Common.{flat_map, nodes_of, assigned_at}
-use Rattle.std.proofs.lemmas.Bool.{leb-false}
+use Rattle.lis_store.proofs.Common.{◌∙◌, sym, subst, length, flat_map, nodes_of, assigned_at, leb-false}
 use Rattle.lis_store.specs.Assigning.{node_tags, Takes}
 use Rattle.lis_store.proofs.Assigned.{too_many, takes_all}
 use Rattle.lis_store.proofs.assigning.assigned.Goals as goal

@@ -1,8 +1,7 @@
-use Rattle.std.proofs.Common.{◌∙◌, slice_get, sym, ap, arith}
+use Rattle.lis_store.proofs.Common.{◌∙◌, slice_get, sym, ap, arith, word_cmp}
 use Rattle.std.specs.List.{insert}
 use Rattle.std.specs.Ordering.{is_gt}
 use Rattle.std.proofs.lemmas.List.Sums.{prefix_len-le-length}
-use Rattle.lis_store.proofs.Common.{word_cmp}
 use Rattle.lis_store.specs.Assigning.{is_held}
 use Rattle.lis_store.proofs.Assigned.{put_there, put_new}
 use Rattle.lis_store.proofs.assigning.find_place.Goals as goal

@@ -1,5 +1,4 @@
-use Rattle.std.proofs.Common.{◌∙◌, ap}
-use Rattle.lis_store.proofs.Common.{list_all}
+use Rattle.lis_store.proofs.Common.{◌∙◌, ap, list_all}
 use Rattle.lis_store.specs.Assigning.{is_conjunct}
 use Rattle.lis_store.proofs.Assigned.{place_has_words}
 use Rattle.lis_store.proofs.assigning.has_words.Goals as goal

@@ -1,6 +1,4 @@
-use Rattle.std.proofs.Common.{◌∙◌, refl, sym, ap}
-use Rattle.std.proofs.lemmas.Bool.{false_from_ne_true}
-use Rattle.lis_store.proofs.Common.{is_plain_word, is_valued, is_declared}
+use Rattle.lis_store.proofs.Common.{◌∙◌, refl, sym, ap, false_from_ne_true, is_plain_word, is_valued, is_declared}
 use Rattle.lis_store.proofs.Assigned.{plain_assignable, valued_assignable, not_assignable}
 use Rattle.lis_store.proofs.assigning.is_assignable.Goals as goal
 

@@ -1,5 +1,4 @@
-use Rattle.std.proofs.Common.{false, ap, subst, arith}
-use Rattle.lis_store.proofs.Common.{flat_map}
+use Rattle.lis_store.proofs.Common.{false, ap, subst, arith, flat_map}
 use Rattle.lis_store.specs.Assigning.{node_tags, Takes}
 use Rattle.lis_store.proofs.Assigned.{takes_stop}
 use Rattle.lis_store.proofs.assigning.put_place.Goals as goal

@@ -1,5 +1,4 @@
-use Rattle.std.proofs.Common.{true, take}
-use Rattle.lis_store.proofs.Common.{flat_map}
+use Rattle.lis_store.proofs.Common.{true, take, flat_map}
 use Rattle.lis_store.specs.Assigning.{node_tags, Takes}
 use Rattle.lis_store.proofs.assigning.put_place.Given as goal
 

@@ -1,5 +1,4 @@
-use Rattle.std.proofs.Common.{ℕ, ◌∙◌, [], ◌∷◌, true, false, ap, subst, List, arith}
-use Rattle.lis_store.proofs.Common.{flat_map, take_all}
+use Rattle.lis_store.proofs.Common.{ℕ, ◌∙◌, [], ◌∷◌, true, false, ap, subst, List, arith, flat_map, take_all}
 use Rattle.lis_store.specs.Assigning.{Takes}
 use Rattle.lis_store.proofs.Assigned.{takes_stop, each_alone}
 use Rattle.lis_store.proofs.assigning.put_words.Goals as goal

@@ -1,5 +1,4 @@
-use Rattle.std.proofs.Common.{ℕ, [], ◌∷◌, true, take, List}
-use Rattle.lis_store.proofs.Common.{flat_map}
+use Rattle.lis_store.proofs.Common.{ℕ, [], ◌∷◌, true, take, List, flat_map}
 use Rattle.lis_store.specs.Assigning.{Takes}
 use Rattle.lis_store.proofs.assigning.put_words.Given as goal
 

@@ -1,9 +1,6 @@
-use Rattle.std.proofs.Common.{◌≡◌, ◌+◌, ◌<◌, ◌∙◌, ℕ, [], ◌∷◌, ◌++◌, get_or, length, refl, sym, ap, arith}
-use Rattle.lis_bits.specs.Rows.{get_any}
-use Rattle.lis_ext.specs.Numbers.{numbers_where}
-use Rattle.lis_kept.proofs.InArea.{few_properties}
+use Rattle.lis_store.proofs.Common.{◌≡◌, ◌+◌, ◌∙◌, [], ◌∷◌, ◌++◌, length, refl, ap, arith, get_any, few_properties}
 use Rattle.lis_store.proofs.Had.{found_below, found_one, found_past, found_room, found_all}
-use Rattle.lis_store.proofs.LedRows.{rows_below, wide_as, closure_shown}
+use Rattle.lis_store.proofs.Closed.{rows_below, wide_as, closure_shown}
 use Rattle.lis_store.proofs.closing.all_entailed.Goals as goal
 
 pub next_of-requires : goal.next_of-requires

@@ -1,5 +1,4 @@
-use Rattle.std.proofs.Common.{◌≡◌, ◌-◌, ◌≤◌}
-use Rattle.lis_bits.specs.Rows.{get_any}
+use Rattle.lis_store.proofs.Common.{◌≡◌, ◌-◌, ◌≤◌, get_any}
 use Rattle.lis_store.proofs.Had.{found_below}
 use Rattle.lis_store.proofs.closing.all_entailed.Given as goal
 

@@ -1,4 +1,4 @@
-use Rattle.std.proofs.Common.{◌≡◌, ◌++◌, take, filter}
+use Rattle.lis_store.proofs.Common.{◌≡◌, ◌++◌, take, filter}
 use Rattle.lis_store.specs.Closing.{is_base, added}
 use Rattle.lis_store.proofs.closing.base_at.Given as goal
 

@@ -1,7 +1,6 @@
-use Rattle.std.proofs.Common.{◌∙◌, ap₂, arith}
-use Rattle.lis_store.proofs.Common.{named_below, leads}
-use Rattle.lis_store.proofs.Crowded.{number_led}
-use Rattle.lis_store.proofs.RelatedNumbers.{decided}
+use Rattle.lis_store.proofs.Common.{◌∙◌, ap₂, arith, named_below, leads}
+use Rattle.lis_store.proofs.Closed.{number_led}
+use Rattle.lis_store.proofs.Related.{decided}
 use Rattle.lis_store.proofs.closing.entails.Goals as goal
 
 pub entails-requires-clause-p : goal.entails-requires-clause-p

@@ -1,5 +1,4 @@
-use Rattle.std.proofs.Common.{◌∙◌, is_some, IsSome, sym, ap, arith}
-use Rattle.lis_store.proofs.Common.{and_parts, word_of, Ext, named_below}
+use Rattle.lis_store.proofs.Common.{◌∙◌, is_some, IsSome, sym, ap, arith, and_parts, word_of, Ext, named_below}
 use Rattle.lis_store.specs.Closing.{has_words}
 use Rattle.lis_store.proofs.closing.is_concerned.Goals as goal
 

@@ -1,10 +1,7 @@
-use Rattle.std.proofs.Common.{◌≡◌, ◌∙◌, ℕ, ◌<◌, List, is_some, length, sym, ap, subst, arith}
-use Rattle.lis_content.specs.Content.{has_number}
-use Rattle.lis_store.proofs.Common.{word_of, Kept, named_all, Limits}
+use Rattle.lis_store.proofs.Common.{◌≡◌, ◌∙◌, ℕ, ◌<◌, List, is_some, length, sym, ap, subst, arith, has_number, word_of, Kept, named_all, Limits}
 use Rattle.lis_store.specs.Closing.{rebuilt}
 use Rattle.lis_store.specs.Redescribing.{Gives, Redescribes}
-use Rattle.lis_store.proofs.Rebuilt.{concerned_same, closure_same, rebuilt_same, words_same_yet}
-use Rattle.lis_store.proofs.Redescribed.{same_here, redescribed_none, redescribed_more}
+use Rattle.lis_store.proofs.Rebuilt.{concerned_same, closure_same, rebuilt_same, words_same_yet, same_here, redescribed_none, redescribed_more}
 use Rattle.lis_store.proofs.closing.rebuild_all.Goals as goal
 
 pub loop-slot-init : goal.loop-slot-init

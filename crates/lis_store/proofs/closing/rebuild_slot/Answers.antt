@@ -1,9 +1,5 @@
-use Rattle.std.proofs.Common.{◌∙◌, ℕ, List, if◌then◌else◌, inl, inr, is_some, length, refl, sym, ap, subst, arith}
-use Rattle.lis_store.proofs.Common.{list_all, IsStrictlyIncreasing, word_of, Ext, sorted_where, Describes}
-use Rattle.std.proofs.lemmas.Map.Keys.{IsStrictlyIncreasing-from_sorted}
+use Rattle.lis_store.proofs.Common.{◌∙◌, ℕ, List, if◌then◌else◌, inl, inr, is_some, length, refl, sym, ap, subst, arith, list_all, IsStrictlyIncreasing, word_of, Ext, sorted_where, Describes, IsStrictlyIncreasing-from_sorted, number_from_among, all_from}
 use Rattle.lis_ext.specs.Ext.{set_of}
-use Rattle.lis_kept.proofs.Filing.{number_from_among}
-use Rattle.lis_laws.proofs.Counts.{all_from}
 use Rattle.lis_store.specs.Closing.{is_gained, closure, base_at}
 use Rattle.lis_store.proofs.Closed.{closure_words}
 use Rattle.lis_store.proofs.Rebuilt.{base_words}

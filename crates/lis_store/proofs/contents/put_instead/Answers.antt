@@ -1,6 +1,5 @@
-use Rattle.std.proofs.Common.{◌≡◌, ◌∙◌, ℕ, ◌+◌, ◌==◌, Err, length, filter, sym, ap, arith}
-use Rattle.std.proofs.lemmas.Bool.{cond-true, eq-eqb}
-use Rattle.lis_store.proofs.Common.{err_from_is_err_and, is_taken, free_count, rec_at, small_size, Limits, file_limit, Kept}
+use Rattle.lis_store.proofs.Common.{◌≡◌, ◌∙◌, ℕ, ◌+◌, ◌==◌, Err, length, filter, sym, ap, arith, eq-eqb, err_from_is_err_and, is_taken, free_count, rec_at, small_size, Limits, file_limit, Kept}
+use Rattle.std.proofs.lemmas.Bool.{cond-true}
 use Rattle.lis_store.proofs.FreeAgain.{rec_some, first_version, enough_given}
 use Rattle.lis_store.proofs.Renewed.{renews_placed, lost_last, lost_first, put_last}
 use Rattle.lis_store.proofs.contents.put_instead.Goals as goal

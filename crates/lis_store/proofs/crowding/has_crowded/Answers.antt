@@ -1,9 +1,7 @@
-use Rattle.std.proofs.Common.{◌≡◌, ◌∙◌, ℕ, ◌<◌, Bool, false, Some, is_some, sym, ap, subst, inl, inr, arith}
-use Rattle.lis_store.proofs.Common.{cases_lt, Limits}
+use Rattle.lis_store.proofs.Common.{◌≡◌, ◌∙◌, ℕ, ◌<◌, Bool, false, Some, is_some, sym, ap, subst, inl, inr, arith, cases_lt, Limits}
 use Rattle.lis_store.specs.Testing.{is_crowded, has_crowded}
-use Rattle.lis_store.proofs.Crowded.{never_crowded}
+use Rattle.lis_store.proofs.Crowded.{never_crowded, full_at, full_nowhere}
 use Rattle.lis_store.proofs.crowding.has_crowded.Goals as goal
-use Rattle.lis_store.proofs.Full.{full_at, full_nowhere}
 
 pub returns-in_default : goal.returns-in_default
 returns-in_default c = sym (never_crowded c.args.parts.now c.args.word.now c.args.numbers.now (ap (is_some {T = Bool × ℕ}) (sym c.test_of.ensures ∙ c.in_default.is)))

@@ -1,4 +1,4 @@
-use Rattle.std.proofs.Common.{◌≡◌, ℕ, ◌<◌, false, Some}
+use Rattle.lis_store.proofs.Common.{◌≡◌, ℕ, ◌<◌, false, Some}
 use Rattle.lis_store.specs.Testing.{is_crowded}
 use Rattle.lis_store.proofs.crowding.has_crowded.Given as goal
 

@@ -1,10 +1,7 @@
-use Rattle.std.proofs.Common.{◌≡◌, ◌||◌, ◌∙◌, ◌<◌, ℕ, Bool, count_by, ap, ap₂, length, arith}
-use Rattle.lis_bits.specs.Rows.{get, get_any, row_of}
-use Rattle.lis_ext.specs.Ext.{Ext, has}
-use Rattle.lis_ext.specs.Numbers.{numbers_where}
-use Rattle.lis_ext.proofs.Numbers.{numbers_same}
+use Rattle.lis_store.proofs.Common.{◌≡◌, ◌||◌, ◌∙◌, ◌<◌, Bool, count_by, ap, ap₂, length, arith, get, get_any, Ext, has, numbers_where, numbers_same}
+use Rattle.lis_bits.specs.Rows.{row_of}
 use Rattle.lis_store.specs.Closing.{is_gained}
-use Rattle.lis_store.proofs.LedRows.{rows_below, wide_as, any_led}
+use Rattle.lis_store.proofs.Closed.{rows_below, wide_as, any_led}
 use Rattle.lis_store.proofs.Measured.{row_counted}
 use Rattle.lis_store.proofs.crowding.wider_count.Goals as goal
 

@@ -1,5 +1,4 @@
-use Rattle.std.proofs.Common.{ℕ, ◌∙◌, ◌∷◌, [], ◌++◌, Some, sym, ap, subst, List, arith}
-use Rattle.lis_store.proofs.Common.{word_from_number, has_word}
+use Rattle.lis_store.proofs.Common.{ℕ, ◌∙◌, ◌∷◌, [], ◌++◌, Some, sym, ap, subst, List, arith, word_from_number, has_word}
 use Rattle.lis_store.specs.Describing.{Gathers}
 use Rattle.lis_store.proofs.Gathered.{numbered_below, gathers_known, gathers_new, gathers_there}
 use Rattle.lis_store.proofs.describing.gather.Goals as goal

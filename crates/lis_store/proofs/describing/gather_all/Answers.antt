@@ -1,5 +1,4 @@
-use Rattle.std.proofs.Common.{take, arith}
-use Rattle.lis_store.proofs.Common.{length-take-le}
+use Rattle.lis_store.proofs.Common.{take, arith, length-take-le}
 use Rattle.lis_store.proofs.Gathered.{gathers_none, gathers_next, with_heads_few}
 use Rattle.lis_store.proofs.describing.gather_all.Goals as goal
 

@@ -1,4 +1,4 @@
-use Rattle.std.proofs.Common.{take}
+use Rattle.lis_store.proofs.Common.{take}
 use Rattle.lis_store.specs.Describing.{with_heads, Gathers}
 use Rattle.lis_store.proofs.describing.gather_all.Given as goal
 

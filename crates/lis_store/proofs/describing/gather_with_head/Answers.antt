@@ -1,4 +1,4 @@
-use Rattle.std.proofs.Common.{ℕ, ◌∙◌, ◌∷◌, [], refl, sym, ap, subst, List}
+use Rattle.lis_store.proofs.Common.{ℕ, ◌∙◌, ◌∷◌, [], refl, sym, ap, subst, List}
 use Rattle.lis_store.specs.Describing.{Gathers}
 use Rattle.lis_store.proofs.Gathered.{gathers_more, headed, headless}
 use Rattle.lis_store.proofs.describing.gather_with_head.Goals as goal

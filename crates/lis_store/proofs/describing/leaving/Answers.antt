@@ -1,9 +1,8 @@
-use Rattle.std.proofs.Common.{◌≡◌, ◌∙◌, length, sym, ap, subst, IfSome, IsSome, arith}
-use Rattle.lis_store.proofs.Common.{rec_at, slot_is_below, Limits}
+use Rattle.lis_store.proofs.Common.{◌≡◌, ◌∙◌, length, sym, ap, subst, IfSome, IsSome, arith, rec_at, slot_is_below, Limits}
 use Rattle.lis_store.specs.Beside.{is_leaving, leaving}
 use Rattle.lis_store.proofs.Had.{found_below, found_all, counted_one, counted_none}
-use Rattle.lis_store.proofs.describing.leaving.Goals as goal
 use Rattle.lis_store.proofs.describing.leaving.Goals.{then-is_leaving, else-is_leaving}
+use Rattle.lis_store.proofs.describing.leaving.Goals as goal
 
 pub is_leaving-requires-clause-there : goal.is_leaving-requires-clause-there
 is_leaving-requires-clause-there c = subst (λ o. IfSome o (λ slot. IsSome (rec_at c.args.parts.now.catalog slot))) c.in-Some.is c.requires.there

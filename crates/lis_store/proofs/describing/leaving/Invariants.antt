@@ -1,4 +1,4 @@
-use Rattle.std.proofs.Common.{◌≡◌, ◌≤◌, length}
+use Rattle.lis_store.proofs.Common.{◌≡◌, ◌≤◌, length}
 use Rattle.lis_store.specs.Beside.{is_leaving}
 use Rattle.lis_store.proofs.Had.{found_below}
 use Rattle.lis_store.proofs.describing.leaving.Given as goal

@@ -1,4 +1,4 @@
-use Rattle.std.proofs.Common.{length, ◌<◌, arith}
+use Rattle.lis_store.proofs.Common.{length, ◌<◌, arith}
 use Rattle.lis_store.proofs.InsteadGiven.{told_next}
 use Rattle.lis_store.proofs.instead.words_of.Goals as goal
 

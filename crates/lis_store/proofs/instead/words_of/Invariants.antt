@@ -1,5 +1,4 @@
-use Rattle.std.proofs.Common.{◌≤◌, ℕ, [], true, take, length, option_to_list}
-use Rattle.lis_store.proofs.Common.{flat_map, word_of}
+use Rattle.lis_store.proofs.Common.{◌≤◌, ℕ, [], true, take, length, option_to_list, flat_map, word_of}
 use Rattle.lis_store.specs.Assigning.{Takes}
 use Rattle.lis_store.proofs.instead.words_of.Given as goal
 

@@ -1,5 +1,4 @@
-use Rattle.std.proofs.Common.{◌∙◌, ◌≡◌, ℕ, List, ap, sym, subst, length, is_some, None, Ok, Err, arith}
-use Rattle.lis_store.proofs.Common.{err_from_is_err_and, list_all, word_of, words_at}
+use Rattle.lis_store.proofs.Common.{◌∙◌, ◌≡◌, ℕ, List, ap, sym, subst, length, is_some, None, Ok, Err, arith, err_from_is_err_and, list_all, word_of, words_at}
 use Rattle.lis_store.specs.Adding.{numbers_named}
 use Rattle.lis_store.specs.Changes.{first_refusal}
 use Rattle.lis_store.specs.Judging.{place_checks, room_checks, word_checks}

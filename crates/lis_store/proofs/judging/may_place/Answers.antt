@@ -1,5 +1,4 @@
-use Rattle.std.proofs.Common.{◌∙◌, sym, ap}
-use Rattle.lis_store.proofs.Common.{is_valued}
+use Rattle.lis_store.proofs.Common.{◌∙◌, sym, ap, is_valued}
 use Rattle.lis_laws.proofs.Apart.{declarable_from}
 use Rattle.lis_store.proofs.judging.may_place.Goals as goal
 

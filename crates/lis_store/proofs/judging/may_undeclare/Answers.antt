@@ -1,5 +1,4 @@
-use Rattle.std.proofs.Common.{sym, ap, is_some}
-use Rattle.lis_store.proofs.Common.{word_from_number}
+use Rattle.lis_store.proofs.Common.{sym, ap, is_some, word_from_number}
 use Rattle.lis_store.proofs.judging.may_undeclare.Goals as goal
 
 pub is_needed-requires : goal.is_needed-requires

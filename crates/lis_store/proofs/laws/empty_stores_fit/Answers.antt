@@ -1,4 +1,4 @@
-use Rattle.lis_store.proofs.EmptyStore.{empty_fits}
+use Rattle.lis_store.proofs.Empty.{empty_fits}
 use Rattle.lis_store.proofs.laws.empty_stores_fit.Goals as goal
 
 pub returns : goal.returns

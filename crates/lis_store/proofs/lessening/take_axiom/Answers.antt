@@ -1,14 +1,11 @@
-use Rattle.std.proofs.Common.{◌∙◌, List, ℕ, is_some, sym, ap, subst, length, ◌&&◌, arith}
-use Rattle.std.proofs.lemmas.Bool.{and_from}
-use Rattle.lis_store.proofs.Common.{word_of, Kept, MayForget, FreeSlotsAreEmpty}
+use Rattle.lis_store.proofs.Common.{◌∙◌, List, ℕ, is_some, sym, ap, subst, length, ◌&&◌, arith, and_from, word_of, Kept, MayForget, FreeSlotsAreEmpty}
 use Rattle.lis_ext.specs.Ext.{set_of}
 use Rattle.lis_kept.specs.Changes.{Forgets}
 use Rattle.lis_store.specs.Closing.{base_at}
 use Rattle.lis_store.specs.declared.closing.Rebuild.TheVariants.{Losing}
 use Rattle.lis_store.specs.Stored.{DescriptionsAreShort}
-use Rattle.lis_store.proofs.AxiomFound.{pair_sound}
-use Rattle.lis_store.proofs.AxiomGone.{closed_unlinked, less_had, gone_may_forget}
 use Rattle.lis_store.proofs.Closed.{closure_few}
+use Rattle.lis_store.proofs.Unaxiomed.{pair_sound, closed_unlinked, less_had, gone_may_forget}
 use Rattle.lis_store.proofs.lessening.take_axiom.Goals as goal
 
 pub with_head-numbers-requires : goal.with_head-numbers-requires
@@ -30,7 +27,7 @@ rebuild_all-requires-clause-short c = subst (λ (k : Kept). DescriptionsAreShort
 pub rebuild_all-requires-clause-few : goal.rebuild_all-requires-clause-few
 rebuild_all-requires-clause-few c = λ slot here.
     let k = c.unlink.new.self in
-    let closed = closed_unlinked c.args.left c.args.right c.args.parts.now k c.unlink.ensures.unlinks c.requires.closed in
+    let closed = closed_unlinked c.unlink.ensures.unlinks c.requires.closed in
     omega (
       arith,
       closure_few k c.unlink.ensures.sound (base_at k (Losing c.args.left c.args.right) slot) closed slot (less_had k c.args.left c.args.right slot),
@@ -46,7 +43,7 @@ forget_unused-requires c =
     subst P (sym (c.as_slice.ensures.value ∙ c.with_head-numbers.ensures))
     (gone_may_forget (record {
       sound = c.unlink.ensures.sound;
-      closed = closed_unlinked c.args.left c.args.right p c.unlink.new.self unlinks c.requires.closed;
+      closed = closed_unlinked unlinks c.requires.closed;
       free = subst (λ (k : Kept). FreeSlotsAreEmpty k) (sym unlinks.parts) c.requires.free;
       lessens = c.rebuild_all.ensures.rebuilt;
     }) p c.requires.sound c.requires.in_use.used unlinks c.requires.in_use.rights c.requires.in_use.tags c.rebuild_all.ensures.sound)

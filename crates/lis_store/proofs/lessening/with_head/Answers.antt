@@ -1,6 +1,4 @@
-use Rattle.std.proofs.Common.{◌≡◌, ◌∙◌, ℕ, false, if◌then◌else◌, Option, None, List, [], ◌∷◌, ◌++◌, is_some, option_to_list, sym, ap}
-use Rattle.std.proofs.lemmas.Bool.{both_ways, false_from_ne_true}
-use Rattle.lis_store.proofs.Common.{number_of, is_valued, head_bytes}
+use Rattle.lis_store.proofs.Common.{◌≡◌, ◌∙◌, ℕ, false, if◌then◌else◌, Option, None, List, [], ◌∷◌, ◌++◌, is_some, option_to_list, sym, ap, both_ways, false_from_ne_true, number_of, is_valued, head_bytes}
 use Rattle.lis_store.specs.Unlinking.{heads_by}
 use Rattle.lis_store.proofs.lessening.with_head.Goals as goal
 

@@ -1,12 +1,11 @@
-use Rattle.std.proofs.Common.{◌≡◌, ◌∙◌, ℕ, ◌+◌, not, ◌&&◌, Some, List, sym, ap, subst, arith}
+use Rattle.lis_store.proofs.Common.{◌≡◌, ◌∙◌, ℕ, ◌+◌, not, ◌&&◌, Some, List, sym, ap, subst, arith, get, with_row, number_below, among_place}
 use Rattle.std.specs.List.{slice_get}
-use Rattle.lis_store.proofs.Common.{get, with_row, number_below, among_place}
 use Rattle.lis_dict.proofs.Laws.{number_from_among}
 use Rattle.lis_eval.proofs.Members.{past_end}
 use Rattle.lis_store.proofs.Entailed.{LeavesOut, leaves_none, leaves_one}
 use Rattle.lis_store.proofs.MetTests.{met_first, met_next, unmet_next, met_before, met_behind}
-use Rattle.lis_store.proofs.meeting.leave_out_met.Goals as goal
 use Rattle.lis_store.proofs.meeting.leave_out_met.Goals.{then-is_met_word, else-is_met_word}
+use Rattle.lis_store.proofs.meeting.leave_out_met.Goals as goal
 
 pub loop-k-init : goal.loop-k-init
 loop-k-init c =

@@ -1,7 +1,6 @@
-use Rattle.std.proofs.Common.{◌∙◌, ap}
-use Rattle.lis_store.proofs.Common.{list_all}
+use Rattle.lis_store.proofs.Common.{◌∙◌, ap, list_all}
 use Rattle.lis_store.specs.Placing.{is_plain_conjunct}
-use Rattle.lis_store.proofs.PlaceNumbers.{plain_place}
+use Rattle.lis_store.proofs.Assigned.{plain_place}
 use Rattle.lis_store.proofs.placing.has_plain_words.Goals as goal
 
 pub returns : goal.returns

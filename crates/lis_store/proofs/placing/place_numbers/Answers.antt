@@ -1,5 +1,5 @@
-use Rattle.std.proofs.Common.{◌<◌, ◌≤◌, length, arith}
-use Rattle.lis_store.proofs.PlaceNumbers.{numbers_next, numbers_all, not_all_declared, among_item}
+use Rattle.lis_store.proofs.Common.{◌<◌, ◌≤◌, length, arith}
+use Rattle.lis_store.proofs.Assigned.{numbers_next, numbers_all, not_all_declared, among_item}
 use Rattle.lis_store.proofs.placing.place_numbers.Goals as goal
 
 pub take_node-requires-clause-room : goal.take_node-requires-clause-room

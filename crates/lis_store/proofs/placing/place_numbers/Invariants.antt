@@ -1,5 +1,5 @@
-use Rattle.std.proofs.Common.{◌≤◌, length, take}
-use Rattle.lis_store.proofs.PlaceNumbers.{AreNumbersIn}
+use Rattle.lis_store.proofs.Common.{◌≤◌, length, take}
+use Rattle.lis_store.proofs.Assigned.{AreNumbersIn}
 use Rattle.lis_store.proofs.placing.place_numbers.Given as goal
 
 -- these are the numbers of the words of the nodes so far

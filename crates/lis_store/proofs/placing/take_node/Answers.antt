@@ -1,7 +1,6 @@
-use Rattle.std.proofs.Common.{ℕ, true, sym, ap, subst, List}
-use Rattle.lis_store.proofs.Common.{node_words}
+use Rattle.lis_store.proofs.Common.{ℕ, true, sym, ap, subst, List, node_words}
 use Rattle.lis_store.specs.Placing.{TakesNumbers}
-use Rattle.lis_store.proofs.PlaceNumbers.{no_word, takes_no_numbers}
+use Rattle.lis_store.proofs.Assigned.{no_word, takes_no_numbers}
 use Rattle.lis_store.proofs.placing.take_node.Goals as goal
 
 pub returns-in_default : goal.returns-in_default

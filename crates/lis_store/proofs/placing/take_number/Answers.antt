@@ -1,6 +1,5 @@
-use Rattle.std.proofs.Common.{◌∙◌, sym, ap}
-use Rattle.lis_content.specs.Content.{has_number}
-use Rattle.lis_store.proofs.PlaceNumbers.{declared_is, takes_again, takes_new}
+use Rattle.lis_store.proofs.Common.{◌∙◌, sym, ap, has_number}
+use Rattle.lis_store.proofs.Assigned.{declared_is, takes_again, takes_new}
 use Rattle.lis_store.proofs.placing.take_number.Goals as goal
 
 pub returns-then-has_number : goal.returns-then-has_number

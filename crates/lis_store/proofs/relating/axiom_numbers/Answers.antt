@@ -1,5 +1,5 @@
-use Rattle.std.proofs.Common.{◌∙◌, sym}
-use Rattle.lis_store.proofs.AxiomFound.{no_left, no_right, found_told, found_at}
+use Rattle.lis_store.proofs.Common.{◌∙◌, sym}
+use Rattle.lis_store.proofs.Unaxiomed.{no_left, no_right, found_told, found_at}
 use Rattle.lis_store.proofs.relating.axiom_numbers.Goals as goal
 
 pub returns-in_default-clause-there : goal.returns-in_default-clause-there

@@ -1,8 +1,7 @@
-use Rattle.std.proofs.Common.{◌≡◌, ◌∙◌, ℕ, false, is_some, sym, ap, subst, inl, inr, arith}
-use Rattle.lis_store.proofs.Common.{cases_lt, word_from_number, Limits}
+use Rattle.lis_store.proofs.Common.{◌≡◌, ◌∙◌, ℕ, false, is_some, sym, ap, subst, inl, inr, arith, cases_lt, word_from_number, Limits}
 use Rattle.lis_store.specs.Relating.{is_overfull}
-use Rattle.lis_store.proofs.Full.{full_at, full_nowhere}
-use Rattle.lis_store.proofs.Overfull.{overfull_here, overfull_unnumbered}
+use Rattle.lis_store.proofs.Crowded.{full_at, full_nowhere}
+use Rattle.lis_store.proofs.Related.{overfull_here, overfull_unnumbered}
 use Rattle.lis_store.proofs.relating.has_overfull.Goals as goal
 
 pub returns-in_default : goal.returns-in_default

@@ -1,4 +1,4 @@
-use Rattle.std.proofs.Common.{◌≡◌, ℕ, ◌<◌, false}
+use Rattle.lis_store.proofs.Common.{◌≡◌, ℕ, ◌<◌, false}
 use Rattle.lis_store.specs.Relating.{is_overfull}
 use Rattle.lis_store.proofs.relating.has_overfull.Given as goal
 

@@ -1,6 +1,4 @@
-use Rattle.std.proofs.Common.{◌≡◌, ◌&&◌, ◌||◌, ◌∙◌, true, sym, ap, ap₂}
-use Rattle.std.proofs.lemmas.Bool.{and_from, or_left}
-use Rattle.lis_store.proofs.Common.{has_word, is_head, is_built_in, declared_of}
+use Rattle.lis_store.proofs.Common.{◌≡◌, ◌&&◌, ◌||◌, ◌∙◌, true, sym, ap, ap₂, and_from, or_left, has_word, is_head, is_built_in, declared_of}
 use Rattle.lis_store.proofs.Assigned.{has_declared}
 use Rattle.lis_store.proofs.relating.is_known_head.Goals as goal
 

@@ -1,5 +1,4 @@
-use Rattle.std.proofs.Common.{◌&&◌, ◌∙◌, sym, ap}
-use Rattle.lis_store.proofs.Common.{has_word, declared_of}
+use Rattle.lis_store.proofs.Common.{◌&&◌, ◌∙◌, sym, ap, has_word, declared_of}
 use Rattle.lis_store.proofs.Assigned.{has_declared}
 use Rattle.lis_store.proofs.relating.is_named.Goals as goal
 

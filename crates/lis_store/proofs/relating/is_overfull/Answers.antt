@@ -1,5 +1,4 @@
-use Rattle.std.proofs.Common.{ap, arith}
-use Rattle.lis_store.proofs.Common.{Ext, named_below}
+use Rattle.lis_store.proofs.Common.{ap, arith, Ext, named_below}
 use Rattle.lis_store.proofs.relating.is_overfull.Goals as goal
 
 pub has-requires-clause-prop : goal.has-requires-clause-prop

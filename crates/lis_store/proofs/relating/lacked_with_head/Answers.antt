@@ -1,6 +1,5 @@
-use Rattle.std.proofs.Common.{◌+◌, ◌∙◌, List, ℕ, cond, is_some, length, refl, sym, ap, ap₂}
-use Rattle.lis_store.proofs.Common.{number_of}
-use Rattle.lis_store.proofs.RelatedNumbers.{lacks_one, lacks_two}
+use Rattle.lis_store.proofs.Common.{◌+◌, ◌∙◌, List, ℕ, cond, is_some, length, refl, sym, ap, ap₂, number_of}
+use Rattle.lis_store.proofs.Related.{lacks_one, lacks_two}
 use Rattle.lis_store.proofs.relating.lacked_with_head.Goals as goal
 
 pub returns-in-None-clause-count : goal.returns-in-None-clause-count

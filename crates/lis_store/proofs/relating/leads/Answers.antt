@@ -1,8 +1,7 @@
-use Rattle.std.proofs.Common.{◌∙◌, sym, ap₂, arith}
-use Rattle.lis_store.proofs.Common.{number_below, word_from_number}
+use Rattle.lis_store.proofs.Common.{◌∙◌, sym, ap₂, arith, number_below, word_from_number}
 use Rattle.lis_taxonomy.specs.Taxonomy.{entails}
 use Rattle.lis_kept.proofs.Entailed.{leads_told}
-use Rattle.lis_store.proofs.RelatedNumbers.{entails_unnumbered, decided}
+use Rattle.lis_store.proofs.Related.{entails_unnumbered, decided}
 use Rattle.lis_store.proofs.relating.leads.Goals as goal
 
 pub returns-in_default : goal.returns-in_default

@@ -1,5 +1,4 @@
-use Rattle.std.proofs.Common.{◌∙◌, ap, Err}
-use Rattle.lis_store.proofs.Common.{err_from_is_err_and}
+use Rattle.lis_store.proofs.Common.{◌∙◌, ap, Err, err_from_is_err_and}
 use Rattle.lis_store.specs.Relating.{pair_checks, axiom_room_checks, axiom_checks_of}
 use Rattle.lis_store.proofs.Judged.{refused_first, judges_refused, judges_then}
 use Rattle.lis_store.proofs.relating.may_relate.Goals as goal

@@ -1,35 +1,31 @@
-use Rattle.std.proofs.Common.{◌∙◌, is_some, length, sym, ap, subst, arith}
-use Rattle.std.proofs.lemmas.Bool.{both_ways}
-use Rattle.lis_store.proofs.Common.{number_of, word_of, Kept, FreeSlotsAreEmpty}
+use Rattle.lis_store.proofs.Common.{◌∙◌, is_some, length, sym, ap, subst, arith, both_ways, number_of, word_of, Kept, FreeSlotsAreEmpty}
 use Rattle.lis_ext.specs.Ext.{set_of}
-use Rattle.lis_store.proofs.RelatingIn.{left_may, left_numbered, right_numbered, left_named, may_link, few_linked}
+use Rattle.lis_store.proofs.Relates.{left_may, left_numbered, right_numbered, left_named, may_link, few_linked}
 use Rattle.lis_store.proofs.relating_in.relate.Goals as goal
 
 pub learn_word-requires-clause-form : goal.learn_word-requires-clause-form
-learn_word-requires-clause-form c = left_may c.args.parts.now c.args.left.now c.args.right.now c.requires.may
+learn_word-requires-clause-form c = left_may c.requires.may
 
 pub unreachable-requires : goal.unreachable-requires
 unreachable-requires c =
     let learnt = c.learn_word.new.parts in
     both_ways (is_some (number_of learnt.dict c.args.left.now)) (ap is_some (sym c.number_of.ensures ∙ c.in_default.is))
-    (left_numbered c.args.parts.now c.args.left.now c.args.right.now c.requires.may learnt c.learn_word.ensures.learns)
+    (left_numbered c.requires.may c.learn_word.ensures.learns)
 
 pub unreachable-requires-in_default-number_of : goal.unreachable-requires-in_default-number_of
 unreachable-requires-in_default-number_of c =
     let learnt = c.learn_word.new.parts in
     both_ways (is_some (number_of learnt.dict c.args.right.now)) (ap is_some (sym c.number_of-2.ensures ∙ c.in_default-number_of.is))
-    (right_numbered c.args.parts.now c.args.left.now c.args.right.now c.requires.may learnt c.learn_word.ensures.learns)
+    (right_numbered c.requires.may c.learn_word.ensures.learns)
 
 pub link-requires : goal.link-requires
 link-requires c =
-    may_link c.args.parts.now c.args.left.now c.args.right.now c.requires.may c.learn_word.new.parts c.learn_word.ensures.learns c.learn_word.ensures.sound c.in-Some.from c.in-Some-number_of.to
-    (sym c.number_of.ensures ∙ c.in-Some.is) (sym c.number_of-2.ensures ∙ c.in-Some-number_of.is)
+    may_link c.requires.may c.learn_word.ensures.learns c.learn_word.ensures.sound (sym c.number_of.ensures ∙ c.in-Some.is) (sym c.number_of-2.ensures ∙ c.in-Some-number_of.is)
 
 pub rebuild_all-requires-clause-words : goal.rebuild_all-requires-clause-words
 rebuild_all-requires-clause-words c =
     ap (λ (k : Kept). is_some (word_of k.dict c.in-Some.from)) c.link.ensures.links.parts
-    ∙ ap is_some (left_named c.args.parts.now c.args.left.now c.args.right.now c.requires.may c.learn_word.new.parts c.learn_word.ensures.learns c.learn_word.ensures.sound c.in-Some.from c.in-Some-number_of.to
-    (sym c.number_of.ensures ∙ c.in-Some.is) (sym c.number_of-2.ensures ∙ c.in-Some-number_of.is))
+    ∙ ap is_some (left_named c.requires.may c.learn_word.ensures.learns c.learn_word.ensures.sound (sym c.number_of.ensures ∙ c.in-Some.is) (sym c.number_of-2.ensures ∙ c.in-Some-number_of.is))
 
 pub rebuild_all-requires-clause-free : goal.rebuild_all-requires-clause-free
 rebuild_all-requires-clause-free c =
@@ -42,8 +38,7 @@ rebuild_all-requires-clause-short c = λ slot.
 
 pub rebuild_all-requires-clause-few : goal.rebuild_all-requires-clause-few
 rebuild_all-requires-clause-few c =
-    few_linked c.args.parts.now c.args.left.now c.args.right.now c.requires.may c.learn_word.new.parts c.learn_word.ensures.learns c.learn_word.ensures.sound c.in-Some.from c.in-Some-number_of.to
-    (sym c.number_of.ensures ∙ c.in-Some.is) (sym c.number_of-2.ensures ∙ c.in-Some-number_of.is) c.link.new.self c.link.ensures.links c.requires.sound c.link.ensures.sound c.requires.free c.requires.closed
+    few_linked c.requires.may c.learn_word.ensures.learns c.learn_word.ensures.sound (sym c.number_of.ensures ∙ c.in-Some.is) (sym c.number_of-2.ensures ∙ c.in-Some-number_of.is) c.link.ensures.links c.requires.sound c.link.ensures.sound c.requires.free c.requires.closed
 
 pub returns : goal.returns
 returns c = record {

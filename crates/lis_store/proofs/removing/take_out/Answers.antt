@@ -1,5 +1,4 @@
-use Rattle.std.proofs.Common.{sym, ap, ◌∙◌, arith}
-use Rattle.lis_store.proofs.Common.{rec_at, Kept}
+use Rattle.lis_store.proofs.Common.{sym, ap, ◌∙◌, arith, rec_at, Kept}
 use Rattle.lis_ext.specs.Ext.{set_of}
 use Rattle.lis_store.proofs.Vacated.{rec_there, slot_below}
 use Rattle.lis_store.proofs.removing.take_out.Goals as goal

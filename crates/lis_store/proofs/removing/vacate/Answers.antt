@@ -1,5 +1,4 @@
-use Rattle.std.proofs.Common.{◌≡◌, ℕ, List, ◌∙◌, length, sym, ap, subst, arith}
-use Rattle.lis_store.proofs.Common.{IsStrictlyIncreasing, same_Some, slot_is_below, Ext, numbers_at, FileRecord, MayForget, emptied}
+use Rattle.lis_store.proofs.Common.{◌≡◌, ℕ, List, ◌∙◌, length, sym, ap, subst, arith, IsStrictlyIncreasing, same_Some, slot_is_below, Ext, numbers_at, FileRecord, MayForget, emptied}
 use Rattle.lis_kept.specs.Changes.{Drops}
 use Rattle.lis_kept.specs.Forgetting.{ForgetsWithout}
 use Rattle.lis_store.proofs.Vacated.{below_dropped, free_dropped, may_forget_dropped, vacates}

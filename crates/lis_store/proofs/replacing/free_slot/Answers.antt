@@ -1,5 +1,4 @@
-use Rattle.std.proofs.Common.{ap, arith}
-use Rattle.lis_store.proofs.Common.{Limits}
+use Rattle.lis_store.proofs.Common.{ap, arith, Limits}
 use Rattle.lis_store.proofs.Refiled.{all_filed}
 use Rattle.lis_store.proofs.replacing.free_slot.Goals as goal
 

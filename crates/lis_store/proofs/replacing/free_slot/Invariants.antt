@@ -1,5 +1,4 @@
-use Rattle.std.proofs.Common.{◌≡◌, ℕ, ◌<◌, true, is_some}
-use Rattle.lis_store.proofs.Common.{rec_at}
+use Rattle.lis_store.proofs.Common.{◌≡◌, ℕ, ◌<◌, true, is_some, rec_at}
 use Rattle.lis_store.proofs.replacing.free_slot.Given as goal
 
 -- each slot so far has a file

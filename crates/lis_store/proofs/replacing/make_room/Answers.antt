@@ -1,5 +1,4 @@
-use Rattle.std.proofs.Common.{ℕ, Option, IfSome, IsSome, sym, subst}
-use Rattle.lis_store.proofs.Common.{rec_at}
+use Rattle.lis_store.proofs.Common.{ℕ, Option, IfSome, IsSome, sym, subst, rec_at}
 use Rattle.lis_store.specs.ReplacingIn.{IsVacant}
 use Rattle.lis_store.proofs.Left.{vacant_left}
 use Rattle.lis_store.proofs.Refiled.{vacant_free}

@@ -1,53 +1,15 @@
-use Rattle.std.proofs.Common.{◌≡◌, ◌∙◌, ℕ, length, nat_lt, sym, ap, subst}
-use Rattle.lis_store.proofs.Common.{list_all, are_blocks, Limits, new_file}
-use Rattle.lis_eval.specs.Room.{HasRoom}
-use Rattle.lis_store.specs.Admitting.{IsAdmitted}
-use Rattle.lis_store.specs.ReplacingIn.{MayPut, record_in}
-use Rattle.lis_store.proofs.Refiled.{may_there, may_comes, limits_room}
+use Rattle.lis_store.proofs.Common.{◌∙◌, length, sym, subst, ℕ, List}
+use Rattle.lis_store.specs.ReplacingIn.{MayPut, record_in, RefilesIn}
+use Rattle.lis_store.specs.Drafts.{drafted}
 use Rattle.lis_store.proofs.replacing.refile.Goals as goal
 
-pub make_room-room-requires-clause-free : goal.make_room-room-requires-clause-free
-make_room-room-requires-clause-free c = λ none.
-    let file = new_file c.args.name.now c.args.assigned.now c.args.payload.now in
-    let may : IsAdmitted c.args.parts.now file = subst (λ slot. MayPut c.args.parts.now slot file) none c.requires.may in
-    may.slots
-
-pub make_room-room-requires-clause-there : goal.make_room-room-requires-clause-there
-make_room-room-requires-clause-there c = may_there c.args.slot c.args.parts.now (new_file c.args.name.now c.args.assigned.now c.args.payload.now) c.requires.may
-
-pub settle_in-requires-clause-may : goal.settle_in-requires-clause-may
-settle_in-requires-clause-may c =
-    may_comes c.args.slot c.args.parts.now c.make_room-room.new.parts c.make_room-room.result.slot (new_file c.args.name.now c.args.assigned.now c.args.payload.now)
-    c.requires.form c.make_room-room.ensures.asked c.requires.may c.make_room-room.ensures.room
-
-pub settle_in-requires-clause-in_form : goal.settle_in-requires-clause-in_form
-settle_in-requires-clause-in_form c =
-    let limits = limits_room (record_in c.args.parts.now c.args.slot) c.make_room-room.result.slot c.args.parts.now c.make_room-room.new.parts c.make_room-room.ensures.room in
-    ap (λ (l : Limits). are_blocks l.version (length c.args.payload.now) c.args.blocks.items) limits ∙ c.requires.in_form
-
-pub settle_in-requires-clause-below : goal.settle_in-requires-clause-below
-settle_in-requires-clause-below c =
-    let limits = limits_room (record_in c.args.parts.now c.args.slot) c.make_room-room.result.slot c.args.parts.now c.make_room-room.new.parts c.make_room-room.ensures.room in
-    ap (λ (l : Limits). list_all (λ n. nat_lt n l.blocks) c.args.blocks.items) limits ∙ c.requires.below
-
-pub settle_in-requires-clause-scratch : goal.settle_in-requires-clause-scratch
-settle_in-requires-clause-scratch c =
-    let limits = limits_room (record_in c.args.parts.now c.args.slot) c.make_room-room.result.slot c.args.parts.now c.make_room-room.new.parts c.make_room-room.ensures.room in
-    subst (λ (l : Limits). HasRoom c.args.scratch.now l) (sym limits) c.requires.scratch
-
-pub returns-clause-scratch : goal.returns-clause-scratch
-returns-clause-scratch c =
-    let limits = limits_room (record_in c.args.parts.now c.args.slot) c.make_room-room.result.slot c.args.parts.now c.make_room-room.new.parts c.make_room-room.ensures.room in
-    subst (λ (l : Limits). HasRoom c.settle_in.new.scratch l) limits c.settle_in.ensures.scratch
+pub refile_draft-requires-clause-may : goal.refile_draft-requires-clause-may
+refile_draft-requires-clause-may c =
+    let M : List (List ℕ) → Type 0 = λ own. MayPut c.args.parts.now c.args.slot (drafted c.args.name.now (length c.args.payload.now) c.args.assigned.now own) in
+    subst M (sym (c.as_slice.ensures.words ∙ c.derive_words-derived.ensures)) c.requires.may
 
 pub returns-clause-refiles : goal.returns-clause-refiles
-returns-clause-refiles c = record {
-  slot = c.make_room-room.result.slot;
-  old = c.make_room-room.result.numbers.items;
-  vacated = c.make_room-room.new.parts;
-  makes = c.make_room-room.ensures.room;
-  vacant = c.make_room-room.ensures.vacant;
-  may = may_comes c.args.slot c.args.parts.now c.make_room-room.new.parts c.make_room-room.result.slot (new_file c.args.name.now c.args.assigned.now c.args.payload.now)
-      c.requires.form c.make_room-room.ensures.asked c.requires.may c.make_room-room.ensures.room;
-  settles = c.settle_in.ensures.settles;
-}
+returns-clause-refiles c =
+    let R : List (List ℕ) → Type 0 = λ own.
+    RefilesIn (record_in c.args.parts.now c.args.slot) (drafted c.args.name.now (length c.args.payload.now) c.args.assigned.now own) c.args.blocks.items c.args.parts.now c.refile_draft.new.parts in
+    subst R (c.as_slice.ensures.words ∙ c.derive_words-derived.ensures) c.refile_draft.ensures.refiles

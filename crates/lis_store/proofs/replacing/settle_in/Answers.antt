@@ -1,7 +1,7 @@
-use Rattle.std.proofs.Common.{◌≡◌, ◌∙◌, ℕ, List, is_some, length, sym, ap, subst, arith}
-use Rattle.lis_store.proofs.Common.{list_all, IsStrictlyIncreasing, slot_of, word_of, FileRecord, size_fits, new_file, Kept, is_sound_record, Describes}
+use Rattle.lis_store.proofs.Common.{◌∙◌, ℕ, List, is_some, sym, ap, subst, arith, list_all, IsStrictlyIncreasing, slot_of, word_of, FileRecord, size_fits, Kept, is_sound_record, Describes}
 use Rattle.lis_ext.specs.Ext.{set_of}
 use Rattle.lis_kept.specs.Changes.{Files}
+use Rattle.lis_store.specs.Drafts.{drafted}
 use Rattle.lis_store.specs.Admitting.{described_by}
 use Rattle.lis_store.specs.Adding.{numbers_named}
 use Rattle.lis_store.specs.ReplacingIn.{LearnsOwn}
@@ -23,13 +23,13 @@ pub describe-requires-clause-rising : goal.describe-requires-clause-rising
 describe-requires-clause-rising c =
     let own = c.learn_own-numbers.ensures.learnt in
     subst (λ ns. IsStrictlyIncreasing ns) (sym (c.as_slice-2.ensures.value ∙ own.numbered))
-    (named_rising c.learn_own-numbers.new.parts own.sound (described_by c.args.parts.now (new_file c.args.name.now c.args.assigned.now c.args.payload.now)))
+    (named_rising c.learn_own-numbers.new.parts own.sound (described_by c.args.parts.now (drafted c.args.draft.name.now c.args.draft.size c.args.draft.assigned.now c.args.draft.own.now)))
 
 pub describe-requires-clause-named : goal.describe-requires-clause-named
 describe-requires-clause-named c =
     let own = c.learn_own-numbers.ensures.learnt in
     ap (list_all (λ n. is_some (word_of c.learn_own-numbers.new.parts.dict n))) (c.as_slice-2.ensures.value ∙ own.numbered)
-    ∙ named_worded c.learn_own-numbers.new.parts own.sound (described_by c.args.parts.now (new_file c.args.name.now c.args.assigned.now c.args.payload.now))
+    ∙ named_worded c.learn_own-numbers.new.parts own.sound (described_by c.args.parts.now (drafted c.args.draft.name.now c.args.draft.size c.args.draft.assigned.now c.args.draft.own.now))
 
 pub place_record-requires-clause-below : goal.place_record-requires-clause-below
 place_record-requires-clause-below c =
@@ -56,26 +56,26 @@ pub place_record-requires-clause-sound : goal.place_record-requires-clause-sound
 place_record-requires-clause-sound c =
     let d = c.describe.new.self in
     let D : List ℕ → Type 0 = λ ns. Describes c.args.room.now.slot ns c.learn_own-numbers.new.parts d in
-    let make : List ℕ → FileRecord = λ name. record { name = name; size = length c.args.payload.now; tags = c.learn_own-numbers.result.tags.items; blocks = c.args.blocks.items } in
+    let make : List ℕ → FileRecord = λ name. record { name = name; size = c.args.draft.size; tags = c.learn_own-numbers.result.tags.items; blocks = c.args.blocks.items } in
     ap (λ name. is_sound_record d.limits.version d.dict d.limits.blocks (make name)) c.copied.ensures
     ∙ record_described c.requires.vacant c.requires.may c.learn_own-numbers.ensures.learnt (subst D c.as_slice-2.ensures.value c.describe.ensures.describes) c.args.blocks.items c.requires.in_form c.requires.below
 
-pub overflow_cast-payload : goal.overflow_cast-payload
-overflow_cast-payload c = omega (arith, size_fits c.args.parts.now.limits.version (length c.args.payload.now) c.requires.may.small)
+pub overflow_cast-draft : goal.overflow_cast-draft
+overflow_cast-draft c = omega (arith, size_fits c.args.parts.now.limits.version c.args.draft.size c.requires.may.small)
 
 pub returns-clause-settles : goal.returns-clause-settles
 returns-clause-settles c =
     let own = c.learn_own-numbers.ensures.learnt in
-    let file = new_file c.args.name.now c.args.assigned.now c.args.payload.now in
-    let L : List ℕ → List ℕ → Type 0 = λ tags numbers. LearnsOwn file tags numbers c.args.parts.now c.learn_own-numbers.new.parts in
+    let draft = drafted c.args.draft.name.now c.args.draft.size c.args.draft.assigned.now c.args.draft.own.now in
+    let L : List ℕ → List ℕ → Type 0 = λ tags numbers. LearnsOwn draft tags numbers c.args.parts.now c.learn_own-numbers.new.parts in
     let D : List ℕ → Type 0 = λ ns. Describes c.args.room.now.slot ns c.learn_own-numbers.new.parts c.describe.new.self in
     let F : List ℕ → List ℕ → Type 0 = λ name tags.
-    Files c.args.room.now.slot (record { name = name; size = length c.args.payload.now; tags = tags; blocks = c.args.blocks.items }) c.describe.new.self c.place_record.new.self in
+    Files c.args.room.now.slot (record { name = name; size = c.args.draft.size; tags = tags; blocks = c.args.blocks.items }) c.describe.new.self c.place_record.new.self in
     record {
       learnt = c.learn_own-numbers.new.parts;
-      own = subst (λ tags. L tags (numbers_named c.learn_own-numbers.new.parts.dict (described_by c.args.parts.now file))) own.tagged (subst (L c.learn_own-numbers.result.tags.items) own.numbered own);
+      own = subst (λ tags. L tags (numbers_named c.learn_own-numbers.new.parts.dict (described_by c.args.parts.now draft))) own.tagged (subst (L c.learn_own-numbers.result.tags.items) own.numbered own);
       described = c.describe.new.self;
       describes = subst D (c.as_slice-2.ensures.value ∙ own.numbered) c.describe.ensures.describes;
-      files = subst (F c.args.name.now) own.tagged (subst (λ name. F name c.learn_own-numbers.result.tags.items) c.copied.ensures c.place_record.ensures.files);
+      files = subst (F c.args.draft.name.now) own.tagged (subst (λ name. F name c.learn_own-numbers.result.tags.items) c.copied.ensures c.place_record.ensures.files);
       sound = c.place_record.ensures.sound;
     }

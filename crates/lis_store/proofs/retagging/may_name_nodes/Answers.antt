@@ -1,5 +1,4 @@
-use Rattle.std.proofs.Common.{◌≡◌, refl, sym, ◌∙◌, true, false}
-use Rattle.lis_store.proofs.Common.{list_any, flat_map, is_built_in, is_head, node_words}
+use Rattle.lis_store.proofs.Common.{◌≡◌, refl, sym, ◌∙◌, true, false, list_any, flat_map, is_built_in, is_head, node_words}
 use Rattle.lis_store.proofs.Retagged.{any_of_nodes}
 use Rattle.lis_store.proofs.retagging.may_name_nodes.Goals as goal
 

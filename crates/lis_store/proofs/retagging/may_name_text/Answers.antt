@@ -1,4 +1,4 @@
-use Rattle.std.proofs.Common.{ℕ, ◌≡◌, None, List, refl, subst}
+use Rattle.lis_store.proofs.Common.{ℕ, ◌≡◌, None, List, refl, subst}
 use Rattle.lis_formula.proofs.TextWords.{path_named, none_named}
 use Rattle.lis_store.specs.Changes.{first_refusal, Judges}
 use Rattle.lis_store.specs.Retagging.{text_checks}

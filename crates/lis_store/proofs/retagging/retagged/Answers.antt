@@ -1,5 +1,4 @@
-use Rattle.std.proofs.Common.{subst}
-use Rattle.lis_store.proofs.Common.{flat_map, nodes_of}
+use Rattle.lis_store.proofs.Common.{subst, flat_map, nodes_of}
 use Rattle.lis_store.specs.Assigning.{node_tags, Takes}
 use Rattle.lis_store.proofs.Retagged.{too_many_moved, moved_are}
 use Rattle.lis_store.proofs.retagging.retagged.Goals as goal

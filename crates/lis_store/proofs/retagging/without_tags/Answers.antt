@@ -1,9 +1,8 @@
-use Rattle.std.proofs.Common.{ℕ, ◌≡◌, ◌<◌, Bool, true, false, List, [], ◌∷◌, ◌++◌, not, cond, take, length, append-nil, sym, ◌∙◌, ap, arith}
-use Rattle.lis_store.proofs.Common.{list_any, length-take-le, has_word, filter_le}
+use Rattle.lis_store.proofs.Common.{ℕ, ◌≡◌, ◌<◌, Bool, true, false, List, [], ◌∷◌, ◌++◌, not, cond, take, length, append-nil, sym, ◌∙◌, ap, arith, list_any, length-take-le, has_word, filter_le}
 use Rattle.lis_store.specs.Assigning.{node_tags}
 use Rattle.lis_store.proofs.Retagged.{kept_next}
-use Rattle.lis_store.proofs.retagging.without_tags.Goals as goal
 use Rattle.lis_store.proofs.retagging.without_tags.Goals.{then-not-has_tag, else-not-has_tag}
+use Rattle.lis_store.proofs.retagging.without_tags.Goals as goal
 
 pub push-requires : goal.push-requires
 push-requires c =

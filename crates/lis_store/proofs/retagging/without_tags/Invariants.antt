@@ -1,5 +1,4 @@
-use Rattle.std.proofs.Common.{◌≡◌, not, filter, take}
-use Rattle.lis_store.proofs.Common.{list_any, has_word}
+use Rattle.lis_store.proofs.Common.{◌≡◌, not, filter, take, list_any, has_word}
 use Rattle.lis_store.specs.Assigning.{node_tags}
 use Rattle.lis_store.proofs.retagging.without_tags.Given as goal
 

@@ -1,8 +1,5 @@
-use Rattle.std.proofs.Common.{ℕ, ◌≡◌, ◌<◌, option_to_list, List, length, sym, subst, ◌∙◌}
+use Rattle.lis_store.proofs.Common.{ℕ, ◌≡◌, ◌<◌, option_to_list, List, length, sym, subst, ◌∙◌, flat_map, IsStrictlySortedBy, word_of, word_cmp, retagged, sorted_set_of, tags_at, words_told}
 use Rattle.std.specs.Prelude.{MatchOption}
-use Rattle.lis_store.proofs.Common.{flat_map, IsStrictlySortedBy, word_of, word_cmp, retagged, sorted_set_of}
-use Rattle.lis_model.specs.Step.{tags_at}
-use Rattle.lis_kept.specs.Telling.{words_told}
 use Rattle.lis_store.proofs.retagging.words_moved.Goals as goal
 
 pub returns-clause-words : goal.returns-clause-words

@@ -1,4 +1,4 @@
-use Rattle.std.proofs.Common.{◌∙◌, arith}
+use Rattle.lis_store.proofs.Common.{◌∙◌, arith}
 use Rattle.lis_store.proofs.Saved.{sound_held, sound_committed, none_placed, change_held, change_committed}
 use Rattle.lis_store.proofs.saving.hold.Goals as goal
 

@@ -1,5 +1,4 @@
-use Rattle.std.proofs.Common.{◌≡◌, ◌∙◌, ℕ, ◌∷◌, is_some, length, sym, ap, ap₂, subst, arith, List}
-use Rattle.lis_store.proofs.Common.{none-some, same_Some, word_from_number, numbers_at, Kept, FreeSlotsAreEmpty}
+use Rattle.lis_store.proofs.Common.{◌≡◌, ◌∙◌, ℕ, ◌∷◌, is_some, length, sym, ap, ap₂, subst, arith, List, none-some, same_Some, word_from_number, numbers_at, Kept, FreeSlotsAreEmpty}
 use Rattle.lis_store.specs.Closing.{closure, is_met_at}
 use Rattle.lis_store.specs.Redescribing.{Redescribes}
 use Rattle.lis_store.specs.Stored.{DescriptionsAreShort}

@@ -1,8 +1,7 @@
-use Rattle.std.proofs.Common.{◌≡◌, ℕ, ◌<◌, List, length, ap, subst, arith}
-use Rattle.lis_store.proofs.Common.{Limits}
+use Rattle.lis_store.proofs.Common.{◌≡◌, ℕ, ◌<◌, List, length, ap, subst, arith, Limits}
 use Rattle.lis_store.specs.Redescribing.{Gives, Redescribes}
 use Rattle.lis_store.specs.Testing.{without_number}
-use Rattle.lis_store.proofs.Redescribed.{redescribed_more}
+use Rattle.lis_store.proofs.Rebuilt.{redescribed_more}
 use Rattle.lis_store.proofs.Without.{without_same}
 use Rattle.lis_store.proofs.testing.describe_all_without.Goals as goal
 

@@ -1,5 +1,4 @@
-use Rattle.std.proofs.Common.{◌≡◌, ◌∙◌, ℕ, false, List, filter, is_some, refl, sym, ap, ap₂, subst, inl, inr, arith}
-use Rattle.lis_store.proofs.Common.{list_all, IsStrictlyIncreasing, word_of, Ext, has, Describes, named_below}
+use Rattle.lis_store.proofs.Common.{◌≡◌, ◌∙◌, ℕ, false, List, filter, is_some, refl, sym, ap, ap₂, subst, inl, inr, arith, list_all, IsStrictlyIncreasing, word_of, Ext, has, Describes, named_below}
 use Rattle.lis_ext.specs.Ext.{set_of}
 use Rattle.lis_store.proofs.Without.{is_other, without_none, without_rising, without_named}
 use Rattle.lis_store.proofs.testing.describe_without.Goals as goal

@@ -1,5 +1,4 @@
-use Rattle.std.proofs.Common.{◌<◌, length, take, ap, arith}
-use Rattle.lis_store.proofs.Common.{length-take-le, filter_le}
+use Rattle.lis_store.proofs.Common.{◌<◌, length, take, ap, arith, length-take-le, filter_le}
 use Rattle.lis_store.proofs.Without.{is_other}
 use Rattle.lis_store.proofs.testing.numbers_without.Goals as goal
 

@@ -1,4 +1,4 @@
-use Rattle.std.proofs.Common.{◌≡◌, ◌==◌, not, filter, take}
+use Rattle.lis_store.proofs.Common.{◌≡◌, ◌==◌, not, filter, take}
 use Rattle.lis_store.proofs.testing.numbers_without.Given as goal
 
 -- the others so far

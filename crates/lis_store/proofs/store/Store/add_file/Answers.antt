@@ -1,5 +1,4 @@
-use Rattle.std.proofs.Common.{◌∙◌, ap, subst, Err}
-use Rattle.lis_store.proofs.Common.{err_from_is_err_and, Situation, Payload, add}
+use Rattle.lis_store.proofs.Common.{◌∙◌, ap, subst, Err, err_from_is_err_and, Situation, Payload, add}
 use Rattle.lis_store.specs.Changes.{Holds}
 use Rattle.lis_store.proofs.Facts.{limits_told}
 use Rattle.lis_store.proofs.Holding.{fits_held, changes_ended, changes_committed}

@@ -1,7 +1,5 @@
-use Rattle.std.proofs.Common.{◌∙◌, sym, ap, subst, ℕ, ◌≤◌, List, Ok, Err, length}
-use Rattle.lis_store.proofs.Common.{err_from_is_err_and, free_count, new_file, file_added, blocks_taken, Situation, Outcome, Payload, add, Kept}
-use Rattle.lis_model.specs.Step.{changed}
-use Rattle.lis_store.specs.Admitting.{IsAdmitted}
+use Rattle.lis_store.proofs.Common.{◌∙◌, sym, ap, subst, ℕ, List, None, Ok, Err, err_from_is_err_and, new_file, file_added, assigned_at, Situation, Outcome, Payload, add, Kept, changed}
+use Rattle.lis_store.specs.ReplacingIn.{MayPutBytes}
 use Rattle.lis_store.specs.Stored.{Stored, StoreHolds}
 use Rattle.lis_store.specs.Changes.{Holds, Commits}
 use Rattle.lis_store.proofs.Admitted.{whole_inside, admitted, enough_free, add_done, added_refused}
@@ -32,24 +30,20 @@ returns-in_err-commit-clause-holds g c = λ base s holds.
     held_lost_commit base now (add now c.args.name.now c.args.tags.now (record { size = c.args.size; bytes = c.args.payload.now })) m m (g.D.Disk.meaning c.commit.new.disk)
     c.commit.new.self c.in_err-commit.field-0.0 c.from_residual-in_err-commit.result (c.in_err-commit.ensures.commits base s holds) (p.1 ∙ ap Err p.2)
 
-pub put_file-requires-clause-admitted : goal.put_file-requires-clause-admitted
-put_file-requires-clause-admitted g c =
-    let one = admitted c.self.inside.parts c.args.place.now c.args.name.now c.args.tags.now c.args.payload.now c.args.size c.in_ok-assigned.ensures.name (whole_inside c.args.payload.now c.args.size c.self.view_is c.requires.whole) c.in_ok-assigned.ensures.row in
-    let W : List (List ℕ) → Type 0 = λ ws. IsAdmitted c.self.inside.parts (new_file c.args.name.now ws c.args.payload.now) in
-    let A : Kept → Type 0 = λ k. IsAdmitted k (new_file c.args.name.now c.as_slice.result.now c.args.payload.now) in
-    let there = subst (λ (k : Stored). A k.parts) c.self.view_is (subst W (sym (c.as_slice.ensures.value ∙ c.in_ok-assigned.ensures.words)) one) in
+pub put_file-requires-clause-may : goal.put_file-requires-clause-may
+put_file-requires-clause-may g c =
+    let k = c.self.inside.parts in
+    let whole = whole_inside c.args.payload.now c.args.size c.self.view_is c.requires.whole in
+    let M : List (List ℕ) → Kept → Type 0 = λ ws k. MayPutBytes k None (new_file c.args.name.now ws c.args.payload.now) in
+    let one : M (assigned_at c.args.place.now c.args.tags.now) k = (
+      admitted k c.args.place.now c.args.name.now c.args.tags.now c.args.payload.now c.args.size c.in_ok-assigned.ensures.name whole c.in_ok-assigned.ensures.row,
+      enough_free k c.args.place.now c.args.name.now c.args.tags.now c.args.payload.now c.args.size c.in_ok-assigned.ensures.name whole c.in_ok-assigned.ensures.row,
+    ) in
+    let A = M c.as_slice.result.now in
+    let there = subst (λ (k : Stored). A k.parts) c.self.view_is (subst (λ ws. M ws k) (sym (c.as_slice.ensures.value ∙ c.in_ok-assigned.ensures.words)) one) in
     elim c.if-is_large.branch [
       | then-is_large+in_ok-commit w ↦ subst A (sym (ap (λ (k : Stored). k.parts) w.self-is ∙ w.commit.ensures.parts)) there
       | else-is_large w ↦ subst A (sym (ap (λ (k : Stored). k.parts) w.self-is)) there
-    ]
-
-pub put_file-requires-clause-enough : goal.put_file-requires-clause-enough
-put_file-requires-clause-enough g c =
-    let E : Kept → Type 0 = λ k. blocks_taken k.limits.version (length c.args.payload.now) ≤ free_count k.taken in
-    let enough = subst (λ (k : Stored). E k.parts) c.self.view_is (enough_free c.self.inside.parts c.args.place.now c.args.name.now c.args.tags.now c.args.payload.now c.args.size c.in_ok-assigned.ensures.name (whole_inside c.args.payload.now c.args.size c.self.view_is c.requires.whole) c.in_ok-assigned.ensures.row) in
-    elim c.if-is_large.branch [
-      | then-is_large+in_ok-commit w ↦ subst E (sym (ap (λ (k : Stored). k.parts) w.self-is ∙ w.commit.ensures.parts)) enough
-      | else-is_large w ↦ subst E (sym (ap (λ (k : Stored). k.parts) w.self-is)) enough
     ]
 
 pub returns-clause-holds : goal.returns-clause-holds

@@ -1,5 +1,4 @@
-use Rattle.std.proofs.Common.{ap, ◌∙◌}
-use Rattle.lis_store.proofs.Common.{find, Kept, axioms_of}
+use Rattle.lis_store.proofs.Common.{ap, ◌∙◌, find, Kept, axioms_of}
 use Rattle.std.specs.Option.{option_map}
 use Rattle.lis_kept.specs.Behind.{rights_of, is_behind}
 use Rattle.lis_store.proofs.store.Store.axiom_behind.Goals as goal

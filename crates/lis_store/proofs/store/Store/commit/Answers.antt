@@ -1,6 +1,6 @@
-use Rattle.std.proofs.Common.{◌∙◌, sym, ap, subst}
+use Rattle.lis_store.proofs.Common.{◌∙◌, sym, ap, subst}
 use Rattle.lis_store.specs.Stored.{Stored, StoreHolds}
-use Rattle.lis_store.proofs.Committed.{committed_sound, committed}
+use Rattle.lis_store.proofs.Saved.{committed_sound, committed}
 use Rattle.lis_store.proofs.store.Store.commit.Goals as goal
 
 pub returns-clause-sound : goal.returns-clause-sound

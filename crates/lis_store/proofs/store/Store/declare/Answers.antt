@@ -1,28 +1,12 @@
-use Rattle.std.proofs.Common.{◌∙◌, ap, subst, Err}
-use Rattle.lis_store.proofs.Common.{err_from_is_err_and, Situation, mkdir}
-use Rattle.lis_store.specs.Changes.{Holds}
-use Rattle.lis_store.proofs.Facts.{limits_told}
-use Rattle.lis_store.proofs.Holding.{fits_held, changes_ended, changes_committed}
+use Rattle.lis_store.proofs.Common.{◌∙◌, ap, Err, err_from_is_err_and}
+use Rattle.lis_store.proofs.Holding.{call_ended, call_committed}
 use Rattle.lis_store.proofs.store.Store.declare.Goals as goal
 
 pub returns-in_err-declare_held-clause-changes : goal.returns-in_err-declare_held-clause-changes
 returns-in_err-declare_held-clause-changes g c = λ s fits.
     let p = err_from_is_err_and c.from_residual.result c.from_residual.ensures.1 in
-    let m = g.D.Disk.meaning c.args.disk.now in
-    let now : Situation = record { state = s; place = c.args.place.now } in
-    let outcome = mkdir now c.args.word.now in
-    let held = fits_held c.args.self.now m s c.declare_held.ensures.entry fits in
-    changes_ended now outcome c.args.self.now c.declare_held.new.self m (g.D.Disk.meaning c.declare_held.new.disk) c.in_err-declare_held.field-0.0 c.declare_held.result c.from_residual.result
-    c.in_err-declare_held.was (p.1 ∙ ap Err p.2) fits c.declare_held.ensures.left (c.declare_held.ensures.holds s s held)
+    call_ended c.declare_held.ensures.entry (record { state = s; place = c.args.place.now }) fits (λ base held. c.declare_held.ensures.holds base s held) c.in_err-declare_held.was (p.1 ∙ ap Err p.2) c.declare_held.ensures.left
 
 pub returns-clause-changes : goal.returns-clause-changes
 returns-clause-changes g c = λ s fits.
-    let m = g.D.Disk.meaning c.args.disk.now in
-    let between = g.D.Disk.meaning c.declare_held.new.disk in
-    let sound = c.declare_held.ensures.entry in
-    let now : Situation = record { state = s; place = c.args.place.now } in
-    let outcome = mkdir now c.args.word.now in
-    let held = fits_held c.args.self.now m s sound fits in
-    changes_committed now outcome c.declare_held.new.self c.commit.new.self m between (g.D.Disk.meaning c.commit.new.disk) c.in_ok-declare_held.field-0 c.commit.result
-    (subst (λ r. Holds s now outcome c.declare_held.new.self m between r) c.in_ok-declare_held.was (c.declare_held.ensures.holds s s held)) c.commit.ensures.commits
-    (c.declare_held.ensures.limits ∙ limits_told c.args.self.now.parts fits.kept s sound.parts sound.free fits.tells)
+    call_committed c.declare_held.ensures.entry (record { state = s; place = c.args.place.now }) fits (λ base held. c.declare_held.ensures.holds base s held) c.in_ok-declare_held.was c.commit.ensures.commits c.declare_held.ensures.limits

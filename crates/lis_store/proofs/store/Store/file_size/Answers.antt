@@ -1,5 +1,4 @@
-use Rattle.std.proofs.Common.{◌∙◌, sym, ap}
-use Rattle.lis_store.proofs.Common.{rec_at, rec_at-slot_of, Kept}
+use Rattle.lis_store.proofs.Common.{◌∙◌, sym, ap, rec_at, rec_at-slot_of, Kept}
 use Rattle.lis_store.proofs.store.Store.file_size.Goals as goal
 
 pub unreachable-requires : goal.unreachable-requires

@@ -1,105 +1,125 @@
-use Rattle.std.proofs.Common.{◌≡◌, ◌∙◌, ◌≤◌, sym, ap, subst, ℕ, nat_lt, true, length, Err}
-use Rattle.lis_store.proofs.Common.{list_all, err_from_is_err_and, ArrayVec, free_count, is_large, Limits, new_file, file_added, blocks_taken}
-use Rattle.lis_model.specs.Step.{changed}
-use Rattle.lis_store.specs.Admitting.{IsAdmitted}
+use Rattle.lis_store.proofs.Common.{◌≡◌, ◌∙◌, ℕ, ◌≤◌, true, length, Err, sym, ap, subst, arith, err_from_is_err_and, ArrayVec, is_large, Limits, blocks_taken, new_file, file_added, Kept, changed, HasRoom}
 use Rattle.lis_store.specs.Stored.{Stored, StoreHolds}
+use Rattle.lis_store.specs.Drafts.{draft_of}
+use Rattle.lis_store.specs.Instead.{free_for}
+use Rattle.lis_store.specs.ReplacingIn.{record_in, file_gone}
 use Rattle.lis_store.proofs.Edits.{edits_saved}
-use Rattle.lis_store.proofs.AddFile.{form_put, limits_put, admitted_put, added_sound, added_placed, added_marks, added_edits, added_holds, lost_sound, lost_holds}
 use Rattle.lis_store.proofs.Large.{none_left}
+use Rattle.lis_store.proofs.ReplaceFile.{anew_there, anew_small, mid_form, mid_first, mid_in_form, mid_below, mid_limits, mid_short, mid_image, written_sound, written_image, written_unbroken, written_placed, written_room, written_limits, written_edits, written_holds}
+use Rattle.lis_store.proofs.Torn.{lost_sound, lost_holds}
 use Rattle.lis_store.proofs.store.Store.put_file.Goals as goal
 
 pub invariant_of-self : goal.invariant_of-self
 invariant_of-self g c =
     let old : Stored = record { parts = c.self.inside.parts; journal = c.self.inside.journal; is_broken = c.self.inside.is_broken } in
-    let m = g.D.Disk.meaning c.args.disk.now in
-    let placed = g.D.Disk.meaning c.put_content.new.disk in
-    lost_sound (ArrayVec ℕ) old c.self.invariant c.args.payload.now c.put_content.new.parts c.put_content.new.journal c.put_content.new.is_broken c.in_err-blocks.field-0.0 m placed c.in_err-blocks.ensures.put c.in_err-blocks.ensures.ended c.put_content.ensures.sound
+    lost_sound (ArrayVec ℕ) old c.self.invariant c.args.payload.now (record_in old.parts c.args.slot) c.put_anew.new.parts c.put_anew.new.journal c.put_anew.new.is_broken c.in_err-blocks.field-0.0
+    (g.D.Disk.meaning c.args.disk.now) (g.D.Disk.meaning c.put_anew.new.disk) c.in_err-blocks.ensures.renewed c.in_err-blocks.ensures.ended c.put_anew.ensures.sound
 
 pub returns-in_err-blocks-clause-sound : goal.returns-in_err-blocks-clause-sound
 returns-in_err-blocks-clause-sound g c =
     let old : Stored = record { parts = c.self.inside.parts; journal = c.self.inside.journal; is_broken = c.self.inside.is_broken } in
-    let m = g.D.Disk.meaning c.args.disk.now in
-    let placed = g.D.Disk.meaning c.put_content.new.disk in
-    lost_sound (ArrayVec ℕ) old c.self.invariant c.args.payload.now c.put_content.new.parts c.put_content.new.journal c.put_content.new.is_broken c.in_err-blocks.field-0.0 m placed c.in_err-blocks.ensures.put c.in_err-blocks.ensures.ended c.put_content.ensures.sound
+    lost_sound (ArrayVec ℕ) old c.self.invariant c.args.payload.now (record_in old.parts c.args.slot) c.put_anew.new.parts c.put_anew.new.journal c.put_anew.new.is_broken c.in_err-blocks.field-0.0
+    (g.D.Disk.meaning c.args.disk.now) (g.D.Disk.meaning c.put_anew.new.disk) c.in_err-blocks.ensures.renewed c.in_err-blocks.ensures.ended c.put_anew.ensures.sound
 
 pub returns-in_err-blocks-clause-holds : goal.returns-in_err-blocks-clause-holds
 returns-in_err-blocks-clause-holds g c = λ base now holds.
     let old : Stored = record { parts = c.self.inside.parts; journal = c.self.inside.journal; is_broken = c.self.inside.is_broken } in
     let m = g.D.Disk.meaning c.args.disk.now in
-    let placed = g.D.Disk.meaning c.put_content.new.disk in
+    let after = g.D.Disk.meaning c.put_anew.new.disk in
     let alone = λ (large : is_large (length c.args.payload.now) ≡ true). ap (λ (k : Stored). k.journal.staged) c.self.view_is ∙ c.requires.alone large in
     let H : Stored → Type 0 = λ k. StoreHolds k m base now.state in
     let r = err_from_is_err_and c.from_residual.result c.from_residual.ensures.1 in
-    lost_holds (ArrayVec ℕ) old c.self.invariant c.args.payload.now c.put_content.new.parts c.put_content.new.journal c.put_content.new.is_broken c.in_err-blocks.field-0.0 m placed c.in_err-blocks.ensures.put c.in_err-blocks.ensures.ended base now
-    (changed now (file_added now.state (new_file c.args.name.now c.args.assigned.now c.args.payload.now))) c.from_residual.result (r.1 ∙ ap Err r.2) alone (subst H (sym c.self.view_is) holds)
-
-pub refile-requires-clause-may : goal.refile-requires-clause-may
-refile-requires-clause-may g c =
-    let old : Stored = record { parts = c.self.inside.parts; journal = c.self.inside.journal; is_broken = c.self.inside.is_broken } in
-    let A : Stored → Type 0 = λ k. IsAdmitted k.parts (new_file c.args.name.now c.args.assigned.now c.args.payload.now) in
-    let m = g.D.Disk.meaning c.args.disk.now in
-    let placed = g.D.Disk.meaning c.put_content.new.disk in
-    admitted_put old c.put_content.new.parts c.put_content.new.journal c.args.payload.now c.in_ok-blocks.blocks.items m placed c.in_ok-blocks.ensures.put c.self.invariant c.args.name.now c.args.assigned.now (subst A (sym c.self.view_is) c.requires.admitted)
+    lost_holds (ArrayVec ℕ) old c.self.invariant c.args.payload.now (record_in old.parts c.args.slot) c.put_anew.new.parts c.put_anew.new.journal c.put_anew.new.is_broken c.in_err-blocks.field-0.0 m after c.in_err-blocks.ensures.renewed c.in_err-blocks.ensures.ended base now
+    (changed now (file_added (file_gone now.state (record_in c.args.self.now.parts c.args.slot)) (new_file c.args.name.now c.args.assigned.now c.args.payload.now))) c.from_residual.result (r.1 ∙ ap Err r.2) alone (subst H (sym c.self.view_is) holds)
 
 pub refile-requires-clause-form : goal.refile-requires-clause-form
 refile-requires-clause-form g c =
-    let old : Stored = record { parts = c.self.inside.parts; journal = c.self.inside.journal; is_broken = c.self.inside.is_broken } in
-    let m = g.D.Disk.meaning c.args.disk.now in
-    let placed = g.D.Disk.meaning c.put_content.new.disk in
-    form_put old c.put_content.new.parts c.put_content.new.journal c.args.payload.now c.in_ok-blocks.blocks.items m placed c.in_ok-blocks.ensures.put c.self.invariant
+    mid_form c.self.view_is c.args.slot c.args.name.now c.args.assigned.now c.args.payload.now c.in_ok-blocks.blocks.items c.self.invariant c.in_ok-blocks.ensures.sound c.requires.may.0 c.in_ok-blocks.ensures.renewed
+
+pub refile-requires-clause-may : goal.refile-requires-clause-may
+refile-requires-clause-may g c =
+    mid_first c.self.view_is c.args.slot c.args.name.now c.args.assigned.now c.args.payload.now c.in_ok-blocks.blocks.items c.self.invariant c.in_ok-blocks.ensures.sound c.requires.may.0 c.in_ok-blocks.ensures.renewed
+
+pub refile-requires-clause-in_form : goal.refile-requires-clause-in_form
+refile-requires-clause-in_form g c =
+    mid_in_form c.self.view_is c.args.slot c.args.name.now c.args.assigned.now c.args.payload.now c.in_ok-blocks.blocks.items c.self.invariant c.in_ok-blocks.ensures.sound c.requires.may.0 c.in_ok-blocks.ensures.renewed
 
 pub refile-requires-clause-below : goal.refile-requires-clause-below
 refile-requires-clause-below g c =
-    let old : Stored = record { parts = c.self.inside.parts; journal = c.self.inside.journal; is_broken = c.self.inside.is_broken } in
-    let m = g.D.Disk.meaning c.args.disk.now in
-    let placed = g.D.Disk.meaning c.put_content.new.disk in
-    ap (λ (l : Limits). list_all (λ n. nat_lt n l.blocks) c.in_ok-blocks.blocks.items) (limits_put old c.put_content.new.parts c.put_content.new.journal c.args.payload.now c.in_ok-blocks.blocks.items m placed c.in_ok-blocks.ensures.put c.self.invariant) ∙ c.in_ok-blocks.ensures.put.below
+    mid_below c.self.view_is c.args.slot c.args.name.now c.args.assigned.now c.args.payload.now c.in_ok-blocks.blocks.items c.self.invariant c.in_ok-blocks.ensures.sound c.requires.may.0 c.in_ok-blocks.ensures.renewed
+
+pub refile-requires-clause-scratch : goal.refile-requires-clause-scratch
+refile-requires-clause-scratch g c =
+    subst (λ (l : Limits). HasRoom c.args.scratch.now l) (sym (mid_limits c.self.view_is c.args.slot c.args.name.now c.args.assigned.now c.args.payload.now c.in_ok-blocks.blocks.items c.self.invariant c.in_ok-blocks.ensures.sound c.requires.may.0 c.in_ok-blocks.ensures.renewed)) c.requires.scratch
+
+pub most_held-requires : goal.most_held-requires
+most_held-requires g c =
+    mid_short c.self.view_is c.args.slot c.args.name.now c.args.assigned.now c.args.payload.now c.in_ok-blocks.blocks.items c.self.invariant c.in_ok-blocks.ensures.sound c.requires.may.0 c.in_ok-blocks.ensures.renewed
 
 pub hold-requires-clause-sound : goal.hold-requires-clause-sound
 hold-requires-clause-sound g c =
-    let old : Stored = record { parts = c.self.inside.parts; journal = c.self.inside.journal; is_broken = c.self.inside.is_broken } in
-    let m = g.D.Disk.meaning c.args.disk.now in
-    let placed = g.D.Disk.meaning c.put_content.new.disk in
-    let unbroken = ap (λ (k : Stored). k.is_broken) c.self.view_is ∙ c.requires.unbroken in
-    added_sound old c.put_content.new.parts c.put_content.new.journal c.args.payload.now c.in_ok-blocks.blocks.items m placed c.in_ok-blocks.ensures.put c.self.invariant c.refile.new.parts c.args.name.now c.args.assigned.now unbroken c.refile.ensures.refiles
+    written_sound c.self.view_is c.args.slot c.args.name.now c.args.assigned.now c.args.payload.now c.in_ok-blocks.blocks.items c.self.invariant c.in_ok-blocks.ensures.sound c.requires.may.0 c.in_ok-blocks.ensures.renewed c.refile.ensures.refiles c.requires.unbroken
+
+pub hold-requires-clause-unbroken : goal.hold-requires-clause-unbroken
+hold-requires-clause-unbroken g c =
+    written_unbroken c.self.view_is c.args.slot c.args.name.now c.args.assigned.now c.args.payload.now c.in_ok-blocks.blocks.items c.self.invariant c.in_ok-blocks.ensures.sound c.requires.may.0 c.in_ok-blocks.ensures.renewed c.refile.ensures.refiles c.requires.unbroken
 
 pub hold-requires-clause-placed : goal.hold-requires-clause-placed
 hold-requires-clause-placed g c =
-    let old : Stored = record { parts = c.self.inside.parts; journal = c.self.inside.journal; is_broken = c.self.inside.is_broken } in
-    let m = g.D.Disk.meaning c.args.disk.now in
-    let placed = g.D.Disk.meaning c.put_content.new.disk in
-    let unbroken = ap (λ (k : Stored). k.is_broken) c.self.view_is ∙ c.requires.unbroken in
-    added_placed old c.put_content.new.parts c.put_content.new.journal c.args.payload.now c.in_ok-blocks.blocks.items m placed c.in_ok-blocks.ensures.put c.self.invariant c.refile.new.parts c.args.name.now c.args.assigned.now unbroken c.refile.ensures.refiles
+    written_placed c.self.view_is c.args.slot c.args.name.now c.args.assigned.now c.args.payload.now c.in_ok-blocks.blocks.items c.self.invariant c.in_ok-blocks.ensures.sound c.requires.may.0 c.in_ok-blocks.ensures.renewed c.refile.ensures.refiles c.requires.unbroken
 
 pub hold-requires-clause-room : goal.hold-requires-clause-room
 hold-requires-clause-room g c =
-    let old : Stored = record { parts = c.self.inside.parts; journal = c.self.inside.journal; is_broken = c.self.inside.is_broken } in
-    let m = g.D.Disk.meaning c.args.disk.now in
-    let placed = g.D.Disk.meaning c.put_content.new.disk in
-    let unbroken = ap (λ (k : Stored). k.is_broken) c.self.view_is ∙ c.requires.unbroken in
-    added_marks old c.put_content.new.parts c.put_content.new.journal c.args.payload.now c.in_ok-blocks.blocks.items m placed c.in_ok-blocks.ensures.put c.self.invariant c.refile.new.parts c.args.name.now c.args.assigned.now unbroken c.refile.ensures.refiles
+    written_room c.self.view_is c.args.slot c.args.name.now c.args.assigned.now c.args.payload.now c.in_ok-blocks.blocks.items c.self.invariant c.in_ok-blocks.ensures.sound c.requires.may.0 c.in_ok-blocks.ensures.renewed c.refile.ensures.refiles c.requires.unbroken
+
+pub hold-requires-clause-image : goal.hold-requires-clause-image
+hold-requires-clause-image g c =
+    written_image c.self.view_is c.args.slot c.args.name.now c.args.assigned.now c.args.payload.now c.in_ok-blocks.blocks.items c.self.invariant c.in_ok-blocks.ensures.sound c.requires.may.0 c.in_ok-blocks.ensures.renewed c.refile.ensures.refiles
+
+pub hold-requires-clause-unplaced : goal.hold-requires-clause-unplaced
+hold-requires-clause-unplaced g c = λ some. c.in_ok-blocks.ensures.renewed.unplaced (c.most_held.ensures.large some)
+
+pub hold-requires-clause-long : goal.hold-requires-clause-long
+hold-requires-clause-long g c =
+    omega (arith, c.requires.long, mid_image c.self.view_is c.args.slot c.args.name.now c.args.assigned.now c.args.payload.now c.in_ok-blocks.blocks.items c.self.invariant c.in_ok-blocks.ensures.sound c.requires.may.0 c.in_ok-blocks.ensures.renewed, c.in_ok-blocks.ensures.run.len)
+
+pub returns-clause-scratch : goal.returns-clause-scratch
+returns-clause-scratch g c =
+    subst (λ (l : Limits). HasRoom c.refile.new.scratch l) (mid_limits c.self.view_is c.args.slot c.args.name.now c.args.assigned.now c.args.payload.now c.in_ok-blocks.blocks.items c.self.invariant c.in_ok-blocks.ensures.sound c.requires.may.0 c.in_ok-blocks.ensures.renewed) c.refile.ensures.scratch
 
 pub returns-clause-holds : goal.returns-clause-holds
 returns-clause-holds g c = λ base now holds.
-    let old : Stored = record { parts = c.self.inside.parts; journal = c.self.inside.journal; is_broken = c.self.inside.is_broken } in
-    let m = g.D.Disk.meaning c.args.disk.now in
-    let placed = g.D.Disk.meaning c.put_content.new.disk in
-    let unbroken = ap (λ (k : Stored). k.is_broken) c.self.view_is ∙ c.requires.unbroken in
-    let alone = λ (large : is_large (length c.args.payload.now) ≡ true). ap (λ (k : Stored). k.journal.staged) c.self.view_is ∙ c.requires.alone large in
-    let H : Stored → Type 0 = λ k. StoreHolds k m base now.state in
-    let E : Stored → Type 0 = λ k. blocks_taken k.parts.limits.version (length c.args.payload.now) ≤ free_count k.parts.taken in
     let new : Stored = record { parts = c.hold.new.parts; journal = c.hold.new.journal; is_broken = c.hold.new.is_broken } in
-    added_holds old c.put_content.new.parts c.put_content.new.journal c.args.payload.now c.in_ok-blocks.blocks.items m placed c.in_ok-blocks.ensures.put c.self.invariant c.refile.new.parts c.args.name.now c.args.assigned.now unbroken c.refile.ensures.refiles base now
-    (subst H (sym c.self.view_is) holds) (subst E (sym c.self.view_is) c.requires.enough) new (g.D.Disk.meaning c.hold.new.disk) c.hold.result alone c.hold.ensures.saves
+    written_holds c.self.view_is c.args.slot c.args.name.now c.args.assigned.now c.args.payload.now c.in_ok-blocks.blocks.items c.self.invariant c.in_ok-blocks.ensures.sound c.requires.may.0 c.in_ok-blocks.ensures.renewed c.refile.ensures.refiles
+    base now holds c.requires.may.1 c.requires.alone new (g.D.Disk.meaning c.hold.new.disk) c.hold.result c.hold.ensures.saves
 
 pub returns-clause-settled : goal.returns-clause-settled
 returns-clause-settled g c = λ large.
     none_left (length c.args.payload.now) c.most_held.result c.hold.new.journal.staged c.hold.result c.most_held.ensures.large large c.hold.ensures.few
 
+pub returns-clause-limits : goal.returns-clause-limits
+returns-clause-limits g c =
+    ap (λ (k : Kept). k.limits) c.hold.ensures.parts ∙ written_limits c.self.view_is c.args.slot c.args.name.now c.args.assigned.now c.args.payload.now c.in_ok-blocks.blocks.items c.self.invariant c.in_ok-blocks.ensures.sound c.requires.may.0 c.in_ok-blocks.ensures.renewed c.refile.ensures.refiles
+
+pub returns-clause-image : goal.returns-clause-image
+returns-clause-image g c =
+    c.hold.ensures.image ∙ mid_image c.self.view_is c.args.slot c.args.name.now c.args.assigned.now c.args.payload.now c.in_ok-blocks.blocks.items c.self.invariant c.in_ok-blocks.ensures.sound c.requires.may.0 c.in_ok-blocks.ensures.renewed
+
 pub returns-clause-edits : goal.returns-clause-edits
 returns-clause-edits g c =
-    let old : Stored = record { parts = c.self.inside.parts; journal = c.self.inside.journal; is_broken = c.self.inside.is_broken } in
-    let m = g.D.Disk.meaning c.args.disk.now in
-    let placed = g.D.Disk.meaning c.put_content.new.disk in
-    let unbroken = ap (λ (k : Stored). k.is_broken) c.self.view_is ∙ c.requires.unbroken in
-    edits_saved c.refile.new.parts c.self.view_is c.hold.ensures.parts (added_edits old c.put_content.new.parts c.put_content.new.journal c.args.payload.now c.in_ok-blocks.blocks.items m placed c.in_ok-blocks.ensures.put c.self.invariant c.refile.new.parts c.args.name.now c.args.assigned.now unbroken c.refile.ensures.refiles)
+    edits_saved c.refile.new.parts c.self.view_is c.hold.ensures.parts (written_edits c.self.view_is c.args.slot c.args.name.now c.args.assigned.now c.args.payload.now c.in_ok-blocks.blocks.items c.self.invariant c.in_ok-blocks.ensures.sound c.requires.may.0 c.in_ok-blocks.ensures.renewed c.refile.ensures.refiles)
+
+pub put_anew-requires-clause-sound : goal.put_anew-requires-clause-sound
+put_anew-requires-clause-sound g c = c.self.invariant.parts
+
+pub put_anew-requires-clause-there : goal.put_anew-requires-clause-there
+put_anew-requires-clause-there g c =
+    anew_there c.self.view_is c.args.slot (draft_of (new_file c.args.name.now c.args.assigned.now c.args.payload.now)) c.requires.may.0
+
+pub put_anew-requires-clause-short : goal.put_anew-requires-clause-short
+put_anew-requires-clause-short g c =
+    anew_small c.self.view_is c.args.slot (draft_of (new_file c.args.name.now c.args.assigned.now c.args.payload.now)) c.requires.may.0
+
+pub put_anew-requires-clause-enough : goal.put_anew-requires-clause-enough
+put_anew-requires-clause-enough g c =
+    subst (λ (k : Stored). blocks_taken k.parts.limits.version (length c.args.payload.now) ≤ free_for k.parts (record_in k.parts c.args.slot)) (sym c.self.view_is) c.requires.may.1

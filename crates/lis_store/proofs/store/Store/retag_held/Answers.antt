@@ -1,14 +1,7 @@
-use Rattle.std.proofs.Common.{◌≡◌, ◌∙◌, List, ℕ, Option, Some, None, Err, is_some, refl, sym, ap, subst}
-use Rattle.lis_store.proofs.Common.{err_from_is_err_and, slot_of, Asks, FileRecord, new_file, Situation, mv, Kept, bytes_told, Fits, looked, resolved, text_words}
-use Rattle.lis_store.specs.Stored.{Stored, IsSound, StoreHolds}
-use Rattle.lis_store.specs.Changes.{Holds, first_refusal}
-use Rattle.lis_store.specs.Contents.{AreContentsWithin}
-use Rattle.lis_store.specs.Judging.{is_among}
-use Rattle.lis_store.specs.ReplacingIn.{RefilesIn}
-use Rattle.lis_store.specs.Instead.{instead_checks}
-use Rattle.lis_store.specs.Retagging.{words_moved}
+use Rattle.lis_store.proofs.Common.{◌∙◌, Err, length, is_some, refl, sym, ap, subst, arith, err_from_is_err_and, resolved, Kept}
+use Rattle.lis_store.specs.Stored.{Stored, IsSound}
 use Rattle.lis_store.proofs.Edits.{edits_saved}
-use Rattle.lis_store.proofs.FileRead.{led_to, lost_read, retag_asks, moved_nowhere, moving_refused, retagging_refused, retagging_holds}
+use Rattle.lis_store.proofs.MoveFile.{led_to, moved_nowhere, moving_refused, standing_refused, move_asks, move_holds}
 use Rattle.lis_store.proofs.ReplaceFile.{still_in_form, still_below, refiled_limits, refiled_sound, refiled_image, refiled_placed, refiled_room, refiled_edits}
 use Rattle.lis_store.proofs.WriteFile.{found_there}
 use Rattle.lis_store.proofs.store.Store.retag_held.Goals as goal
@@ -20,133 +13,70 @@ returns-in_default-clause-holds g c = λ base s holds.
     moved_nowhere c.args.self.now (g.D.Disk.meaning c.args.disk.now) base s c.args.place.now c.in_ok-next.next c.args.name.now c.args.text.now _ sound holds leads (sym c.in_default.ensures.here) refl
 
 pub may_move-requires-clause-rec : goal.may_move-requires-clause-rec
-may_move-requires-clause-rec g c =
-    ap is_some (found_there c.self.view_is c.self.invariant c.args.name.now c.in-Some.ensures.slot).1
+may_move-requires-clause-rec g c = ap is_some (found_there c.self.view_is c.self.invariant c.args.name.now c.in-Some.ensures.slot).1
 
 pub returns-in_err-words-clause-holds : goal.returns-in_err-words-clause-holds
 returns-in_err-words-clause-holds g c = λ base s holds.
-    let old : Stored = record { parts = c.self.inside.parts; journal = c.self.inside.journal; is_broken = c.self.inside.is_broken } in
-    let named = ap (λ (k : Stored). slot_of k.parts.catalog c.args.name.now) c.self.view_is ∙ c.in-Some.ensures.slot in
-    let found = found_there c.self.view_is c.self.invariant c.args.name.now c.in-Some.ensures.slot in
-    let here = ap (λ (k : Stored). is_among k.parts c.args.place.now c.args.name.now) c.self.view_is ∙ sym c.in-Some.ensures.here in
-    let leads = led_to (resolved c.args.place.now c.args.text.now) c.in_ok-next.next (sym c.in_ok-next.ensures) in
-    let m = g.D.Disk.meaning c.args.disk.now in
-    let now : Situation = record { state = s; place = c.args.place.now } in
     let e = err_from_is_err_and c.from_residual-in_err-words.result c.from_residual-in_err-words.ensures.1 in
-    let P : Stored → Type 0 = λ k. StoreHolds k m base s in
-    let Q : Stored → Type 0 = λ k. Holds base now (mv now c.args.name.now c.args.text.now) k m m c.from_residual-in_err-words.result in
-    subst Q c.self.view_is
-    (moving_refused old c.args.place.now c.args.name.now c.in-Some.slot found.0 c.self.invariant named found.1 here m base s (subst P (sym c.self.view_is) holds) c.args.text.now c.in_ok-next.next c.in_err-words.field-0.0
-    c.from_residual-in_err-words.result leads (c.in_err-words.ensures.row found.0 found.1) (e.1 ∙ ap Err e.2))
+    moving_refused c.self.view_is c.self.invariant c.args.place.now c.args.name.now c.in-Some.ensures.slot c.in-Some.ensures.here c.args.text.now c.in_ok-next.ensures (g.D.Disk.meaning c.args.disk.now) base s holds
+    c.in_err-words.field-0.0 c.from_residual-in_err-words.result (e.1 ∙ ap Err e.2) c.in_err-words.ensures.row
 
-pub read_file-requires-clause-there : goal.read_file-requires-clause-there
-read_file-requires-clause-there g c =
-    ap is_some (found_there c.self.view_is c.self.invariant c.args.name.now c.in-Some.ensures.slot).1
+pub own_in-own-requires-clause-there : goal.own_in-own-requires-clause-there
+own_in-own-requires-clause-there g c = ap is_some (found_there c.self.view_is c.self.invariant c.args.name.now c.in-Some.ensures.slot).1
 
-pub returns-in-Err-clause-holds : goal.returns-in-Err-clause-holds
-returns-in-Err-clause-holds g c = λ base s holds.
-    let old : Stored = record { parts = c.self.inside.parts; journal = c.self.inside.journal; is_broken = c.self.inside.is_broken } in
-    let m = g.D.Disk.meaning c.args.disk.now in
-    let mid = g.D.Disk.meaning c.read_file.new.disk in
-    let now : Situation = record { state = s; place = c.args.place.now } in
-    let P : Stored → Type 0 = λ k. StoreHolds k m base s in
-    let holds_old = subst P (sym c.self.view_is) holds in
-    let asks : Asks c.self.inside.journal m mid = record { run = c.read_file.ensures.run; same = c.read_file.ensures.same; moments = c.read_file.ensures.any_moment; fits = c.read_file.ensures.fits } in
-    lost_read old base m mid now c.self.invariant holds_old asks (mv now c.args.name.now c.args.text.now) _ _ refl (ap Err c.from.ensures)
+pub size_in-requires : goal.size_in-requires
+size_in-requires g c = ap is_some (found_there c.self.view_is c.self.invariant c.args.name.now c.in-Some.ensures.slot).1
 
-pub has_room_instead-requires-clause-there : goal.has_room_instead-requires-clause-there
-has_room_instead-requires-clause-there g c =
-    ap is_some (found_there c.self.view_is c.self.invariant c.args.name.now c.in-Some.ensures.slot).1
+pub may_stand_instead-requires-clause-there : goal.may_stand_instead-requires-clause-there
+may_stand_instead-requires-clause-there g c = ap is_some (found_there c.self.view_is c.self.invariant c.args.name.now c.in-Some.ensures.slot).1
 
-pub returns-in_err-has_room_instead-clause-holds : goal.returns-in_err-has_room_instead-clause-holds
-returns-in_err-has_room_instead-clause-holds g c = λ base s holds.
-    let e = err_from_is_err_and c.from_residual-in_err-has_room_instead.result c.from_residual-in_err-has_room_instead.ensures.1 in
-    let old : Stored = record { parts = c.self.inside.parts; journal = c.self.inside.journal; is_broken = c.self.inside.is_broken } in
-    let named = ap (λ (k : Stored). slot_of k.parts.catalog c.args.name.now) c.self.view_is ∙ c.in-Some.ensures.slot in
-    let found = found_there c.self.view_is c.self.invariant c.args.name.now c.in-Some.ensures.slot in
-    let here = ap (λ (k : Stored). is_among k.parts c.args.place.now c.args.name.now) c.self.view_is ∙ sym c.in-Some.ensures.here in
-    let leads = led_to (resolved c.args.place.now c.args.text.now) c.in_ok-next.next (sym c.in_ok-next.ensures) in
-    let m = g.D.Disk.meaning c.args.disk.now in
-    let mid = g.D.Disk.meaning c.read_file.new.disk in
-    let now : Situation = record { state = s; place = c.args.place.now } in
-    let P : Stored → Type 0 = λ k. StoreHolds k m base s in
-    let holds_old = subst P (sym c.self.view_is) holds in
-    let asks : Asks c.self.inside.journal m mid = record { run = c.read_file.ensures.run; same = c.read_file.ensures.same; moments = c.read_file.ensures.any_moment; fits = c.read_file.ensures.fits } in
-    let R : List ℕ → Type 0 = λ bs. (kept : ℕ → List ℕ) → Fits c.self.inside.journal m kept → AreContentsWithin c.self.inside.parts.limits (looked c.self.inside.journal.staged kept) found.0 → bs ≡ bytes_told c.self.inside.parts.limits (looked c.self.inside.journal.staged kept) found.0 in
-    let read_now : R c.read_file.new.bytes = λ kept held within. c.in_default-read_file.ensures.read found.0 kept found.1 held within in
-    let words_judged = c.as_slice.ensures.value ∙ c.in_ok-words.ensures.words found.0 found.1 in
-    let J : List (List ℕ) → Type 0 = λ ws. first_refusal (instead_checks c.self.inside.parts c.in-Some.slot (new_file c.args.name.now ws c.bytes.result.now)) ≡ Some c.in_err-has_room_instead.field-0.0 in
-    retagging_refused old c.args.place.now c.args.name.now c.in-Some.slot found.0 c.self.invariant named found.1 here m base s holds_old mid asks
-    c.bytes.result.now (subst R (sym c.bytes.ensures.bytes) read_now) c.args.text.now c.in_ok-next.next c.in_err-has_room_instead.field-0.0 c.from_residual-in_err-has_room_instead.result leads
-    (c.in_ok-words.ensures.row found.0 found.1) (subst J words_judged c.in_err-has_room_instead.ensures.row) (e.1 ∙ ap Err e.2)
+pub blocks_in-blocks-requires : goal.blocks_in-blocks-requires
+blocks_in-blocks-requires g c = ap is_some (found_there c.self.view_is c.self.invariant c.args.name.now c.in-Some.ensures.slot).1
 
-pub refile-requires-clause-may : goal.refile-requires-clause-may
-refile-requires-clause-may g c =
-    retag_asks c.self.view_is c.self.invariant c.args.place.now c.args.name.now c.in-Some.ensures.slot c.in-Some.ensures.here c.bytes.ensures.bytes c.bytes-2.ensures.bytes c.in_default-read_file.ensures.size c.in_ok-next.next (text_words c.args.text.now) c.as_slice.ensures.value c.as_slice-2.ensures.value c.in_ok-words.ensures.words c.in_ok-words.ensures.row c.in_ok-has_room_instead.ensures.row
+pub own_in-own-requires-clause-short : goal.own_in-own-requires-clause-short
+own_in-own-requires-clause-short g c = c.self.invariant.short
+
+pub returns-in_err-may_stand_instead-clause-holds : goal.returns-in_err-may_stand_instead-clause-holds
+returns-in_err-may_stand_instead-clause-holds g c = λ base s holds.
+    let e = err_from_is_err_and c.from_residual-in_err-may_stand_instead.result c.from_residual-in_err-may_stand_instead.ensures.1 in
+    standing_refused c.self.view_is c.self.invariant c.args.place.now c.args.name.now c.in-Some.ensures.slot c.in-Some.ensures.here c.args.text.now c.in_ok-next.ensures
+    c.in_ok-words.ensures.row c.size_in.ensures (λ rec is. c.as_slice.ensures.value ∙ c.in_ok-words.ensures.words rec is) (c.as_slice-2.ensures.value ∙ c.own_in-own.ensures.own) (g.D.Disk.meaning c.args.disk.now) base s holds
+    c.in_err-may_stand_instead.field-0.0 c.from_residual-in_err-may_stand_instead.result (e.1 ∙ ap Err e.2) c.in_err-may_stand_instead.ensures.row
+
+pub refile_draft-requires-clause-may : goal.refile_draft-requires-clause-may
+refile_draft-requires-clause-may g c =
+    move_asks c.self.view_is c.self.invariant c.args.place.now c.args.name.now c.in-Some.ensures.slot c.in-Some.ensures.here c.args.text.now c.in_ok-next.ensures
+    c.in_ok-words.ensures.row c.size_in.ensures (λ rec is. c.as_slice.ensures.value ∙ c.in_ok-words.ensures.words rec is) (c.as_slice-2.ensures.value ∙ c.own_in-own.ensures.own) c.in_ok-may_stand_instead.ensures.row
+    (omega (arith, ap length c.as_slice-2.ensures.value, c.own_in-own.ensures.few))
+
+pub refile_draft-requires-clause-in_form : goal.refile_draft-requires-clause-in_form
+refile_draft-requires-clause-in_form g c = still_in_form c.self.view_is c.self.invariant c.args.name.now c.in-Some.ensures.slot c.blocks_in-blocks.ensures c.size_in.ensures
+
+pub refile_draft-requires-clause-below : goal.refile_draft-requires-clause-below
+refile_draft-requires-clause-below g c = still_below c.self.view_is c.self.invariant c.args.name.now c.in-Some.ensures.slot c.blocks_in-blocks.ensures
 
 pub hold-requires-clause-sound : goal.hold-requires-clause-sound
-hold-requires-clause-sound g c =
-    refiled_sound c.self.view_is c.self.invariant c.args.name.now c.in-Some.ensures.slot c.refile.ensures.refiles c.requires.unbroken
+hold-requires-clause-sound g c = refiled_sound c.self.view_is c.self.invariant c.refile_draft.ensures.refiles c.requires.unbroken
 
 pub hold-requires-clause-image : goal.hold-requires-clause-image
-hold-requires-clause-image g c =
-    refiled_image c.self.view_is c.self.invariant c.args.name.now c.in-Some.ensures.slot c.refile.ensures.refiles
+hold-requires-clause-image g c = refiled_image c.self.view_is c.self.invariant c.refile_draft.ensures.refiles
 
 pub hold-requires-clause-placed : goal.hold-requires-clause-placed
-hold-requires-clause-placed g c =
-    refiled_placed c.self.view_is c.self.invariant c.args.name.now c.in-Some.ensures.slot c.refile.ensures.refiles c.requires.unbroken
+hold-requires-clause-placed g c = refiled_placed c.self.view_is c.self.invariant c.refile_draft.ensures.refiles c.requires.unbroken
 
 pub hold-requires-clause-room : goal.hold-requires-clause-room
-hold-requires-clause-room g c =
-    refiled_room c.self.view_is c.self.invariant c.args.name.now c.in-Some.ensures.slot c.refile.ensures.refiles c.requires.unbroken
+hold-requires-clause-room g c = refiled_room c.self.view_is c.self.invariant c.refile_draft.ensures.refiles c.requires.unbroken
 
 pub returns-clause-edits : goal.returns-clause-edits
 returns-clause-edits g c =
-    edits_saved c.refile.new.parts c.self.view_is c.hold.ensures.parts (refiled_edits c.self.view_is c.self.invariant c.args.name.now c.in-Some.ensures.slot c.refile.ensures.refiles)
+    edits_saved c.refile_draft.new.parts c.self.view_is c.hold.ensures.parts (refiled_edits c.self.view_is c.self.invariant c.refile_draft.ensures.refiles)
+
+pub returns-clause-limits : goal.returns-clause-limits
+returns-clause-limits g c = ap (λ (k : Kept). k.limits) c.hold.ensures.parts ∙ refiled_limits c.self.view_is c.self.invariant c.refile_draft.ensures.refiles
 
 pub returns-clause-holds : goal.returns-clause-holds
 returns-clause-holds g c = λ base s holds.
-    let old : Stored = record { parts = c.self.inside.parts; journal = c.self.inside.journal; is_broken = c.self.inside.is_broken } in
-    let named = ap (λ (k : Stored). slot_of k.parts.catalog c.args.name.now) c.self.view_is ∙ c.in-Some.ensures.slot in
-    let found = found_there c.self.view_is c.self.invariant c.args.name.now c.in-Some.ensures.slot in
-    let here = ap (λ (k : Stored). is_among k.parts c.args.place.now c.args.name.now) c.self.view_is ∙ sym c.in-Some.ensures.here in
-    let words = c.as_slice-2.ensures.value ∙ c.in_ok-words.ensures.words found.0 found.1 in
-    let words_judged = c.as_slice.ensures.value ∙ c.in_ok-words.ensures.words found.0 found.1 in
-    let same = c.bytes.ensures.bytes ∙ sym c.bytes-2.ensures.bytes in
-    let I : List (List ℕ) → List ℕ → Type 0 = λ ws bs. first_refusal (instead_checks c.self.inside.parts c.in-Some.slot (new_file c.args.name.now ws bs)) ≡ None in
-    let J : List (List ℕ) → Type 0 = λ ws. I ws c.bytes.result.now in
-    let K : List ℕ → Type 0 = λ bs. I (words_moved c.self.inside.parts found.0 c.args.place.now c.in_ok-next.next) bs in
-    let none = subst K same (subst J words_judged c.in_ok-has_room_instead.ensures.row) in
-    let moving = c.in_ok-words.ensures.row found.0 found.1 in
-    let unbroken = ap (λ (k : Stored). k.is_broken) c.self.view_is ∙ c.requires.unbroken in
-    let leads = led_to (resolved c.args.place.now c.args.text.now) c.in_ok-next.next (sym c.in_ok-next.ensures) in
-    let m = g.D.Disk.meaning c.args.disk.now in
-    let mid = g.D.Disk.meaning c.read_file.new.disk in
-    let now : Situation = record { state = s; place = c.args.place.now } in
-    let P : Stored → Type 0 = λ k. StoreHolds k m base s in
-    let holds_old = subst P (sym c.self.view_is) holds in
-    let asks : Asks c.self.inside.journal m mid = record { run = c.read_file.ensures.run; same = c.read_file.ensures.same; moments = c.read_file.ensures.any_moment; fits = c.read_file.ensures.fits } in
-    let R : List ℕ → Type 0 = λ bs. (kept : ℕ → List ℕ) → Fits c.self.inside.journal m kept → AreContentsWithin c.self.inside.parts.limits (looked c.self.inside.journal.staged kept) found.0 → bs ≡ bytes_told c.self.inside.parts.limits (looked c.self.inside.journal.staged kept) found.0 in
-    let read_now : R c.read_file.new.bytes = λ kept held within. c.in_default-read_file.ensures.read found.0 kept found.1 held within in
-    let Again : Option FileRecord → List ℕ → Type 0 = λ gone ns. RefilesIn gone (new_file c.args.name.now c.as_slice-2.result.now c.bytes-2.result.now) ns c.self.inside.parts c.refile.new.parts in
-    let again = subst (Again (Some found.0)) (c.blocks_in-blocks.ensures found.0 found.1) (subst (λ gone. Again gone c.blocks_in-blocks.result.items) found.1 c.refile.ensures.refiles) in
     let new : Stored = record { parts = c.hold.new.parts; journal = c.hold.new.journal; is_broken = c.hold.new.is_broken } in
-    retagging_holds old c.args.place.now c.args.name.now c.in-Some.slot found.0 c.self.invariant named found.1 here m base s holds_old mid asks
-    c.bytes-2.result.now (subst R (sym c.bytes-2.ensures.bytes) read_now) c.refile.new.parts c.args.text.now c.in_ok-next.next c.as_slice-2.result.now unbroken words leads again
-    moving none new (g.D.Disk.meaning c.hold.new.disk) c.hold.result c.hold.ensures.saves
-
-pub returns-clause-limits : goal.returns-clause-limits
-returns-clause-limits g c =
-    ap (λ (k : Kept). k.limits) c.hold.ensures.parts ∙ refiled_limits c.self.view_is c.self.invariant c.args.name.now c.in-Some.ensures.slot c.refile.ensures.refiles
-
-pub blocks_in-blocks-requires : goal.blocks_in-blocks-requires
-blocks_in-blocks-requires g c =
-    ap is_some (found_there c.self.view_is c.self.invariant c.args.name.now c.in-Some.ensures.slot).1
-
-pub refile-requires-clause-in_form : goal.refile-requires-clause-in_form
-refile-requires-clause-in_form g c =
-    still_in_form c.self.view_is c.self.invariant c.args.name.now c.in-Some.ensures.slot c.blocks_in-blocks.ensures c.bytes-2.ensures.bytes c.in_default-read_file.ensures.size
-
-pub refile-requires-clause-below : goal.refile-requires-clause-below
-refile-requires-clause-below g c =
-    still_below c.self.view_is c.self.invariant c.args.name.now c.in-Some.ensures.slot c.blocks_in-blocks.ensures
+    move_holds c.self.view_is c.self.invariant c.args.place.now c.args.name.now c.in-Some.ensures.slot c.in-Some.ensures.here c.args.text.now c.in_ok-next.ensures
+    c.in_ok-words.ensures.row c.size_in.ensures (λ rec is. c.as_slice.ensures.value ∙ c.in_ok-words.ensures.words rec is) (c.as_slice-2.ensures.value ∙ c.own_in-own.ensures.own) c.in_ok-may_stand_instead.ensures.row
+    c.refile_draft.ensures.refiles c.blocks_in-blocks.ensures c.requires.unbroken (g.D.Disk.meaning c.args.disk.now) base s holds new (g.D.Disk.meaning c.hold.new.disk) c.hold.result c.hold.ensures.saves

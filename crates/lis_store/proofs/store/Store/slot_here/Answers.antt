@@ -1,5 +1,4 @@
-use Rattle.std.proofs.Common.{◌∙◌, sym, ap, subst, arith}
-use Rattle.lis_store.proofs.Common.{get, slot_of, Limits}
+use Rattle.lis_store.proofs.Common.{◌∙◌, sym, ap, subst, arith, get, slot_of, Limits}
 use Rattle.lis_store.specs.Stored.{Stored, IsSound}
 use Rattle.lis_store.proofs.Here.{none_here, named_here, slot_in}
 use Rattle.lis_store.proofs.store.Store.slot_here.Goals as goal

@@ -1,6 +1,4 @@
-use Rattle.std.proofs.Common.{◌≡◌, refl, sym, subst, Option, Some, None, IsSome, IsSomeAnd}
-use Rattle.lis_store.proofs.Common.{rec_at, FileRecord, Kept}
-use Rattle.lis_kept.specs.Telling.{words_told}
+use Rattle.lis_store.proofs.Common.{◌≡◌, refl, sym, subst, Option, Some, None, IsSome, IsSomeAnd, rec_at, FileRecord, Kept, words_told}
 use Rattle.lis_store.proofs.store.Store.tags.Goals as goal
 
 some_and : {X : Type 0} (P : X → Type 0) (o : Option X) → IsSome o → ((x : X) → o ≡ Some x → P x) → IsSomeAnd o P

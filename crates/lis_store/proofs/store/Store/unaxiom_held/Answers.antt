@@ -1,53 +1,33 @@
-use Rattle.std.proofs.Common.{◌∙◌, refl, sym, ap, subst}
-use Rattle.lis_store.specs.Stored.{Stored, StoreHolds}
-use Rattle.lis_store.proofs.Common.{has_axiom, axioms_of}
+use Rattle.lis_store.proofs.Common.{refl, sym, false}
+use Rattle.lis_model.specs.declared.refusal.Refusal.TheVariants.{NoAxiom}
 use Rattle.lis_store.proofs.Edits.{edits_saved}
-use Rattle.lis_store.proofs.Unaxiom.{may_go, unaxiom_refused, unaxiom_sound, unaxiom_marks, unaxiom_holds}
-use Rattle.lis_store.proofs.Unaxiomed.{few_edits}
-use Rattle.lis_store.proofs.SavedAlone.{alone_placed}
+use Rattle.lis_store.proofs.Judged.{view_refused}
+use Rattle.lis_store.proofs.SavedAlone.{alone_placed, whole_view, held_view}
+use Rattle.lis_store.proofs.Unaxiomed.{may_go, unaxiom_is, unaxiom_change, unaxiom_holds}
 use Rattle.lis_store.proofs.store.Store.unaxiom_held.Goals as goal
 
 pub returns-in_default-clause-holds : goal.returns-in_default-clause-holds
 returns-in_default-clause-holds g c = λ base now fits.
-    let none = sym (ap (λ (k : Stored). has_axiom (axioms_of k.parts) (c.args.left.now, c.args.right.now)) c.self.view_is) ∙ sym c.in_default.ensures.there in
-    unaxiom_refused c.args.self.now (g.D.Disk.meaning c.args.disk.now) c.args.left.now c.args.right.now _ none refl base now fits
+    view_refused c.self.view_is now NoAxiom fits (λ held. unaxiom_is c.args.left.now c.args.right.now false (sym c.in_default.ensures.there) now held) refl
 
 pub take_axiom-requires-clause-may : goal.take_axiom-requires-clause-may
 take_axiom-requires-clause-may g c =
     may_go c.self.inside.parts c.self.invariant.pairs c.args.left.now c.args.right.now c.in-Some.from c.in-Some.to c.in-Some.ensures.numbers
 
 pub hold-requires-clause-sound : goal.hold-requires-clause-sound
-hold-requires-clause-sound g c =
-    let old : Stored = record { parts = c.self.inside.parts; journal = c.self.inside.journal; is_broken = c.self.inside.is_broken } in
-    let unbroken = ap (λ (k : Stored). k.is_broken) c.self.view_is ∙ c.requires.unbroken in
-    unaxiom_sound old c.take_axiom.new.parts c.args.left.now c.args.right.now c.in-Some.from c.in-Some.to c.in-Some.ensures.numbers c.take_axiom.ensures c.self.invariant unbroken
-    (sym c.in-Some.ensures.there)
+hold-requires-clause-sound g c = (unaxiom_change c.self.invariant c.take_axiom.ensures (whole_view c.self.view_is c.requires.unbroken)).settles
 
 pub hold-requires-clause-placed : goal.hold-requires-clause-placed
-hold-requires-clause-placed g c =
-    let old : Stored = record { parts = c.self.inside.parts; journal = c.self.inside.journal; is_broken = c.self.inside.is_broken } in
-    let unbroken = ap (λ (k : Stored). k.is_broken) c.self.view_is ∙ c.requires.unbroken in
-    alone_placed old c.self.invariant unbroken c.take_axiom.new.parts
+hold-requires-clause-placed g c = alone_placed _ c.self.invariant (whole_view c.self.view_is c.requires.unbroken) c.take_axiom.new.parts
 
 pub hold-requires-clause-room : goal.hold-requires-clause-room
-hold-requires-clause-room g c =
-    let old : Stored = record { parts = c.self.inside.parts; journal = c.self.inside.journal; is_broken = c.self.inside.is_broken } in
-    let unbroken = ap (λ (k : Stored). k.is_broken) c.self.view_is ∙ c.requires.unbroken in
-    unaxiom_marks old c.take_axiom.new.parts c.args.left.now c.args.right.now c.in-Some.from c.in-Some.to c.in-Some.ensures.numbers c.take_axiom.ensures c.self.invariant unbroken
-    (sym c.in-Some.ensures.there)
+hold-requires-clause-room g c = (unaxiom_change c.self.invariant c.take_axiom.ensures (whole_view c.self.view_is c.requires.unbroken)).room
 
 pub returns-clause-holds : goal.returns-clause-holds
 returns-clause-holds g c = λ base now fits.
-    let m = g.D.Disk.meaning c.args.disk.now in
-    let old : Stored = record { parts = c.self.inside.parts; journal = c.self.inside.journal; is_broken = c.self.inside.is_broken } in
-    let new : Stored = record { parts = c.hold.new.parts; journal = c.hold.new.journal; is_broken = c.hold.new.is_broken } in
-    let unbroken = ap (λ (k : Stored). k.is_broken) c.self.view_is ∙ c.requires.unbroken in
-    let P : Stored → Type 0 = λ k. StoreHolds k m base now.state in
-    unaxiom_holds old c.take_axiom.new.parts c.args.left.now c.args.right.now c.in-Some.from c.in-Some.to c.in-Some.ensures.numbers c.take_axiom.ensures c.self.invariant unbroken
-    (sym c.in-Some.ensures.there) new m (g.D.Disk.meaning c.hold.new.disk) c.hold.result c.hold.ensures.saves base now (subst P (sym c.self.view_is) fits)
+    unaxiom_holds c.self.invariant c.take_axiom.ensures c.in-Some.ensures.numbers (sym c.in-Some.ensures.there) (whole_view c.self.view_is c.requires.unbroken) c.hold.ensures.saves now (held_view c.self.view_is fits)
 
 pub returns-clause-edits : goal.returns-clause-edits
 returns-clause-edits g c =
-    let now = c.args.self.now in
-    let few = few_edits c.in-Some.from c.in-Some.to c.self.inside.parts c.take_axiom.new.parts c.take_axiom.ensures c.self.inside.journal c.self.inside.is_broken c.self.invariant in
-    edits_saved c.take_axiom.new.parts c.self.view_is c.hold.ensures.parts few
+    let change = unaxiom_change c.self.invariant c.take_axiom.ensures (whole_view c.self.view_is c.requires.unbroken) in
+    edits_saved c.take_axiom.new.parts c.self.view_is c.hold.ensures.parts change.edits

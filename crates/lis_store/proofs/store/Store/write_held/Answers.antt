@@ -1,11 +1,9 @@
-use Rattle.std.proofs.Common.{◌≡◌, ◌∙◌, ◌≤◌, Some, Ok, Err, is_some, refl, sym, ap, subst, arith}
-use Rattle.lis_store.proofs.Common.{err_from_is_err_and, slot_of, rec_at, FileRecord, Limits, new_file, file_replaced, file_limit, Situation, Outcome, Payload, write}
-use Rattle.lis_model.specs.Step.{changed}
-use Rattle.lis_kept.specs.Telling.{words_told}
+use Rattle.lis_store.proofs.Common.{◌≡◌, ◌∙◌, ◌≤◌, Some, Ok, Err, is_some, refl, sym, ap, subst, arith, err_from_is_err_and, slot_of, rec_at, FileRecord, Limits, new_file, file_added, file_limit, State, Situation, Outcome, Payload, write, changed, words_told}
 use Rattle.lis_store.specs.Stored.{Stored, IsSound, StoreHolds}
 use Rattle.lis_store.specs.Changes.{Holds, Commits}
 use Rattle.lis_store.specs.Judging.{is_among}
 use Rattle.lis_store.specs.Instead.{given_before}
+use Rattle.lis_store.specs.ReplacingIn.{file_gone}
 use Rattle.lis_store.proofs.Holding.{fits_held}
 use Rattle.lis_store.proofs.Large.{held_behind_commit, held_lost_commit}
 use Rattle.lis_store.proofs.WriteFile.{found_there, rest_of_write, written_refused, written_nowhere, write_asks, write_does}
@@ -49,8 +47,8 @@ returns-in_err-commit-clause-holds g c = λ base s holds.
     held_lost_commit base now (write now c.args.name.now (record { size = c.args.size; bytes = c.args.payload.now })) m m (g.D.Disk.meaning c.commit.new.disk)
     c.commit.new.self c.in_err-commit.field-0.0 c.from_residual-in_err-commit.result (c.in_err-commit.ensures.commits base s holds) (p.1 ∙ ap Err p.2)
 
-pub put_other-requires-clause-named : goal.put_other-requires-clause-named
-put_other-requires-clause-named g c =
+pub put_file-requires-clause-may : goal.put_file-requires-clause-may
+put_file-requires-clause-may g c =
     let small : c.args.size ≤ file_limit c.self.inside.parts.limits.version = omega (arith, c.if-size-file_limit.false, c.file_limit.ensures, ap (λ (l : Limits). file_limit l.version) c.limits.ensures.value) in
     let words : (rec : FileRecord) → rec_at c.self.inside.parts.catalog c.in-Some.slot ≡ Some rec → c.as_slice.result.now ≡ words_told c.self.inside.parts.dict rec.tags = λ rec there. c.as_slice.ensures.value ∙ c.in_ok-words.ensures.words rec there in
     let kept : c.if-is_large.self.parts ≡ c.args.self.now.parts =
@@ -60,60 +58,33 @@ put_other-requires-clause-named g c =
     ] in
     (write_asks c.self.view_is c.self.invariant c.args.place.now c.args.name.now c.in-Some.ensures.slot c.in-Some.ensures.here c.args.payload.now small c.requires.whole c.in_ok-words.ensures.row words kept).0
 
-pub put_other-requires-clause-may : goal.put_other-requires-clause-may
-put_other-requires-clause-may g c =
-    let small : c.args.size ≤ file_limit c.self.inside.parts.limits.version = omega (arith, c.if-size-file_limit.false, c.file_limit.ensures, ap (λ (l : Limits). file_limit l.version) c.limits.ensures.value) in
-    let words : (rec : FileRecord) → rec_at c.self.inside.parts.catalog c.in-Some.slot ≡ Some rec → c.as_slice.result.now ≡ words_told c.self.inside.parts.dict rec.tags = λ rec there. c.as_slice.ensures.value ∙ c.in_ok-words.ensures.words rec there in
-    let kept : c.if-is_large.self.parts ≡ c.args.self.now.parts =
-    elim c.if-is_large.branch [
-      | then-is_large+in_ok-commit w ↦ ap (λ (k : Stored). k.parts) w.self-is ∙ w.commit.ensures.parts
-      | else-is_large w ↦ ap (λ (k : Stored). k.parts) w.self-is
-    ] in
-    (write_asks c.self.view_is c.self.invariant c.args.place.now c.args.name.now c.in-Some.ensures.slot c.in-Some.ensures.here c.args.payload.now small c.requires.whole c.in_ok-words.ensures.row words kept).1
-
-pub put_other-requires-clause-assignable : goal.put_other-requires-clause-assignable
-put_other-requires-clause-assignable g c =
-    let small : c.args.size ≤ file_limit c.self.inside.parts.limits.version = omega (arith, c.if-size-file_limit.false, c.file_limit.ensures, ap (λ (l : Limits). file_limit l.version) c.limits.ensures.value) in
-    let words : (rec : FileRecord) → rec_at c.self.inside.parts.catalog c.in-Some.slot ≡ Some rec → c.as_slice.result.now ≡ words_told c.self.inside.parts.dict rec.tags = λ rec there. c.as_slice.ensures.value ∙ c.in_ok-words.ensures.words rec there in
-    let kept : c.if-is_large.self.parts ≡ c.args.self.now.parts =
-    elim c.if-is_large.branch [
-      | then-is_large+in_ok-commit w ↦ ap (λ (k : Stored). k.parts) w.self-is ∙ w.commit.ensures.parts
-      | else-is_large w ↦ ap (λ (k : Stored). k.parts) w.self-is
-    ] in
-    (write_asks c.self.view_is c.self.invariant c.args.place.now c.args.name.now c.in-Some.ensures.slot c.in-Some.ensures.here c.args.payload.now small c.requires.whole c.in_ok-words.ensures.row words kept).2
-
-pub put_other-requires-clause-enough : goal.put_other-requires-clause-enough
-put_other-requires-clause-enough g c =
-    let small : c.args.size ≤ file_limit c.self.inside.parts.limits.version = omega (arith, c.if-size-file_limit.false, c.file_limit.ensures, ap (λ (l : Limits). file_limit l.version) c.limits.ensures.value) in
-    let words : (rec : FileRecord) → rec_at c.self.inside.parts.catalog c.in-Some.slot ≡ Some rec → c.as_slice.result.now ≡ words_told c.self.inside.parts.dict rec.tags = λ rec there. c.as_slice.ensures.value ∙ c.in_ok-words.ensures.words rec there in
-    let kept : c.if-is_large.self.parts ≡ c.args.self.now.parts =
-    elim c.if-is_large.branch [
-      | then-is_large+in_ok-commit w ↦ ap (λ (k : Stored). k.parts) w.self-is ∙ w.commit.ensures.parts
-      | else-is_large w ↦ ap (λ (k : Stored). k.parts) w.self-is
-    ] in
-    (write_asks c.self.view_is c.self.invariant c.args.place.now c.args.name.now c.in-Some.ensures.slot c.in-Some.ensures.here c.args.payload.now small c.requires.whole c.in_ok-words.ensures.row words kept).3
-
 pub returns-clause-holds : goal.returns-clause-holds
 returns-clause-holds g c = λ base s holds.
     let m = g.D.Disk.meaning c.args.disk.now in
     let mid = c.if-is_large.self in
     let between = g.D.Disk.meaning c.if-is_large.disk in
-    let after = g.D.Disk.meaning c.put_other.new.disk in
+    let after = g.D.Disk.meaning c.put_file.new.disk in
     let old : Stored = record { parts = c.self.inside.parts; journal = c.self.inside.journal; is_broken = c.self.inside.is_broken } in
     let now : Situation = record { state = s; place = c.args.place.now } in
-    let outcome = changed now (file_replaced s c.args.name.now (new_file c.args.name.now c.as_slice.result.now c.args.payload.now)) in
+    let file = new_file c.args.name.now c.as_slice.result.now c.args.payload.now in
+    let outcome = changed now (file_added (file_gone s (rec_at mid.parts.catalog c.in-Some.slot)) file) in
     let H : Stored → Type 0 = λ k. StoreHolds k m base s in
     let held = subst H (sym c.self.view_is) holds in
     let small : c.args.size ≤ file_limit c.self.inside.parts.limits.version = omega (arith, c.if-size-file_limit.false, c.file_limit.ensures, ap (λ (l : Limits). file_limit l.version) c.limits.ensures.value) in
     let words : (rec : FileRecord) → rec_at c.self.inside.parts.catalog c.in-Some.slot ≡ Some rec → c.as_slice.result.now ≡ words_told c.self.inside.parts.dict rec.tags = λ rec there. c.as_slice.ensures.value ∙ c.in_ok-words.ensures.words rec there in
-    let O : Outcome → Type 0 = λ o. Holds base now o c.put_other.new.self m after c.put_other.result in
-    subst O (sym (write_does c.self.view_is c.self.invariant c.args.place.now c.args.name.now c.in-Some.ensures.slot c.in-Some.ensures.here c.args.payload.now small c.requires.whole c.in_ok-words.ensures.row words m base s holds))
+    let kept : c.if-is_large.self.parts ≡ c.args.self.now.parts =
+    elim c.if-is_large.branch [
+      | then-is_large+in_ok-commit w ↦ ap (λ (k : Stored). k.parts) w.self-is ∙ w.commit.ensures.parts
+      | else-is_large w ↦ ap (λ (k : Stored). k.parts) w.self-is
+    ] in
+    let O : Outcome → Type 0 = λ o. Holds base now o c.put_file.new.self m after c.put_file.result in
+    subst O (sym (write_does c.self.view_is c.self.invariant c.args.place.now c.args.name.now c.in-Some.ensures.slot c.in-Some.ensures.here c.args.payload.now small c.requires.whole c.in_ok-words.ensures.row words m base s holds ∙ ap (λ (t : State). changed now (file_added t file)) (sym ((write_asks c.self.view_is c.self.invariant c.args.place.now c.args.name.now c.in-Some.ensures.slot c.in-Some.ensures.here c.args.payload.now small c.requires.whole c.in_ok-words.ensures.row words kept).1 s))))
     (elim c.if-is_large.branch [
       | then-is_large+in_ok-commit w ↦
           let commits : Commits {T = Unit {0}} base s mid m between (Ok tt) = rw (w.self-is, w.disk-is) (w.in_ok-commit.ensures.commits base s holds) in
-          held_behind_commit base now outcome m between after old mid c.put_other.new.self tt c.put_other.result c.self.invariant held commits
-          c.put_other.ensures.sound (c.put_other.ensures.settled (sym c.is_large.ensures ∙ w.if-is_large.true)) c.put_other.ensures.ended
-          (c.put_other.ensures.holds s now (fits_held mid between s (rw w.self-is w.commit.ensures.sound) commits.ended))
+          held_behind_commit base now outcome m between after old mid c.put_file.new.self tt c.put_file.result c.self.invariant held commits
+          c.put_file.ensures.sound (c.put_file.ensures.settled (sym c.is_large.ensures ∙ w.if-is_large.true)) c.put_file.ensures.ended
+          (c.put_file.ensures.holds s now (fits_held mid between s (rw w.self-is w.commit.ensures.sound) commits.ended))
       | else-is_large w ↦
-          rw (← w.disk-is) (c.put_other.ensures.holds base now (rw (w.self-is, w.disk-is) holds))
+          rw (← w.disk-is) (c.put_file.ensures.holds base now (rw (w.self-is, w.disk-is) holds))
     ])

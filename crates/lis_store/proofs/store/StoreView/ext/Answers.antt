@@ -1,5 +1,4 @@
-use Rattle.std.proofs.Common.{◌∙◌, sym, ap, subst}
-use Rattle.lis_store.proofs.Common.{Ext}
+use Rattle.lis_store.proofs.Common.{◌∙◌, sym, ap, subst, Ext}
 use Rattle.lis_eval.specs.View.{TellsFiles}
 use Rattle.lis_store.specs.Stored.{Stored, IsSound}
 use Rattle.lis_store.specs.Seen.{seen_of}

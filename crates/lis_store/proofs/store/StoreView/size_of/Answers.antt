@@ -1,5 +1,4 @@
-use Rattle.std.proofs.Common.{◌∙◌, sym, ap}
-use Rattle.lis_store.proofs.Common.{rec_at, FileRecord}
+use Rattle.lis_store.proofs.Common.{◌∙◌, sym, ap, rec_at, FileRecord}
 use Rattle.lis_store.specs.Stored.{Stored}
 use Rattle.lis_store.proofs.Here.{none_seen, size_seen}
 use Rattle.lis_store.proofs.store.StoreView.size_of.Goals as goal

@@ -1,5 +1,4 @@
-use Rattle.std.proofs.Common.{◌∙◌, sym, ap}
-use Rattle.lis_store.proofs.Common.{slot_of}
+use Rattle.lis_store.proofs.Common.{◌∙◌, sym, ap, slot_of}
 use Rattle.lis_store.specs.Stored.{Stored}
 use Rattle.lis_store.proofs.Here.{slot_seen}
 use Rattle.lis_store.proofs.store.StoreView.slot_of.Goals as goal

@@ -1,5 +1,4 @@
-use Rattle.std.proofs.Common.{subst}
-use Rattle.lis_store.proofs.Common.{TellsLinks}
+use Rattle.lis_store.proofs.Common.{subst, TellsLinks}
 use Rattle.lis_store.specs.Stored.{Stored, IsSound}
 use Rattle.lis_store.proofs.Viewing.{tells_entailment}
 use Rattle.lis_store.proofs.store.StoreView.taxonomy.Goals as goal

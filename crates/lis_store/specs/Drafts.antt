@@ -1,0 +1,41 @@
+-- Files as a change tells them: of the bytes of one only how many they are, and which words it has by itself.
+use Rattle.std.specs.Prelude.{◌≡◌, ℕ, List, ◌++◌, length, filter}
+use Rattle.std.specs.List.{flat_map}
+use Rattle.std.specs.Option.{option_to_list}
+use Rattle.lis_dict.specs.Dict.{word_of}
+use Rattle.lis_ext.specs.Ext.{set_of}
+use Rattle.lis_words.specs.Words.{is_built_in}
+use Rattle.lis_model.specs.Derived.{derived_words}
+use Rattle.lis_model.specs.State.{File, all_up, file_words}
+use Rattle.lis_model.specs.Tests.{met_tests}
+use Rattle.lis_kept.specs.Kept.{Kept}
+
+pub record Draft : Type 0 where
+  pub name : List ℕ
+  pub size : ℕ
+  pub assigned : List (List ℕ)
+  pub own : List (List ℕ)
+
+abbrev pub drafted : List ℕ → ℕ → List (List ℕ) → List (List ℕ) → Draft
+drafted name size assigned own = record { name = name; size = size; assigned = assigned; own = own }
+
+-- a file that has these words by itself
+abbrev pub with_own : File → List (List ℕ) → Draft
+with_own file own = drafted file.name (length file.bytes) file.assigned own
+
+-- with the words that are derived from it
+abbrev pub draft_of : File → Draft
+draft_of file = with_own file (derived_words file.name file.bytes)
+
+-- These words by itself give a file the description that it has.
+abbrev pub AreOwnWords : List (List ℕ) → List (List ℕ × List ℕ) → List (List ℕ) → File → Type 0
+AreOwnWords declared axioms own file = all_up declared axioms (file.assigned ++ own ++ met_tests declared (length file.bytes)) ≡ file_words declared axioms file
+
+-- ---- the words that a description has kept
+-- the word of a number, if it is built in
+abbrev pub own_word : Kept → ℕ → List (List ℕ)
+own_word k n = filter is_built_in (option_to_list (word_of k.dict n))
+
+-- Those of the description in a slot. A file can be given none of them, and no other word leads to one, so these it has by itself.
+abbrev pub own_kept : Kept → ℕ → List (List ℕ)
+own_kept k slot = flat_map (own_word k) (set_of k.ext slot)
