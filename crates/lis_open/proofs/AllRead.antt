@@ -1,36 +1,58 @@
 -- The contents of the slots that were read, and the state that they spell.
 pub use Rattle.lis_open.specs.ReadAll.{HasRead}
-use Rattle.std.proofs.Common.{◌≡◌, ◌⊎◌, ◌∙◌, refl, sym, ap, ap₂, subst, inl, inr, ℕ, ◌&&◌, ◌||◌, Bool, true, List, [], map, Option, Some, None, slice_get, IsTrue, arith}
-use Rattle.lis_open.proofs.Common.{insert_key, fold, Among, contains_from_among, among_map, map_among, among_flat_map, IsDict, word_of, number_from_word, Filed, rec_at, has, numbers_at, FileRecord, file_bytes, is_file, Pair, FileSlot, word_cmp, is_valued, same_word, head_bytes, same_word_decides, Limits, State, file_cmp, description, known, Kept, record_at, axiom_slots, file_slots, bit_of, words_told, file_told, state_of, is_head_by, is_used, among_from_number, filed_rec, filed_at_slot, declared_there, there_declared, Contents, AreSlots, all_records, spelled_state, contents_of}
+use Rattle.std.proofs.Common.{◌≢◌}
+use Rattle.lis_open.proofs.Common.{rules, ◌≡◌, ◌∙◌, refl, sym, ap, ap₂, subst, inl, inr, ℕ, Bool, true, List, [], map, Option, Some, None, slice_get, IsTrue, arith, ◌⊎◌, ◌+◌, ◌/◌, ◌<◌, ◌≤◌, not, false, is_some, replicate, Result, Ok, Err, IfSome, OnOk, ⊎_elim, fold, eq-eqb, insert_key, Among, contains_from_among, among_map, map_among, among_flat_map, IsDict, word_of, number_from_word, Filed, rec_at, has, numbers_at, FileRecord, file_bytes, is_file, Pair, FileSlot, word_cmp, is_valued, same_word, head_bytes, same_word_decides, Limits, State, file_cmp, description, known, Kept, record_at, axiom_slots, file_slots, bit_of, words_told, file_told, state_of, is_head_by, is_used, among_from_number, filed_rec, filed_at_slot, declared_there, there_declared, Contents, AreSlots, all_records, spelled_state, contents_of, cases_eq, cases_lt, length-replicate, bits_bytes, is_taken, has_bit, FreeFile, among_from_has_word, Spot, Word, Row, are_in_range, bitmap_start, data_start, row_slots, AreSound, word_at, is_had_by, row_bit, and_parts, and_from, both_ways, false_from_ne_true, flat_map_among, File, has_from_among, file_of_record, not_true, zeros, has_word, has_word_from_among, Bitmap, or_left, list_any, is_left_of, is_left_head_of, any_from_among, among_place, cases_Bool}
 use Rattle.std.specs.List.{range_with_len}
-use Rattle.std.proofs.lemmas.Bool.{and_parts, and_from, both_ways}
-use Rattle.std.proofs.lemmas.List.FromFn.{length-map-range_with_len}
-use Rattle.lis_graph.proofs.Members.{flat_map_among}
+use Rattle.std.proofs.lemmas.List.FromFn.{length-map-range_with_len, get_or-map-range_with_len}
 use Rattle.lis_graph.proofs.Ranges.{range_among}
 use Rattle.lis_graph.proofs.Sets.{sorted_from_rising}
 use Rattle.lis_laws.proofs.Chains.{among_heads, heads_of_valued}
 use Rattle.lis_laws.proofs.Forms.{file_order}
 use Rattle.lis_laws.proofs.Sources.{Source, source_of, known_from}
 use Rattle.lis_laws.proofs.Sources.Source.{Declared, Left, LeftHead, Described}
-use Rattle.lis_model.specs.State.{File, heads}
+use Rattle.lis_model.specs.State.{heads}
 use Rattle.lis_kept.specs.Kept.{file_by}
-use Rattle.lis_kept.proofs.Filing.{number_from_among as has_from_among}
-use Rattle.lis_store.specs.Stands.{records_in, file_by as file_of_record}
+use Rattle.lis_store.specs.Stands.{records_in}
 use Rattle.lis_store.proofs.Points.{set_of_points}
 use Rattle.lis_store.proofs.SlotOrder.{given_at}
 use Rattle.lis_open.specs.declared.words.Words.{Words}
 use Rattle.lis_open.specs.declared.axioms.Axioms.{Axioms}
 use Rattle.lis_open.specs.declared.files.Files.{Files}
-use Rattle.lis_open.specs.Checks.{AreContents}
-use Rattle.lis_open.specs.ReadAll.{kept_in}
-use Rattle.lis_open.proofs.Counts.{rising_map}
-use Rattle.lis_open.proofs.Descriptions.{told_among, among_told}
-use Rattle.lis_open.proofs.FileFaults.{are_axioms, file_is, slot_read}
-use Rattle.lis_open.proofs.Joined.{Sides, sides, slots_without}
-use Rattle.lis_open.proofs.Reasons.{Reason, reason_of, used_for}
-use Rattle.lis_open.proofs.Reasons.Reason.{Flagged, Had, LeftOf, HeadOf}
-use Rattle.lis_open.proofs.WordChains.{one_number, pair_among, among_pair}
-use Rattle.lis_open.proofs.WordsTold.{declared_told, axioms_told, file_is_told, are_told}
+use Rattle.lis_open.specs.Checks.{AreContents, IsUsed, WordFails, BitFails, RowFault, RowFails, Fails, rank}
+use Rattle.lis_open.specs.ReadAll.{kept_in, AreNoMarks, is_stray, IsFirstStray, IsRowSpelled, IsFirstRow, row_place, AreRead, HasStray, Differs, RowsChecked, PartsEnded}
+use Rattle.lis_open.proofs.Once.{rising_map}
+use Rattle.lis_open.proofs.Descriptions.{told_among, among_told, one_number, pair_among, among_pair, Sides, sides}
+use Rattle.lis_open.proofs.FilesRead.{file_is, slot_read, used_is, rec_is}
+use Rattle.lis_open.proofs.AxiomsRead.{are_axioms}
+use Rattle.lis_open.proofs.Joined.{slots_without, named, none_past, parts_sound}
+use Rattle.lis_kept.proofs.Used.{WhyUsed, why_used, used_flagged, used_had, used_left, named_head}
+use Rattle.lis_kept.proofs.Used.WhyUsed.{Flagged, Had, OnLeft, HeadOfLeft}
+use Rattle.lis_open.proofs.WordsRead.{declared_told, axioms_told, file_is_told, are_told, word_at_told}
+use Rattle.lis_bits.proofs.Numbers.{bytes_same}
+use Rattle.lis_bits.proofs.Subset.{implied}
+use Rattle.lis_blockmap.specs.Bitmap.{IsFirstDifference, bitmap_bytes}
+use Rattle.lis_kept.specs.Rows.{row_bytes}
+use Rattle.lis_kept.proofs.Formed.{some_word}
+use Rattle.lis_kept.proofs.Known.{number_told}
+use Rattle.lis_open.specs.Checks.RowFault.{RowWrong, RestNotZero}
+use Rattle.lis_open.specs.Reading.{IsFirst, IsFirstOfAll, HasPartCause, Recalls, KindFails, PartsFail}
+use Rattle.lis_open.proofs.Damage.{one_contents}
+use Rattle.lis_open.proofs.SpotKinds.{none_before, none_fails}
+use Rattle.lis_open.proofs.Lefts.{no_file_has, row_place_is}
+use Rattle.lis_blockmap.proofs.Laws.{has_bit-bitmap_bytes}
+use Rattle.lis_open.specs.declared.mounting.OpenFault.{OpenFault}
+use Rattle.lis_open.specs.declared.mounting.OpenFault.TheVariants.{TooShort, Damaged, DiskFault, NoMemory}
+use Rattle.lis_open.specs.declared.blocks.LastBlock.{LastBlock}
+
+-- where there is a reason, a number is in use
+used_for : (k : Kept) (n : ℕ) → WhyUsed k n → is_used k n ≡ true
+used_for k n (Flagged bit) = used_flagged k n bit
+used_for k n (Had slot h) = used_had k n slot h
+used_for k n (OnLeft slot right is) =
+    used_left k n
+    (or_left (list_any (is_left_of n) k.axioms) (list_any (is_left_head_of k.dict n) k.axioms)
+    (any_from_among (is_left_of n) k.axioms (Pair n right) (among_place k.axioms slot (Pair n right) is) (eq-eqb n n refl)))
+used_for k n (HeadOfLeft slot left right is head) = used_left k n (named_head k n slot left right is head)
 
 used_by : (o : Option FileRecord) (rec : FileRecord) → Among (records_in (file_by o)) rec → o ≡ Some rec
 used_by None rec m = absurd m
@@ -60,11 +82,7 @@ module _ (limits : Limits) (at : ℕ → List ℕ) (words : Words) (axioms : Axi
   }
 
   pub contents_are : AreContents limits at (contents_of (kept_in limits words axioms files marks))
-  contents_are = record {
-    properties = are_told limits words read.words_are.are read.words_are.props at read.properties;
-    axioms = are_axioms limits words axioms read.words_are read.axioms_are at read.pairs;
-    files = files_told;
-  }
+  contents_are = search (rules, are_told, are_axioms, files_told)
 
   -- ---- the state
   abbrev records : List FileRecord
@@ -107,12 +125,7 @@ module _ (limits : Limits) (at : ℕ → List ℕ) (words : Words) (axioms : Axi
       subst (λ x. Among (map of_record records) x) (same_file f.0 ∙ f.2) (map_among of_record records (f.0).rec (record_there f.0 f.1)))
 
   pub state_read : spelled_state limits (contents_of (kept_in limits words axioms files marks)) at ≡ state_of (kept_in limits words axioms files marks) at
-  state_read =
-      let of_words : List (List ℕ) → State = λ declared. record (spelled_state limits contents at) { declared = declared } in
-      let of_axioms : List (List ℕ × List ℕ) → State = λ pairs. record (state_of k at) { axioms = pairs; files = fold (insert_key file_cmp) [] (map of_record records) } in
-      let of_files : List File → State = λ fs. record (state_of k at) { files = fs } in
-      ap of_words (declared_told limits words read.words_are.are read.words_are.props)
-      ∙ (ap of_axioms (axioms_told limits words read.words_are.are read.words_are.props axioms.slots.items) ∙ ap of_files (sym files_same))
+  state_read = search (rules, declared_told, axioms_told, files_same)
 
   -- ---- words in use
   abbrev s : State
@@ -136,15 +149,15 @@ module _ (limits : Limits) (at : ℕ → List ℕ) (words : Words) (axioms : Axi
 
     -- a word that is in use is known
     pub used_known : is_used (kept_in limits words axioms files marks) n ≡ true → Among (known (state_of (kept_in limits words axioms files marks) at)) w
-    used_known used = by (reason_of k n used)
+    used_known used = by (why_used k n used)
       where
-        by : Reason k n → Among (known s) w
+        by : WhyUsed k n → Among (known s) w
         by (Flagged bit) = known_from s w (Declared (declared_there k w (ap (bit_of words.declared) (number_from_word words.dict dict w n is) ∙ bit)))
         by (Had slot h) = had slot (rec_at files.catalog slot) refl h
-        by (LeftOf slot right here) =
+        by (OnLeft slot right here) =
             let to = (all_sides slot n right here).to in
             known_from s w (Left (w, to.word) (pair_among limits words dict axioms.slots.items all_sides slot n right w to.word here is to.is) refl)
-        by (HeadOf slot left right here h) =
+        by (HeadOfLeft slot left right here h) =
             let both = all_sides slot left right here in
             let test : is_head_by (Some both.from.word) (Some w) ≡ true = ap₂ is_head_by (sym both.from.is) (sym is) ∙ h in
             let parts = and_parts (is_valued both.from.word) (same_word (head_bytes both.from.word) w) test in
@@ -156,16 +169,16 @@ module _ (limits : Limits) (at : ℕ → List ℕ) (words : Words) (axioms : Axi
     pub known_used : Among (known (state_of (kept_in limits words axioms files marks) at)) w → is_used (kept_in limits words axioms files marks) n ≡ true
     known_used m = used_for k n (by (source_of s w m))
       where
-        by : Source s w → Reason k n
+        by : Source s w → WhyUsed k n
         by (Declared here) = Flagged (sym (ap (bit_of words.declared) (number_from_word words.dict dict w n is)) ∙ there_declared k w here)
         by (Left e here same) =
             let found = among_pair limits words dict axioms.slots.items all_sides e here in
             let one = one_number limits words dict axioms.slots.items all_sides found.1 n w (found.4 ∙ ap Some same) is in
-            LeftOf found.0 found.2 (subst (λ j. slice_get axioms.slots.items found.0 ≡ Some (Pair j found.2)) one found.3)
+            OnLeft found.0 found.2 (subst (λ j. slice_get axioms.slots.items found.0 ≡ Some (Pair j found.2)) one found.3)
         by (LeftHead e here head) =
             let found = among_pair limits words dict axioms.slots.items all_sides e here in
             let parts = among_heads e.0 w head in
-            HeadOf found.0 found.1 found.2 found.3
+            HeadOfLeft found.0 found.1 found.2 found.3
             (ap₂ is_head_by found.4 is ∙ and_from (is_valued e.0) (same_word (head_bytes e.0) w) parts.0 ((same_word_decides (head_bytes e.0) w).1 parts.1))
         by (Described file here has_it) =
             let f = among_map told files.catalog.entries file here in
@@ -173,3 +186,230 @@ module _ (limits : Limits) (at : ℕ → List ℕ) (words : Words) (axioms : Axi
             let number = among_told words.dict numbers w (subst (λ ws. Among ws w) (sym (described f.0 f.1 ∙ ap (description s) f.2)) has_it) in
             let one = one_number limits words dict axioms.slots.items all_sides number.0 n w number.2 is in
             Had (f.0).slot (has_from_among numbers n (subst (λ m. Among numbers m) one number.1))
+
+-- ---- the parts that pass their checks, and the first one that fails
+-- ---- kinds
+-- no check of a kind below this one fails
+abbrev pub PassBelow : Limits → (ℕ → List ℕ) → ℕ → Type 0
+PassBelow limits at kind = (spot : Spot) → rank spot < kind → Fails limits at spot → ⊥
+
+module _ (limits : Limits) (at : ℕ → List ℕ) where
+  pub pass_more : (kind : ℕ) → PassBelow limits at kind → ((spot : Spot) → rank spot ≡ kind → Fails limits at spot → ⊥) → PassBelow limits at (kind + 1)
+  pass_more kind below here spot lt fails =
+      ⊎_elim (λ same. here spot same fails) (λ (differ : rank spot ≡ kind → ⊥). below spot (omega (arith, lt, differ)) fails) (cases_eq (rank spot) kind)
+
+  pub none_below : PassBelow limits at 2
+  none_below = pass_more 1 (pass_more 0 (λ spot lt. absurd (omega arith)) (none_fails limits at 0 (λ n fails. fails))) (none_fails limits at 1 (λ n fails. fails))
+
+  pub first_of_all : (kind : ℕ) (spot : Spot) → PassBelow limits at kind → IsFirst limits at kind spot → IsFirstOfAll limits at spot
+  first_of_all kind spot below first = search (rules, none_before)
+
+-- ---- behind words, axioms and files
+-- marks of which none is set
+abbrev no_marks : Limits → List Bool
+no_marks limits = replicate (data_start limits) false
+
+no_marks_clean : (limits : Limits) → AreNoMarks limits (no_marks limits)
+no_marks_clean limits = record {
+  long = let is = length-replicate (data_start limits) false in omega (arith, is);
+  none = ap (λ n. replicate n false) (sym (length-replicate (data_start limits) false));
+}
+
+module _ (limits : Limits) (at : ℕ → List ℕ) (words : Words) (axioms : Axioms) (files : Files) (read : HasRead limits at words axioms files) where
+  abbrev held : Kept
+  held = kept_in limits words axioms files (no_marks limits)
+
+  abbrev held_contents : Contents
+  held_contents = contents_of held
+
+  -- ---- words in use
+  word_is : (n : ℕ) → word_at held_contents.properties n ≡ word_of words.dict n
+  word_is n = word_at_told limits words read.words_are.are read.words_are.props n
+
+  word_passes : (n : ℕ) → is_stray held n ≡ false → WordFails limits at n → ⊥
+  word_passes n no_stray fails =
+      let same = one_contents limits at fails.contents held_contents fails.are (contents_are limits at words axioms files (no_marks limits) read) in
+      let is = sym (word_is n) ∙ subst (λ (c : Contents). word_at c.properties n ≡ Some fails.word) same fails.has in
+      let used = implied (is_some (word_of words.dict n)) (is_used held n) no_stray (ap is_some is) in
+      let there = used_known limits at words axioms files (no_marks limits) read n fails.word is used in
+      let unknown = subst (λ (c : Contents). has_word (known (spelled_state limits c at)) fails.word ≡ false) same fails.unknown in
+      both_ways (has_word (known (state_of held at)) fails.word)
+      (ap (λ (held_state : State). has_word (known held_state) fails.word) (sym (state_read limits at words axioms files (no_marks limits) read)) ∙ unknown)
+      (has_word_from_among (known (state_of held at)) fails.word there)
+
+  stray_fails : (n : ℕ) → is_stray held n ≡ true → WordFails limits at n
+  stray_fails n stray =
+      let parts = and_parts (is_some (word_of words.dict n)) (not (is_used held n)) stray in
+      let w = some_word (word_of words.dict n) parts.0 in
+      record {
+        contents = held_contents;
+        are = contents_are limits at words axioms files (no_marks limits) read;
+        word = w.0;
+        has = word_is n ∙ w.1;
+        unknown = ap (λ (held_state : State). has_word (known held_state) w.0) (state_read limits at words axioms files (no_marks limits) read)
+            ∙ false_from_ne_true (has_word (known (state_of held at)) w.0) (λ there.
+            both_ways (is_used held n) (not_true (is_used held n) parts.1)
+            (known_used limits at words axioms files (no_marks limits) read n w.0 w.1 (among_from_has_word (known (state_of held at)) w.0 there)));
+      }
+
+  pub first_stray : (n : ℕ) → IsFirstStray (kept_in limits words axioms files (no_marks limits)) n → IsFirst limits at 5 (Word n)
+  first_stray n first = search (rules, stray_fails, none_before, word_passes)
+
+  pub words_pass : ((n : ℕ) → is_stray (kept_in limits words axioms files (no_marks limits)) n ≡ false) → (spot : Spot) → rank spot ≡ 5 → Fails limits at spot → ⊥
+  words_pass none = none_fails limits at 5 (λ n. word_passes n (none n))
+
+  -- ---- the bitmap
+  used_taken : (n : ℕ) → IsUsed limits at n → is_taken files.map n ≡ true
+  used_taken n used =
+      let rec = rec_is limits words axioms files limits.files read.words_are read.axioms_are read.files_are at read.properties read.pairs read.records.spelled used.slot used.rec used.is.below used.is in
+      read.records.blocks.taken used.slot used.rec n rec used.has
+
+  taken_used : (n : ℕ) → is_taken files.map n ≡ true → IsUsed limits at n
+  taken_used n taken =
+      let owner = read.records.blocks.in_use n taken in
+      let lt = slot_read limits words axioms files limits.files read.words_are read.axioms_are read.files_are owner.0 owner.1 owner.2 in
+      record {
+        slot = owner.0;
+        rec = owner.1;
+        is = used_is limits words axioms files limits.files read.words_are read.axioms_are read.files_are at read.properties read.pairs read.records.spelled owner.0 owner.1 lt owner.2;
+        has = owner.3;
+      }
+
+  bit_passes : (n : ℕ) → has_bit (at (bitmap_start limits)) n ≡ is_taken files.map n → BitFails limits at n → ⊥
+  bit_passes n same fails =
+      ⊎_elim (λ more. more.1 (taken_used n (sym same ∙ more.0))) (λ less. both_ways (is_taken files.map n) (sym same ∙ less.0) (used_taken n less.1)) fails.fault
+
+  bit_fails : (n : ℕ) → n < 32768 → has_bit (at (bitmap_start limits)) n ≢ is_taken files.map n → BitFails limits at n
+  bit_fails n below differ = search (rules, used_taken, taken_used, cases_Bool)
+
+  pub first_difference : (n : ℕ) → IsFirstDifference (at (bitmap_start limits)) files.map n → IsFirst limits at 6 (Bitmap n)
+  first_difference n first = search (rules, bit_fails, none_before, bit_passes)
+
+  pub bits_pass : ((n : ℕ) → n < 32768 → has_bit (at (bitmap_start limits)) n ≡ is_taken files.map n) → (spot : Spot) → rank spot ≡ 6 → Fails limits at spot → ⊥
+  bits_pass same = none_fails limits at 6 (λ n fails. bit_passes n (same n fails.below) fails)
+
+  -- ---- rows
+  module _ (range : IsTrue (are_in_range limits)) (used : (n : ℕ) → is_stray (kept_in limits words axioms files (no_marks limits)) n ≡ false) where
+    all_read : AreRead limits words axioms files (no_marks limits)
+    all_read = record { words_are = read.words_are; axioms_are = read.axioms_are; files_are = read.files_are; used = used }
+
+    sound : AreSound held
+    sound = parts_sound limits words axioms files (no_marks limits) all_read range (no_marks_clean limits)
+
+    abbrev held_state : State
+    held_state = state_of held at
+
+    bit_is : (p i : ℕ) → i < limits.files → has files.ext p i ≡ row_bit held_state limits held_contents at p i
+    bit_is p i lt =
+        by (word_of words.dict p) (rec_at files.catalog i) refl refl
+        ∙ sym (ap₂ (is_had_by held_state (file_of_record limits held_contents.properties at)) (word_is p) (get_or-map-range_with_len (record_at files.catalog) 0 limits.files i i FreeFile lt (omega arith)))
+      where
+        nothing : (w : Option (List ℕ)) → is_had_by held_state (file_of_record limits held_contents.properties at) w FreeFile ≡ false
+        nothing None = refl
+        nothing (Some w) = refl
+
+        by : (o : Option (List ℕ)) (r : Option FileRecord) → word_of words.dict p ≡ o → rec_at files.catalog i ≡ r
+            → has files.ext p i ≡ is_had_by held_state (file_of_record limits held_contents.properties at) (word_of words.dict p) (file_by (rec_at files.catalog i))
+        by o None is none =
+            slots_without limits words axioms files limits.files read.files_are i none p
+            ∙ sym (ap (λ r. is_had_by held_state (file_of_record limits held_contents.properties at) (word_of words.dict p) (file_by r)) none ∙ nothing (word_of words.dict p))
+        by None (Some rec) is there =
+            false_from_ne_true (has files.ext p i) (λ h. both_ways (is_some (word_of words.dict p)) (ap is_some is) (named limits words axioms files (no_marks limits) all_read p i h))
+            ∙ sym (ap (λ o. is_had_by held_state (file_of_record limits held_contents.properties at) o (file_by (rec_at files.catalog i))) is)
+        by (Some w) (Some rec) is there =
+            let f : Filed = record { slot = i; rec = rec } in
+            let m = contains_from_among files.catalog.entries f (filed_at_slot files.catalog read.files_are.catalog i rec there) in
+            number_told held sound (numbers_at files.ext i) p w is
+            ∙ (ap (λ ws. has_word ws w) (read.records.described f m)
+            ∙ (sym (ap (λ (file : File). has_word (description held_state file) w) (file_is_told limits words read.words_are.are read.words_are.props at f))
+            ∙ sym (ap₂ (λ o r. is_had_by held_state (file_of_record limits held_contents.properties at) o (file_by r)) is there)))
+
+    row_is : (p : ℕ) → row_bytes files.ext p ≡ bits_bytes (limits.files / 8) (row_bit (spelled_state limits held_contents at) limits held_contents at p)
+    row_is p =
+        ap (λ n. bits_bytes (n / 8) (has files.ext p)) read.files_are.count
+        ∙ (bytes_same (limits.files / 8) (has files.ext p) (row_bit held_state limits held_contents at p) (λ i small. bit_is p i (omega (arith, small)))
+        ∙ ap (λ (t : State). bits_bytes (limits.files / 8) (row_bit t limits held_contents at p)) (sym (state_read limits at words axioms files (no_marks limits) read)))
+
+    rest_is : (p : ℕ) → limits.props ≤ p → row_bytes files.ext p ≡ zeros (limits.files / 8)
+    rest_is p past = no_file_has files.ext limits.files p read.files_are.count (λ slot. none_past limits words axioms files (no_marks limits) all_read p slot past)
+
+    row_passes : (m : ℕ) → m < limits.props → IsRowSpelled limits at files.ext m → RowFails limits at m → ⊥
+    row_passes m below spelled fails =
+        let same = one_contents limits at fails.contents held_contents fails.are (contents_are limits at words axioms files (no_marks limits) read) in
+        elim (subst (λ (c : Contents). RowFault limits at c m) same fails.fault) [ RowWrong lt wrong ↦ wrong (spelled ∙ row_is m) | RestNotZero last p from lt not_zero ↦ omega (arith, last, below) ]
+
+    row_fails : (p : ℕ) → p < (row_slots limits).count → (IsRowSpelled limits at files.ext p → ⊥) → RowFails limits at (row_place limits p)
+    row_fails p below differs = record {
+      contents = held_contents;
+      are = contents_are limits at words axioms files (no_marks limits) read;
+      fault = elim (cases_lt p limits.props) [
+        | inl lt ↦ subst (λ n. RowFault limits at held_contents n) (omega (arith, row_place_is limits p, lt)) (RowWrong lt (λ same. differs (same ∙ sym (row_is p))))
+        | inr past ↦ subst (λ n. RowFault limits at held_contents n) (omega (arith, row_place_is limits p, past)) (RestNotZero refl p past below (λ same. differs (same ∙ sym (rest_is p past))))
+      ];
+    }
+
+    pub first_wrong_row : (p : ℕ) → IsFirstRow limits at files.ext p → IsFirst limits at 7 (Row (row_place limits p))
+    first_wrong_row p first = record {
+      fails = row_fails p first.below first.differs;
+      is = refl;
+      none_before = none_before limits at 7 (row_place limits p) (λ m lt.
+          row_passes m (omega (arith, row_place_is limits p, lt)) (first.same_before m (omega (arith, row_place_is limits p, lt))));
+    }
+
+-- ---- how reading the parts one after another ends
+-- where a part of a kind fails
+pub kind_failed : (limits : Limits) (at : ℕ → List ℕ) (kind : ℕ) (fault : OpenFault) → PassBelow limits at kind → KindFails limits at kind fault → PartsFail limits at fault
+kind_failed limits at kind (TooShort len need) below fails = fails
+kind_failed limits at kind (Damaged spot) below fails = first_of_all limits at kind spot below fails
+kind_failed limits at kind DiskFault below fails = tt
+kind_failed limits at kind NoMemory below fails = fails
+
+module _ (limits : Limits) (at : ℕ → List ℕ) (words : Words) (axioms : Axioms) (files : Files) (read : HasRead limits at words axioms files) (below : PassBelow limits at 5) where
+  abbrev unmarked : List Bool
+  unmarked = replicate (data_start limits) false
+
+  pub words_failed : (fault : OpenFault) → ((marks : List Bool) → HasStray (kept_in limits words axioms files marks) fault) → PartsFail limits at fault
+  words_failed (TooShort len need) stray = absurd (stray [])
+  words_failed (Damaged spot) stray =
+      let first = stray unmarked in
+      first_of_all limits at 5 spot below (subst (λ (place : Spot). IsFirst limits at 5 place) (sym first.1) (first_stray limits at words axioms files read first.0 first.2))
+  words_failed DiskFault stray = absurd (stray [])
+  words_failed NoMemory stray = absurd (stray [])
+
+  module _ (used : (marks : List Bool) (n : ℕ) → is_stray (kept_in limits words axioms files marks) n ≡ false) where
+    words_passed : PassBelow limits at 6
+    words_passed = pass_more limits at 5 below (words_pass limits at words axioms files read (used unmarked))
+
+    pub bitmap_failed : (fault : OpenFault) → Differs (at (bitmap_start limits)) files.map fault → PartsFail limits at fault
+    bitmap_failed fault differs = search (rules, first_of_all, words_passed, first_difference)
+
+    module _ (range : IsTrue (are_in_range limits)) (bitmap : at (bitmap_start limits) ≡ bitmap_bytes files.map) where
+      bitmap_passed : PassBelow limits at 7
+      bitmap_passed =
+          pass_more limits at 6 words_passed
+          (bits_pass limits at words axioms files read (λ n lt. ap (λ bytes. has_bit bytes n) bitmap ∙ has_bit-bitmap_bytes files.map n lt))
+
+      pub rows_ended : {T : Type 0} (result : Result T OpenFault) → RowsChecked limits at files.ext result → PartsEnded limits at words axioms files result
+      rows_ended (Ok done) same = record { properties = read.properties; pairs = read.pairs; records = read.records; bitmap = bitmap; rows = same }
+      rows_ended (Err (TooShort len need)) differs = differs
+      rows_ended (Err (Damaged spot)) differs =
+          first_of_all limits at 7 spot bitmap_passed
+          (subst (λ (place : Spot). IsFirst limits at 7 place) (sym differs.1) (first_wrong_row limits at words axioms files read range (used unmarked) differs.0 differs.2))
+      rows_ended (Err DiskFault) differs = tt
+      rows_ended (Err NoMemory) differs = absurd differs
+
+-- ---- the block that was read last
+pub none_recalled : (last : LastBlock) (kept : ℕ → List ℕ) → last.number ≡ None → Recalls last kept
+none_recalled last kept none = subst (λ o. IfSome o (λ n. last.bytes ≡ kept n)) (sym none) tt
+
+-- what holds anyhow holds where there is no fault
+pub on_ok : {T E P : Type 0} (r : Result T E) → P → OnOk r P
+on_ok (Ok done) holds = holds
+on_ok (Err fault) holds = tt
+
+-- ---- causes
+pub stray_cause : (T : Type 0) (before now : ℕ) (k : Kept) (fault : OpenFault) → now ≡ before → HasStray k fault → HasPartCause {T = T} before now (Err fault)
+stray_cause T before now k (TooShort len need) same stray = stray
+stray_cause T before now k (Damaged spot) same stray = same
+stray_cause T before now k DiskFault same stray = absurd stray
+stray_cause T before now k NoMemory same stray = stray

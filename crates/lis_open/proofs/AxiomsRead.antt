@@ -1,36 +1,159 @@
 -- The axioms of axiom slots, read one after another.
-use borrow.Author.Count.{below_more}
-use Rattle.lis_open.proofs.Common.{insert_key, fold, or-false, or_right, length-replicate, get_or_from_slice_get, same_Some, Chain, Among, among_from_any, Meaning, DiskFaultEnds, Held, Fits, slot, Dict, IsDict, word_of, number_from_word, number_below, Taxonomy, no_links, has_edge, axiom_bytes, is_axiom, AxiomSlot, FreeAxiom, Pair, plain_not_valued, Limits, axiom_at, axiom_slots, is_head_by, pair_told, pairs_told, axioms_of, has_pair, among_place}
-use Rattle.std.proofs.Common.{◌≡◌, ◌⊎◌, ◌∙◌, ◌↔◌, refl, sym, ap, ap₂, subst, inl, inr, ℕ, zero, suc, ◌+◌, ◌<◌, ◌≤◌, ◌==◌, true, ◌&&◌, ◌||◌, Option, Some, None, List, [], ◌∷◌, ◌++◌, length, take, set, replicate, slice_get, arith, eq-eqb}
-use Rattle.std.specs.FinSet as finite
+use Rattle.lis_open.proofs.Common.{rules, ◌≡◌, ◌⊎◌, ◌∙◌, refl, sym, ap, ap₂, subst, inl, inr, ℕ, ◌+◌, ◌<◌, ◌==◌, nat_lt, Bool, true, false, ◌&&◌, ◌||◌, Option, Some, None, List, arith, eq-eqb, is_some, IfSome, ⊎_elim, ltb-true, lt-ltb, zero, suc, ◌≤◌, [], ◌∷◌, ◌++◌, length, take, set, replicate, slice_get, ◌^◌, ◌-◌, not, below_more, length-set, get_or-set_same, get_or-set_other, fold, length-take-le, Contains, take_all, and-false, cases_eq, Dict, IsDict, word_of, number_from_word, number_below, Taxonomy, has_edge, is_valued, head_bytes, same_word_decides, head_not_valued, is_head_by, or_left, or_right, is_test, and_parts, both_ways, false_from_ne_true, insert_key, or-false, length-replicate, get_or_from_slice_get, same_Some, Chain, Among, among_from_any, Meaning, DiskFaultEnds, Held, Fits, slot, no_links, axiom_bytes, is_axiom, AxiomSlot, FreeAxiom, Pair, plain_not_valued, Limits, axiom_at, axiom_slots, pair_told, pairs_told, axioms_of, has_pair, among_place, cases_lt, among_from_contains, contains_from_among, number_of, word_from_number, Leads, PropSlot, axiom_once, is_plain_word, is_nameable, some_number, word_at, words_in, one_array, and_from, get_or_past, slice_get-get_or, any_from_among, pair_cmp, has_word, ⊎_map, property_slots, prop_bytes, is_prop, prop_once, cases_Bool}
+use Rattle.std.proofs.lemmas.Bool.Decides.{nat_tests}
+use Rattle.lis_taxonomy.specs.Taxonomy.{pair_cmp as edge_cmp, empty_taxonomy}
+use Rattle.lis_kept.specs.Edges.{with_edge_to}
+use Rattle.lis_kept.proofs.AxiomsChanged.{swapped}
+use Rattle.lis_kept.proofs.HeadEdges.{has_edge-with_edge}
+use Rattle.lis_kept.proofs.Used.{is_at, head_by_number}
+use Rattle.lis_open.specs.declared.words.Words.{Words}
+use Rattle.lis_open.specs.ReadWords.{head_by, LinksHeads, declared_words, kept_words, AreWords, AreFirstWords, LinksTests, WordsAreSpelled, is_left, is_right, are_sides, TakesPair, TakesAxiom, IsGoodPair, AreFirstAxioms, AxiomsAreSpelled, is_left_by, is_right_by, RefusesPair, RefusesAxiom}
+use Rattle.lis_laws.proofs.Chains.{head_no_test, acyclic_within, acyclic_cons, acyclic_decides}
+use Rattle.lis_kept.specs.TestEdges.{test_by, is_test_link, TestsAreOrdered, LinksWhere, LinksSome, LinksWeaker}
+use Rattle.lis_kept.proofs.TestChains.{where_ordered, where_same, link_below}
 use Rattle.std.proofs.Math.Bool.{or_comm}
-use Rattle.std.proofs.lemmas.Bool.{and_parts, and_from, both_ways}
-use Rattle.std.proofs.lemmas.List.{length-set, get_or-set_same, get_or-set_other}
-use Rattle.std.proofs.lemmas.Option.{slice_get-get_or}
-use Rattle.lis_graph.proofs.Members.{any_from_among}
-use Rattle.lis_laws.proofs.Chains.{acyclic_within, acyclic_cons, acyclic_decides}
-use Rattle.lis_model.specs.State.{Entails, Acyclic, pair_cmp}
-use Rattle.lis_kept.specs.TestEdges.{is_test_link}
+use Rattle.lis_model.specs.State.{Entails, Acyclic}
 use Rattle.lis_kept.specs.Links.{is_pair, is_own_link, is_linked}
 use Rattle.lis_catalog.proofs.Slots.{swapped as or_swapped}
-use Rattle.lis_kept.proofs.AxiomMore.{swapped}
 use Rattle.lis_kept.proofs.AxiomSlots.{set_cases, any_set, pair_is, same_sides}
-use Rattle.lis_kept.proofs.HeadEdges.{has_edge-with_edge}
 use Rattle.lis_kept.proofs.TestLinks.{linked_by}
 use Rattle.lis_open.specs.declared.blocks.LastBlock.{LastBlock}
-use Rattle.lis_open.specs.declared.words.Words.{Words}
 use Rattle.lis_open.specs.declared.axioms.Axioms.{Axioms}
-use Rattle.lis_open.specs.Checks.{AxiomFails}
+use Rattle.lis_open.specs.Checks.{AreAxioms, AxiomFails, IsAxiom, AreFirstAxiomSlots, declared_by, axioms_by, AxiomFault, HasAxiomFault, AreProperties}
 use Rattle.lis_open.specs.Reading.{OnlyReads, Recalls, IsReadAs}
-use Rattle.lis_open.specs.ReadWords.{declared_words, kept_words, AreWords, AreFirstWords, LinksHeads, LinksTests, WordsAreSpelled, is_left, is_right, are_sides, TakesPair, TakesAxiom, IsGoodPair, AreFirstAxioms, AxiomsAreSpelled}
-use Rattle.lis_open.proofs.Joined.{Sides, sides}
-use Rattle.lis_open.proofs.Quiet.{StillRecalls}
-use Rattle.lis_open.proofs.WordsRead.{nothing_at}
-use Rattle.lis_open.proofs.WordPlaces.{left_word, right_word}
-use Rattle.lis_open.proofs.LinkedTests.{head_edges}
-use Rattle.lis_open.proofs.Owned.{bare_numbered}
-use Rattle.lis_open.proofs.WordChains.{one_number, among_pair, pair_among, chain_numbered}
+use Rattle.lis_open.proofs.BlocksRead.{StillRecalls}
+use Rattle.lis_open.proofs.WordsRead.{nothing_at, told_properties, number_within, word_at_told, declared_told, told_word, word_told, axioms_told, are_told}
+use Rattle.lis_open.proofs.Descriptions.{Sides, sides, left_word, right_word, bare_numbered, one_number, among_pair, pair_among, chain_numbered, chain_named}
+use Rattle.std.proofs.Math.Path.{fun_ext}
+use Rattle.lis_laws.proofs.Locals.{same_tests}
+use Rattle.lis_kept.proofs.OwnLinks.{own_to_plain}
+use Rattle.lis_open.specs.Checks.AxiomFault.{PastLast, LeftUnnumbered, RightUnnumbered, RightNotPlain, RightUndeclared, LeftUnnameable, HeadUnnumbered, PairThere, Circle}
+use Rattle.lis_open.proofs.Once.{taken_place}
+use Rattle.std.specs.FinSet as finite
 
+-- a valued word, and its head
+pub record Headed (o r : Option (List ℕ)) : Type 0 where
+  pub word : List ℕ
+  pub is : o ≡ Some word
+  pub valued : is_valued word ≡ true
+  pub head : r ≡ Some (head_bytes word)
+
+pub headed : (o r : Option (List ℕ)) → is_head_by o r ≡ true → Headed o r
+headed o r h = search (rules, and_parts, same_word_decides)
+
+-- a valued word is no head
+valued_no_head : (o r : Option (List ℕ)) (w : List ℕ) → r ≡ Some w → is_valued w ≡ true → is_head_by o r ≡ false
+valued_no_head o r w is valued = false_from_ne_true (is_head_by o r) (λ h.
+    let found = headed o r h in
+    let both : ◌≡◌ {A = Option (List ℕ)} (Some (head_bytes found.word)) (Some w) = sym found.head ∙ is in
+    let same : head_bytes found.word ≡ w = cc in
+    both_ways (is_valued w) (ap is_valued (sym same) ∙ head_not_valued found.word) valued)
+
+edge_to : (t : Taxonomy) (n : ℕ) (o : Option ℕ) (x y : ℕ) → has_edge (with_edge_to t n o) x y ≡ (((x == n) && is_at o y) || has_edge t x y)
+edge_to t n None x y = ap (λ b. b || has_edge t x y) (sym (and-false (x == n)))
+edge_to t n (Some h) x y = has_edge-with_edge t n h x y ∙ ap (λ b. ((x == n) && b) || has_edge t x y) (swapped y h)
+
+module _ (d : Dict) (kept : IsDict d) where
+  pub head_test : (o : Option (List ℕ)) (q : ℕ) → is_at (head_by d o) q ≡ is_head_by o (word_of d q)
+  head_test None q = refl
+  head_test (Some w) q = head_by_number d kept w q
+
+  head_is : (n h : ℕ) → head_by d (word_of d n) ≡ Some h → Headed (word_of d n) (word_of d h)
+  head_is n h is = headed (word_of d n) (word_of d h) (sym (head_test (word_of d n) h) ∙ (ap (λ o. is_at o h) is ∙ eq-eqb h h refl))
+
+  -- ---- a number that is linked to its head
+  pub head_below : (n : ℕ) (o : Option ℕ) (props : ℕ) → o ≡ head_by d (word_of d n) → props ≡ d.props → IfSome o (λ h. h < props)
+  head_below n None props is same = tt
+  head_below n (Some h) props is same =
+      let found = head_is n h (sym is) in
+      omega (arith, number_below d kept (head_bytes found.word) h (number_from_word d kept (head_bytes found.word) h found.head), same)
+
+  pub head_apart : (n : ℕ) (o : Option ℕ) → o ≡ head_by d (word_of d n) → o ≡ Some n → ⊥
+  head_apart n o is here =
+      let found = head_is n n (sym is ∙ here) in
+      both_ways (is_head_by (word_of d n) (word_of d n)) (valued_no_head (word_of d n) (word_of d n) found.word found.is found.valued)
+      (sym (head_test (word_of d n) n) ∙ (ap (λ h. is_at h n) (sym is ∙ here) ∙ eq-eqb n n refl))
+
+-- a test of the numbers up to the next one
+below_next : (p end : ℕ) (b : Bool) → (nat_lt p (end + 1) && b) ≡ (((p == end) && b) || (nat_lt p end && b))
+below_next p end b = grind (arith, nat_tests)
+
+module _ (words : Words) (kept : IsDict words.dict) (end : ℕ) (t : Taxonomy) (linked : LinksHeads words end t) where
+  pub none_to : (o : Option ℕ) → o ≡ head_by words.dict (word_of words.dict end) → IfSome o (λ h. (x : ℕ) → has_edge t x end ≡ false)
+  none_to None is = tt
+  none_to (Some h) is = λ x.
+      let found = head_is words.dict kept end h (sym is) in
+      linked.edges x end
+      ∙ (ap (λ b. nat_lt x end && b) (valued_no_head (word_of words.dict x) (word_of words.dict end) found.word found.is found.valued) ∙ and-false (nat_lt x end))
+
+  pub linked_more : (next : Taxonomy) → next ≡ with_edge_to t end (head_by words.dict (word_of words.dict end)) → LinksHeads words (end + 1) next
+  linked_more next is = search (rules, is_at, head_test, edge_to, below_next)
+
+pub linked_none : (words : Words) (t : Taxonomy) (props : ℕ) → words.dict.props ≡ props → t ≡ empty_taxonomy props → LinksHeads words 0 t
+linked_none words t props same none =
+    subst (λ (u : Taxonomy). LinksHeads words 0 u) (sym none) (record { props = sym same; edges = λ p q. finite.contains-empty edge_cmp (p, q) ∙ sym (ap (λ b. b && is_head_by (word_of words.dict p) (word_of words.dict q)) (false_from_ne_true (nat_lt p 0) (λ h. let lt = ltb-true p 0 h in omega (arith, lt)))) })
+
+-- ---- the links of declared tests to weaker ones, one number after another
+-- ---- tests of numbers
+-- a word that is a test
+pub record IsTestBy (o : Option (List ℕ)) : Type 0 where
+  pub word : List ℕ
+  pub is : o ≡ Some word
+  pub test : is_test word ≡ true
+
+pub test_word : (o : Option (List ℕ)) → is_some {T = Bool × ℕ} (test_by o) ≡ true → IsTestBy o
+test_word None some = absurd (both_ways false refl some)
+test_word (Some w) some = record { word = w; is = refl; test = some }
+
+-- ---- links that come one after another
+joined : (a b link edge : Bool) → ((a && link) || ((b && link) || edge)) ≡ (((a || b) && link) || edge)
+joined a b link edge = search (rules)
+
+where_then : (a b : ℕ → ℕ → Bool) (dict : Dict) (declared : List Bool) (t u v : Taxonomy) → LinksWhere a dict declared t u → LinksWhere b dict declared u v → LinksWhere (λ p q. b p q || a p q) dict declared t v
+where_then a b dict declared t u v first second = search (rules, joined)
+
+pub some_then : (dict : Dict) (declared : List Bool) (t u v : Taxonomy) → LinksSome dict declared t u → LinksSome dict declared u v → LinksSome dict declared t v
+some_then dict declared t u v first second = (λ p q. second.0 p q || first.0 p q, where_then first.0 second.0 dict declared t u v first.1 second.1)
+
+-- some links, among them all from the numbers below the end
+pub record LinksBelow (dict : Dict) (declared : List Bool) (end : ℕ) (t u : Taxonomy) : Type 0 where
+  pub some : LinksSome dict declared t u
+  pub all : (p q : ℕ) → p < end → some.0 p q ≡ true
+
+pub all_more : (dict : Dict) (declared : List Bool) (end : ℕ) (t u v : Taxonomy) → LinksBelow dict declared end t u → LinksWeaker dict declared end u v → LinksBelow dict declared (end + 1) t v
+all_more dict declared end t u v linked more = record {
+  some = (λ p q. (p == end) || linked.some.0 p q, where_then linked.some.0 (λ p q. p == end) dict declared t u v linked.some.1 (record { props = more.props; edges = more.edges }));
+  all = λ p q lt.
+      ⊎_elim (λ same. or_left (p == end) (linked.some.0 p q) (eq-eqb p end same))
+      (λ (differ : p ≡ end → ⊥). or_right (p == end) (linked.some.0 p q) (linked.all p q (omega (arith, lt, differ)))) (cases_eq p end);
+}
+
+-- a number past the last one has no links
+pub all_linked : (dict : Dict) (declared : List Bool) (end : ℕ) (t u : Taxonomy) → IsDict dict → dict.props ≡ end → LinksBelow dict declared end t u → LinksWhere (λ p q. true) dict declared t u
+all_linked dict declared end t u kept same linked =
+    where_same linked.some.0 (λ p q. true) dict declared t u (λ p q link. linked.all p q (let below = link_below dict declared p q kept link in omega (arith, below.0, same))) linked.some.1
+
+-- ---- behind the links to heads
+module _ (words : Words) (kept : IsDict words.dict) (end : ℕ) (t : Taxonomy) (heads : LinksHeads words end t) where
+  -- no test is a head
+  heads_ordered : TestsAreOrdered words.dict t
+  heads_ordered p q edge some =
+      let found = headed (word_of words.dict p) (word_of words.dict q) (and_parts (nat_lt p end) (is_head_by (word_of words.dict p) (word_of words.dict q)) (sym (heads.edges p q) ∙ edge)).1 in
+      absurd (head_no_test found.word (subst (λ o. is_some {T = Bool × ℕ} (test_by o) ≡ true) found.head some))
+
+  pub still_ordered : (u : Taxonomy) → LinksSome words.dict words.declared t u → TestsAreOrdered words.dict u
+  still_ordered u some = where_ordered some.0 words.dict words.declared t u some.1 heads_ordered
+
+  pub head_edges : words.dict.props ≡ end → (p q : ℕ) → has_edge t p q ≡ is_head_by (word_of words.dict p) (word_of words.dict q)
+  head_edges same p q = heads.edges p q ∙ by (word_of words.dict p) refl
+    where
+      by : (o : Option (List ℕ)) → word_of words.dict p ≡ o → (nat_lt p end && is_head_by o (word_of words.dict q)) ≡ is_head_by o (word_of words.dict q)
+      by None is = and-false (nat_lt p end)
+      by (Some w) is =
+          ap (λ b. b && is_head_by (Some w) (word_of words.dict q))
+          (lt-ltb p end (let below = number_below words.dict kept w p (number_from_word words.dict kept w p is) in omega (arith, below, same)))
+
+-- ---- the axioms of axiom slots, read one after another
 -- ---- the sides of an axiom
 pub sides_of : (words : Words) (left right : ℕ) → are_sides words left right ≡ true → Sides words left right
 sides_of words left right h =
@@ -97,13 +220,9 @@ module _ (limits : Limits) (words : Words) (first : AreFirstWords limits words l
     slot_then n a b is = set_cases slots k FreeAxiom (Pair left right) free_here n (Pair a b) (ap (λ ys. slice_get ys n) (sym taken.slots) ∙ is)
 
     good_then : (n a b : ℕ) → slice_get next.slots.items n ≡ Some (Pair a b) → IsGoodPair limits words n a b
-    good_then n a b is = by (slot_then n a b is)
-      where
-        by : IsThen n (Pair a b) → IsGoodPair limits words n a b
-        by (inl here) =
-            let same = same_sides here.1 in
-            record { below = omega (arith, taken.below, here.0); sides = ap₂ (are_sides words) (sym same.0) (sym same.1) ∙ taken.sides }
-        by (inr there) = are.good n a b there.1
+    good_then n a b is = ⊎_elim (λ here.
+        let same = same_sides here.1 in
+        record { below = omega (arith, taken.below, here.0); sides = ap₂ (are_sides words) (sym same.0) (sym same.1) ∙ taken.sides }) (λ there. are.good n a b there.1) (slot_then n a b is)
 
     -- a pair that is there has an edge
     clash : (n a b : ℕ) → Pair left right ≡ Pair a b → slice_get slots n ≡ Some (Pair a b) → ⊥
@@ -139,13 +258,10 @@ module _ (limits : Limits) (words : Words) (first : AreFirstWords limits words l
     in_front : (e : List ℕ × List ℕ) → Among (axioms_of (kept_words limits words next.slots.items)) e → Among ((both.from.word, both.to.word) ∷ axioms_of (kept_words limits words slots)) e
     in_front e m =
         let found = among_pair limits words dict next.slots.items (λ n a b is. sides_of words a b (good_then n a b is).sides) e m in
-        by found.0 found.1 found.2 found.4 found.5 (slot_then found.0 found.1 found.2 found.3)
-      where
-        by : (n a b : ℕ) → word_of words.dict a ≡ Some e.0 → word_of words.dict b ≡ Some e.1 → IsThen n (Pair a b) → Among ((both.from.word, both.to.word) ∷ axioms_of (kept_words limits words slots)) e
-        by n a b is_a is_b (inl here) =
-            let same = same_sides here.1 in
-            inl (ap₂ (λ p q. (p, q)) (same_Some both.from.word e.0 (sym both.from.is ∙ (ap (word_of words.dict) same.0 ∙ is_a))) (same_Some both.to.word e.1 (sym both.to.is ∙ (ap (word_of words.dict) same.1 ∙ is_b))))
-        by n a b is_a is_b (inr there) = inr (pair_among limits words dict slots old_sides n a b e.0 e.1 there.1 is_a is_b)
+        ⊎_map (λ here.
+        let same = same_sides here.1 in
+        ap₂ (λ p q. (p, q)) (same_Some both.from.word e.0 (sym both.from.is ∙ (ap (word_of words.dict) same.0 ∙ found.4))) (same_Some both.to.word e.1 (sym both.to.is ∙ (ap (word_of words.dict) same.1 ∙ found.5))))
+        (λ there. pair_among limits words dict slots old_sides found.0 found.1 found.2 e.0 e.1 there.1 found.4 found.5) (slot_then found.0 found.1 found.2 found.3)
 
     pair_more : AreFirstAxioms limits words next (k + 1)
     pair_more = record {
@@ -222,3 +338,227 @@ pub record AxiomsTurn (journal : Held) (limits : Limits) (old now : Meaning) (be
   pub recalls : StillRecalls journal old before last
   pub spelled : (kept : ℕ → List ℕ) → Fits journal old kept → Recalls before kept → AxiomsAreSpelled limits kept axioms end
   pub passed : (kept : ℕ → List ℕ) → Fits journal old kept → Recalls before kept → WordsAreSpelled limits kept words limits.props → (n : ℕ) → n < end → AxiomFails limits kept n → ⊥
+
+-- ---- which axiom slots fail their checks, by what was read of the slots before
+-- ---- what may be wrong with an axiom, by what items tell
+pub second_false : (a b : Bool) → (a && b) ≡ false → a ≡ true → b ≡ false
+second_false true b bad good = bad
+second_false false b bad good = absurd cc
+
+pub headless : (a b : Bool) → (not a || b) ≡ false → (a ≡ true) × (b ≡ false)
+headless true b bad = (refl, bad)
+headless false b bad = absurd cc
+
+module _ (limits : Limits) (properties : List PropSlot) (earlier : List AxiomSlot) (n left right : ℕ) where
+  abbrev Faulty : Type 0
+  Faulty = AxiomFault limits properties earlier n left right
+
+  abbrev declared : List (List ℕ)
+  declared = declared_by properties
+
+  abbrev left_passes : Option (List ℕ) → Bool
+  left_passes o = is_left_by declared (has_word (words_in properties)) o
+
+  abbrev right_passes : Option (List ℕ) → Bool
+  right_passes o = is_right_by declared o
+
+  abbrev sides_pass : Bool
+  sides_pass = left_passes (word_at properties left) && right_passes (word_at properties right)
+
+  left_fault : (o : Option (List ℕ)) → word_at properties left ≡ o → left_passes o ≡ false → Faulty
+  left_fault None is bad = LeftUnnumbered is
+  left_fault (Some w) is bad =
+      ⊎_elim (λ nameable.
+      let head = second_false (is_nameable declared w) (not (is_valued w) || has_word (words_in properties) (head_bytes w)) bad nameable in
+      let parts = headless (is_valued w) (has_word (words_in properties) (head_bytes w)) head in
+      HeadUnnumbered w is parts.0 parts.1) (λ unnameable. LeftUnnameable w is unnameable) (cases_Bool (is_nameable declared w))
+
+  right_fault : (o : Option (List ℕ)) → word_at properties right ≡ o → right_passes o ≡ false → Faulty
+  right_fault None is bad = RightUnnumbered is
+  right_fault (Some w) is bad =
+      ⊎_elim (λ plain. RightUndeclared w is (second_false (is_plain_word w) (has_word declared w) bad plain)) (λ not_plain. RightNotPlain w is not_plain) (cases_Bool (is_plain_word w))
+
+  sides_fault : sides_pass ≡ false → Faulty
+  sides_fault bad =
+      ⊎_elim (λ good. right_fault (word_at properties right) refl (second_false (left_passes (word_at properties left)) (right_passes (word_at properties right)) bad good))
+      (left_fault (word_at properties left) refl) (cases_Bool (left_passes (word_at properties left)))
+
+  left_bad : left_passes (word_at properties left) ≡ false → sides_pass ≡ false
+  left_bad bad = ap (λ b. b && right_passes (word_at properties right)) bad
+
+  right_bad : right_passes (word_at properties right) ≡ false → sides_pass ≡ false
+  right_bad bad = ap (λ b. left_passes (word_at properties left) && b) bad ∙ and-false (left_passes (word_at properties left))
+
+  -- a fault is of one of four kinds
+  why : (P : Type 0) → (limits.props ≤ n → P) → (sides_pass ≡ false → P) → (Contains earlier (Pair left right) → P)
+      → ((p q : List ℕ) → word_at properties left ≡ Some p → word_at properties right ≡ Some q → Entails declared (axioms_by properties earlier) q p → P) → Faulty → P
+  why P past sides there circle (PastLast h) = past h
+  why P past sides there circle (LeftUnnumbered none) = sides (left_bad (ap left_passes none))
+  why P past sides there circle (RightUnnumbered none) = sides (right_bad (ap right_passes none))
+  why P past sides there circle (RightNotPlain q is bad) = sides (right_bad (ap right_passes is ∙ ap (λ b. b && has_word declared q) bad))
+  why P past sides there circle (RightUndeclared q is bad) = sides (right_bad (ap right_passes is ∙ (ap (λ b. is_plain_word q && b) bad ∙ and-false (is_plain_word q))))
+  why P past sides there circle (LeftUnnameable p is bad) = sides (left_bad (ap left_passes is ∙ ap (λ b. b && (not (is_valued p) || has_word (words_in properties) (head_bytes p))) bad))
+  why P past sides there circle (HeadUnnumbered p is valued bad) =
+      sides (left_bad (ap left_passes is ∙ (ap₂ (λ a b. is_nameable declared p && (not a || b)) valued bad ∙ and-false (is_nameable declared p))))
+  why P past sides there circle (PairThere h) = there h
+  why P past sides there circle (Circle p q is_p is_q chain) = circle p q is_p is_q chain
+
+-- a fault is one by all words and the axioms before, whichever lists they are
+pub axiom_fault_by : (limits : Limits) (at : ℕ → List ℕ) (n : ℕ) (properties : List PropSlot) (earlier : List AxiomSlot) → AxiomFails limits at n → AreProperties limits at properties → AreFirstAxiomSlots limits at n earlier
+    → (value : AxiomSlot) → IsAxiom limits at n value → HasAxiomFault limits properties earlier n value
+axiom_fault_by limits at n properties earlier fails words before value is =
+    subst (λ (xs : List AxiomSlot). HasAxiomFault limits properties xs n value) (one_array axiom_bytes is_axiom (record (axiom_slots limits) { count = n }) at fails.earlier earlier axiom_once fails.before before)
+    (subst (λ (ps : List PropSlot). HasAxiomFault limits ps fails.earlier n value) (one_array prop_bytes is_prop (property_slots limits) at fails.properties properties prop_once fails.words words) (fails.fault value is))
+
+-- ---- by what was read
+module _ (limits : Limits) (at : ℕ → List ℕ) (words : Words) (first : AreFirstWords limits words limits.props) (told : WordsAreSpelled limits at words limits.props) (axioms : Axioms) (end : ℕ) (few : end ≤ (axiom_slots limits).count)
+    (are : AreFirstAxioms limits words axioms end) (spelled : AxiomsAreSpelled limits at axioms end) where
+  abbrev is_dict : IsDict words.dict
+  is_dict = first.are.dict
+
+  abbrev items : List AxiomSlot
+  items = axioms.slots.items
+
+  abbrev properties : List PropSlot
+  properties = told_properties limits words
+
+  abbrev all_sides : (n left right : ℕ) → slice_get items n ≡ Some (Pair left right) → Sides words left right
+  all_sides n left right is = sides limits words axioms is_dict end are n left right is
+
+  named : (n : ℕ) → word_at properties n ≡ word_of words.dict n
+  named n = word_at_told limits words first.are first.props n
+
+  abbrev declared_are : declared_by properties ≡ declared_words words
+  declared_are = declared_told limits words first.are first.props
+
+  -- a word has a number where it is the word of a slot
+  has_number : (w : List ℕ) → is_some (number_of words.dict w) ≡ has_word (words_in properties) w
+  has_number w =
+      same_tests (is_some (number_of words.dict w)) (has_word (words_in properties) w)
+      (λ some. let n = some_number (number_of words.dict w) some in told_word limits words first.are first.props n.0 w (word_from_number words.dict is_dict w n.0 n.1))
+      (λ has. let n = word_told limits words first.are first.props w has in ap is_some (number_from_word words.dict is_dict w n.0 n.1))
+
+  sides_are : (left right : ℕ) → are_sides words left right ≡ sides_pass limits properties items 0 left right
+  sides_are left right =
+      ap₂ (λ a b. a && b)
+      (ap₂ (λ o has. is_left_by (declared_words words) has o) (sym (named left)) (fun_ext has_number) ∙ ap (λ ds. is_left_by ds (has_word (words_in properties)) (word_at properties left)) (sym declared_are))
+      (ap₂ (λ ds o. is_right_by ds o) (sym declared_are) (sym (named right)))
+
+  axioms_are : axioms_by properties (take end items) ≡ axioms_of (kept_words limits words items)
+  axioms_are = axioms_told limits words first.are first.props (take end items) ∙ ap (fold (insert_key pair_cmp) []) (pairs_front words.dict end items are.rest)
+
+  -- ---- items
+  slot_there : (n left right : ℕ) → axiom_at items n ≡ Pair left right → slice_get items n ≡ Some (Pair left right)
+  slot_there n left right is =
+      ⊎_elim (λ lt. slice_get-get_or items n FreeAxiom lt ∙ ap Some is)
+      (λ past. absurd (let both : FreeAxiom ≡ Pair left right = sym (get_or_past items n FreeAxiom past) ∙ is in cc)) (cases_lt n (length items))
+
+  -- numbers of words are short
+  formed : (n : ℕ) → is_axiom (axiom_at items n) ≡ true
+  formed n = by (axiom_at items n) refl
+    where
+      short : (m : ℕ) (w : List ℕ) → word_of words.dict m ≡ Some w → nat_lt m (2 ^ 32 - 1) ≡ true
+      short m w is = lt-ltb m (2 ^ 32 - 1) (omega (arith, number_within limits words first.are first.props m w is, first.props, first.are.few))
+
+      by : (a : AxiomSlot) → axiom_at items n ≡ a → is_axiom a ≡ true
+      by FreeAxiom is = refl
+      by (Pair left right) is =
+          let both = all_sides n left right (slot_there n left right is) in
+          and_from (nat_lt left (2 ^ 32 - 1)) (nat_lt right (2 ^ 32 - 1)) (short left both.from.word both.from.is) (short right both.to.word both.to.is)
+
+  first_are : AreFirstAxiomSlots limits at end (take end items)
+  first_are = search (rules, length-take-le, taken_place, get_or_from_slice_get, formed)
+
+  -- ---- one pair
+  module _ (left right : ℕ) where
+    abbrev Fault : Type 0
+    Fault = AxiomFault limits properties (take end items) end left right
+
+    abbrev Refused : Type 0
+    Refused = RefusesPair limits words end left right axioms
+
+    -- where the sides are good, or else by them
+    by_sides : (P : Type 0) → (are_sides words left right ≡ false → P) → (Sides words left right → P) → P
+    by_sides P bad good = ⊎_elim (λ fine. good (sides_of words left right fine)) bad (cases_Bool (are_sides words left right))
+
+    bad_sides : are_sides words left right ≡ false → Fault
+    bad_sides bad = sides_fault limits properties (take end items) end left right (sym (sides_are left right) ∙ bad)
+
+    -- an edge between the sides of an axiom is that of a slot
+    edge_is : Sides words left right → has_edge axioms.taxonomy left right ≡ has_pair (take end items) left right
+    edge_is both =
+        are.links.edges left right
+        ∙ (ap (λ b. b || has_pair items left right) (own_to_plain (declared_words words) (word_of words.dict left) (word_of words.dict right) (λ w is.
+        subst (λ v. is_plain_word v ≡ true) (same_Some both.to.word w (sym both.to.is ∙ is)) both.to.plain))
+        ∙ sym (has_pair_front left right end items are.rest))
+
+    -- a chain of edges back is one of words
+    chain_there : Sides words left right → Leads axioms.taxonomy right left → Fault
+    chain_there both leads =
+        let found = chain_named limits words is_dict items all_sides axioms.taxonomy are.links leads.0 right left both.to.word both.to.is leads.1 in
+        let chain : Entails (declared_words words) (axioms_of (kept_words limits words items)) both.to.word both.from.word =
+        subst (λ w. Entails (declared_words words) (axioms_of (kept_words limits words items)) both.to.word w) (same_Some found.0 both.from.word (sym found.1 ∙ both.from.is)) (leads.0, found.2) in
+        Circle both.from.word both.to.word (named left ∙ both.from.is) (named right ∙ both.to.is)
+        (subst (λ ds. Entails ds (axioms_by properties (take end items)) both.to.word both.from.word) (sym declared_are)
+        (subst (λ es. Entails (declared_words words) es both.to.word both.from.word) (sym axioms_are) chain))
+
+    there_chain : Sides words left right → (p q : List ℕ) → word_at properties left ≡ Some p → word_at properties right ≡ Some q → Entails (declared_by properties) (axioms_by properties (take end items)) q p → Leads axioms.taxonomy right left
+    there_chain both p q is_p is_q told_chain =
+        let chain = subst (λ es. Entails (declared_words words) es q p) axioms_are (subst (λ ds. Entails ds (axioms_by properties (take end items)) q p) declared_are told_chain) in
+        let is = sym (named right) ∙ is_q in
+        let numbered = bare_numbered words right q is (subst (λ w. is_valued w ≡ false) (same_Some both.to.word q (sym both.to.is ∙ is)) (plain_not_valued both.to.word both.to.plain)) in
+        let found = chain_numbered limits words is_dict items all_sides axioms.taxonomy are.links chain.0 right q p numbered chain.1 in
+        (chain.0, subst (λ j. Chain no_links (finite.items axioms.taxonomy.edges) chain.0 right j) (one_number limits words is_dict items all_sides found.0 left p found.1.named (sym (named left) ∙ is_p)) found.2)
+
+    -- a pair is refused exactly where something is wrong with it
+    pair_fault : Refused → Fault
+    pair_fault (inl past) = PastLast past
+    pair_fault (inr (inl bad)) = bad_sides bad
+    pair_fault (inr (inr (inl edge))) = by_sides Fault bad_sides (λ both. PairThere (contains_from_among (take end items) (Pair left right) (has_pair_is left right (take end items) (sym (edge_is both) ∙ edge))))
+    pair_fault (inr (inr (inr leads))) = by_sides Fault bad_sides (λ both. chain_there both leads)
+
+    fault_refused : Fault → Refused
+    fault_refused =
+        why limits properties (take end items) end left right Refused (λ past. inl past) (λ bad. inr (inl (sides_are left right ∙ bad)))
+        (λ there. by_sides Refused (λ bad. inr (inl bad)) (λ both. inr (inr (inl (edge_is both ∙ pair_has left right (take end items) (among_from_contains (take end items) (Pair left right) there))))))
+        (λ p q is_p is_q chain. by_sides Refused (λ bad. inr (inl bad)) (λ both. inr (inr (inr (there_chain both p q is_p is_q chain)))))
+
+  -- ---- the slot
+  pub axiom_fails : (found : Option AxiomSlot) → end < (axiom_slots limits).count → RefusesAxiom limits words end found axioms → IsReadAs axiom_bytes is_axiom (axiom_slots limits) at end found → AxiomFails limits at end
+  axiom_fails found below why read = record {
+    below = below;
+    properties = properties;
+    words = are_told limits words first.are first.props at told;
+    earlier = take end items;
+    before = first_are;
+    fault = by found why read;
+  }
+    where
+      by : (found : Option AxiomSlot) → RefusesAxiom limits words end found axioms → IsReadAs axiom_bytes is_axiom (axiom_slots limits) at end found → (value : AxiomSlot) → IsAxiom limits at end value
+          → HasAxiomFault limits properties (take end items) end value
+      by None why read value is = absurd (read value is)
+      by (Some FreeAxiom) why read value is = absurd why
+      by (Some (Pair left right)) why read value is =
+          subst (λ (a : AxiomSlot). HasAxiomFault limits properties (take end items) end a) (axiom_once (Pair left right) value read.range is.range (sym read.bytes ∙ is.bytes)) (pair_fault left right why)
+
+  pub axiom_passes : (found : Option AxiomSlot) (next : Axioms) → TakesAxiom limits words end found axioms next → IsReadAs axiom_bytes is_axiom (axiom_slots limits) at end found → AxiomFails limits at end → ⊥
+  axiom_passes None next taken read fails = taken
+  axiom_passes (Some value) next taken read fails =
+      by value taken (axiom_fault_by limits at end properties (take end items) fails (are_told limits words first.are first.props at told) first_are value read)
+    where
+      not_refused : (left right : ℕ) → TakesPair limits words end left right axioms next → RefusesPair limits words end left right axioms → ⊥
+      not_refused left right taken (inl past) = omega (arith, past, taken.below)
+      not_refused left right taken (inr (inl bad)) = both_ways (are_sides words left right) bad taken.sides
+      not_refused left right taken (inr (inr (inl edge))) = both_ways (has_edge axioms.taxonomy left right) taken.absent edge
+      not_refused left right taken (inr (inr (inr leads))) = taken.open_end leads
+
+      by : (a : AxiomSlot) → TakesAxiom limits words end (Some a) axioms next → HasAxiomFault limits properties (take end items) end a → ⊥
+      by FreeAxiom taken none = none
+      by (Pair left right) taken fault = not_refused left right taken (fault_refused left right fault)
+
+-- all slots at once
+pub are_axioms : (limits : Limits) (at : ℕ → List ℕ) (words : Words) → AreFirstWords limits words limits.props → WordsAreSpelled limits at words limits.props → (axioms : Axioms) → AreFirstAxioms limits words axioms (axiom_slots limits).count
+    → AxiomsAreSpelled limits at axioms (axiom_slots limits).count → AreAxioms limits at axioms.slots.items
+are_axioms limits at words first told axioms are spelled =
+    subst (λ (xs : List AxiomSlot). AreAxioms limits at xs) (take_all (axiom_slots limits).count axioms.slots.items (omega (arith, are.count)))
+    (first_are limits at words first told axioms (axiom_slots limits).count (omega arith) are spelled)

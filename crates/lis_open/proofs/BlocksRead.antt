@@ -1,16 +1,78 @@
 -- The blocks of a file as they are read: those that its slot numbers, and those that its index block does.
-use Rattle.std.proofs.Common.{◌≡◌, ◌∙◌, refl, sym, ap, subst, ℕ, ◌≤◌, ◌&&◌, not, nat_lt, Bool, true, false, Option, Some, None, IfSome, List, ◌++◌, length, IsTrue, arith}
-use Rattle.std.specs.Option.{option_map}
-use Rattle.std.proofs.lemmas.Bool.{and_parts, both_ways}
-use Rattle.lis_open.proofs.Common.{list_all-append, is_taken, are_free, are_distinct, is_large, index_bytes, numbers_in, index_home, FileRecord, is_record, Limits, data_start, image_blocks, blocks_needed}
+use Rattle.lis_open.proofs.Common.{◌∙◌, ℕ, List, IsTrue, ◌≡◌, sym, ap, ◌*◌, ◌^◌, ◌<◌, ◌≤◌, Bool, Option, Some, None, [], arith, IfSome, refl, subst, ◌&&◌, not, nat_lt, true, false, ◌++◌, length, option_map, Meaning, IsSettled, Held, Fits, leaves_weaken, leaves_then, Slots, slot, PropSlot, FileSlot, prop_once, Limits, are_in_range, image_blocks, few_properties, list_all-append, is_taken, are_free, are_distinct, is_large, index_bytes, numbers_in, index_home, FileRecord, is_record, data_start, blocks_needed, and_parts, both_ways}
+use Rattle.lis_ports.proofs.Moments.{run_none, run_then, leaves_none}
+use Rattle.lis_journal.proofs.Fitting.{fits_unchanged}
+use Rattle.lis_content.proofs.Reading.{unchanged_none, unchanged_then}
+use Rattle.lis_open.specs.declared.blocks.LastBlock.{LastBlock}
+use Rattle.lis_open.specs.Reading.{OnlyReads, Recalls, IsReadAs}
+use Rattle.std.proofs.Math.Nat.{mul-le-mul_left}
+use Rattle.lis_journal.specs.Record.{Entry}
+use Rattle.lis_journal.specs.Phases.{looked}
+use Rattle.lis_fields.proofs.OneSpelling.{file_once}
+use Rattle.lis_kept.proofs.InArea.{few_files, few_blocks as few_data}
+use Rattle.lis_open.specs.Checks.{IsProperty, IsFile}
 use Rattle.lis_content.specs.Content.{are_within}
 use Rattle.lis_content.specs.Large.{slot_count, file_blocks}
 use Rattle.lis_content.proofs.Indexes.{length-numbers_in, large_blocks, small_blocks}
 use Rattle.lis_content.proofs.Numbers.{below_from_free, within_if_below}
-use Rattle.lis_fields.proofs.Parts.{record_tests, few_blocks, size_fits}
+use Rattle.lis_fields.proofs.Parts.{record_tests, few_blocks as few_in_form, size_fits}
 use Rattle.lis_kept.proofs.Contents.{slot_blocks_counted}
 use Rattle.lis_open.specs.ReadFiles.{HasBlocks, AreIndexed, AreReadBlocks}
 
+pub reads_none : (m : Meaning) → OnlyReads m m
+reads_none m = record {
+  run = run_none m;
+  same = λ honest. unchanged_none m;
+  moments = λ honest. leaves_none m m.images;
+}
+
+pub reads_then : {a b c : Meaning} → OnlyReads a b → OnlyReads b c → OnlyReads a c
+reads_then {a} first second = record {
+  run = run_then first.run second.run;
+  same = λ honest. unchanged_then second.run (first.same honest) (second.same (first.run.honest ∙ honest));
+  moments = λ honest.
+      leaves_then (first.moments honest)
+      (leaves_weaken a.images (second.moments (first.run.honest ∙ honest)) (first.same honest).images.only);
+}
+
+pub fits_after : {a b : Meaning} (journal : Held) (kept : ℕ → List ℕ) → OnlyReads a b → Fits journal a kept → Fits journal b kept
+fits_after journal kept reads fits = fits_unchanged journal reads.run (reads.same fits.honest) fits
+
+pub settled_after : {a b : Meaning} {bytes : List ℕ} → OnlyReads a b → IsTrue a.is_honest → IsSettled a bytes → IsSettled b bytes
+settled_after reads honest settled =
+    let same = reads.same honest in
+    record { reads = same.bytes ∙ settled.reads; only = λ image is. settled.only image (same.images.only image is) }
+
+-- what the last block that was read recalls of the image, a later one recalls
+abbrev pub StillRecalls : Held → Meaning → LastBlock → LastBlock → Type 0
+StillRecalls journal old before last = (kept : ℕ → List ℕ) → Fits journal old kept → Recalls before kept → Recalls last kept
+
+-- ---- slots and the values that they spell
+-- the blocks of an image have numbers of 32 bits
+pub few_blocks : (limits : Limits) (blocks : ℕ) → IsTrue (are_in_range limits) → blocks ≡ image_blocks limits → blocks < 2 ^ 32
+few_blocks limits blocks range is =
+    let files = few_files limits range in
+    let bits : limits.props * limits.files ≤ limits.props * 4096 = mul-le-mul_left limits.props files in
+    omega (arith, is, bits, files, few_properties limits range, few_data limits range)
+
+-- what is read of a slot where nothing is staged
+pub slot_read : (slots : Slots) (staged : List Entry) (kept : ℕ → List ℕ) (n : ℕ) (bytes : List ℕ) → staged ≡ [] → bytes ≡ slot slots (looked staged kept) n → bytes ≡ slot slots kept n
+slot_read slots staged kept n bytes none read = read ∙ ap (λ es. slot slots (looked es kept) n) none
+
+module _ {X : Type 0} (spelled : X → List ℕ) (is_in_range : X → Bool) (slots : Slots) (at : ℕ → List ℕ) (n : ℕ) where
+  -- from what reading the bytes of the slot gave
+  pub read_as : (found : Option X) (bytes : List ℕ) → n < slots.count → bytes ≡ slot slots at n → IfSome found (λ value. IsTrue (is_in_range value) × (bytes ≡ spelled value))
+      → ((value : X) → IsTrue (is_in_range value) → bytes ≡ spelled value → found ≡ Some value) → IsReadAs spelled is_in_range slots at n found
+  read_as None bytes below read told same = λ value is. absurd (let none = same value is.range (read ∙ is.bytes) in cc)
+  read_as (Some value) bytes below read told same = record { below = below; bytes = sym read ∙ told.1; range = told.0 }
+
+pub one_property : (limits : Limits) (at : ℕ → List ℕ) (n : ℕ) (a b : PropSlot) → IsProperty limits at n a → IsProperty limits at n b → a ≡ b
+one_property limits at n a b is_a is_b = prop_once a b is_a.range is_b.range (sym is_a.bytes ∙ is_b.bytes)
+
+pub one_file : (limits : Limits) (at : ℕ → List ℕ) (n : ℕ) (a b : FileSlot) → IsFile limits at n a → IsFile limits at n b → a ≡ b
+one_file limits at n a b is_a is_b = file_once limits.version a b is_a.range is_b.range (sym is_a.bytes ∙ is_b.bytes)
+
+-- ---- the blocks of a file as they are read: those that its slot numbers, and those that its index block does
 -- ---- records in form
 pub size_of_form : (version : ℕ) (rec : FileRecord) {seen : FileRecord} → IsTrue (is_record version rec) → seen ≡ rec → seen.size ≤ 1048576
 size_of_form version rec form view =
@@ -19,7 +81,7 @@ size_of_form version rec form view =
 pub slot_of_form : (version : ℕ) (rec : FileRecord) {seen : FileRecord} (slot : List ℕ) → IsTrue (is_record version rec) → seen ≡ rec → slot ≡ seen.blocks → length slot ≡ slot_count seen.size
 slot_of_form version rec slot form view same =
     let tests = record_tests version rec form in
-    let counted : length rec.blocks ≡ slot_count rec.size = few_blocks version rec.size rec.blocks tests.blocks ∙ slot_blocks_counted version rec.size tests.small in
+    let counted : length rec.blocks ≡ slot_count rec.size = few_in_form version rec.size rec.blocks tests.blocks ∙ slot_blocks_counted version rec.size tests.small in
     ap length same ∙ subst (λ (r : FileRecord). length r.blocks ≡ slot_count r.size) (sym view) counted
 
 -- ---- an index block
@@ -74,9 +136,6 @@ module _ (limits : Limits) (at : ℕ → List ℕ) (taken : List Bool) (rec : Fi
   pub not_own : {seen : FileRecord} (slot : List ℕ) → seen ≡ rec → slot ≡ seen.blocks → are_free taken slot ≡ false → HasBlocks limits at taken rec → ⊥
   not_own slot view same taken_one has =
       both_ways (are_free taken slot) taken_one (ap (are_free taken) (same ∙ ap (λ (r : FileRecord). r.blocks) view) ∙ slot_free taken (data_start limits) rec.blocks rec.size at has.free)
-
-  pub not_indexed : AreReadBlocks (data_start limits) rec.blocks rec.size at None → HasBlocks limits at taken rec → ⊥
-  not_indexed none has = none has.indexed
 
   pub not_free : (blocks : List ℕ) → AreReadBlocks (data_start limits) rec.blocks rec.size at (Some blocks) → are_free taken blocks ≡ false → HasBlocks limits at taken rec → ⊥
   not_free blocks are taken_one has = both_ways (are_free taken blocks) taken_one (ap (are_free taken) are.1 ∙ has.free)

@@ -1,41 +1,31 @@
 -- Where blocks spell a state, no part fails its check.
-use Rattle.std.proofs.Common.{◌≡◌, ◌⊎◌, ◌∙◌, refl, sym, ap, subst, inl, inr, ℕ, ◌+◌, ◌-◌, ◌/◌, ◌<◌, ◌≤◌, nat_lt, nat_le, Bool, true, false, ◌||◌, is_some, List, [], ◌∷◌, ◌++◌, length, map, take, drop, get_or, replicate, slice_get, Option, Some, None, IsTrue, arith}
-use Rattle.std.specs.Option.{option_to_list}
-use Rattle.lis_open.proofs.Common.{list_all, flat_map, or-false, ltb-true, leb-true, cases_lt, length-take-le, length-replicate, slice_get_within, get_or_from_slice_get, same_Some, Among, among_from_contains, contains_from_among, among_left, map_among, among_flat_map, block, Slots, has_bit, marked, are_distinct, FileRecord, prop_bytes, is_prop, axiom_bytes, is_axiom, file_bytes, is_file, PropSlot, FreeProp, AxiomSlot, FreeAxiom, Pair, FileSlot, FreeFile, Used, prop_once, axiom_once, word_cmp, is_plain_word, head_bytes, among_from_has_word, among_set_of, Limits, Spot, Super, BadRecord, Property, Axiom, Word, Row, bitmap_start, image_blocks, State, description, known, is_nameable, is_assignable, property_slots, axiom_slots, file_slots, blocks_told, among_from_number, placed_at, among_place, Contents, AreSlots, word_in, words_in, word_at, all_records, spelled_state, is_had_by, row_bit, one_array, AllApart}
-use Rattle.std.proofs.lemmas.Bool.{and_parts, both_ways}
-use Rattle.std.proofs.lemmas.List.{length-map, length-drop, get_or_past, get_or-drop}
-use Rattle.std.proofs.lemmas.Option.{slice_get-get_or}
-use Rattle.lis_graph.proofs.Members.{flat_map_among, among_with_more, with_more_new}
-use Rattle.lis_journal.specs.Record.{replayed}
+use Rattle.std.proofs.Common.{get_or-drop}
+use Rattle.lis_open.proofs.Common.{rules, ◌≡◌, ◌⊎◌, ◌∙◌, refl, sym, ap, subst, inl, inr, ℕ, ◌+◌, ◌-◌, ◌<◌, ◌≤◌, nat_lt, nat_le, Bool, true, false, is_some, List, [], ◌∷◌, length, map, take, drop, get_or, slice_get, Option, Some, None, arith, option_to_list, length-drop, flat_map, ltb-true, leb-true, length-take-le, ⊎_elim, list_all, or-false, cases_lt, length-replicate, slice_get_within, get_or_from_slice_get, same_Some, Among, among_from_contains, contains_from_among, among_left, map_among, among_flat_map, block, Slots, has_bit, are_distinct, FileRecord, prop_bytes, is_prop, axiom_bytes, is_axiom, file_bytes, is_file, PropSlot, FreeProp, AxiomSlot, FreeAxiom, Pair, FileSlot, FreeFile, Used, prop_once, axiom_once, word_cmp, is_plain_word, head_bytes, among_from_has_word, among_set_of, Limits, Spot, Super, BadRecord, Property, Axiom, Word, Row, bitmap_start, image_blocks, State, description, known, is_nameable, is_assignable, property_slots, axiom_slots, file_slots, blocks_told, among_from_number, placed_at, among_place, Contents, AreSlots, word_in, words_in, word_at, all_records, spelled_state, one_array, AllApart, and_parts, both_ways, get_or_past, slice_get-get_or, flat_map_among, replayed, has_number, has_word, has_word_from_among, set_of_among, all_among, Bitmap, set_of, File, pair_cmp, has_from_among, file_of_record}
+use Rattle.lis_open.proofs.AxiomsRead.{axiom_fault_by}
+use Rattle.lis_open.proofs.SpotKinds.{behind}
+use Rattle.std.proofs.lemmas.List.{length-map}
+use Rattle.lis_graph.proofs.Members.{among_with_more, with_more_new}
 use Rattle.lis_blockmap.proofs.Laws.{has_bit-bitmap_bytes}
-use Rattle.lis_content.specs.Content.{has_number}
 use Rattle.lis_fields.proofs.OneSpelling.{file_once}
-use Rattle.lis_words.specs.Words.{has_word}
-use Rattle.lis_laws.proofs.Members.{word_order, word_exact, pair_order, pair_exact, has_word_from_among, set_of_among}
-use Rattle.lis_laws.proofs.Counts.{all_among}
+use Rattle.lis_laws.proofs.Members.{word_order, word_exact, pair_order, pair_exact}
 use Rattle.lis_laws.proofs.Chains.{heads_of_valued, entails_within}
 use Rattle.lis_laws.proofs.Sources.{known_from, described_known, rights_are, assigned_are}
 use Rattle.lis_laws.proofs.Sources.Source.{LeftHead}
-use Rattle.lis_model.specs.declared.spot.Spot.TheVariants.{File as FileSpot, Bitmap}
-use Rattle.lis_model.specs.Sets.{set_of}
-use Rattle.lis_model.specs.State.{File, pair_cmp}
-use Rattle.lis_kept.proofs.Filing.{number_from_among as has_from_among}
+use Rattle.lis_model.specs.declared.spot.Spot.TheVariants.{File as FileSpot}
 use Rattle.lis_kept.proofs.Formed.{some_word}
 use Rattle.lis_kept.proofs.InArea.{rows_counted}
-use Rattle.lis_store.specs.Stands.{pair_in, pairs_in, is_named_axiom, is_free_axiom, records_in, all_blocks, file_by, Spells, Stands}
+use Rattle.lis_store.specs.Stands.{pair_in, pairs_in, is_named_axiom, is_free_axiom, records_in, all_blocks, Spells, Stands}
 use Rattle.lis_store.proofs.SlotOrder.{flat_map-flat_map}
-use Rattle.lis_open.specs.Checks.{IsFile, AreContents, IsUsed, axioms_by, PropertyFails, AxiomFault, HasAxiomFault, AxiomFails, FileFault, HasFileFault, FileFails, WordFails, BitFails, RowFault, RowFails, Fails, FailsReplayed, RecordFails, FailsIn}
+use Rattle.lis_open.specs.Checks.{IsFile, AreContents, IsUsed, axioms_by, PropertyFails, AxiomFault, HasAxiomFault, AxiomFails, FileFault, HasFileFault, FileFails, WordFails, BitFails, RowFault, Fails, FailsReplayed, RecordFails, FailsIn}
 use Rattle.lis_open.specs.Checks.AxiomFault.{PastLast, LeftUnnumbered, RightUnnumbered, RightNotPlain, RightUndeclared, LeftUnnameable, HeadUnnumbered, PairThere, Circle}
 use Rattle.lis_open.specs.Checks.FileFault.{NameTaken, TagUnnumbered, TagUnassignable, BlockMissing, IndexUnformed, BlockTwice, BlockTaken, WordUnnumbered, TooManyWords}
-use Rattle.lis_open.specs.Checks.RowFault.{RowWrong, RestNotZero}
-use Rattle.lis_open.proofs.FileFaults.{file_fault_by}
+use Rattle.lis_open.proofs.FilesRead.{file_fault_by}
 use Rattle.lis_open.proofs.WordsRead.{nothing_at}
 use Rattle.lis_open.proofs.Needs.{one_limits, has_super}
-use Rattle.lis_open.proofs.Numbers.{is_taken-marked, distinct_piece}
-use Rattle.lis_open.proofs.ZeroRows.{zero_row}
-use Rattle.lis_open.proofs.WordsTold.{one_of}
+use Rattle.lis_open.proofs.Once.{is_taken-marked, distinct_piece, taken_place, slot_at, value_at, part_once, apart_by_count, file_there, names-more}
+use Rattle.lis_open.proofs.Lefts.{zero_row}
+use Rattle.lis_open.proofs.Descriptions.{one_in}
 use Rattle.lis_store.proofs.Declared.{apart_numbers}
-use Rattle.lis_open.proofs.Once.{taken_place, slot_at, value_at, part_once, apart_by_count, file_there, names-more}
 
 -- ---- one value in each slot
 pub one_contents : (limits : Limits) (at : ℕ → List ℕ) (a b : Contents) → AreContents limits at a → AreContents limits at b → a ≡ b
@@ -58,7 +48,7 @@ abbrev name_parts : FileSlot → List (List ℕ)
 name_parts FreeFile = []
 name_parts (Used rec) = rec.name ∷ []
 
-names_same : (limits : Limits) (properties : List PropSlot) (at : ℕ → List ℕ) (files : List FileSlot) → map (λ (f : File). f.name) (map (file_by limits properties at) (all_records files)) ≡ flat_map name_parts files
+names_same : (limits : Limits) (properties : List PropSlot) (at : ℕ → List ℕ) (files : List FileSlot) → map (λ (f : File). f.name) (map (file_of_record limits properties at) (all_records files)) ≡ flat_map name_parts files
 names_same limits properties at [] = refl
 names_same limits properties at (FreeFile ∷ files) = names_same limits properties at files
 names_same limits properties at (Used rec ∷ files) = ap (λ ns. rec.name ∷ ns) (names_same limits properties at files)
@@ -82,26 +72,21 @@ module _ (limits : Limits) (contents : Contents) (at : ℕ → List ℕ) (spells
   are_contents = record { properties = spells.properties; axioms = spells.axioms; files = spells.files }
 
   -- ---- words
-  words_apart : AllApart (words_in properties)
-  words_apart = apart_by_count word_cmp word_order word_exact (words_in properties) (ap (λ ws. length ws) spells.words ∙ sym spells.each_word_once)
-
   no_property : (n : ℕ) → PropertyFails limits at n → ⊥
   no_property n fails =
       let p = get_or properties n FreeProp in
       let there : slice_get properties n ≡ Some p = slice_get-get_or properties n FreeProp (omega (arith, fails.below, spells.properties.count)) in
       let found = fails.fault p (slot_at prop_bytes is_prop (property_slots limits) at properties spells.properties n p there) in
-      part_once (λ q. option_to_list (word_in q)) properties words_apart found.earlier n found.there.property p found.word found.before
+      part_once (λ q. option_to_list (word_in q)) properties
+      (apart_by_count word_cmp word_order word_exact (words_in properties) (ap (λ ws. length ws) spells.words ∙ sym spells.each_word_once)) found.earlier n found.there.property p found.word found.before
       (value_at prop_bytes is_prop (property_slots limits) at properties spells.properties prop_once found.earlier found.there.property found.there.is) there
-      (one_of (word_in found.there.property) found.word found.there.has) (one_of (word_in p) found.word found.has)
+      (one_in (word_in found.there.property) found.word found.there.has) (one_in (word_in p) found.word found.has)
 
   -- a known word has a slot
   known_there : (w : List ℕ) → Among (known s) w → has_word (words_in properties) w ≡ true
   known_there w m = has_word_from_among (words_in properties) w (among_set_of (words_in properties) w (subst (λ ws. Among ws w) (sym spells.words) m))
 
   -- ---- axioms
-  pairs_apart : AllApart (pairs_in properties axioms)
-  pairs_apart = apart_by_count pair_cmp pair_order pair_exact (pairs_in properties axioms) (sym spells.each_pair_once)
-
   pair_of : (left right : ℕ) (p q : List ℕ) → word_at properties left ≡ Some p → word_at properties right ≡ Some q → Among (pair_in properties (Pair left right)) (p, q)
   pair_of left right p q is_p is_q = rw (is_p, is_q) (inl refl)
 
@@ -128,15 +113,12 @@ module _ (limits : Limits) (contents : Contents) (at : ℕ → List ℕ) (spells
     some_right = some_word (word_at properties right) both_named.1
 
     earlier_axioms : (e : List ℕ × List ℕ) → Among (axioms_by properties (take n axioms)) e → Among s.axioms e
-    earlier_axioms e m = by (among_with_more pair_cmp [] (pairs_in properties (take n axioms)) e m)
-      where
-        by : Among {K = List ℕ × List ℕ} [] e ⊎ Among (pairs_in properties (take n axioms)) e → Among s.axioms e
-        by (inl none) = absurd none
-        by (inr some) =
-            let found = among_flat_map (pair_in properties) (take n axioms) e some in
-            let place = placed_at (take n axioms) found.0 found.1 in
-            with_more_new pair_cmp pair_exact [] (pairs_in properties axioms) e
-            (flat_map_among (pair_in properties) axioms found.0 e (among_place axioms place.0 found.0 (taken_place n axioms place.0 found.0 place.1).1) found.2)
+    earlier_axioms e m = ⊎_elim (λ none. absurd none) (λ some.
+        let found = among_flat_map (pair_in properties) (take n axioms) e some in
+        let place = placed_at (take n axioms) found.0 found.1 in
+        with_more_new pair_cmp pair_exact [] (pairs_in properties axioms) e
+        (flat_map_among (pair_in properties) axioms found.0 e (among_place axioms place.0 found.0 (taken_place n axioms place.0 found.0 place.1).1) found.2))
+        (among_with_more pair_cmp [] (pairs_in properties (take n axioms)) e m)
 
     not_past : limits.props ≤ n → ⊥
     not_past past =
@@ -169,30 +151,19 @@ module _ (limits : Limits) (contents : Contents) (at : ℕ → List ℕ) (spells
         let p = some_word (word_at properties left) both_named.0 in
         let q = some_right in
         let has_it = pair_of left right p.0 q.0 p.1 q.1 in
-        part_once (pair_in properties) axioms pairs_apart place.0 n (Pair left right) (Pair left right) (p.0, q.0) earlier.0 earlier.1 is has_it has_it
+        part_once (pair_in properties) axioms (apart_by_count pair_cmp pair_order pair_exact (pairs_in properties axioms) (sym spells.each_pair_once)) place.0 n (Pair left right) (Pair left right) (p.0, q.0) earlier.0 earlier.1 is has_it has_it
     no_axiom_fault (Circle p q is_p is_q back) =
         let more = entails_within s.declared (axioms_by properties (take n axioms)) s.axioms earlier_axioms q p back in
         spells.formed.axioms.acyclic more.0 p (q, inr (contains_from_among s.axioms (p, q) (pair_there p q is_p is_q)), more.1)
 
   no_axiom : (n : ℕ) → AxiomFails limits at n → ⊥
-  no_axiom n fails = by (get_or axioms n FreeAxiom) there (fault (get_or axioms n FreeAxiom) there)
+  no_axiom n fails =
+      by (get_or axioms n FreeAxiom) there
+      (axiom_fault_by limits at n properties (take n axioms) fails spells.properties (first_slots axiom_bytes is_axiom (axiom_slots limits) at axioms n (let lt = fails.below in omega (arith, lt)) spells.axioms)
+      (get_or axioms n FreeAxiom) (slot_at axiom_bytes is_axiom (axiom_slots limits) at axioms spells.axioms n (get_or axioms n FreeAxiom) there))
     where
       there : slice_get axioms n ≡ Some (get_or axioms n FreeAxiom)
       there = slice_get-get_or axioms n FreeAxiom (omega (arith, fails.below, spells.axioms.count))
-
-      words_same : fails.properties ≡ properties
-      words_same = one_array prop_bytes is_prop (property_slots limits) at fails.properties properties prop_once fails.words spells.properties
-
-      before_same : fails.earlier ≡ take n axioms
-      before_same =
-          one_array axiom_bytes is_axiom (record (axiom_slots limits) { count = n }) at fails.earlier (take n axioms) axiom_once fails.before
-          (first_slots axiom_bytes is_axiom (axiom_slots limits) at axioms n (let lt = fails.below in omega (arith, lt)) spells.axioms)
-
-      fault : (a : AxiomSlot) → slice_get axioms n ≡ Some a → HasAxiomFault limits properties (take n axioms) n a
-      fault a is =
-          let told = fails.fault a (slot_at axiom_bytes is_axiom (axiom_slots limits) at axioms spells.axioms n a is) in
-          subst (λ (earlier : List AxiomSlot). HasAxiomFault limits properties earlier n a) before_same
-          (subst (λ (ps : List PropSlot). HasAxiomFault limits ps fails.earlier n a) words_same told)
 
       by : (a : AxiomSlot) → slice_get axioms n ≡ Some a → HasAxiomFault limits properties (take n axioms) n a → ⊥
       by FreeAxiom is fault = fault
@@ -203,13 +174,13 @@ module _ (limits : Limits) (contents : Contents) (at : ℕ → List ℕ) (spells
   records = all_records contents.files
 
   abbrev files : List File
-  files = map (file_by limits properties at) records
+  files = map (file_of_record limits properties at) records
 
   full : length s.files ≡ length files
-  full = sym spells.each_name_once ∙ sym (length-map records (file_by limits properties at))
+  full = sym spells.each_name_once ∙ sym (length-map records (file_of_record limits properties at))
 
-  file_in_state : (rec : FileRecord) → Among records rec → Among s.files (file_by limits properties at rec)
-  file_in_state rec m = file_there files (file_by limits properties at rec) full (map_among (file_by limits properties at) records rec m)
+  file_in_state : (rec : FileRecord) → Among records rec → Among s.files (file_of_record limits properties at rec)
+  file_in_state rec m = file_there files (file_of_record limits properties at rec) full (map_among (file_of_record limits properties at) records rec m)
 
   file_value : (n : ℕ) (f : FileSlot) → IsFile limits at n f → slice_get contents.files n ≡ Some f
   file_value = value_at file_bytes (is_file limits.version) (file_slots limits) at contents.files spells.files (file_once limits.version)
@@ -249,9 +220,9 @@ module _ (limits : Limits) (contents : Contents) (at : ℕ → List ℕ) (spells
 
     tag_assignable : (tag : ℕ) (w : List ℕ) → Among rec.tags tag → word_at properties tag ≡ Some w → is_assignable s.declared w ≡ true
     tag_assignable tag w m is_w =
-        assigned_are s spells.formed (file_by limits properties at rec) (file_in_state rec in_records) w
+        assigned_are s spells.formed (file_of_record limits properties at rec) (file_in_state rec in_records) w
         (set_of_among (flat_map (λ j. option_to_list (word_at properties j)) rec.tags) w
-        (flat_map_among (λ j. option_to_list (word_at properties j)) rec.tags tag w m (one_of (word_at properties tag) w is_w)))
+        (flat_map_among (λ j. option_to_list (word_at properties j)) rec.tags tag w m (one_in (word_at properties tag) w is_w)))
 
     no_file_fault : FileFault limits at properties axioms n rec → ⊥
     no_file_fault (NameTaken earlier other before is_other same) =
@@ -270,11 +241,11 @@ module _ (limits : Limits) (contents : Contents) (at : ℕ → List ℕ) (spells
         (among_left (blocks_told limits at other) [] data_block (among_from_number (blocks_told limits at other) data_block has_other))
         (among_left (blocks_told limits at rec) [] data_block (among_from_number (blocks_told limits at rec) data_block has_it))
     no_file_fault (WordUnnumbered w has_it none) =
-        let file = file_by limits properties at rec in
+        let file = file_of_record limits properties at rec in
         both_ways (has_word (words_in properties) w) none
         (known_there w (described_known s file w (file_in_state rec in_records) (among_from_has_word (description s file) w has_it)))
     no_file_fault (TooManyWords more) =
-        let file = file_by limits properties at rec in
+        let file = file_of_record limits properties at rec in
         let few = leb-true (length (description s file)) 128 (all_among (λ (f : File). nat_le (length (description s f)) 128) s.files file spells.formed.files.few_words (file_in_state rec in_records)) in
         omega (arith, few, more)
 
@@ -292,15 +263,13 @@ module _ (limits : Limits) (contents : Contents) (at : ℕ → List ℕ) (spells
 
   -- ---- words in use
   word_in_use : (n : ℕ) (w : List ℕ) → word_at properties n ≡ Some w → Among (known s) w
-  word_in_use n w is = by (cases_lt n (length properties))
-    where
-      by : (n < length properties) ⊎ (length properties ≤ n) → Among (known s) w
-      by (inl lt) =
-          let p = get_or properties n FreeProp in
-          subst (λ ws. Among ws w) spells.words
-          (set_of_among (words_in properties) w
-          (flat_map_among (λ q. option_to_list (word_in q)) properties p w (among_place properties n p (slice_get-get_or properties n FreeProp lt)) (one_of (word_in p) w is)))
-      by (inr past) = absurd (let none : ◌≡◌ {A = Option (List ℕ)} None (Some w) = ap word_in (sym (get_or_past properties n FreeProp past)) ∙ is in cc)
+  word_in_use n w is = elim (cases_lt n (length properties)) [
+    | inl lt ↦
+        let p = get_or properties n FreeProp in
+        let here = among_place properties n p (slice_get-get_or properties n FreeProp lt) in
+        subst (λ ws. Among ws w) spells.words (set_of_among (words_in properties) w (flat_map_among (λ q. option_to_list (word_in q)) properties p w here (one_in (word_in p) w is)))
+    | inr past ↦ absurd (let none : ◌≡◌ {A = Option (List ℕ)} None (Some w) = ap word_in (sym (get_or_past properties n FreeProp past)) ∙ is in cc)
+  ]
 
   no_word : (n : ℕ) → WordFails limits at n → ⊥
   no_word n fails =
@@ -322,33 +291,16 @@ module _ (limits : Limits) (contents : Contents) (at : ℕ → List ℕ) (spells
       record { slot = place.0; rec = found.0; is = place.1; has = has_from_among (blocks_told limits at found.0) n found.2 }
 
   bit_is : (n : ℕ) → n < 32768 → has_bit (at (bitmap_start limits)) n ≡ has_number (all_blocks limits at records) n
-  bit_is n lt =
-      ap (λ bytes. has_bit bytes n) spells.bitmap
-      ∙ (has_bit-bitmap_bytes (marked (replicate limits.blocks false) (all_blocks limits at records)) n lt
-      ∙ (is_taken-marked (replicate limits.blocks false) (all_blocks limits at records) n (ap (λ m. list_all (λ j. nat_lt j m) (all_blocks limits at records)) (length-replicate limits.blocks false) ∙ spells.blocks)
-      ∙ (ap (λ t. has_number (all_blocks limits at records) n || t) (nothing_at limits.blocks n false) ∙ or-false (has_number (all_blocks limits at records) n))))
+  bit_is n lt = search (rules, has_bit-bitmap_bytes, is_taken-marked, length-replicate, nothing_at, or-false)
 
   no_bit : (n : ℕ) → BitFails limits at n → ⊥
-  no_bit n fails = by fails.fault
-    where
-      by : (IsTrue (has_bit (at (bitmap_start limits)) n) × (IsUsed limits at n → ⊥)) ⊎ ((has_bit (at (bitmap_start limits)) n ≡ false) × IsUsed limits at n) → ⊥
-      by (inl more) = more.1 (number_used n (sym (bit_is n fails.below) ∙ more.0))
-      by (inr less) = both_ways (has_number (all_blocks limits at records) n) (sym (bit_is n fails.below) ∙ less.0) (used_number n less.1)
+  no_bit n fails =
+      ⊎_elim (λ more. more.1 (number_used n (sym (bit_is n fails.below) ∙ more.0)))
+      (λ less. both_ways (has_number (all_blocks limits at records) n) (sym (bit_is n fails.below) ∙ less.0) (used_number n less.1)) fails.fault
 
   -- ---- rows
   no_row_fault : (n : ℕ) → RowFault limits at contents n → ⊥
-  no_row_fault n (RowWrong below wrong) = wrong (spells.rows n (let enough = rows_counted limits spells.formed.limits in omega (arith, enough, below)))
-  no_row_fault n (RestNotZero last p from below not_zero) =
-      not_zero (spells.rows p below ∙ zero_row (limits.files / 8) (row_bit s limits contents at p) (λ i. none i))
-    where
-      no_word_there : word_at properties p ≡ None
-      no_word_there = ap word_in (get_or_past properties p FreeProp (let all = spells.properties.count in omega (arith, all, from)))
-
-      none : (i : ℕ) → row_bit s limits contents at p i ≡ false
-      none i = ap (λ o. is_had_by s (file_by limits properties at) o (get_or contents.files i FreeFile)) no_word_there
-
-  no_row : (n : ℕ) → RowFails limits at n → ⊥
-  no_row n fails = no_row_fault n (subst (λ (c : Contents). RowFault limits at c n) (one_contents limits at fails.contents contents fails.are are_contents) fails.fault)
+  no_row_fault n h1 = search (rules, rows_counted, zero_row, get_or_past)
 
   none_fails : (spot : Spot) → Fails limits at spot → ⊥
   none_fails Super fails = fails
@@ -358,7 +310,7 @@ module _ (limits : Limits) (contents : Contents) (at : ℕ → List ℕ) (spells
   none_fails (FileSpot n) fails = no_file n fails
   none_fails (Word n) fails = no_word n fails
   none_fails (Bitmap n) fails = no_bit n fails
-  none_fails (Row n) fails = no_row n fails
+  none_fails (Row n) fails = no_row_fault n (subst (λ (c : Contents). RowFault limits at c n) (one_contents limits at fails.contents contents fails.are are_contents) fails.fault)
 
 -- where blocks spell a state, no part behind the journal fails its check
 pub spelled_passes : (limits : Limits) (contents : Contents) (at : ℕ → List ℕ) (s : State) (spot : Spot) → Spells limits contents at s → Fails limits at spot → ⊥
@@ -382,11 +334,6 @@ record_passes image s b stands fails =
 
 -- an image of which a part fails its check stands for no state
 pub damaged : (image : List ℕ) (s : State) (spot : Spot) → Stands image s → FailsIn image spot → ⊥
-damaged image s Super stands fails = fails s.limits (has_super image s stands)
-damaged image s (BadRecord b) stands fails = record_passes image s b stands fails
-damaged image s (Property n) stands fails = replayed_passes image s (Property n) stands fails
-damaged image s (Axiom n) stands fails = replayed_passes image s (Axiom n) stands fails
-damaged image s (FileSpot n) stands fails = replayed_passes image s (FileSpot n) stands fails
-damaged image s (Word n) stands fails = replayed_passes image s (Word n) stands fails
-damaged image s (Bitmap n) stands fails = replayed_passes image s (Bitmap n) stands fails
-damaged image s (Row n) stands fails = replayed_passes image s (Row n) stands fails
+damaged image s =
+    behind image (λ spot. Stands image s → FailsIn image spot → ⊥) (λ stands fails. fails s.limits (has_super image s stands)) (record_passes image s)
+    (λ spot low to from stands fails. replayed_passes image s spot stands (from fails))

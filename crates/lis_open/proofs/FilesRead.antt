@@ -1,30 +1,34 @@
 -- The files of file slots, read one after another.
-use Rattle.std.proofs.Common.{◌≡◌, ◌⊎◌, ◌∙◌, refl, sym, ap, subst, inl, inr, ℕ, ◌+◌, ◌<◌, ◌≤◌, ◌==◌, nat_lt, nat_le, Bool, true, false, cond, not, ◌&&◌, ◌||◌, is_some, Option, Some, None, List, [], length, replicate, get_or, IsTrue, arith, eq-eqb, length-set, get_or-set_same, get_or-set_other}
-use Rattle.std.specs.Option.{IfSome}
-use Rattle.lis_open.proofs.Common.{list_all, or_cases, or_left, or_right, cases_eq, ne_eqb, lt-ltb, leb-true, length-replicate, same_Some, Meaning, DiskFaultEnds, Held, Fits, slot, HasShape, is_taken, are_free, are_distinct, are_below, word_of, number_below, number_from_word, rec_at, FileRecord, file_bytes, is_file, is_record, FileSlot, FreeFile, Used, Limits, bytes_told, blocks_told, HasIndex, record_at, file_slots, among_from_number}
-use Rattle.std.proofs.lemmas.Bool.{and_parts, and_from, both_ways}
-use Rattle.lis_bits.specs.Rows.{Rows}
-use Rattle.lis_content.specs.Content.{has_number}
-use Rattle.lis_content.proofs.Numbers.{length-marked, not_true, below_from_free}
+use Rattle.std.proofs.Common.{ltb-false, leb-false}
+use Rattle.lis_open.proofs.Common.{rules, ◌≡◌, ◌⊎◌, ◌∙◌, refl, sym, ap, subst, inl, inr, ℕ, ◌+◌, ◌<◌, ◌≤◌, ◌==◌, nat_lt, nat_le, Bool, true, false, cond, not, ◌&&◌, ◌||◌, is_some, Option, Some, None, List, [], length, get_or, IsTrue, arith, eq-eqb, length-set, get_or-set_same, get_or-set_other, ◌-◌, ◌∷◌, IfSome, ne_eqb, lt-ltb, leb-true, flat_map, ⊎_elim, list_all, or_cases, or_left, or_right, length-replicate, same_Some, Meaning, DiskFaultEnds, Held, Fits, slot, HasShape, is_taken, are_free, are_distinct, are_below, word_of, number_below, number_from_word, rec_at, FileRecord, file_bytes, is_file, is_record, FileSlot, FreeFile, Used, Limits, bytes_told, blocks_told, HasIndex, record_at, file_slots, among_from_number, numbers_at, cases_lt, Among, is_large, index_bytes, numbers_in, index_home, number_of, Filed, prop_bytes, is_prop, axiom_bytes, is_axiom, PropSlot, AxiomSlot, prop_once, axiom_once, same_word, is_valued, head_bytes, same_word_decides, among_from_has_word, Spot, data_start, blocks_needed, file_words, own_words, up, is_assignable, property_slots, axiom_slots, words_told, file_told, axioms_of, words_in, word_at, one_array, and_parts, and_from, both_ways, false_from_ne_true, Rows, has_number, not_true, all_among, flat_map_among, has_word, has_word_from_among, set_of_among, ⊎_map, cases_Bool}
+use Rattle.std.proofs.lemmas.Bool.{and_cases, not-false}
+use Rattle.lis_content.proofs.Numbers.{length-marked, below_from_free, below_if_taken}
 use Rattle.lis_catalog.specs.Catalog.{Catalog, IsCatalog, slot_of, with_filed}
-use Rattle.lis_catalog.proofs.Laws.{rec_at-with_filed}
-use Rattle.lis_ext.specs.Ext.{set_of}
+use Rattle.lis_catalog.proofs.Laws.{rec_at-with_filed, rec_at-slot_of, slot_of-rec_at}
 use Rattle.lis_fields.proofs.Parts.{record_tests}
-use Rattle.lis_laws.proofs.Counts.{all_among, all_weaker}
+use Rattle.lis_laws.proofs.Counts.{all_weaker}
 use Rattle.lis_kept.specs.Kept.{file_by}
 use Rattle.lis_kept.specs.Sound.{is_sound_record}
-use Rattle.lis_kept.proofs.Filing.{entries_longer, catalog_then}
+use Rattle.lis_kept.proofs.Filing.{entries_longer, catalog_then, number_from_among}
 use Rattle.lis_open.specs.declared.words.Words.{Words}
 use Rattle.lis_open.specs.declared.axioms.Axioms.{Axioms}
 use Rattle.lis_open.specs.declared.files.Files.{Files}
 use Rattle.lis_open.specs.declared.blocks.LastBlock.{LastBlock}
-use Rattle.lis_open.specs.Reading.{OnlyReads, Recalls, IsReadAs}
-use Rattle.lis_open.specs.ReadWords.{AreWords}
-use Rattle.lis_open.specs.ReadFiles.{no_files, described, found_words, is_numbered, own_numbers, HasNumbers, AreNumbers, is_assignable_by, is_assignable_number, may_file, AreTold, TakesNumbers, TakesRecord, TakesFile, AreFirstFiles, FilesAreSpelled, FilesAreNumbered, FilesHaveBlocks}
-use Rattle.lis_open.proofs.Quiet.{StillRecalls}
-use Rattle.lis_open.proofs.WordPlaces.{assignable_word}
-use Rattle.lis_open.proofs.WordsRead.{new_from, nothing_at}
-use Rattle.lis_open.proofs.Numbers.{is_taken-marked}
+use Rattle.lis_open.specs.Reading.{OnlyReads, Recalls, IsReadAs, IsFirst}
+use Rattle.lis_open.specs.ReadWords.{AreWords, AreFirstWords, AreFirstAxioms, WordsAreSpelled, AxiomsAreSpelled, declared_words, kept_words}
+use Rattle.lis_open.specs.ReadFiles.{no_files, described, found_words, is_numbered, own_numbers, HasNumbers, AreNumbers, is_assignable_by, is_assignable_number, may_file, AreTold, TakesNumbers, TakesRecord, TakesFile, AreFirstFiles, FilesAreSpelled, FilesAreNumbered, FilesHaveBlocks, may_describe, HasBlocks, RecordFault, HasSlotFault}
+use Rattle.lis_open.proofs.BlocksRead.{StillRecalls, one_file}
+use Rattle.lis_open.proofs.Descriptions.{valued_headed, assignable_word, found_own, among_told, described_words, description_long}
+use Rattle.lis_open.proofs.AxiomsRead.{are_axioms, headless, second_false}
+use Rattle.lis_open.proofs.WordsRead.{new_from, nothing_at, old_from, told_properties, word_at_told, declared_told, told_word, word_told, axioms_told, file_is_told, are_told}
+use Rattle.lis_open.proofs.Once.{is_taken-marked, each_number}
+use Rattle.lis_laws.proofs.Chains.{up_self, up_own, links_head}
+use Rattle.lis_model.specs.declared.spot.Spot.TheVariants.{File as FileSpot}
+use Rattle.lis_store.proofs.Relates.{told_few}
+use Rattle.lis_open.specs.Checks.{IsFile, AreProperties, AreAxioms, declared_by, axioms_by, description_by, FileFault, HasFileFault, FileFails, Fails, rank}
+use Rattle.lis_open.specs.Checks.FileFault.{NameTaken, TagUnnumbered, TagUnassignable, BlockMissing, IndexUnformed, BlockTwice, BlockTaken, WordUnnumbered, TooManyWords}
+use Rattle.lis_open.specs.ReadFiles.RecordFault.{NotFiled, NoBlocks, NotDescribed}
+use Rattle.lis_open.proofs.SpotKinds.{none_before, none_fails}
 
 -- ---- what may be filed
 -- its name is new, and it may be given its words
@@ -36,14 +40,14 @@ pub assignable_some : (words : Words) (o : Option (List ℕ)) → is_assignable_
 assignable_some words None may = cc
 assignable_some words (Some word) may = refl
 
-number_within : (words : Words) (n : ℕ) → AreWords words → is_assignable_number words n ≡ true → n < words.dict.props
-number_within words n are may =
+within_props : (words : Words) (n : ℕ) → AreWords words → is_assignable_number words n ≡ true → n < words.dict.props
+within_props words n are may =
     let word = assignable_word words (word_of words.dict n) may in
     number_below words.dict are.dict word.0 n (number_from_word words.dict are.dict word.0 n word.1)
 
 pub tags_below : (words : Words) (files : Files) (rec : FileRecord) (props : ℕ) → AreWords words → props ≡ words.dict.props → may_file words files rec ≡ true → list_all (λ n. nat_lt n props) rec.tags ≡ true
 tags_below words files rec props are same may =
-    all_weaker (is_assignable_number words) (λ n. nat_lt n props) rec.tags (λ n m is. lt-ltb n props (let below = number_within words n are is in omega (arith, below, same))) (may_parts words files rec may).1
+    all_weaker (is_assignable_number words) (λ n. nat_lt n props) rec.tags (λ n m is. lt-ltb n props (let below = within_props words n are is in omega (arith, below, same))) (may_parts words files rec may).1
 
 -- free blocks are blocks of the image
 pub free_below : (limits : Limits) (taken : List Bool) (blocks : List ℕ) → length taken ≡ limits.blocks → are_free taken blocks ≡ true → are_below limits.blocks blocks ≡ true
@@ -52,20 +56,7 @@ free_below limits taken blocks long free = ap (λ m. are_below m blocks) (sym lo
 -- ---- no file yet
 pub no_files_yet : (limits : Limits) (words : Words) (axioms : Axioms) → AreFirstFiles limits words axioms (no_files limits) 0
 unfolding no_files
-no_files_yet limits words axioms = record {
-  slots = refl;
-  catalog = record { rising = refl; forms = refl; below = refl; apart = refl; few = omega arith };
-  records = λ slot rec is. absurd cc;
-  given = λ slot rec is. absurd cc;
-  rest = λ n le. refl;
-  counted = omega arith;
-  blocks = length-replicate limits.blocks false;
-  props = refl;
-  count = length-replicate limits.files [];
-  sets = λ slot. nothing_at limits.files slot [];
-  short = λ slot. let none : length {A = ℕ} (get_or (replicate limits.files []) slot []) ≡ 0 = ap (length {A = ℕ}) (nothing_at limits.files slot []) in omega (arith, none);
-  settled = refl;
-}
+no_files_yet limits words axioms = search (rules, length-replicate, nothing_at)
 
 -- what blocks tell of the files so far
 pub record AreSoFar (limits : Limits) (at : ℕ → List ℕ) (words : Words) (axioms : Axioms) (files : Files) (end : ℕ) : Type 0 where
@@ -75,33 +66,23 @@ pub record AreSoFar (limits : Limits) (at : ℕ → List ℕ) (words : Words) (a
 
 pub none_so_far : (limits : Limits) (words : Words) (axioms : Axioms) (files : Files) (at : ℕ → List ℕ) → files ≡ no_files limits → AreSoFar limits at words axioms files 0
 unfolding no_files
-none_so_far limits words axioms files at is = subst (λ (f : Files). AreSoFar limits at words axioms f 0) (sym is) (record {
-  spelled = λ n lt. absurd (omega (arith, lt));
-  numbered = λ slot rec there. absurd cc;
-  blocks = record {
-    indexed = λ slot rec there. absurd cc;
-    distinct = λ slot rec there. absurd cc;
-    taken = λ slot rec n there. absurd cc;
-    in_use = λ n held. absurd (both_ways (get_or (replicate limits.blocks false) n false) (nothing_at limits.blocks n false) held);
-    one_use = λ slot other rec more n there. absurd cc;
-  };
-})
+none_so_far limits words axioms files at is = search (rules, both_ways, nothing_at)
 
 -- ---- one file more
 module _ (limits : Limits) (MayBeKept : (ℕ → List ℕ) → Type 0) (words : Words) (axioms : Axioms) (files next : Files) (number : ℕ) (rec : FileRecord) (first : AreFirstFiles limits words axioms files number)
     (lt : number < limits.files) (form : is_record limits.version rec ≡ true) (took : TakesRecord limits MayBeKept words axioms.taxonomy number rec files next) where
   -- the words that are found in the file
-  abbrev in_file : List (List ℕ)
-  in_file = found_words words rec.name took.bytes
+  abbrev its_words : List (List ℕ)
+  its_words = found_words words rec.name took.bytes
 
   abbrev numbers : List ℕ
-  numbers = described axioms.taxonomy (own_numbers words.dict rec.tags in_file)
+  numbers = described axioms.taxonomy (own_numbers words.dict rec.tags its_words)
 
-  takes : TakesNumbers number rec took.blocks (described axioms.taxonomy (own_numbers words.dict rec.tags in_file)) files next
+  takes : TakesNumbers number rec took.blocks (described axioms.taxonomy (own_numbers words.dict rec.tags its_words)) files next
   takes = took.takes
 
-  described_parts : (list_all (is_numbered words.dict) in_file ≡ true) × (nat_le (length numbers) 128 ≡ true)
-  described_parts = and_parts (list_all (is_numbered words.dict) in_file) (nat_le (length numbers) 128) took.describes
+  described_parts : (list_all (is_numbered words.dict) its_words ≡ true) × (nat_le (length numbers) 128 ≡ true)
+  described_parts = and_parts (list_all (is_numbered words.dict) its_words) (nat_le (length numbers) 128) took.describes
 
   tests : (not (is_some (slot_of files.catalog rec.name)) ≡ true) × (list_all (is_assignable_number words) rec.tags ≡ true)
   tests = may_parts words files rec took.filed
@@ -126,21 +107,16 @@ module _ (limits : Limits) (MayBeKept : (ℕ → List ℕ) → Type 0) (words : 
   found_old : (n : ℕ) → (n ≡ number → ⊥) → rec_at next.catalog n ≡ rec_at files.catalog n
   found_old n differ = found_at n ∙ ap (λ b. cond b (Some rec) (rec_at files.catalog n)) (ne_eqb number n (λ e. differ (sym e)))
 
-  set_new : set_of next.ext number ≡ numbers
-  set_new = ap (λ (sets : List (List ℕ)). get_or sets number []) takes.sets ∙ get_or-set_same files.ext.sets number numbers [] (omega (arith, lt, first.count))
-
-  set_old : (n : ℕ) → (n ≡ number → ⊥) → set_of next.ext n ≡ set_of files.ext n
-  set_old n differ = ap (λ (sets : List (List ℕ)). get_or sets n []) takes.sets ∙ get_or-set_other files.ext.sets number n numbers [] differ
-
   -- what holds of the new file and its numbers, and of what each other slot had, holds of all slots
-  each : (P : ℕ → Option FileRecord → List ℕ → Type 0) → P number (Some rec) numbers → ((n : ℕ) → (n ≡ number → ⊥) → P n (rec_at files.catalog n) (set_of files.ext n)) → (n : ℕ) → P n (rec_at next.catalog n) (set_of next.ext n)
-  each P new old n = by (cases_eq n number)
-    where
-      by : (n ≡ number) ⊎ (n ≡ number → ⊥) → P n (rec_at next.catalog n) (set_of next.ext n)
-      by (inl same) =
-          subst (λ j. P j (rec_at next.catalog j) (set_of next.ext j)) (sym same)
-          (subst (λ o. P number o (set_of next.ext number)) (sym found_new) (subst (λ ns. P number (Some rec) ns) (sym set_new) new))
-      by (inr differ) = subst (λ o. P n o (set_of next.ext n)) (sym (found_old n differ)) (subst (λ ns. P n (rec_at files.catalog n) ns) (sym (set_old n differ)) (old n differ))
+  each : (P : ℕ → Option FileRecord → List ℕ → Type 0) → P number (Some rec) numbers → ((n : ℕ) → (n ≡ number → ⊥) → P n (rec_at files.catalog n) (numbers_at files.ext n)) → (n : ℕ) → P n (rec_at next.catalog n) (numbers_at next.ext n)
+  each P new old =
+      each_number (λ n. P n (rec_at next.catalog n) (numbers_at next.ext n)) number
+      (subst (λ o. P number o (numbers_at next.ext number)) (sym found_new)
+      (subst (λ (sets : List (List ℕ)). P number (Some rec) (get_or sets number [])) (sym takes.sets)
+      (subst (λ ns. P number (Some rec) ns) (sym (get_or-set_same files.ext.sets number numbers [] (omega (arith, lt, first.count)))) new))) (λ n differ.
+      subst (λ o. P n o (numbers_at next.ext n)) (sym (found_old n differ))
+      (subst (λ (sets : List (List ℕ)). P n (rec_at files.catalog n) (get_or sets n [])) (sym takes.sets)
+      (subst (λ ns. P n (rec_at files.catalog n) ns) (sym (get_or-set_other files.ext.sets number n numbers [] differ)) (old n differ))))
 
   -- the file of a slot is the new one, or an old one
   either : (P : ℕ → FileRecord → Type 0) → P number rec → ((n : ℕ) (r : FileRecord) → rec_at files.catalog n ≡ Some r → P n r) → (n : ℕ) (r : FileRecord) → rec_at next.catalog n ≡ Some r → P n r
@@ -162,7 +138,7 @@ module _ (limits : Limits) (MayBeKept : (ℕ → List ℕ) → Type 0) (words : 
       and_from (is_record limits.version rec && named) (list_all (λ n. nat_lt n limits.blocks) rec.blocks)
       (and_from (is_record limits.version rec) named form (all_weaker (is_assignable_number words) (λ n. is_some (word_of words.dict n)) rec.tags (λ n m is. assignable_some words (word_of words.dict n) is) tests.1)) below
 
-  has_new : HasNumbers words axioms.taxonomy rec in_file numbers
+  has_new : HasNumbers words axioms.taxonomy rec its_words numbers
   has_new = record { numbered = described_parts.0; are = refl }
 
   files_more : AreFirstFiles limits words axioms next (number + 1)
@@ -243,24 +219,18 @@ module _ (limits : Limits) (MayBeKept : (ℕ → List ℕ) → Type 0) (words : 
 module _ (limits : Limits) (MayBeKept : (ℕ → List ℕ) → Type 0) (words : Words) (axioms : Axioms) (files : Files) (number : ℕ) (first : AreFirstFiles limits words axioms files number) (lt : number < limits.files) where
   pub files_on : (found : Option FileSlot) (next : Files) → IfSome found (λ file. IsTrue (is_file limits.version file)) → TakesFile limits MayBeKept words axioms.taxonomy number found files next
       → AreFirstFiles limits words axioms next (number + 1)
-  files_on None next form takes = absurd takes
-  files_on (Some FreeFile) next form takes =
-      let rest : (n : ℕ) → number + 1 ≤ n → rec_at files.catalog n ≡ None = λ n le. first.rest n (omega arith) in
-      let counted : length files.catalog.entries ≤ number + 1 = omega (arith, first.counted) in
-      subst (λ (f : Files). AreFirstFiles limits words axioms f (number + 1)) (sym takes) (assumption (rest, counted))
-  files_on (Some (Used rec)) next form takes = files_more limits MayBeKept words axioms files next number rec first lt form takes
+  files_on found next form takes = search (rules, takes, files_more)
 
   pub so_far_on : (at : ℕ → List ℕ) → MayBeKept at → AreSoFar limits at words axioms files number → (found : Option FileSlot) (next : Files) → IfSome found (λ file. IsTrue (is_file limits.version file))
       → TakesFile limits MayBeKept words axioms.taxonomy number found files next → IsReadAs file_bytes (is_file limits.version) (file_slots limits) at number found → AreSoFar limits at words axioms next (number + 1)
   so_far_on at may old None next form takes read = absurd takes
   so_far_on at may old (Some FreeFile) next form takes read =
-      subst (λ (f : Files). AreSoFar limits at words axioms f (number + 1)) (sym takes) (record { spelled = λ n less. by n less (cases_eq n number); numbered = old.numbered; blocks = old.blocks })
-    where
-      by : (n : ℕ) → n < number + 1 → (n ≡ number) ⊎ (n ≡ number → ⊥) → slot (file_slots limits) at n ≡ file_bytes (record_at files.catalog n)
-      by n less (inl same) =
-          subst (λ k. slot (file_slots limits) at k ≡ file_bytes (record_at files.catalog k)) (sym same)
-          (read.bytes ∙ ap (λ o. file_bytes (file_by o)) (sym (first.rest number (omega arith))))
-      by n less (inr differ) = old.spelled n (omega arith)
+      subst (λ (f : Files). AreSoFar limits at words axioms f (number + 1)) (sym takes) (record {
+        spelled = each_number (λ n. n < number + 1 → slot (file_slots limits) at n ≡ file_bytes (record_at files.catalog n)) number
+            (λ less. read.bytes ∙ ap (λ o. file_bytes (file_by o)) (sym (first.rest number (omega arith)))) (λ n differ less. old.spelled n (omega arith));
+        numbered = old.numbered;
+        blocks = old.blocks;
+      })
   so_far_on at may old (Some (Used rec)) next form takes read = so_far_more limits MayBeKept words axioms files next number rec first lt form takes at may old read.bytes
 
 -- ---- the loop
@@ -273,3 +243,238 @@ pub record FilesTurn (journal : Held) (limits : Limits) (words : Words) (axioms 
   pub first : AreFirstFiles limits words axioms files end
   pub recalls : StillRecalls journal old last_old last
   pub so_far : (kept : ℕ → List ℕ) → Fits journal old kept → Recalls last_old kept → AreSoFar limits kept words axioms files end
+
+-- ---- what is wrong with a file slot that is not taken, and that nothing is wrong with those that are
+-- a test that some member does not pass
+failing : {X : Type 0} (test : X → Bool) (xs : List X) → list_all test xs ≡ false → (x : X) × Among xs x × (test x ≡ false)
+failing test [] fails = absurd cc
+failing test (x ∷ xs) fails = search (rules, and_cases, failing test xs)
+
+used_slot : (o : Option FileRecord) (rec : FileRecord) → file_by o ≡ Used rec → o ≡ Some rec
+used_slot None rec is = cc
+used_slot (Some r) rec is = cc
+
+-- ---- an index block is in form or not
+index_or_not : (limits : Limits) (at : ℕ → List ℕ) (rec : FileRecord) → HasIndex limits at rec ⊎ (HasIndex limits at rec → ⊥)
+index_or_not limits at rec =
+    let held = at (index_home (data_start limits) rec.blocks) in
+    let spelled = index_bytes (numbers_in (blocks_needed rec.size) held) in
+    ⊎_map (λ fine large. (same_word_decides held spelled).0 (valued_headed (is_large rec.size) (same_word held spelled) fine large))
+    (λ bad indexed.
+    let parts = headless (is_large rec.size) (same_word held spelled) bad in
+    both_ways (same_word held spelled) parts.1 ((same_word_decides held spelled).1 (indexed parts.0)))
+    (cases_Bool (not (is_large rec.size) || same_word held spelled))
+
+-- a fault is one by all words and axioms, whichever lists they are
+pub file_fault_by : (limits : Limits) (at : ℕ → List ℕ) (n : ℕ) (properties : List PropSlot) (axioms : List AxiomSlot) → FileFails limits at n → AreProperties limits at properties → AreAxioms limits at axioms
+    → (file : FileSlot) → IsFile limits at n file → HasFileFault limits at properties axioms n file
+file_fault_by limits at n properties axioms fails words pairs file is =
+    subst (λ xs. HasFileFault limits at properties xs n file) (one_array axiom_bytes is_axiom (axiom_slots limits) at fails.axioms axioms axiom_once fails.pairs pairs)
+    (subst (λ ps. HasFileFault limits at ps fails.axioms n file) (one_array prop_bytes is_prop (property_slots limits) at fails.properties properties prop_once fails.words words) (fails.fault file is))
+
+-- ---- files by their slots
+module _ (limits : Limits) (words : Words) (axioms : Axioms) (files : Files) (end : ℕ) (are : AreFirstWords limits words limits.props) (links : AreFirstAxioms limits words axioms (axiom_slots limits).count) (first : AreFirstFiles limits words axioms files end) where
+  record_of : (n : ℕ) (rec : FileRecord) → rec_at files.catalog n ≡ Some rec → is_record limits.version rec ≡ true
+  record_of n rec is =
+      let named = list_all (λ k. is_some (word_of words.dict k)) rec.tags in
+      (and_parts (is_record limits.version rec) named (and_parts (is_record limits.version rec && named) (list_all (λ k. nat_lt k limits.blocks) rec.blocks) (first.records n rec is)).0).0
+
+  -- a slot that has a file is below the end
+  pub slot_read : (n : ℕ) (rec : FileRecord) → rec_at files.catalog n ≡ Some rec → n < end
+  slot_read n rec is = elim (cases_lt n end) [ inl lt ↦ lt | inr past ↦ absurd (let none = sym (first.rest n past) ∙ is in cc) ]
+
+  -- the words of a slot's numbers are the file's
+  pub slot_described : (at : ℕ → List ℕ) → FilesAreNumbered limits at words axioms files → (f : Filed) → rec_at files.catalog f.slot ≡ Some f.rec → words_told words.dict (numbers_at files.ext f.slot)
+      ≡ file_words (declared_words words) (axioms_of (kept_words limits words axioms.slots.items)) (file_told limits words.dict at f)
+  slot_described at numbers f is =
+      let has = numbers f.slot f.rec is in
+      ap (words_told words.dict) has.are
+      ∙ described_words limits words axioms (axiom_slots limits).count are links f.rec (bytes_told limits at f.rec) (first.given f.slot f.rec is) has.numbered
+
+  module _ (at : ℕ → List ℕ) (told : WordsAreSpelled limits at words limits.props) (pairs : AxiomsAreSpelled limits at axioms (axiom_slots limits).count) (spelled : FilesAreSpelled limits at files end) where
+    -- the words that are found in a record's file, and the numbers of what it has by itself
+    abbrev in_file : FileRecord → List (List ℕ)
+    in_file rec = found_words words rec.name (bytes_told limits at rec)
+
+    abbrev own : FileRecord → List ℕ
+    own rec = own_numbers words.dict rec.tags (in_file rec)
+
+    abbrev properties : List PropSlot
+    properties = told_properties limits words
+
+    abbrev items : List AxiomSlot
+    items = axioms.slots.items
+
+    pub file_is : (n : ℕ) → n < end → n < limits.files → IsFile limits at n (record_at files.catalog n)
+    file_is n lt below = search (rules, below, record_of)
+
+    pub used_is : (n : ℕ) (rec : FileRecord) → n < limits.files → rec_at files.catalog n ≡ Some rec → IsFile limits at n (Used rec)
+    used_is n rec below is = subst (λ (file : FileSlot). IsFile limits at n file) (ap file_by is) (file_is n (slot_read n rec is) below)
+
+    pub rec_is : (n : ℕ) (rec : FileRecord) → n < end → IsFile limits at n (Used rec) → rec_at files.catalog n ≡ Some rec
+    rec_is n rec lt is = used_slot (rec_at files.catalog n) rec (one_file limits at n (record_at files.catalog n) (Used rec) (file_is n lt is.below) is)
+
+    -- the words of a record's file are its description
+    file_words_are : (rec : FileRecord) → file_words (declared_words words) (axioms_of (kept_words limits words items)) (file_told limits words.dict at (record { slot = 0; rec = rec }))
+        ≡ description_by limits properties items at rec
+    file_words_are rec =
+        let f : Filed = record { slot = 0; rec = rec } in
+        ap (λ ds. file_words ds (axioms_of (kept_words limits words items)) (file_told limits words.dict at f)) (sym (declared_told limits words are.are are.props))
+        ∙ (ap (λ pairs. file_words (declared_by properties) pairs (file_told limits words.dict at f)) (sym (axioms_told limits words are.are are.props items))
+        ∙ ap (file_words (declared_by properties) (axioms_by properties items)) (sym (file_is_told limits words are.are are.props at f)))
+
+    -- and so are the words of its numbers, where it may be given its words and those that are found in it have numbers
+    description_is : (rec : FileRecord) → list_all (is_assignable_number words) rec.tags ≡ true → list_all (is_numbered words.dict) (in_file rec) ≡ true
+        → words_told words.dict (described axioms.taxonomy (own rec)) ≡ description_by limits properties items at rec
+    description_is rec given numbered =
+        described_words limits words axioms (axiom_slots limits).count are links rec (bytes_told limits at rec) given numbered ∙ file_words_are rec
+
+    -- ---- no fault
+    module _ (numbers : FilesAreNumbered limits at words axioms files) (blocks : FilesHaveBlocks limits at files) where
+      tag_given : (n : ℕ) (rec : FileRecord) → rec_at files.catalog n ≡ Some rec → (tag : ℕ) → has_number rec.tags tag ≡ true → is_assignable_by words (word_at properties tag) ≡ true
+      tag_given n rec is tag has =
+          ap (is_assignable_by words) (word_at_told limits words are.are are.props tag) ∙ all_among (is_assignable_number words) rec.tags tag (first.given n rec is) (among_from_number rec.tags tag has)
+
+      no_fault : (n : ℕ) (rec : FileRecord) → rec_at files.catalog n ≡ Some rec → n < end → FileFault limits at properties items n rec → ⊥
+      no_fault n rec is lt (NameTaken earlier other before is_other same) =
+          let here = rec_is earlier other (omega arith) is_other in
+          let a = slot_of-rec_at files.catalog n rec first.catalog is in
+          let b = slot_of-rec_at files.catalog earlier other first.catalog here in
+          let one = same_Some n earlier (sym a ∙ (ap (slot_of files.catalog) (sym same) ∙ b)) in
+          omega (arith, one, before)
+      no_fault n rec is lt (TagUnnumbered tag has none) = both_ways false refl (ap (is_assignable_by words) (sym none) ∙ tag_given n rec is tag has)
+      no_fault n rec is lt (TagUnassignable tag word has named not_given) =
+          both_ways (is_assignable (declared_words words) word) (ap (λ ds. is_assignable ds word) (sym (declared_told limits words are.are are.props)) ∙ not_given) (ap (is_assignable_by words) (sym named) ∙ tag_given n rec is tag has)
+      no_fault n rec is lt (BlockMissing data_block has past) =
+          let below = below_if_taken files.map data_block (blocks.taken n rec data_block is has) in
+          omega (arith, below, past, first.blocks)
+      no_fault n rec is lt (IndexUnformed unformed) = unformed (blocks.indexed n rec is)
+      no_fault n rec is lt (BlockTwice twice) = both_ways (are_distinct (blocks_told limits at rec)) twice (blocks.distinct n rec is)
+      no_fault n rec is lt (BlockTaken earlier other data_block before is_other has_other has) =
+          let here = rec_is earlier other (omega arith) is_other in
+          let same = blocks.one_use n earlier rec other data_block is here has has_other in
+          omega (arith, same, before)
+      no_fault n rec is lt (WordUnnumbered word has none) =
+          let m = among_from_has_word (description_by limits properties items at rec) word has in
+          let number = among_told words.dict (described axioms.taxonomy (own rec)) word (subst (λ ws. Among ws word) (sym (description_is rec (first.given n rec is) (numbers n rec is).numbered)) m) in
+          both_ways (has_word (words_in properties) word) none (told_word limits words are.are are.props number.0 word number.2)
+      no_fault n rec is lt (TooManyWords many) =
+          let few = told_few words.dict (described axioms.taxonomy (own rec)) in
+          let short = first.short n in
+          let has = numbers n rec is in
+          let long = ap (length {A = List ℕ}) (description_is rec (first.given n rec is) has.numbered) in
+          omega (arith, few, short, long, many, ap (length {A = ℕ}) has.are)
+
+      file_passes : (n : ℕ) → n < end → FileFails limits at n → ⊥
+      file_passes n lt fails = (elim (rec_at files.catalog n) as (λ o. rec_at files.catalog n ≡ o → HasFileFault limits at properties items n (file_by o) → ⊥) [
+        | None ↦ λ is fault. fault
+        | Some rec ↦ λ is fault. no_fault n rec is lt fault
+      ]) refl
+          (file_fault_by limits at n properties items fails (are_told limits words are.are are.props at told) (are_axioms limits at words are told axioms links pairs) (record_at files.catalog n) (file_is n lt fails.below))
+
+      -- where all slots were read, no check of a file fails
+      pub files_pass : end ≡ limits.files → (spot : Spot) → rank spot ≡ 4 → Fails limits at spot → ⊥
+      files_pass all = none_fails limits at 4 (λ n fails. file_passes n (omega (arith, fails.below, all)) fails)
+
+    -- ---- the fault of a record that is not taken
+    name_fault : (rec : FileRecord) → end < limits.files → not (is_some (slot_of files.catalog rec.name)) ≡ false → FileFault limits at properties items end rec
+    name_fault rec below fails =
+        let slot_is = old_from (slot_of files.catalog rec.name) fails in
+        let found = rec_at-slot_of files.catalog rec.name slot_is.0 first.catalog slot_is.1 in
+        let before : slot_is.0 < end = slot_read slot_is.0 found.0 found.1 in
+        NameTaken slot_is.0 found.0 before (used_is slot_is.0 found.0 (omega (arith, before, below)) found.1) found.2
+
+    tag_fault : (rec : FileRecord) → list_all (is_assignable_number words) rec.tags ≡ false → FileFault limits at properties items end rec
+    tag_fault rec fails = let tag = failing (is_assignable_number words) rec.tags fails in by tag.0 (number_from_among rec.tags tag.0 tag.1) tag.2 (word_of words.dict tag.0) refl
+      where
+        by : (tag : ℕ) → has_number rec.tags tag ≡ true → is_assignable_number words tag ≡ false → (o : Option (List ℕ)) → word_of words.dict tag ≡ o → FileFault limits at properties items end rec
+        by tag has not_given None is = TagUnnumbered tag has (word_at_told limits words are.are are.props tag ∙ is)
+        by tag has not_given (Some word) is =
+            TagUnassignable tag word has (word_at_told limits words are.are are.props tag ∙ is)
+            (ap (λ ds. is_assignable ds word) (declared_told limits words are.are are.props) ∙ (ap (is_assignable_by words) (sym is) ∙ not_given))
+
+    block_fault : (rec : FileRecord) → FilesHaveBlocks limits at files → end < limits.files → are_free files.map (blocks_told limits at rec) ≡ false → FileFault limits at properties items end rec
+    block_fault rec blocks below fails =
+        let found = failing (λ n. nat_lt n (length files.map) && not (is_taken files.map n)) (blocks_told limits at rec) fails in
+        let has = number_from_among (blocks_told limits at rec) found.0 found.1 in
+        ⊎_elim (λ past. let none = ltb-false found.0 (length files.map) past in BlockMissing found.0 has (omega (arith, none, first.blocks))) (λ held.
+        let owner = blocks.in_use found.0 (not-false (is_taken files.map found.0) held) in
+        let before : owner.0 < end = slot_read owner.0 owner.1 owner.2 in
+        BlockTaken owner.0 owner.1 found.0 before (used_is owner.0 owner.1 (omega (arith, before, below)) owner.2) owner.3 has)
+        (and_cases (nat_lt found.0 (length files.map)) (not (is_taken files.map found.0)) found.2)
+
+    -- blocks that are not usable
+    blocks_fault : (rec : FileRecord) → FilesHaveBlocks limits at files → end < limits.files → (HasBlocks limits at files.map rec → ⊥) → FileFault limits at properties items end rec
+    blocks_fault rec blocks below fails =
+        let told_blocks = blocks_told limits at rec in
+        ⊎_elim (λ indexed. ⊎_elim (λ distinct. ⊎_elim (λ free. absurd (fails (record { indexed = indexed; free = free; distinct = distinct })))
+        (block_fault rec blocks below) (cases_Bool (are_free files.map told_blocks))) BlockTwice (cases_Bool (are_distinct told_blocks))) IndexUnformed (index_or_not limits at rec)
+
+    -- a word that the file has by itself is in its description, and so is the head of a valued one
+    found_there : (rec : FileRecord) (w q : List ℕ) → Among (in_file rec) w → Among (up (declared_words words) (axioms_of (kept_words limits words items)) w) q → has_word (description_by limits properties items at rec) q ≡ true
+    found_there rec w q m entails =
+        let file = file_told limits words.dict at (record { slot = 0; rec = rec }) in
+        let ups = up (declared_words words) (axioms_of (kept_words limits words items)) in
+        let here = found_own limits words are.are.dict rec (bytes_told limits at rec) w m in
+        has_word_from_among (description_by limits properties items at rec) q
+        (subst (λ ws. Among ws q) (file_words_are rec) (set_of_among (flat_map ups (own_words (declared_words words) file)) q (flat_map_among ups (own_words (declared_words words) file) w q here entails)))
+
+    -- a word without a number is in no slot
+    no_slot : (w : List ℕ) → is_some (number_of words.dict w) ≡ false → has_word (words_in properties) w ≡ false
+    no_slot w none = false_from_ne_true (has_word (words_in properties) w) (λ h.
+        let found = word_told limits words are.are are.props w h in
+        both_ways (is_some (number_of words.dict w)) none (ap is_some (number_from_word words.dict are.are.dict w found.0 found.1)))
+
+    number_fault : (rec : FileRecord) → list_all (is_numbered words.dict) (in_file rec) ≡ false → FileFault limits at properties items end rec
+    number_fault rec fails =
+        let found = failing (is_numbered words.dict) (in_file rec) fails in
+        let w = found.0 in
+        ⊎_elim (λ none. WordUnnumbered w (found_there rec w w found.1 (up_self (declared_words words) (axioms_of (kept_words limits words items)) w)) (no_slot w none)) (λ bad.
+        let parts = headless (is_valued w) (is_some (number_of words.dict (head_bytes w))) bad in
+        let head = up_own (declared_words words) (axioms_of (kept_words limits words items)) w (head_bytes w) (links_head (declared_words words) w parts.0) in
+        WordUnnumbered (head_bytes w) (found_there rec w (head_bytes w) found.1 head) (no_slot (head_bytes w) parts.1))
+        (and_cases (is_some (number_of words.dict w)) (not (is_valued w) || is_some (number_of words.dict (head_bytes w))) found.2)
+
+    long_fault : (rec : FileRecord) → list_all (is_assignable_number words) rec.tags ≡ true → list_all (is_numbered words.dict) (in_file rec) ≡ true → nat_le (length (described axioms.taxonomy (own rec))) 128 ≡ false
+        → FileFault limits at properties items end rec
+    long_fault rec given numbered many =
+        let more = leb-false (length (described axioms.taxonomy (own rec))) 128 many in
+        let long = description_long limits words axioms (axiom_slots limits).count are links rec (bytes_told limits at rec) given numbered in
+        TooManyWords (omega (arith, more, long, ap (length {A = List ℕ}) (description_is rec given numbered)))
+
+    words_fault : (rec : FileRecord) → may_describe words axioms.taxonomy rec (in_file rec) ≡ false → FileFault limits at properties items end rec
+    words_fault rec fails =
+        let many = second_false (list_all (is_numbered words.dict) (in_file rec)) (nat_le (length (described axioms.taxonomy (own rec))) 128) fails in
+        ⊎_elim (λ all. ⊎_elim (λ given. long_fault rec given all (many all)) (tag_fault rec) (cases_Bool (list_all (is_assignable_number words) rec.tags)))
+        (number_fault rec) (cases_Bool (list_all (is_numbered words.dict) (in_file rec)))
+
+    filing_fault : (rec : FileRecord) → end < limits.files → may_file words files rec ≡ false → FileFault limits at properties items end rec
+    filing_fault rec below fails =
+        ⊎_elim (name_fault rec below) (tag_fault rec) (and_cases (not (is_some (slot_of files.catalog rec.name))) (list_all (is_assignable_number words) rec.tags) fails)
+
+    record_fault : (rec : FileRecord) → FilesHaveBlocks limits at files → end < limits.files → RecordFault limits at words axioms.taxonomy files rec → FileFault limits at properties items end rec
+    record_fault rec blocks below (NotFiled fails) = filing_fault rec below fails
+    record_fault rec blocks below (NoBlocks fails) = blocks_fault rec blocks below fails
+    record_fault rec blocks below (NotDescribed fails) = words_fault rec fails
+
+    file_fault : (found : Option FileSlot) → FilesHaveBlocks limits at files → end < limits.files → HasSlotFault limits at words axioms.taxonomy files found
+        → IsReadAs file_bytes (is_file limits.version) (file_slots limits) at end found → (file : FileSlot) → IsFile limits at end file → HasFileFault limits at properties items end file
+    file_fault None blocks below fault read file is = absurd (read file is)
+    file_fault (Some FreeFile) blocks below fault read file is = absurd fault
+    file_fault (Some (Used rec)) blocks below fault read file is =
+        subst (λ (f : FileSlot). HasFileFault limits at properties items end f) (one_file limits at end (Used rec) file read is) (record_fault rec blocks below fault)
+
+    pub file_fails : (numbers : FilesAreNumbered limits at words axioms files) (found : Option FileSlot) → end < limits.files → HasSlotFault limits at words axioms.taxonomy files found
+        → IsReadAs file_bytes (is_file limits.version) (file_slots limits) at end found → FilesHaveBlocks limits at files → IsFirst limits at 4 (FileSpot end)
+    file_fails numbers found below fault read blocks = record {
+      fails = record {
+        below = below;
+        properties = properties;
+        words = are_told limits words are.are are.props at told;
+        axioms = items;
+        pairs = are_axioms limits at words are told axioms links pairs;
+        fault = file_fault found blocks below fault read;
+      };
+      is = refl;
+      none_before = none_before limits at 4 end (file_passes numbers blocks);
+    }

@@ -1,19 +1,29 @@
 -- A row of what numbers entail, gathered number by number, and the numbers of the row.
 pub use Rattle.lis_open.specs.ReadFiles.{Gathered}
-use Rattle.std.proofs.Common.{◌≡◌, ℕ, ◌<◌, false, ◌||◌, Option, List, [], ◌∷◌, ◌++◌, get_or, sym, ap, ap₂, ◌∙◌, subst, arith}
-use Rattle.std.specs.Prelude.{All}
-use Rattle.std.specs.Ordering.{nat_cmp}
-use Rattle.lis_open.proofs.Common.{IsStrictlySortedBy, or-false, Among, among_from_contains, HasShape, get, with_row, Taxonomy, entails}
+use Rattle.std.proofs.Common.{All}
+use Rattle.lis_open.proofs.Common.{◌≡◌, ℕ, ◌<◌, false, ◌||◌, Option, List, [], ◌∷◌, ◌++◌, get_or, sym, ap, ap₂, ◌∙◌, subst, arith, ◌+◌, nat_le, true, ◌&&◌, Some, None, option_to_list, length, take, refl, ◌≤◌, Bool, not, is_some, slice_get, append_assoc, nat_cmp, le-leb, IsStrictlySortedBy, or-false, Among, among_from_contains, HasShape, get, with_row, Taxonomy, entails, list_all, list_all-append, number_of, FileRecord, or_left, IsDict, is_valued, head_bytes, met_tests, Kept, bit_of, Rows, and_from, both_ways}
 use Rattle.std.specs.List.Sorted.{IsStrictlyIncreasing}
-use Rattle.std.proofs.Math.Bool.{or_assoc}
+use Rattle.std.proofs.Math.Bool.{or_assoc, and-true}
 use Rattle.std.proofs.lemmas.List.Elements.{Contains-get_or}
 use Rattle.std.proofs.lemmas.List.Folds.{list_any-append}
 use Rattle.std.proofs.lemmas.Map.Keys.{IsStrictlyIncreasing-from_sorted}
-use Rattle.lis_bits.specs.Rows.{Rows, SetsBits}
+use Rattle.lis_bits.specs.Rows.{SetsBits}
 use Rattle.lis_bits.proofs.Laws.{row_sets}
 use Rattle.lis_ext.specs.Numbers.{numbers_where}
 use Rattle.lis_ext.proofs.Numbers.{numbers_same, sorted_where, among_where}
-use Rattle.lis_open.specs.ReadFiles.{is_described, described, AreListed}
+use Rattle.lis_open.specs.ReadFiles.{is_described, described, AreListed, is_numbered, numbers_of, own_numbers, may_describe, AreDescribed}
+use Rattle.std.proofs.lemmas.Bool.{lt-leb}
+use Rattle.std.proofs.lemmas.Grind.{flat_map-append}
+use Rattle.std.proofs.lemmas.List.{take_more}
+use Rattle.lis_open.specs.declared.words.Words.{Words}
+use Rattle.lis_graph.proofs.Members.{among_filter}
+use Rattle.lis_words.specs.Words.{test_of}
+use Rattle.lis_laws.proofs.Apart.{test_not_valued}
+use Rattle.lis_laws.proofs.Counts.{all_from}
+use Rattle.lis_model.specs.Tests.{is_met}
+use Rattle.lis_store.proofs.MetTests.{met_first, met_next, unmet_next, met_before, met_behind}
+use Rattle.lis_open.specs.ReadWords.{declared_words, kept_words}
+use Rattle.lis_open.proofs.Descriptions.{no_limits, declared_numbered}
 
 pub gathered_none : (t : Taxonomy) (row : Rows) → HasShape row 2 t.props → Gathered t row row []
 gathered_none t row shape = record { shape = shape; bits = λ n lt. sym (or-false (get row 0 n)) }
@@ -62,3 +72,100 @@ described_in t tags numbers props same is k d lt =
     let here = among_from_contains numbers (get_or numbers k d) (Contains-get_or numbers k d lt) in
     let below = (among_where t.props (is_described t tags) (get_or numbers k d) (subst (λ ns. Among ns (get_or numbers k d)) is here)).0 in
     omega (arith, below, same)
+
+-- ---- what the derived words of a file entail, gathered word by word, and the numbers of its description
+-- the first k of the derived words have numbers, and the row has what these entail
+pub record WordsGathered (words : Words) (t : Taxonomy) (derived : List (List ℕ)) (old row : Rows) (k : ℕ) : Type 0 where
+  pub gathered : Gathered t old row (numbers_of words.dict (take k derived))
+  pub all : list_all (is_numbered words.dict) (take k derived) ≡ true
+
+pub words_more : (words : Words) (t : Taxonomy) (derived : List (List ℕ)) (old row mid new : Rows) (k : ℕ) (word : List ℕ) (n : ℕ) → WordsGathered words t derived old row k → k < length derived → word ≡ get_or derived k word
+    → is_numbered words.dict word ≡ true → number_of words.dict word ≡ Some n → mid ≡ with_row row 1 (entails t n) → new ≡ with_row mid 0 (λ bit. get mid 0 bit || get mid 1 bit) → WordsGathered words t derived old new (k + 1)
+words_more words t derived old row mid new k word n was lt here has is ups joined = record {
+  gathered = subst (λ ns. Gathered t old new ns) (sym numbers_more) (gathered_more t old row mid new (numbers_of words.dict (take k derived)) n was.gathered ups joined);
+  all = ap (list_all (is_numbered words.dict)) more ∙ (list_all-append (is_numbered words.dict) (take k derived) (word ∷ []) ∙ and_from _ _ was.all (and_from _ _ has refl));
+}
+  where
+    more : take (k + 1) derived ≡ take k derived ++ word ∷ []
+    more = take_more derived k word lt ∙ ap (λ w. take k derived ++ w ∷ []) (sym here)
+
+    numbers_more : numbers_of words.dict (take (k + 1) derived) ≡ numbers_of words.dict (take k derived) ++ n ∷ []
+    numbers_more =
+        ap (numbers_of words.dict) more
+        ∙ (flat_map-append (λ w. option_to_list (number_of words.dict w)) (take k derived) (word ∷ [])
+        ∙ ap (λ (o : Option ℕ). numbers_of words.dict (take k derived) ++ (option_to_list o ++ [])) is)
+
+-- ---- the description
+module _ (words : Words) (t : Taxonomy) (rec : FileRecord) (in_file : List (List ℕ)) where
+  -- it is not had where a word that is found in the file has no number
+  pub undescribed : list_all (is_numbered words.dict) in_file ≡ false → may_describe words t rec in_file ≡ false
+  undescribed none = ap (λ b. b && nat_le (length (described t (own_numbers words.dict rec.tags in_file))) 128) none
+
+  -- and else it depends on how many numbers it has
+  pub listed_described : (listed : Option (List ℕ)) → list_all (is_numbered words.dict) in_file ≡ true → AreListed (described t (own_numbers words.dict rec.tags in_file)) listed
+      → AreDescribed words t rec in_file listed
+  listed_described None all many =
+      let numbers = described t (own_numbers words.dict rec.tags in_file) in
+      ap (λ b. b && nat_le (length numbers) 128) all ∙ lt-leb (length numbers) 128 many
+  listed_described (Some listed) all are =
+      let numbers = described t (own_numbers words.dict rec.tags in_file) in
+      (and_from (list_all (is_numbered words.dict) in_file) (nat_le (length numbers) 128) all (le-leb (length numbers) 128 are.1), are.0)
+
+-- ---- the declared tests that a file meets, and their numbers
+-- ---- the tests that are met, one after another
+-- the row has what it had, and what those among the first words entail
+abbrev pub MetSoFar : Words → Taxonomy → ℕ → Rows → Rows → ℕ → Type 0
+MetSoFar words t size old row i = Gathered t old row (numbers_of words.dict (met_first (kept_words no_limits words []) size i))
+
+module _ (words : Words) (t : Taxonomy) (size : ℕ) (old : Rows) where
+  abbrev k : Kept
+  k = kept_words no_limits words []
+
+  pub met_none : (start : ℕ) → HasShape old 2 t.props → start ≤ length words.dict.entries → ((i : ℕ) (e : List ℕ × ℕ) → i < start → slice_get words.dict.entries i ≡ Some e → test_of e.0 ≡ None) → MetSoFar words t size old old start
+  met_none start shape le none = subst (λ ws. Gathered t old old (numbers_of words.dict ws)) (sym (met_before k size start le none)) (gathered_none t old shape)
+
+  pub met_all : (row : Rows) (end : ℕ) → MetSoFar words t size old row end → end ≤ length words.dict.entries → ((i : ℕ) (e : List ℕ × ℕ) → end ≤ i → slice_get words.dict.entries i ≡ Some e → test_of e.0 ≡ None)
+      → Gathered t old row (numbers_of words.dict (met_tests (declared_words words) size))
+  met_all row end was le none = subst (λ ws. Gathered t old row (numbers_of words.dict ws)) (met_behind k size end le none) was
+
+  module _ (i : ℕ) (word : List ℕ) (number : ℕ) (here : slice_get words.dict.entries i ≡ Some (word, number)) (row : Rows) (was : MetSoFar words t size old row i) where
+    pub met_not : (is_met (test_of word) size && bit_of words.declared (number_of words.dict word)) ≡ false → MetSoFar words t size old row (i + 1)
+    met_not unmet = subst (λ ws. Gathered t old row (numbers_of words.dict ws)) (sym (unmet_next k size i (word, number) here unmet)) was
+
+    pub met_more : (mid new : Rows) → number_of words.dict word ≡ Some number → (is_met (test_of word) size && bit_of words.declared (number_of words.dict word)) ≡ true → mid ≡ with_row row 1 (entails t number)
+        → new ≡ with_row mid 0 (λ bit. get mid 0 bit || get mid 1 bit) → MetSoFar words t size old new (i + 1)
+    met_more mid new named met ups joined =
+        let before = met_first k size i in
+        let more = ap (numbers_of words.dict) (met_next k size i (word, number) here met)
+        ∙ (flat_map-append (λ w. option_to_list (number_of words.dict w)) before (word ∷ []) ∙ ap (λ (o : Option ℕ). numbers_of words.dict before ++ (option_to_list o ++ [])) named) in
+        subst (λ ns. Gathered t old new ns) (sym more) (gathered_more t old row mid new (numbers_of words.dict before) number was ups joined)
+
+-- ---- with what is derived
+-- only a test is met
+met_is_test : (test : Option (Bool × ℕ)) (size : ℕ) → is_met test size ≡ true → is_some test ≡ true
+met_is_test None size met = absurd (both_ways false refl met)
+met_is_test (Some test) size met = refl
+
+module _ (words : Words) (dict : IsDict words.dict) (size : ℕ) where
+  abbrev met : List (List ℕ)
+  met = met_tests (declared_words words) size
+
+  -- each has a number
+  met_numbered : list_all (is_numbered words.dict) (met_tests (declared_words words) size) ≡ true
+  met_numbered = all_from (is_numbered words.dict) met (λ w m.
+      let both = among_filter (λ word. is_met (test_of word) size) (declared_words words) w m in
+      and_from (is_some (number_of words.dict w)) (not (is_valued w) || is_some (number_of words.dict (head_bytes w))) (declared_numbered no_limits words dict w both.0)
+      (or_left (not (is_valued w)) (is_some (number_of words.dict (head_bytes w))) (ap not (test_not_valued w (met_is_test (test_of w) size both.1)))))
+
+  -- where the derived words have numbers, all that are found have them
+  pub found_numbered : (derived : List (List ℕ)) → list_all (is_numbered words.dict) (derived ++ met_tests (declared_words words) size) ≡ list_all (is_numbered words.dict) derived
+  found_numbered derived = list_all-append (is_numbered words.dict) derived met ∙ (ap (λ b. list_all (is_numbered words.dict) derived && b) met_numbered ∙ and-true (list_all (is_numbered words.dict) derived))
+
+  -- what a file has by itself is what it was given, what is derived, and the tests that it meets
+  pub found_gathered : (t : Taxonomy) (tags : List ℕ) (derived : List (List ℕ)) (old given row new : Rows) → Gathered t old given tags → Gathered t given row (numbers_of words.dict derived)
+      → Gathered t row new (numbers_of words.dict (met_tests (declared_words words) size)) → Gathered t old new (own_numbers words.dict tags (derived ++ met_tests (declared_words words) size))
+  unfolding own_numbers
+  found_gathered t tags derived old given row new first second third =
+      let all = append_assoc tags (numbers_of words.dict derived) (numbers_of words.dict met) ∙ ap (λ ns. tags ++ ns) (sym (flat_map-append (λ word. option_to_list (number_of words.dict word)) derived met)) in
+      subst (λ ns. Gathered t old new ns) all
+      (gathered_then t old row new (tags ++ numbers_of words.dict derived) (numbers_of words.dict met) (gathered_then t old given row tags (numbers_of words.dict derived) first second) third)

@@ -1,53 +1,92 @@
 -- Rows of the left sides of axioms and of their heads, and the words that are not in use.
-use Rattle.std.proofs.Common.{◌≡◌, ◌⊎◌, ◌∙◌, refl, sym, ap, inl, inr, ℕ, ◌<◌, ◌==◌, if◌then◌else◌, ◌&&◌, ◌||◌, not, Bool, true, false, cond, List, length, Option, Some, None, is_some, eq-eqb, arith}
-use Rattle.lis_open.proofs.Common.{list_any, or-false, ne_eqb, cases_eq, HasShape, get, with_row, is_taken, Dict, IsDict, number_of, word_of, number_below, AxiomSlot, Kept, is_head_by, is_had, is_left_of, is_left_head_of, is_used, is_valued, head_bytes}
+use Rattle.std.proofs.Common.{min, ◌↔◌}
+use Rattle.lis_open.proofs.Common.{◌≡◌, ◌∙◌, sym, ap, ap₂, ℕ, ◌*◌, ◌/◌, ◌<◌, ◌==◌, Bool, false, List, [], length, IsTrue, arith, subst, refl, if◌then◌else◌, ◌&&◌, ◌||◌, not, true, cond, Some, None, is_some, list_all, length-replicate, bits_bytes, has, Limits, slot, Row, row_slots, both_ways, has_number, list_any, or-false, HasShape, get, with_row, is_taken, Dict, IsDict, word_of, AxiomSlot, Kept, is_head_by, is_had, is_left_of, is_left_head_of, is_used, Rows}
+use Rattle.lis_fields.specs.Layouts.{zeros}
+use Rattle.std.proofs.lemmas.Bool.Decides.{nat_tests}
+use Rattle.lis_bits.proofs.Numbers.{bytes_same}
+use Rattle.lis_ext.specs.Ext.{Ext, empty_ext}
+use Rattle.lis_fields.proofs.Widths.{zeros_pass, zeros_of}
+use Rattle.lis_model.specs.Image.{rows_start}
+use Rattle.lis_open.specs.ReadAll.{IsRowSpelled, IsFirstRow, row_place, is_stray}
+use Rattle.lis_open.proofs.WordsRead.{nothing_at}
+use Rattle.lis_kept.specs.Rows.{row_bytes}
+use Rattle.lis_kept.proofs.Spelled.{row_bytes_none}
 use Rattle.std.proofs.Math.Bool.{or-true, or_assoc}
 use Rattle.std.proofs.lemmas.Bool.{and_right}
-use Rattle.lis_bits.specs.Rows.{Rows}
-use Rattle.lis_bits.proofs.Laws.{get-with_row_same, length-with_row}
-use Rattle.lis_kept.proofs.Used.{is_at, head_by_number, any_or}
+use Rattle.lis_bits.proofs.Laws.{get-with_row_same, shaped as still_shaped}
+use Rattle.lis_open.proofs.AxiomsRead.{head_test}
+use Rattle.lis_kept.proofs.Used.{is_at, any_or}
 use Rattle.lis_open.specs.ReadWords.{head_by}
-use Rattle.lis_open.specs.ReadAll.{is_stray}
 
+-- a row of which no bit is set is all zeros
+abbrev no_rows : ℕ → Ext
+no_rows n = empty_ext 0 (8 * n)
+
+no_set : (n i : ℕ) → has (no_rows n) 0 i ≡ false
+no_set n i = ap (λ ns. has_number ns 0) (nothing_at (8 * n) i [])
+
+pub zero_row : (n : ℕ) (bit : ℕ → Bool) → ((i : ℕ) → bit i ≡ false) → bits_bytes n bit ≡ zeros n
+unfolding zeros
+zero_row n bit none =
+    let long : length (no_rows n).sets ≡ 8 * n = length-replicate (8 * n) [] in
+    let count : n ≡ length (no_rows n).sets / 8 = omega (arith, long) in
+    bytes_same n bit (has (no_rows n) 0) (λ i lt. none i ∙ sym (no_set n i))
+    ∙ (ap (λ m. bits_bytes m (has (no_rows n) 0)) count ∙ sym (row_bytes_none (no_rows n) 0 n (sym long) (no_set n)))
+
+-- the row of a number that no file has
+pub no_file_has : (e : Ext) (files number : ℕ) → length e.sets ≡ files → ((slot : ℕ) → has e number slot ≡ false) → row_bytes e number ≡ zeros (files / 8)
+no_file_has e files number count none = ap (λ n. bits_bytes (n / 8) (has e number)) count ∙ zero_row (files / 8) (has e number) none
+
+-- it is what bytes are that are all zero
+pub zeros_decide : (e : Ext) (files number : ℕ) (bytes : List ℕ) (all : Bool) → length e.sets ≡ files → length bytes ≡ files / 8 → ((slot : ℕ) → has e number slot ≡ false)
+    → all ≡ list_all (λ b. b == 0) bytes → IsTrue all ↔ (bytes ≡ row_bytes e number)
+zeros_decide e files number bytes all count width none is = (
+  λ yes. zeros_of (files / 8) bytes width (sym is ∙ yes) ∙ sym (no_file_has e files number count none),
+  λ same. is ∙ (ap (λ bs. list_all (λ b. b == 0) bs) (same ∙ no_file_has e files number count none) ∙ zeros_pass (files / 8)),
+)
+
+-- ---- rows as they are read
+pub row_read : (limits : Limits) (kept : ℕ → List ℕ) (ext : Ext) (p first width : ℕ) (buf : List ℕ) (same : Bool) → first ≡ rows_start limits → width ≡ limits.files / 8
+    → ((count : ℕ) → buf ≡ slot (record { first = first; count = count; width = width }) kept p) → (IsTrue same ↔ (buf ≡ row_bytes ext p)) → IsTrue same ↔ IsRowSpelled limits kept ext p
+row_read limits kept ext p first width buf same start wide read test =
+    let there : slot (row_slots limits) kept p ≡ buf =
+    ap₂ (λ a w. slot (record { first = a; count = (row_slots limits).count; width = w }) kept p) (sym start) (sym wide) ∙ sym (read (row_slots limits).count) in
+    (λ yes. there ∙ test.0 yes, λ spelled. test.1 (sym there ∙ spelled))
+
+abbrev pub SameBelow : Limits → (ℕ → List ℕ) → Ext → ℕ → Type 0
+SameBelow limits kept ext end = (q : ℕ) → q < end → IsRowSpelled limits kept ext q
+
+pub row_place_is : (limits : Limits) (p : ℕ) → row_place limits p ≡ min p limits.props
+row_place_is limits p = grind (arith, nat_tests)
+
+-- the first row that is spelled otherwise
+pub first_row : (limits : Limits) (kept : ℕ → List ℕ) (ext : Ext) (p place : ℕ) (same : Bool) → p < (row_slots limits).count → place ≡ min p limits.props → (IsTrue same ↔ IsRowSpelled limits kept ext p) → same ≡ false
+    → SameBelow limits kept ext p → (q : ℕ) × (Row place ≡ Row (row_place limits q)) × IsFirstRow limits kept ext q
+first_row limits kept ext p place same below is test differs before = (
+  p,
+  ap Row (is ∙ sym (row_place_is limits p)),
+  record { below = below; differs = λ spelled. both_ways same differs (test.1 spelled); same_before = before },
+)
+
+-- ---- rows of the left sides of axioms and of their heads, and the words that are not in use
 -- a row keeps its shape when it is set
 pub shaped : (r : Rows) (rows bits row : ℕ) (value : ℕ → Bool) (next : Rows) → HasShape r rows bits → next ≡ with_row r row value → HasShape next rows bits
-shaped r rows bits row value next shape is = record {
-  tall = ap (λ (x : Rows). length x.rows) is ∙ (length-with_row r row value ∙ shape.tall);
-  wide = ap (λ (x : Rows). x.bits) is ∙ shape.wide;
-}
+shaped r rows bits row value next shape is = subst (λ (x : Rows). HasShape x rows bits) (sym is) (still_shaped r rows bits row value shape)
+
+put_or : (n m : ℕ) (b : Bool) → cond (n == m) true b ≡ (b || (m == n))
+put_or n m b = grind (arith, nat_tests)
 
 -- one bit more
 pub bit_put : (r next : Rows) (bits m n : ℕ) → HasShape r 2 bits → next ≡ with_row r 0 (λ j. if j == m then true else get r 0 j) → n < bits → get next 0 n ≡ (get r 0 n || (m == n))
 bit_put r next bits m n shape is below =
     ap (λ (x : Rows). get x 0 n) is
-    ∙ (get-with_row_same r 0 n (λ j. if j == m then true else get r 0 j) (omega (arith, shape.tall)) (omega (arith, shape.wide, below)) ∙ by (cases_eq n m))
-  where
-    by : (n ≡ m) ⊎ (n ≡ m → ⊥) → cond (n == m) true (get r 0 n) ≡ (get r 0 n || (m == n))
-    by (inl same) =
-        ap (λ b. cond b true (get r 0 n)) (eq-eqb n m same) ∙ (sym (or-true (get r 0 n)) ∙ ap (λ b. get r 0 n || b) (sym (eq-eqb m n (sym same))))
-    by (inr differ) =
-        ap (λ b. cond b true (get r 0 n)) (ne_eqb n m differ) ∙ (sym (or-false (get r 0 n)) ∙ ap (λ b. get r 0 n || b) (sym (ne_eqb m n (λ e. differ (sym e)))))
+    ∙ (get-with_row_same r 0 n (λ j. if j == m then true else get r 0 j) (omega (arith, shape.tall)) (omega (arith, shape.wide, below)) ∙ put_or n m (get r 0 n))
 
 pub no_bit_set : (r next : Rows) (bits n : ℕ) → HasShape r 2 bits → next ≡ with_row r 0 (λ _. false) → n < bits → get next 0 n ≡ false
 no_bit_set r next bits n shape is below =
     ap (λ (x : Rows). get x 0 n) is ∙ get-with_row_same r 0 n (λ _. false) (omega (arith, shape.tall)) (omega (arith, shape.wide, below))
 
 -- ---- the left side of one axiom
-pub head_below : (d : Dict) → IsDict d → (o : Option (List ℕ)) (head : ℕ) → head_by d o ≡ Some head → head < d.props
-head_below d dict None head is = absurd cc
-head_below d dict (Some w) head is = by (is_valued w) is
-  where
-    by : (b : Bool) → (if b then number_of d (head_bytes w) else None) ≡ Some head → head < d.props
-    by true is = number_below d dict (head_bytes w) head is
-    by false is = absurd cc
-
-head_at : (d : Dict) → IsDict d → (left n : ℕ) → is_at (head_by d (word_of d left)) n ≡ is_head_by (word_of d left) (word_of d n)
-head_at d dict left n = by (word_of d left)
-  where
-    by : (o : Option (List ℕ)) → is_at (head_by d o) n ≡ is_head_by o (word_of d n)
-    by None = refl
-    by (Some w) = head_by_number d dict w n
-
 module _ (d : Dict) (dict : IsDict d) (left n : ℕ) where
   abbrev is_marked : Bool
   is_marked = (left == n) || is_head_by (word_of d left) (word_of d n)
@@ -56,14 +95,14 @@ module _ (d : Dict) (dict : IsDict d) (left n : ℕ) where
       → get mid 0 n ≡ (get old 0 n || is_marked)
   left_marked old mid bits shape is none below =
       bit_put old mid bits left n shape is below
-      ∙ ap (λ b. get old 0 n || b) (sym (or-false (left == n)) ∙ ap (λ b. (left == n) || b) (sym (ap (λ o. is_at o n) none) ∙ head_at d dict left n))
+      ∙ ap (λ b. get old 0 n || b) (sym (or-false (left == n)) ∙ ap (λ b. (left == n) || b) (sym (ap (λ o. is_at o n) none) ∙ head_test d dict (word_of d left) n))
 
   pub both_marked : (old mid new : Rows) (bits head : ℕ) → HasShape old 2 bits → mid ≡ with_row old 0 (λ j. if j == left then true else get old 0 j) → head_by d (word_of d left) ≡ Some head
       → new ≡ with_row mid 0 (λ j. if j == head then true else get mid 0 j) → n < bits → get new 0 n ≡ (get old 0 n || is_marked)
   both_marked old mid new bits head shape is some then_is below =
       bit_put mid new bits head n (shaped old 2 bits 0 _ mid shape is) then_is below
       ∙ (ap (λ b. b || (head == n)) (bit_put old mid bits left n shape is below)
-      ∙ (or_assoc (get old 0 n) (left == n) (head == n) ∙ ap (λ b. get old 0 n || ((left == n) || b)) (sym (ap (λ o. is_at o n) some) ∙ head_at d dict left n)))
+      ∙ (or_assoc (get old 0 n) (left == n) (head == n) ∙ ap (λ b. get old 0 n || ((left == n) || b)) (sym (ap (λ o. is_at o n) some) ∙ head_test d dict (word_of d left) n)))
 
 -- ---- words that are not in use
 -- by a row of left sides

@@ -1,8 +1,7 @@
 -- An image that stands for a state is as long as it needs to be.
-use Rattle.std.proofs.Common.{◌≡◌, ℕ, ◌≤◌, List, length, ap, inl, inr, arith}
-use Rattle.lis_open.proofs.Common.{part, Limits, image_blocks, State}
-use Rattle.lis_fields.proofs.OneSpelling.{super_once}
+use Rattle.lis_open.proofs.Common.{◌≡◌, ℕ, ◌≤◌, List, length, ap, inl, inr, arith, part, Limits, image_blocks, State}
 use Rattle.lis_store.specs.Stands.{Stands}
+use Rattle.lis_fields.proofs.OneSpelling.{super_once}
 use Rattle.lis_open.specs.Opens.{HasSuper, IsNeeded}
 
 -- a super block tells one value of limits

@@ -1,23 +1,126 @@
 -- Lists in whose places nothing stands twice.
-use Rattle.std.proofs.Common.{◌≡◌, ◌⊎◌, ◌∙◌, refl, sym, ap, subst, inl, inr, ℕ, zero, suc, ◌+◌, ◌<◌, ◌≤◌, Bool, true, List, [], ◌∷◌, ◌++◌, length, map, take, get_or, slice_get, Some, arith}
-use Rattle.std.specs.declared.cmp.Ordering.{Ordering}
-use Rattle.std.specs.declared.cmp.Ordering.TheVariants.{Less, Equal, Greater}
+use Rattle.std.proofs.Common.{eqb, add-one, drop-cons, Ordering, is_lt, Less, Equal, Greater}
+use Rattle.lis_open.proofs.Common.{◌≡◌, refl, sym, ap, ap₂, subst, inl, inr, ℕ, ◌+◌, zero, suc, ◌<◌, ◌≤◌, true, ◌&&◌, List, [], ◌∷◌, length, map, take, arith, sum, length-append, ◌⊎◌, ◌∙◌, nat_lt, Bool, false, not, ◌||◌, ◌++◌, get_or, set, drop, length-set, get_or-set_other, slice_get, Some, ⊎_elim, flat_map, eqb-true, ltb-true, list_all, insert_key, Among, among_from_any, are_distinct, cases_lt, among_left, is_taken, marked, are_free, are_below, among_from_number, IsStrictlySortedBy, slice_get_within, Slots, word_cmp, file_cmp, among_place, AreSlots, AllApart, all_among, and_parts, and_from, both_ways, false_from_ne_true, get_or_past, has_number, not_true, slice_get-get_or, flat_map_among, File, cases_eq}
 use Rattle.std.specs.Ordering.{match_ordering}
-use Rattle.std.proofs.Math.Logic.{⊎_elim}
-use Rattle.lis_open.proofs.Common.{insert_key, flat_map, IsStrictlySortedBy, slice_get_within, Among, Slots, word_cmp, file_cmp, among_place, AreSlots, AllApart}
+use Rattle.std.proofs.lemmas.List.Sums.{sum_by-cons}
+use Rattle.std.proofs.lemmas.Map.Steps.{length-le_from_distinct_below}
+use Rattle.lis_graph.specs.Graph.{is_rising, with_more}
+use Rattle.lis_laws.proofs.Counts.{insert_key_le}
+use Rattle.lis_kept.proofs.Filed.{each_once}
+use Rattle.std.proofs.lemmas.Bool.{not_from_false}
+use Rattle.lis_content.proofs.Numbers.{length-marked}
+use Rattle.lis_store.proofs.Marks.{taken_after}
+use Rattle.lis_kept.proofs.Filing.{number_from_among, map_insert_key}
 use Rattle.std.specs.Cmp.{IsTotalOrder}
 use Rattle.std.proofs.lemmas.Map.Lookups.{CmpEqualImpliesEq}
-use Rattle.std.proofs.lemmas.Option.{slice_get-get_or}
-use Rattle.lis_graph.specs.Graph.{with_more}
-use Rattle.lis_graph.proofs.Members.{among_right, among_insert_key, insert_key_old, insert_key_new, with_more_old, flat_map_among}
+use Rattle.lis_graph.proofs.Members.{among_right, among_insert_key, insert_key_old, insert_key_new, with_more_old}
 use Rattle.lis_graph.proofs.Sets.{sorted_nil, sorted_insert_key, members_le}
-use Rattle.lis_laws.proofs.Counts.{insert_key_le}
 use Rattle.lis_model.specs.Sets.{with_words}
-use Rattle.lis_model.specs.State.{File}
-use Rattle.lis_kept.proofs.Filing.{map_insert_key}
 use Rattle.lis_open.specs.Checks.{IsSlot}
-use Rattle.lis_open.proofs.Counts.{more_le}
 
+-- ---- numbers below a bound, none of them twice
+pub few_below : (ns : List ℕ) (end : ℕ) → are_distinct ns ≡ true → ((n : ℕ) → Among ns n → n < end) → length ns ≤ end
+few_below ns end distinct below =
+    length-le_from_distinct_below ns end (each_once ns distinct)
+    (λ q is. let found = among_from_any (eqb q) ns is in below q (subst (λ n. Among ns n) (sym (eqb-true q found.0 found.2)) found.1))
+
+-- ---- a set has no more members than were put into it
+pub more_le : {K : Type 0} (cmp : K → K → Ordering) (xs more : List K) → length (with_more cmp xs more) ≤ length xs + length more
+more_le cmp xs [] = omega arith
+more_le cmp xs (m ∷ more) = let rest = more_le cmp (insert_key cmp xs m) more in omega (arith, rest, insert_key_le cmp xs m)
+
+-- ---- one number and the others
+pub each_number : (P : ℕ → Type 0) (k : ℕ) → P k → ((n : ℕ) → (n ≡ k → ⊥) → P n) → (n : ℕ) → P n
+each_number P k here there n = ⊎_elim (λ same. subst P (sym same) here) (there n) (cases_eq n k)
+
+-- ---- sums
+pub sum_within : {X : Type 0} (count : X → ℕ) (numbers : X → List ℕ) (xs : List X) → ((x : X) → Among xs x → count x ≤ length (numbers x)) → sum (map count xs) ≤ length (flat_map numbers xs)
+sum_within count numbers [] each = omega arith
+sum_within count numbers (x ∷ xs) each =
+    let rest = sum_within count numbers xs (λ y m. each y (inr m)) in
+    omega (arith, rest, each x (inl refl), sum_by-cons (λ n. n) (count x) (map count xs), length-append (numbers x) (flat_map numbers xs))
+
+-- ---- lists that rise by a key
+pub rising_map : {X Y Z : Type 0} (cmp : Y → Y → Ordering) (other : Z → Z → Ordering) (f : X → Y) (g : X → Z) (xs : List X) → ((a b : X) → cmp (f a) (f b) ≡ other (g a) (g b)) → is_rising cmp (map f xs) ≡ is_rising other (map g xs)
+rising_map cmp other f g [] same = refl
+rising_map cmp other f g (x ∷ xs) same = ap₂ (λ a b. a && b) (all xs) (rising_map cmp other f g xs same)
+  where
+    all : (ys : List _) → list_all (λ y. is_lt (cmp (f x) y)) (map f ys) ≡ list_all (λ z. is_lt (other (g x) z)) (map g ys)
+    all [] = refl
+    all (y ∷ ys) = ap₂ (λ a b. a && b) (ap is_lt (same x y)) (all ys)
+
+-- ---- lists of numbers of which none stands twice, and blocks that are taken
+-- ---- no number twice
+pub apart_first : (n : ℕ) (ns : List ℕ) → are_distinct (n ∷ ns) ≡ true → (Among ns n → ⊥) × (are_distinct ns ≡ true)
+apart_first n ns distinct =
+    let parts = and_parts (not (has_number ns n)) (are_distinct ns) distinct in
+    (λ m. both_ways (has_number ns n) (not_true (has_number ns n) parts.0) (number_from_among ns n m), parts.1)
+
+distinct_front : (ms ns : List ℕ) → are_distinct (ms ++ ns) ≡ true → are_distinct ms ≡ true
+distinct_front [] ns distinct = refl
+distinct_front (m ∷ ms) ns distinct =
+    let parts = apart_first m (ms ++ ns) distinct in
+    and_from (not (has_number ms m)) (are_distinct ms)
+    (not_from_false (has_number ms m) (false_from_ne_true (has_number ms m) (λ has. parts.0 (among_left ms ns m (among_from_number ms m has)))))
+    (distinct_front ms ns parts.1)
+
+distinct_behind : (ms ns : List ℕ) → are_distinct (ms ++ ns) ≡ true → are_distinct ns ≡ true
+distinct_behind [] ns distinct = distinct
+distinct_behind (m ∷ ms) ns distinct = distinct_behind ms ns (apart_first m (ms ++ ns) distinct).1
+
+-- and so none stands twice in a piece of such a list
+pub distinct_piece : {X : Type 0} (piece : X → List ℕ) (xs : List X) (x : X) → Among xs x → are_distinct (flat_map piece xs) ≡ true → are_distinct (piece x) ≡ true
+distinct_piece piece [] x m distinct = absurd m
+distinct_piece piece (y ∷ ys) x (inl same) distinct = subst (λ z. are_distinct (piece z) ≡ true) same (distinct_front (piece y) (flat_map piece ys) distinct)
+distinct_piece piece (y ∷ ys) x (inr m) distinct = distinct_piece piece ys x m (distinct_behind (piece y) (flat_map piece ys) distinct)
+
+-- ---- blocks that are taken
+pub is_taken-marked : (taken : List Bool) (ns : List ℕ) (n : ℕ) → are_below (length taken) ns ≡ true → is_taken (marked taken ns) n ≡ (has_number ns n || is_taken taken n)
+is_taken-marked taken ns n below = ⊎_elim (taken_after taken ns n) (λ past.
+    let none = false_from_ne_true (has_number ns n) (λ has.
+    let lt = ltb-true n (length taken) (all_among (λ m. nat_lt m (length taken)) ns n below (among_from_number ns n has)) in
+    omega (arith, lt, past)) in
+    get_or_past (marked taken ns) n false (omega (arith, past, length-marked taken ns)) ∙ sym (ap₂ (λ a b. a || b) none (get_or_past taken n false past)))
+    (cases_lt n (length taken))
+
+free_still : (taken : List Bool) (ns : List ℕ) (n : ℕ) → are_free taken ns ≡ true → (Among ns n → ⊥) → are_free (set taken n true) ns ≡ true
+free_still taken [] n free none = refl
+free_still taken (b ∷ ns) n free none =
+    let parts = and_parts (nat_lt b (length taken) && not (is_taken taken b)) (are_free taken ns) free in
+    let first = and_parts (nat_lt b (length taken)) (not (is_taken taken b)) parts.0 in
+    and_from (nat_lt b (length (set taken n true)) && not (is_taken (set taken n true) b)) (are_free (set taken n true) ns)
+    (and_from (nat_lt b (length (set taken n true))) (not (is_taken (set taken n true) b))
+    (ap (nat_lt b) (length-set taken n true) ∙ first.0)
+    (ap not (get_or-set_other taken n b true false (λ e. none (inl e))) ∙ first.1))
+    (free_still taken ns n parts.1 (λ m. none (inr m)))
+
+-- blocks that are marked one by one: those of `left` are still to be marked
+pub record Marking (start now : List Bool) (all left : List ℕ) : Type 0 where
+  pub marks : marked now left ≡ marked start all
+  pub free : are_free now left ≡ true
+  pub distinct : are_distinct left ≡ true
+
+module _ (start now : List Bool) (ns : List ℕ) (k : ℕ) (lt : k < length ns) (marking : Marking start now ns (drop k ns)) where
+  at_first : Marking start now ns (get_or ns k 0 ∷ drop (k + 1) ns)
+  at_first = subst (λ left. Marking start now ns left) (drop-cons ns k 0 lt ∙ ap (λ i. get_or ns k 0 ∷ drop i ns) (sym (add-one k))) marking
+
+  pub next_free : (get_or ns k 0 < length now) × (is_taken now (get_or ns k 0) ≡ false)
+  next_free =
+      let parts = and_parts (nat_lt (get_or ns k 0) (length now) && not (is_taken now (get_or ns k 0))) (are_free now (drop (k + 1) ns)) at_first.free in
+      let first = and_parts (nat_lt (get_or ns k 0) (length now)) (not (is_taken now (get_or ns k 0))) parts.0 in
+      (ltb-true (get_or ns k 0) (length now) first.0, not_true (is_taken now (get_or ns k 0)) first.1)
+
+  pub marking_on : (after : List Bool) → after ≡ set now (get_or ns k 0) true → Marking start after ns (drop (k + 1) ns)
+  marking_on after is =
+      let parts = and_parts (nat_lt (get_or ns k 0) (length now) && not (is_taken now (get_or ns k 0))) (are_free now (drop (k + 1) ns)) at_first.free in
+      let rest = apart_first (get_or ns k 0) (drop (k + 1) ns) at_first.distinct in
+      record {
+        marks = ap (λ t. marked t (drop (k + 1) ns)) is ∙ at_first.marks;
+        free = ap (λ t. are_free t (drop (k + 1) ns)) is ∙ free_still now (drop (k + 1) ns) (get_or ns k 0) parts.1 rest.0;
+        distinct = rest.1;
+      }
+
+-- ---- lists in whose places nothing stands twice
 -- ---- places of a list
 -- what is in a front is in the list, in the same place
 pub taken_place : {X : Type 0} (n : ℕ) (xs : List X) (j : ℕ) (x : X) → slice_get (take n xs) j ≡ Some x → (j < n) × (slice_get xs j ≡ Some x)
@@ -97,11 +200,10 @@ inserted_or_not cmp (x ∷ xs) k = by (cmp k x) (inserted_or_not cmp xs k)
 
 all_there : {K : Type 0} (cmp : K → K → Ordering) (xs more : List K) → length (with_more cmp xs more) ≡ length xs + length more → (k : K) → Among more k → Among (with_more cmp xs more) k
 all_there cmp xs [] full k m = absurd m
-all_there {K} cmp xs (x ∷ more) full k (inl same) = by (inserted_or_not cmp xs x)
-  where
-    by : Among (insert_key cmp xs x) x ⊎ (length (insert_key cmp xs x) ≡ length xs) → Among (with_more cmp (insert_key cmp xs x) more) k
-    by (inl there) = with_more_old cmp (insert_key cmp xs x) more k (subst (λ (y : K). Among (insert_key cmp xs x) y) same there)
-    by (inr short) = absurd (let few = more_le cmp (insert_key cmp xs x) more in omega (arith, full, few, short))
+all_there {K} cmp xs (x ∷ more) full k (inl same) = elim (inserted_or_not cmp xs x) [
+  | inl there ↦ with_more_old cmp (insert_key cmp xs x) more k (subst (λ (y : K). Among (insert_key cmp xs x) y) same there)
+  | inr short ↦ absurd (let few = more_le cmp (insert_key cmp xs x) more in omega (arith, full, few, short))
+]
 all_there cmp xs (x ∷ more) full k (inr m) =
     let few = more_le cmp (insert_key cmp xs x) more in
     let one = insert_key_le cmp xs x in

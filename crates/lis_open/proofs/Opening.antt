@@ -1,19 +1,20 @@
 -- How opening an image ends: the super block, the journal, and the parts behind it.
-use Rattle.std.proofs.Common.{◌≡◌, ◌⊎◌, ◌∙◌, refl, sym, ap, subst, inl, inr, ℕ, ◌*◌, ◌<◌, ◌≤◌, false, List, [], length, Option, Some, None, Result, Ok, Err, IsTrue, IsSomeAnd, arith, Bool, true, cond}
-use Rattle.lis_open.proofs.Common.{same_Some, Meaning, part, IsSettled, Leaves, block, Held, Fits, SpellsSuper, Limits, Spot, Super, BadRecord, Property, Axiom, Word, Row, are_in_range, image_blocks, State, Tells, Stored, IsSound, contents_of}
+use Rattle.std.proofs.Common.{slice_index_or}
+use Rattle.lis_open.proofs.Common.{rules, ◌≡◌, refl, sym, ap, ap₂, ◌∙◌, subst, inl, inr, ℕ, ◌+◌, ◌/◌, ◌≤◌, ◌<◌, nat_lt, Bool, true, false, cond, List, [], ◌++◌, map, take, replicate, Option, Some, None, IsTrue, IsSomeAnd, arith, fold, flat_map, Contains, ◌⊎◌, ◌*◌, length, Result, Ok, Err, insert_key, list_all, part, bits_bytes, block, Keeps, Slots, slot, marked, are_distinct, is_large, index_bytes, numbers_in, index_home, FileRecord, SpellsSuper, prop_bytes, is_prop, axiom_bytes, is_axiom, file_bytes, is_file, FreeFile, PropSlot, Limits, bitmap_start, data_start, image_blocks, are_in_range, State, file_cmp, blocks_needed, property_slots, axiom_slots, file_slots, row_slots, bytes_told, blocks_told, HasIndex, Contents, AreSlots, all_records, spelled_state, is_had_by, word_at, row_bit, replayed, File, file_of_record, same_Some, Meaning, IsSettled, Leaves, Held, Fits, Spot, Super, BadRecord, Tells, Stored, IsSound, contents_of, leaves_weaken, leaves_then, IsWritten, ⊎_map}
+use Rattle.std.proofs.Math.Path.{fun_ext}
+use Rattle.lis_journal.specs.Images.{StandsFor as KeptBy, KeepsPast}
+use Rattle.lis_journal.proofs.Fitting.{replayed-front}
+use Rattle.lis_slots.specs.Slots.{home, place}
+use Rattle.lis_blockmap.specs.Bitmap.{bitmap_bytes}
+use Rattle.lis_content.specs.Large.{content_blocks}
+use Rattle.lis_store.specs.Stands.{all_blocks, Spells, Stands}
 use Rattle.lis_ports.specs.Calls.{IsUnchanged}
 use Rattle.lis_ports.specs.Runs.{IsDiskRun}
-use Rattle.lis_ports.proofs.Moments.{leaves_weaken, leaves_then}
-use Rattle.lis_journal.specs.Record.{has_open, bad_record, replayed, recovered_as, recovered}
-use Rattle.lis_journal.specs.Images.{StandsFor as KeptBy, KeepsPast}
+use Rattle.lis_journal.specs.Record.{has_open, bad_record, recovered_as, recovered}
 use Rattle.lis_journal.specs.Recovery.{HasMountCause, StandsForReplayed, InRecovery, MountEnded, IsSettledPast}
 use Rattle.lis_journal.specs.declared.journal.JournalFault.{JournalFault}
 use Rattle.lis_journal.specs.declared.journal.JournalFault.TheVariants.{DiskFault as JournalDisk, BadRecord as JournalRecord, NoMemory as JournalMemory}
-use Rattle.lis_journal.proofs.Fitting.{replayed-front}
 use Rattle.lis_content.proofs.Reading.{unchanged_then}
-use Rattle.lis_model.specs.declared.spot.Spot.TheVariants.{File, Bitmap}
-use Rattle.lis_store.specs.Stands.{Stands}
-use Rattle.lis_kept.specs.Areas.{IsWritten}
 use Rattle.lis_store.proofs.Spelled.{tells_spells}
 use Rattle.lis_open.specs.declared.mounting.OpenFault.{OpenFault}
 use Rattle.lis_open.specs.declared.mounting.OpenFault.TheVariants.{TooShort, Damaged, DiskFault, NoMemory}
@@ -21,11 +22,95 @@ use Rattle.lis_open.specs.Opens.{HasOpenCause, HasSuper, IsNeeded, IsLongEnough,
 use Rattle.lis_open.specs.Checks.{Fails, FailsReplayed, RecordFails, FailsIn, IsBefore, FailsFirst}
 use Rattle.lis_open.specs.Reading.{OnlyReads, IsFirstOfAll, Opened}
 use Rattle.lis_open.specs.ReadAll.{StoreEnded}
-use Rattle.lis_open.proofs.Quiet.{fits_after, settled_after}
+use Rattle.lis_open.proofs.SpotKinds.{behind}
+use Rattle.lis_open.proofs.BlocksRead.{fits_after, settled_after}
 use Rattle.lis_open.proofs.Needs.{one_limits, has_super, needs_no_more}
 use Rattle.lis_open.proofs.Damage.{damaged}
-use Rattle.lis_open.proofs.SameHomes.{kept_stands}
 
+-- ---- slots and bytes look at home blocks alone
+le_more : (m a b : ℕ) → m ≤ a → m ≤ a + b
+le_more m a b le = omega arith
+
+-- blocks that are the same from the first home block on
+module _ (at there : ℕ → List ℕ) (same : (n : ℕ) → 578 ≤ n → at n ≡ there n) where
+  same_slots : {X : Type 0} (spelled : X → List ℕ) (is_in_range : X → Bool) (slots : Slots) (values : List X) → 578 ≤ slots.first
+      → AreSlots spelled is_in_range slots at values → AreSlots spelled is_in_range slots there values
+  same_slots spelled is_in_range slots values home_blocks are = record {
+    count = are.count;
+    each = λ k value is.
+        let was = are.each k value is in
+        let here = same (home slots k) (le_more 578 slots.first _ home_blocks) in
+        (sym (ap (part (place slots k) slots.width) here) ∙ was.0, was.1);
+  }
+
+  -- ---- files
+  module _ (limits : Limits) where
+    homes : ◌≡◌ {A = ℕ → List ℕ} (λ b. at (data_start limits + b)) (λ b. there (data_start limits + b))
+    homes = fun_ext (λ b. same (data_start limits + b) (omega arith))
+
+    index_same : (rec : FileRecord) → at (index_home (data_start limits) rec.blocks) ≡ there (index_home (data_start limits) rec.blocks)
+    index_same rec = same (index_home (data_start limits) rec.blocks) (omega arith)
+
+    numbers_same : (rec : FileRecord) → content_blocks (data_start limits) rec.blocks rec.size at ≡ content_blocks (data_start limits) rec.blocks rec.size there
+    numbers_same rec = ap (λ bytes. cond (is_large rec.size) (numbers_in (blocks_needed rec.size) bytes) rec.blocks) (index_same rec)
+
+    same_blocks : blocks_told limits at ≡ blocks_told limits there
+    same_blocks = fun_ext (λ rec. ap (λ ns. cond (is_large rec.size) (ns ++ rec.blocks) rec.blocks) (numbers_same rec))
+
+    same_bytes : bytes_told limits at ≡ bytes_told limits there
+    same_bytes = fun_ext (λ rec. ap₂ (λ ns blocks. take rec.size (flat_map blocks ns)) (numbers_same rec) homes)
+
+    same_index : (rec : FileRecord) → HasIndex limits at rec → HasIndex limits there rec
+    same_index rec indexed large = subst (λ bytes. bytes ≡ index_bytes (numbers_in (blocks_needed rec.size) bytes)) (index_same rec) (indexed large)
+
+    same_files : (properties : List PropSlot) → file_of_record limits properties at ≡ file_of_record limits properties there
+    same_files properties = fun_ext (λ rec. ap (λ (bytes_of : FileRecord → List ℕ). record (file_of_record limits properties at rec) { bytes = bytes_of rec }) same_bytes)
+
+    same_spelled : (contents : Contents) (s : State) → Spells limits contents at s → Spells limits contents there s
+    same_spelled contents s spells =
+        let recs = all_records contents.files in
+        let all : all_blocks limits at recs ≡ all_blocks limits there recs = ap (λ blocks. flat_map blocks recs) same_blocks in
+        let file = same_files contents.properties in
+        assumption (
+          same_slots prop_bytes is_prop (property_slots limits) contents.properties (omega arith) spells.properties,
+          same_slots axiom_bytes is_axiom (axiom_slots limits) contents.axioms (omega arith) spells.axioms,
+          same_slots file_bytes (is_file limits.version) (file_slots limits) contents.files (omega arith) spells.files,
+          spells.state ∙ ap (λ (f : FileRecord → File). record (spelled_state limits contents at) { files = fold (insert_key file_cmp) [] (map f recs) }) file,
+          indexed,
+          subst (λ ns. list_all (λ n. nat_lt n limits.blocks) ns ≡ true) all spells.blocks,
+          subst (λ ns. are_distinct ns ≡ true) all spells.each_block_once,
+          sym (same (bitmap_start limits) (omega arith)) ∙ (spells.bitmap ∙ ap (λ ns. bitmap_bytes (marked (replicate limits.blocks false) ns)) all),
+          rows,
+        )
+      where
+        indexed : (rec : FileRecord) → Contains (all_records contents.files) rec → HasIndex limits there rec
+        indexed rec m = same_index rec (spells.indexed rec m)
+
+        rows : (p : ℕ) → p < (row_slots limits).count → slot (row_slots limits) there p ≡ bits_bytes (limits.files / 8) (row_bit s limits contents there p)
+        rows p lt =
+            sym (ap (part (place (row_slots limits) p) (row_slots limits).width) (same (home (row_slots limits) p) (le_more 578 (row_slots limits).first _ (omega arith))))
+            ∙ (spells.rows p lt
+            ∙ ap (λ f. bits_bytes (limits.files / 8) (λ i. is_had_by s f (word_at contents.properties p) (slice_index_or contents.files i FreeFile))) (same_files contents.properties))
+
+-- ---- images stand
+pub kept_stands : (s : State) (contents : Contents) (at : ℕ → List ℕ) (image : List ℕ) → IsTrue (are_in_range s.limits) → SpellsSuper s.limits (at 0) → Spells s.limits contents at s
+    → KeptBy (image_blocks s.limits) at image → Stands image s
+unfolding KeptBy Stands
+kept_stands s contents at image range super spells keeps = by (replayed (image_blocks s.limits) image) refl keeps.1
+  where
+    by : (o : Option (List ℕ)) → replayed (image_blocks s.limits) image ≡ o → IsSomeAnd o (Keeps (image_blocks s.limits) at) → Stands image s
+    by None is none = absurd none
+    by (Some r) is keep = record {
+      range = range;
+      super = subst (λ (bytes : List ℕ). SpellsSuper s.limits bytes) (sym (keep.same 0 (inl refl)) ∙ replayed-front (image_blocks s.limits) image r (omega arith) keeps.0 is) super;
+      long = keeps.0;
+      replay = r;
+      replays = is;
+      contents = contents;
+      spells = same_spelled at (λ n. block n r) (λ n le. sym (keep.same n (inr le))) s.limits contents s spells;
+    }
+
+-- ---- how opening an image ends: the super block, the journal, and the parts behind it
 -- what is said of a value that there is
 pub some_replay : (o : Option (List ℕ)) (P : List ℕ → Type 0) → IsSomeAnd o P → (r : List ℕ) × (o ≡ Some r) × P r
 some_replay None P is = absurd is
@@ -34,11 +119,8 @@ some_replay (Some r) P is = (r, refl, is)
 -- with a record that is not in form nothing is to be done
 recovered-none : (blocks : ℕ) (image : List ℕ) → replayed blocks image ≡ None → recovered blocks image ≡ image
 unfolding recovered
-recovered-none blocks image none = ap (λ o. cond (has_open image) (recovered_as image o) image) none ∙ by (has_open image)
-  where
-    by : (opened : Bool) → cond opened image image ≡ image
-    by true = refl
-    by false = refl
+recovered-none blocks image none =
+    ap (λ o. cond (has_open image) (recovered_as image o) image) none ∙ elim (has_open image) as (λ opened. cond opened image image ≡ image) [ true ↦ refl | false ↦ refl ]
 
 -- ---- faults
 pub one_fault : {T : Type 0} {a b : JournalFault} → ◌≡◌ {A = Result T JournalFault} (Err a) (Err b) → a ≡ b
@@ -67,11 +149,7 @@ unspotted : (old new : Meaning) (fault : OpenFault) → OpenEnded old new (Err f
 unspotted old new fault ended left none = record { ended = ended; left = left; spot = λ spot is. absurd (none spot cc) }
 
 spotted : (old new : Meaning) (spot : Spot) → OpenEnded old new (Err (Damaged spot)) → OpenLeft old new (Err (Damaged spot)) → FailsFirst old.bytes spot → Opened old new (Err (Damaged spot))
-spotted old new spot ended left first = record {
-  ended = ended;
-  left = left;
-  spot = λ other is. subst (λ (p : Spot). FailsFirst old.bytes p) (same_spot {T = Stored} spot other is) first;
-}
+spotted old new spot ended left first = search (rules, same_spot)
 
 pub short_opened : (old new : Meaning) (len need : ℕ) → len ≡ old.len → len < need → IsNeeded old.bytes need → IsUnchanged old new → Opened old new (Err (TooShort len need))
 short_opened old new len need is short needed same = unspotted old new (TooShort len need) (is, short, needed) same (λ spot fault. cc)
@@ -94,12 +172,9 @@ no_super_needs : (old : Meaning) → 4096 ≤ old.len → ((limits : Limits) →
 no_super_needs old long none need (inl one) = omega (arith, one, long)
 no_super_needs old long none need (inr told) = absurd (none told.0 told.1)
 
-super_first : (image : List ℕ) → ((limits : Limits) → HasSuper limits image → ⊥) → FailsFirst image Super
-super_first image none = record { fails = none; none_before = λ earlier before fails. omega (arith, before) }
-
 pub no_super_opened : (old new : Meaning) → 4096 ≤ old.len → ((limits : Limits) → HasSuper limits old.bytes → ⊥) → IsUnchanged old new → Opened old new (Err (Damaged Super))
 no_super_opened old new long none same =
-    spotted old new Super (no_super_needs old long none, λ s stands. none s.limits (has_super old.bytes s stands)) (inl (none, same)) (super_first old.bytes none)
+    spotted old new Super (no_super_needs old long none, λ s stands. none s.limits (has_super old.bytes s stands)) (inl (none, same)) (record { fails = none; none_before = λ earlier before fails. omega (arith, before) })
 
 -- ---- after calls that only read
 module _ (old mid : Meaning) (same : IsUnchanged old mid) (len : mid.len ≡ old.len) where
@@ -109,31 +184,16 @@ module _ (old mid : Meaning) (same : IsUnchanged old mid) (len : mid.len ≡ old
   pub stands_before : (s : State) → Stands old.bytes s → Stands mid.bytes s
   stands_before s stands = subst (λ bytes. Stands bytes s) (sym same.bytes) stands
 
-  no_state_before : ((s : State) → Stands mid.bytes s → ⊥) → (s : State) → Stands old.bytes s → ⊥
-  no_state_before none s stands = none s (stands_before s stands)
-
   recovers_before : (new : Meaning) → Recovers mid new → Recovers old new
-  recovers_before new recovers = (
-    recovers.0,
-    subst (λ bytes. HasSuper recovers.0 bytes) same.bytes recovers.1,
-    subst (λ bytes. IsSettled new (recovered (image_blocks recovers.0) bytes)) same.bytes recovers.2,
-  )
+  recovers_before new recovers = search (rules)
 
   left_before : (new : Meaning) (result : Result Stored OpenFault) → IsDiskRun mid new → OpenLeft mid new result → OpenLeft old new result
-  left_before new (Ok store) run left = recovers_before new left
-  left_before new (Err (TooShort len need)) run left = unchanged_then run same left
-  left_before new (Err (Damaged spot)) run (inl unread) =
-      inl (λ limits super. unread.0 limits (subst (λ bytes. HasSuper limits bytes) (sym same.bytes) super), unchanged_then run same unread.1)
-  left_before new (Err (Damaged spot)) run (inr recovers) = inr (recovers_before new recovers)
-  left_before new (Err DiskFault) run left = tt
-  left_before new (Err NoMemory) run left = unchanged_then run same left
+  left_before new result run left = search (rules, recovers_before, unchanged_then)
 
   pub opening_before : (new : Meaning) → Leaves old mid old.images → Leaves mid new (InOpening mid) → Leaves old new (InOpening old)
-  opening_before new first second = leaves_then (leaves_weaken (InOpening old) first (λ image is. inl is)) (leaves_weaken (InOpening old) second by)
-    where
-      by : (image : List ℕ) → InOpening mid image → InOpening old image
-      by image (inl is) = inl (same.images.only image is)
-      by image (inr told) = inr (told.0, subst (λ bytes. HasSuper told.0 bytes) same.bytes told.1, subst (λ bytes. InRecovery (image_blocks told.0) bytes image) same.bytes told.2)
+  opening_before new first second =
+      leaves_then (leaves_weaken (InOpening old) first (λ image is. inl is)) (leaves_weaken (InOpening old) second (λ image. ⊎_map (same.images.only image) (λ told.
+      (told.0, subst (λ bytes. HasSuper told.0 bytes) same.bytes told.1, subst (λ bytes. InRecovery (image_blocks told.0) bytes image) same.bytes told.2))))
 
   pub opened_before : (new : Meaning) (result : Result Stored OpenFault) → IsDiskRun mid new → Opened mid new result → Opened old new result
   opened_before new result run opened = record {
@@ -145,7 +205,7 @@ module _ (old mid : Meaning) (same : IsUnchanged old mid) (len : mid.len ≡ old
       by : (o : Result Stored OpenFault) → OpenEnded mid new o → OpenEnded old new o
       by (Ok store) ended = (needs_before ended.0, (ended.1.0, subst (λ bytes. Stands bytes ended.1.0) same.bytes ended.1.1, ended.1.2))
       by (Err (TooShort found need)) ended = (ended.0 ∙ len, ended.1, subst (λ bytes. IsNeeded bytes need) same.bytes ended.2)
-      by (Err (Damaged spot)) ended = (needs_before ended.0, no_state_before ended.1)
+      by (Err (Damaged spot)) ended = (needs_before ended.0, λ s stands. ended.1 s (stands_before s stands))
       by (Err DiskFault) ended = tt
       by (Err NoMemory) ended =
           (needs_before ended.0, (ended.1.0, subst (λ bytes. HasSuper ended.1.0 bytes) same.bytes ended.1.1), λ s stands. ended.2 s (stands_before s stands))
@@ -205,17 +265,11 @@ module _ (old : Meaning) (limits : Limits) (super : HasSuper limits old.bytes) (
       cc
 
   pub record_first : (b : ℕ) → replayed (image_blocks limits) old.bytes ≡ None → bad_record (image_blocks limits) old.bytes ≡ Some b → FailsFirst old.bytes (BadRecord b)
-  record_first b none is = record { fails = record_fails b none is; none_before = none_before }
-    where
-      none_before : (earlier : Spot) → IsBefore earlier (BadRecord b) → FailsIn old.bytes earlier → ⊥
-      none_before Super before fails = fails limits super
-      none_before (BadRecord a) before fails = let same = one_bad a b fails is in omega (arith, before, same)
-      none_before (Property n) before fails = omega (arith, before)
-      none_before (Axiom n) before fails = omega (arith, before)
-      none_before (File n) before fails = omega (arith, before)
-      none_before (Word n) before fails = omega (arith, before)
-      none_before (Bitmap n) before fails = omega (arith, before)
-      none_before (Row n) before fails = omega (arith, before)
+  record_first b none is = record {
+    fails = record_fails b none is;
+    none_before = behind old.bytes (λ earlier. IsBefore earlier (BadRecord b) → FailsIn old.bytes earlier → ⊥) (λ before fails. fails limits super)
+        (λ a before fails. let same = one_bad a b fails is in omega (arith, before, same)) (λ earlier low to from before fails. omega (arith, before, low));
+  }
 
   pub memory_opened : (new : Meaning) → IsUnchanged old new → Opened old new (Err NoMemory)
   memory_opened new same =
@@ -249,18 +303,10 @@ module _ (old : Meaning) (limits : Limits) (super : HasSuper limits old.bytes) (
     super_kept =
         subst (λ bytes. SpellsSuper limits bytes) (sym (replayed-front (image_blocks limits) old.bytes r (omega arith) (omega (arith, whole, long)) replays)) super.spelled
 
-    fails_replayed : (spot : Spot) → Fails limits kept spot → FailsReplayed old.bytes spot
-    fails_replayed spot fails = record { limits = limits; super = super; replay = r; replays = replays; fails = fails }
-
     fails_in : (spot : Spot) → Fails limits kept spot → FailsIn old.bytes spot
-    fails_in Super fails = absurd fails
-    fails_in (BadRecord b) fails = absurd fails
-    fails_in (Property n) fails = fails_replayed (Property n) fails
-    fails_in (Axiom n) fails = fails_replayed (Axiom n) fails
-    fails_in (File n) fails = fails_replayed (File n) fails
-    fails_in (Word n) fails = fails_replayed (Word n) fails
-    fails_in (Bitmap n) fails = fails_replayed (Bitmap n) fails
-    fails_in (Row n) fails = fails_replayed (Row n) fails
+    fails_in =
+        behind old.bytes (λ spot. Fails limits kept spot → FailsIn old.bytes spot) (λ fails. absurd fails) (λ b fails. absurd fails) (λ spot low to from fails.
+        to (record { limits = limits; super = super; replay = r; replays = replays; fails = fails }))
 
     replayed_fails : (spot : Spot) → FailsReplayed old.bytes spot → Fails limits kept spot
     replayed_fails spot told =
@@ -275,21 +321,7 @@ module _ (old : Meaning) (limits : Limits) (super : HasSuper limits old.bytes) (
         cc
 
     parts_first : (spot : Spot) → IsFirstOfAll limits kept spot → FailsFirst old.bytes spot
-    parts_first spot first = record { fails = fails_in spot first.fails; none_before = none_before }
-      where
-        none_before : (earlier : Spot) → IsBefore earlier spot → FailsIn old.bytes earlier → ⊥
-        none_before Super before fails = fails limits super
-        none_before (BadRecord b) before fails = no_bad_record b fails
-        none_before (Property n) before fails = first.none_before (Property n) before (replayed_fails (Property n) fails)
-        none_before (Axiom n) before fails = first.none_before (Axiom n) before (replayed_fails (Axiom n) fails)
-        none_before (File n) before fails = first.none_before (File n) before (replayed_fails (File n) fails)
-        none_before (Word n) before fails = first.none_before (Word n) before (replayed_fails (Word n) fails)
-        none_before (Bitmap n) before fails = first.none_before (Bitmap n) before (replayed_fails (Bitmap n) fails)
-        none_before (Row n) before fails = first.none_before (Row n) before (replayed_fails (Row n) fails)
-
-    kept_told : (image : List ℕ) → KeptBy (image_blocks limits) kept image → StandsForReplayed (image_blocks limits) old.bytes image
-    kept_told image stands =
-        subst (λ (o : Option (List ℕ)). IsSomeAnd o (λ bytes. KeptBy (image_blocks limits) (λ n. block n bytes) image)) (sym replays) stands
+    parts_first spot first = search (rules, fails_in, behind, no_bad_record, replayed_fails)
 
     module _ (journal : Held) (new : Meaning) (fits : Fits journal new kept) (left : Recovers old new) where
       -- the state that a store tells
@@ -359,10 +391,6 @@ module _ (old : Meaning) (limits : Limits) (super : HasSuper limits old.bytes) (
 
 -- ---- where the image stood for a state
 pub moments_stand : (old new : Meaning) (s : State) → length old.bytes ≡ old.len → Stands old.bytes s → Leaves old new (InOpening old) → Leaves old new (λ image. old.images image ⊎ Stands image s)
-moments_stand old new s whole stands moments = leaves_weaken (λ image. old.images image ⊎ Stands image s) moments by
-  where
-    by : (image : List ℕ) → InOpening old image → old.images image ⊎ Stands image s
-    by image (inl is) = inl is
-    by image (inr told) =
-        let enough = needs_no_more old.bytes s (4096 * image_blocks told.0) stands (inr (told.0, told.1, refl)) in
-        inr (replayed_stands old told.0 told.1 (omega (arith, enough, whole)) s image stands told.2.stands)
+moments_stand old new s whole stands moments = leaves_weaken (λ image. old.images image ⊎ Stands image s) moments (λ image. ⊎_map (λ is. is) (λ told.
+    let enough = needs_no_more old.bytes s (4096 * image_blocks told.0) stands (inr (told.0, told.1, refl)) in
+    replayed_stands old told.0 told.1 (omega (arith, enough, whole)) s image stands told.2.stands))

@@ -1,11 +1,11 @@
 -- Images whose first gate is closed: after a recovery, and where bytes before the gates change.
-use Rattle.std.proofs.Common.{◌≡◌, refl, sym, ap, ◌∙◌, subst, ℕ, ◌+◌, ◌*◌, ◌<◌, ◌≤◌, ◌==◌, ◌||◌, Bool, true, false, cond, Option, Some, None, is_some, IsSomeAnd, List, [], ◌∷◌, ◌++◌, length, take, drop, get_or, replicate, inl, inr, arith, length-append, length-drop, get_or-take}
-use Rattle.lis_open.proofs.Common.{list_any, part, Torn, part-torn, part-put, block, Keeps}
-use Rattle.std.proofs.lemmas.List.{length-take}
-use Rattle.std.proofs.lemmas.List.Sums.{prefix_len_is}
+use Rattle.std.proofs.Common.{get_or-take}
+use Rattle.lis_open.proofs.Common.{◌≡◌, refl, sym, ap, ◌∙◌, subst, ℕ, ◌+◌, ◌*◌, ◌<◌, ◌≤◌, ◌==◌, Bool, true, false, cond, Option, Some, None, is_some, IsSomeAnd, List, [], ◌∷◌, ◌++◌, length, take, drop, get_or, replicate, inl, inr, arith, length-append, length-drop, length-take, list_any, part, Torn, part-torn, part-put, block, Keeps}
 use Rattle.lis_ports.specs.Bytes.{put}
+use Rattle.std.proofs.lemmas.Bool.{or_parts}
+use Rattle.std.proofs.lemmas.List.Sums.{prefix_len_is}
 use Rattle.lis_ports.proofs.Parts.{part-put_other}
-use Rattle.lis_journal.specs.Record.{gates, is_open, has_open, open_count, first_bad, all_recorded, apply, bad_record, replayed, gates_closed, recovered_as, recovered}
+use Rattle.lis_journal.specs.Record.{gates, is_open, has_open, open_count, first_bad, all_recorded, apply, bad_record, gates_closed, recovered_as, replayed, recovered}
 use Rattle.lis_journal.specs.Images.{StandsFor}
 use Rattle.lis_journal.proofs.Fitting.{replayed_parts}
 
@@ -17,11 +17,7 @@ first_gate image =
 
 none_first : (gates_are : List ℕ) → list_any (λ gate. gate == 1) gates_are ≡ false → (get_or gates_are 0 0 == 1) ≡ false
 none_first [] none = refl
-none_first (gate ∷ rest) none = by (gate == 1) none
-  where
-    by : (b : Bool) → (b || list_any (λ g. g == 1) rest) ≡ false → b ≡ false
-    by true e = e
-    by false e = refl
+none_first (gate ∷ rest) none = (or_parts (gate == 1) (list_any (λ g. g == 1) rest) none).0
 
 -- with the first gate closed no record is open
 none_open : (image : List ℕ) → is_open 0 image ≡ false → open_count image ≡ 0

@@ -1,27 +1,13 @@
 -- The parts of a kind, by their places.
-use Rattle.std.proofs.Common.{◌≡◌, ◌∙◌, refl, ap, subst, ℕ, ◌+◌, ◌<◌, ◌==◌, if◌then◌else◌, List, arith}
-use Rattle.lis_open.proofs.Common.{Limits, Spot, Super, BadRecord, Property, Axiom, Word, Row}
-use Rattle.lis_model.specs.declared.spot.Spot.TheVariants.{File, Bitmap}
-use Rattle.lis_open.specs.Checks.{Fails, rank, place}
+use Rattle.lis_open.proofs.Common.{◌≤◌, ◌≡◌, ◌∙◌, refl, ap, subst, ℕ, ◌+◌, ◌<◌, ◌==◌, cond, List, arith, Limits, Spot, Super, BadRecord, Property, Axiom, Word, Row, Bitmap}
+use Rattle.lis_model.specs.declared.spot.Spot.TheVariants.{File}
+use Rattle.lis_open.specs.Checks.{Fails, FailsReplayed, FailsIn, rank, place}
 
 -- the part of a kind in a place
 abbrev pub spot_at : ℕ → ℕ → Spot
 spot_at kind n =
-    if kind == 0
-    then Super
-    else if kind == 1
-    then BadRecord n
-    else if kind == 2
-    then Property n
-    else if kind == 3
-    then Axiom n
-    else if kind == 4
-    then File n
-    else if kind == 5
-    then Word n
-    else if kind == 6
-    then Bitmap n
-    else Row n
+    cond (kind == 0) Super (cond (kind == 1) (BadRecord n) (cond (kind == 2) (Property n) (cond (kind == 3) (Axiom n)
+    (cond (kind == 4) (File n) (cond (kind == 5) (Word n) (cond (kind == 6) (Bitmap n) (Row n)))))))
 
 pub spot_is : (spot : Spot) → spot ≡ spot_at (rank spot) (place spot)
 spot_is Super = refl
@@ -32,6 +18,18 @@ spot_is (File n) = refl
 spot_is (Word n) = refl
 spot_is (Bitmap n) = refl
 spot_is (Row n) = refl
+
+-- what holds of the super block, of a record, and of each part whose check is one of the replayed image
+pub behind : (image : List ℕ) (P : Spot → Type 0) → P Super → ((b : ℕ) → P (BadRecord b))
+    → ((spot : Spot) → 2 ≤ rank spot → (FailsReplayed image spot → FailsIn image spot) → (FailsIn image spot → FailsReplayed image spot) → P spot) → (spot : Spot) → P spot
+behind image P super bad rest Super = super
+behind image P super bad rest (BadRecord b) = bad b
+behind image P super bad rest (Property n) = rest (Property n) (omega arith) (λ is. is) (λ is. is)
+behind image P super bad rest (Axiom n) = rest (Axiom n) (omega arith) (λ is. is) (λ is. is)
+behind image P super bad rest (File n) = rest (File n) (omega arith) (λ is. is) (λ is. is)
+behind image P super bad rest (Word n) = rest (Word n) (omega arith) (λ is. is) (λ is. is)
+behind image P super bad rest (Bitmap n) = rest (Bitmap n) (omega arith) (λ is. is) (λ is. is)
+behind image P super bad rest (Row n) = rest (Row n) (omega arith) (λ is. is) (λ is. is)
 
 module _ (limits : Limits) (at : ℕ → List ℕ) (kind : ℕ) where
   -- where the parts up to a place pass, none before it fails

@@ -1,18 +1,32 @@
 -- A state of version 1 and what memory keeps of it, in another version: the same in all but the limits.
-use Rattle.std.proofs.Common.{◌≡◌, sym, ap, ◌∙◌, subst, ℕ, ◌+◌, ◌≤◌, ◌&&◌, nat_lt, nat_le, true, is_some, Some, List, length, map, slice_get, sum, IsTrue, arith}
-use Rattle.lis_open.proofs.Common.{list_all, Contains, leb-true, among_from_contains, Filed, rec_at, are_distinct, Dict, word_of, FileRecord, SpellsSuper, is_record, Pair, Used, data_start, State, blocks_needed, description, WellFormed, Kept, AreSound, blocks_told, Tells}
-use Rattle.std.proofs.lemmas.Bool.{and_parts, and_from, cond-false, le-leb}
-use Rattle.lis_content.specs.Content.{has_number}
+use Rattle.std.proofs.Common.{take-append-drop}
+use Rattle.lis_open.proofs.Common.{◌≡◌, sym, ap, ◌∙◌, subst, ℕ, ◌+◌, ◌≤◌, ◌&&◌, nat_lt, nat_le, true, is_some, Some, List, length, map, slice_get, sum, IsTrue, arith, ◌⊎◌, refl, ap₂, inl, inr, ◌*◌, ◌==◌, Bool, false, [], ◌∷◌, ◌++◌, take, drop, Result, Ok, Err, if◌then◌else◌, eq-eqb, le-leb, drop-drop, Contains, leb-true, ne_eqb, list_all, among_from_contains, Filed, rec_at, are_distinct, Dict, word_of, FileRecord, SpellsSuper, is_record, Pair, Used, data_start, State, blocks_needed, description, WellFormed, Kept, AreSound, blocks_told, Tells, Meaning, part, Torn, Always, IsSettled, Leaves, part-torn, part-put, block, Keeps, Spreads, Limits, image_blocks, Stored, IsSound, and_parts, and_from, has_number, all_among, File, IsWritten, put, always_settled, leaves_then, leaves_weaken, replayed, recovered, ⊎_map}
+use Rattle.lis_store.specs.Stands.{Stands}
+use Rattle.std.proofs.lemmas.Bool.{cond-false}
 use Rattle.lis_content.proofs.Indexes.{small_size}
 use Rattle.lis_fields.proofs.Parts.{file_upgraded}
-use Rattle.lis_fields.proofs.Supers.{upgraded_in_range}
-use Rattle.lis_laws.proofs.Counts.{all_among, all_weaker}
-use Rattle.lis_model.specs.State.{File, file_limit, blocks_taken}
-use Rattle.lis_kept.specs.Areas.{IsWritten}
+use Rattle.lis_fields.proofs.Supers.{upgraded_in_range, super_torn, super_upgraded}
+use Rattle.lis_laws.proofs.Counts.{all_weaker}
+use Rattle.lis_model.specs.State.{file_limit, blocks_taken}
 use Rattle.lis_kept.specs.Areas.Area.{Properties, Axioms, Files, Rows, Bitmap}
 use Rattle.lis_kept.specs.Sound.{is_sound_record, IsSoundAxiom}
 use Rattle.lis_kept.proofs.Filing.{map_all}
 use Rattle.lis_store.proofs.Elsewhere.{AreFilesSame, blocks_there, index_there, file_there, state_there, written_there}
+use Rattle.std.proofs.lemmas.List.{drop-take}
+use Rattle.lis_ports.proofs.Parts.{part-part, torn-put, length-part}
+use Rattle.lis_journal.specs.Record.{is_open}
+use Rattle.lis_journal.specs.Images.{KeepsPast}
+use Rattle.lis_journal.proofs.Fitting.{fits_stand}
+use Rattle.lis_journal.proofs.Spreading.{leaves_spread}
+use Rattle.lis_fields.proofs.Widths.{joined}
+use Rattle.lis_store.specs.Stored.{StoreFits}
+use Rattle.lis_store.proofs.OneState.{one_state}
+use Rattle.lis_store.proofs.Standing.{change_stands, fitting_stands}
+use Rattle.lis_open.specs.declared.mounting.OpenFault.{OpenFault}
+use Rattle.lis_open.specs.Opens.{OpenEnded, OpenLeft}
+use Rattle.lis_open.specs.Upgrades.{upgraded, GateLeft}
+use Rattle.lis_open.proofs.Needs.{one_limits, has_super}
+use Rattle.lis_open.proofs.Shut.{shut_keeps, shut_stands, shut_torn, recovered_shut}
 
 -- ---- in a version
 abbrev pub state_in : ℕ → State → State
@@ -25,13 +39,7 @@ kept_in version k = record k { limits = record k.limits { version = version } }
 pub state_own : (s : State) → s.limits.version ≡ 1 → state_in 1 s ≡ s
 state_own s one = ap (λ version. state_in version s) (sym one)
 
-pub kept_own : (k : Kept) → k.limits.version ≡ 1 → kept_in 1 k ≡ k
-kept_own k one = ap (λ version. kept_in version k) (sym one)
-
 -- ---- the state, which has no large file
-taken_alike : (n : ℕ) → n ≤ 65536 → blocks_taken 2 n ≡ blocks_taken 1 n
-taken_alike n small = cond-false (nat_lt 16 (blocks_needed n)) (blocks_needed n + 1) (blocks_needed n) (small_size n small)
-
 -- the files have at most so many bytes
 abbrev are_short : ℕ → List File → Type 0
 are_short most files = IsTrue (list_all (λ (file : File). nat_le (length file.bytes) most) files)
@@ -40,7 +48,8 @@ used_alike : (files : List File) → are_short 65536 files
     → sum (map (λ (file : File). blocks_taken 2 (length file.bytes)) files) ≡ sum (map (λ (file : File). blocks_taken 1 (length file.bytes)) files)
 used_alike files short =
     ap sum (map_all (λ (file : File). blocks_taken 2 (length file.bytes)) (λ (file : File). blocks_taken 1 (length file.bytes)) files (λ file m.
-    taken_alike (length file.bytes) (leb-true (length file.bytes) 65536 (all_among (λ (f : File). nat_le (length f.bytes) 65536) files file short m))))
+    cond-false (nat_lt 16 (blocks_needed (length file.bytes))) (blocks_needed (length file.bytes) + 1) (blocks_needed (length file.bytes))
+    (small_size (length file.bytes) (leb-true (length file.bytes) 65536 (all_among (λ (f : File). nat_le (length f.bytes) 65536) files file short m)))))
 
 longer : (files : List File) → are_short 65536 files → are_short 1048576 files
 longer files short =
@@ -103,11 +112,174 @@ module _ (version : ℕ) (k : Kept) (at there : ℕ → List ℕ) (sound : AreSo
   }
 
   pub written_in : IsWritten k at → IsWritten (kept_in version k) there
-  written_in written = by (written_there k at there sound.range (λ n low lt. same n low) written)
-    where
-      by : IsWritten k there → IsWritten (kept_in version k) there
-      by all Properties n lt = all Properties n lt
-      by all Axioms n lt = all Axioms n lt
-      by all Files n lt = all Files n lt
-      by all Rows n lt = all Rows n lt
-      by all Bitmap n lt = all Bitmap n lt
+  written_in written =
+      let all = written_there k at there sound.range (λ n low lt. same n low) written in
+      elim [ Properties ↦ all Properties | Axioms ↦ all Axioms | Files ↦ all Files | Rows ↦ all Rows | Bitmap ↦ all Bitmap ]
+
+-- ---- the gate of an image's version is written: each image of meanwhile stands for the state as before or in version 2, and the last one for that
+-- ---- answers
+-- the fault of an answer that was handed on
+pub fault_of : {S T : Type 0} {result : Result T OpenFault} {fault given other : OpenFault} → result ≡ Err fault → fault ≡ given → result ≡ Err other
+    → ◌≡◌ {A = Result S OpenFault} (Err given) (Err other)
+fault_of {T = T} {fault = fault} {other = other} was is told =
+    let both : ◌≡◌ {A = Result T OpenFault} (Err fault) (Err other) = sym was ∙ told in
+    let same : fault ≡ other = cc in
+    ap Err (sym is ∙ same)
+
+-- and the answer of that fault
+pub handed_on : {S T : Type 0} {result : Result T OpenFault} {fault given other : OpenFault} → result ≡ Err fault → fault ≡ given → ◌≡◌ {A = Result S OpenFault} (Err given) (Err other)
+    → result ≡ Err other
+handed_on {given = given} {other = other} was is told =
+    let same : given ≡ other = cc in
+    was ∙ ap Err (is ∙ same)
+
+pub not_refused : {S : Type 0} {done : S} {fault : OpenFault} → ◌≡◌ {A = Result S OpenFault} (Ok done) (Err fault) → ⊥
+not_refused is = cc
+
+-- ---- one image
+module _ (k : Stored) (m : Meaning) (s : State) (sound : IsSound k) (fits : StoreFits k m s) (one : s.limits.version ≡ 1) (shut : is_open 0 m.bytes ≡ false) where
+  keeps : Keeps k.journal.blocks fits.kept m.bytes
+  keeps = shut_keeps k.journal.blocks fits.kept m.bytes shut (fits_stand k.journal (sound.placed fits.unbroken) fits.journal).reads
+
+  kept_one : k.parts.limits.version ≡ 1
+  kept_one = ap (λ (t : State). t.limits.version) fits.tells.state ∙ one
+
+  super_before : SpellsSuper s.limits (block 0 m.bytes)
+  super_before = subst (λ bytes. SpellsSuper s.limits bytes) (sym (keeps.same 0 (inl refl))) fits.tells.super
+
+  module _ (image : List ℕ) (torn : Torn 24 1 m.bytes image) where
+    long : 4096 * k.journal.blocks ≤ length image
+    long = omega (arith, keeps.long, torn.len)
+
+    whole : 4096 ≤ length image
+    whole = omega (arith, long, sound.image)
+
+    same : (n : ℕ) → 578 ≤ n → block n image ≡ fits.kept n
+    same n low = part-torn 24 1 m.bytes image torn (4096 * n) 4096 (inr (omega (arith, low))) ∙ keeps.same n (inr low)
+
+    front : take 24 (block 0 image) ≡ take 24 (block 0 m.bytes)
+    front = part-part 0 24 0 4096 image (omega arith) ∙ (torn.before ∙ sym (part-part 0 24 0 4096 m.bytes (omega arith)))
+
+    behind : drop 25 (block 0 image) ≡ drop 25 (block 0 m.bytes)
+    behind = drop-take 25 4071 image ∙ (ap (take 4071) torn.after ∙ sym (drop-take 25 4071 m.bytes))
+
+    -- it stands for the state in the version that its super block tells
+    stands_in : (version : ℕ) → SpellsSuper (record s.limits { version = version }) (block 0 image) → AreSound (kept_in version k.parts) → WellFormed (state_in version s) → Stands image (state_in version s)
+    stands_in version super sound_then formed =
+        change_stands (record k { parts = kept_in version k.parts }) k.journal.blocks (λ n. block n image) (state_in version s) sound_then sound.free sound.pairs
+        (tells_in version k.parts fits.kept (λ n. block n image) sound.parts same s super formed fits.tells)
+        (written_in version k.parts fits.kept (λ n. block n image) sound.parts same fits.written)
+        sound.image image (shut_stands k.journal.blocks image (shut_torn 24 1 m.bytes image (omega arith) torn shut) long)
+
+    stands_before : SpellsSuper s.limits (block 0 image) → Stands image s
+    stands_before super =
+        subst (Stands image) (state_own s one)
+        (stands_in 1 (subst (λ version. SpellsSuper (record s.limits { version = version }) (block 0 image)) one super) (subst AreSound (ap (λ version. kept_in version k.parts) kept_one) sound.parts)
+        (subst WellFormed (sym (state_own s one)) fits.tells.formed))
+
+    pub stands_upgraded : SpellsSuper (record s.limits { version = 2 }) (block 0 image) → Stands image (upgraded s)
+    stands_upgraded super = stands_in 2 super (sound_upgraded k.parts kept_one sound.parts) (formed_upgraded s one fits.tells.formed)
+
+    pub torn_stands : Stands image s ⊎ Stands image (upgraded s)
+    torn_stands =
+        ⊎_map stands_before stands_upgraded (super_torn s.limits (block 0 m.bytes) (block 0 image) one super_before
+        (length-part 0 4096 image whole ∙ sym (length-part 0 4096 m.bytes (omega (arith, whole, torn.len)))) front behind)
+
+    -- where the byte is a 2
+    pub written_stands : part 24 1 image ≡ 2 ∷ [] → Stands image (upgraded s)
+    written_stands gate_is =
+        stands_upgraded (subst (λ bytes. SpellsSuper (record s.limits { version = 2 }) bytes) (sym new) (super_upgraded s.limits (block 0 m.bytes) super_before))
+      where
+        new : block 0 image ≡ take 24 (block 0 m.bytes) ++ (2 ∷ drop 25 (block 0 m.bytes))
+        new =
+            joined 24 (block 0 image) (take 24 (block 0 m.bytes)) (2 ∷ drop 25 (block 0 m.bytes)) front
+            (sym (take-append-drop 1 (drop 24 (block 0 image)))
+            ∙ ap₂ (λ xs ys. xs ++ ys) (part-part 24 1 0 4096 image (omega arith) ∙ gate_is) (drop-drop 1 24 (block 0 image) ∙ behind))
+
+-- ---- runs
+pub opening_moments : {old mid : Meaning} (t : State) → Leaves old mid (λ image. old.images image ⊎ Stands image t)
+    → Leaves old mid (λ image. old.images image ⊎ (Stands image t ⊎ Stands image (upgraded t)))
+opening_moments {old} t moments =
+    leaves_weaken (λ image. old.images image ⊎ (Stands image t ⊎ Stands image (upgraded t))) moments (λ image. ⊎_map (λ is. is) (λ stands. inl stands))
+
+module _ (old mid : Meaning) (k : Stored) (sound : IsSound k) (ended : OpenEnded old mid (Ok k)) (left : OpenLeft old mid (Ok k)) where
+  abbrev s : State
+  s = ended.1.0
+
+  stood : Stands old.bytes s
+  stood = ended.1.1
+
+  fits : StoreFits k mid s
+  fits = ended.1.2
+
+  limits_are : k.parts.limits ≡ s.limits
+  limits_are = ap (λ (t : State). t.limits) fits.tells.state
+
+  -- nothing is unsynced
+  settled : IsSettled mid mid.bytes
+  settled = record { reads = refl; only = λ image is. left.2.only image is ∙ sym left.2.reads }
+
+  version_told : left.0.version ≡ k.parts.limits.version
+  version_told =
+      ap (λ (l : Limits). l.version) (one_limits old.bytes left.0 s.limits left.1 (has_super old.bytes s stood)) ∙ sym (ap (λ (l : Limits). l.version) limits_are)
+
+  abbrev after : List ℕ
+  after = recovered (image_blocks left.0) old.bytes
+
+  gate_left : {new : Meaning} (is_second : Bool) → (left.0.version == 2) ≡ is_second → IsSettled new (if is_second then after else put after 24 (2 ∷ [])) → GateLeft old new
+  gate_left {new} is_second is settled = (left.0, left.1, subst (λ b. IsSettled new (if b then after else put after 24 (2 ∷ []))) (sym is) settled)
+
+  -- what opening left of an image of version 2 stays
+  pub second_left : k.parts.limits.version ≡ 2 → GateLeft old mid
+  second_left two = gate_left true (eq-eqb left.0.version 2 (version_told ∙ two)) left.2
+
+  -- of version 2 it is what it becomes
+  pub second_stands : k.parts.limits.version ≡ 2 → Always mid (λ image. Stands image (upgraded s))
+  second_stands two =
+      let same : s ≡ upgraded s = ap (λ version. state_in version s) (sym (ap (λ (l : Limits). l.version) limits_are) ∙ two) in
+      subst (λ (t : State). Always mid (λ image. Stands image t)) same (fitting_stands mid k s sound fits)
+
+  module _ (one : k.parts.limits.version ≡ 1) where
+    state_one : s.limits.version ≡ 1
+    state_one = sym (ap (λ (l : Limits). l.version) limits_are) ∙ one
+
+    shut : is_open 0 mid.bytes ≡ false
+    unfolding Stands
+    shut =
+        let same = one_limits old.bytes left.0 s.limits left.1 (has_super old.bytes s stood) in
+        subst (λ bytes. is_open 0 bytes ≡ false) (sym left.2.reads) (recovered_shut (image_blocks left.0) old.bytes stood.replay
+        (ap (λ (l : Limits). replayed (image_blocks l) old.bytes) same ∙ stood.replays)
+        (omega (arith, fits.journal.reads.holds.enough, fits.journal.reads.holds.long, ap length left.2.reads)))
+
+    -- and of an image of version 1 its gate is put
+    pub first_left : {new : Meaning} → IsSettled new (put mid.bytes 24 (2 ∷ [])) → GateLeft old new
+    first_left {new} written =
+        gate_left false (ne_eqb left.0.version 2 (λ e. omega (arith, e, version_told, one))) (subst (λ bytes. IsSettled new (put bytes 24 (2 ∷ []))) left.2.reads written)
+
+    -- at each moment it stands for the state as before, or in version 2
+    gate_moments : {new : Meaning} → Spreads mid new (Torn 24 1) → Leaves mid new (λ image. Stands image s ⊎ Stands image (upgraded s))
+    gate_moments spreads =
+        leaves_spread (Torn 24 1) (λ image. Stands image s ⊎ Stands image (upgraded s)) (always_settled (λ image. image ≡ mid.bytes) mid.bytes settled refl) spreads (λ from image same torn.
+        torn_stands k mid s sound fits state_one shut image (subst (λ bytes. Torn 24 1 bytes image) same torn))
+
+    pub upgrade_moments : (t : State) {new : Meaning} → Stands old.bytes t → Leaves old mid (λ image. old.images image ⊎ Stands image t) → Spreads mid new (Torn 24 1)
+        → Leaves old new (λ image. old.images image ⊎ (Stands image t ⊎ Stands image (upgraded t)))
+    upgrade_moments t stands moments spreads =
+        let same : s ≡ t = one_state old.bytes s t stood stands in
+        leaves_then (opening_moments t moments)
+        (leaves_weaken (λ image. old.images image ⊎ (Stands image t ⊎ Stands image (upgraded t))) (gate_moments spreads) (λ image is.
+        inr (subst (λ (u : State). Stands image u ⊎ Stands image (upgraded u)) same is)))
+
+    -- what lies past the image stays
+    pub upgrade_past : (limits : Limits) {new : Meaning} → KeepsPast (image_blocks limits) old mid → Spreads mid new (Torn 24 1) → KeepsPast (image_blocks limits) old new
+    upgrade_past limits {new} past spreads n le =
+        let from = spreads.reads in
+        part-torn 24 1 from.0 new.bytes from.2 (4096 * n) 4096 (inr (omega (arith, le)))
+        ∙ (ap (block n) (elim from.1 as (λ _. from.0 ≡ mid.bytes) [ inl image ↦ settled.only from.0 image | inr same ↦ same ]) ∙ past n le)
+
+    -- when it is written and synced, every image stands for the state in version 2
+    pub first_stands : {new : Meaning} → IsSettled new (put mid.bytes 24 (2 ∷ [])) → Always new (λ image. Stands image (upgraded s))
+    first_stands written =
+        let le : 25 ≤ length mid.bytes = omega (arith, fits.journal.reads.holds.enough, fits.journal.reads.holds.long) in
+        always_settled (λ image. Stands image (upgraded s)) (put mid.bytes 24 (2 ∷ [])) written
+        (written_stands k mid s sound fits state_one shut (put mid.bytes 24 (2 ∷ [])) (torn-put mid.bytes 24 (2 ∷ []) le) (part-put mid.bytes 24 (2 ∷ []) le))

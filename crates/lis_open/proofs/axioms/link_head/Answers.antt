@@ -1,4 +1,4 @@
-use Rattle.std.proofs.Common.{Some, ap, ◌∙◌}
+use Rattle.lis_open.proofs.Common.{Some, ap, ◌∙◌}
 use Rattle.lis_kept.proofs.HeadEdges.{not_refused}
 use Rattle.lis_open.proofs.axioms.link_head.Goals as goal
 

@@ -1,4 +1,4 @@
-use Rattle.lis_open.proofs.HeadLinks.{head_below, head_apart, none_to, linked_more, linked_none}
+use Rattle.lis_open.proofs.AxiomsRead.{head_below, head_apart, none_to, linked_more, linked_none}
 use Rattle.lis_open.proofs.axioms.link_heads.Goals as goal
 
 pub loop-number-init : goal.loop-number-init

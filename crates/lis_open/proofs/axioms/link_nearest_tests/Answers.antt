@@ -1,7 +1,6 @@
-use Rattle.std.proofs.Common.{◌∙◌}
 use Rattle.lis_open.proofs.Common.{few_properties}
 use Rattle.lis_kept.proofs.TestChains.{some_none}
-use Rattle.lis_open.proofs.LinkedTests.{some_then}
+use Rattle.lis_open.proofs.AxiomsRead.{some_then}
 use Rattle.lis_open.proofs.axioms.link_nearest_tests.Goals as goal
 
 pub loop-number-init : goal.loop-number-init

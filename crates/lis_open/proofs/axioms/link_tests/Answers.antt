@@ -1,6 +1,5 @@
-use Rattle.std.proofs.Common.{◌≡◌, ◌∙◌, sym, arith}
-use Rattle.lis_open.proofs.Common.{few_properties}
-use Rattle.lis_open.proofs.LinkedTests.{still_ordered, all_more, all_linked}
+use Rattle.lis_open.proofs.Common.{◌≡◌, ◌∙◌, sym, arith, few_properties}
+use Rattle.lis_open.proofs.AxiomsRead.{still_ordered, all_more, all_linked}
 use Rattle.lis_open.proofs.axioms.link_tests.Goals as goal
 
 pub loop-number-init : goal.loop-number-init

@@ -1,4 +1,4 @@
-use Rattle.lis_open.proofs.LinkedTests.{LinksBelow}
+use Rattle.lis_open.proofs.AxiomsRead.{LinksBelow}
 use Rattle.lis_open.proofs.axioms.link_tests.Given as goal
 
 abbrev pub invariant-loop-number : goal.invariant-loop-number

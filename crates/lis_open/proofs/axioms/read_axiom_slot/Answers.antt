@@ -1,5 +1,5 @@
 use Rattle.lis_open.proofs.Common.{axiom_bytes, is_axiom, axiom_slots}
-use Rattle.lis_open.proofs.Slots.{few_blocks, read_as}
+use Rattle.lis_open.proofs.BlocksRead.{few_blocks, read_as}
 use Rattle.lis_open.proofs.axioms.read_axiom_slot.Goals as goal
 
 pub read_slot-requires-clause-few : goal.read_slot-requires-clause-few

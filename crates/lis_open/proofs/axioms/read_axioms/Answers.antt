@@ -1,12 +1,9 @@
-use borrow.Author.Count.{below_more}
-use Rattle.std.proofs.Common.{◌≡◌, refl, subst, ◌∙◌, arith}
-use Rattle.lis_open.proofs.Common.{ends_none, ends_then, axiom_slots}
+use Rattle.lis_open.proofs.Common.{◌≡◌, refl, subst, ◌∙◌, arith, below_more, ends_none, ends_then, axiom_slots}
 use Rattle.lis_open.specs.Checks.{AxiomFails}
 use Rattle.lis_open.specs.ReadWords.{AxiomsAreSpelled}
 use Rattle.lis_open.proofs.SpotKinds.{none_before, none_fails}
-use Rattle.lis_open.proofs.Quiet.{reads_none, reads_then, fits_after}
-use Rattle.lis_open.proofs.AxiomsRead.{axiom_on, no_axioms_yet}
-use Rattle.lis_open.proofs.AxiomChecks.{axiom_fails, axiom_passes}
+use Rattle.lis_open.proofs.BlocksRead.{reads_none, reads_then, fits_after}
+use Rattle.lis_open.proofs.AxiomsRead.{axiom_on, no_axioms_yet, axiom_fails, axiom_passes}
 use Rattle.lis_open.proofs.axioms.read_axioms.Goals as goal
 
 pub loop-k-init : goal.loop-k-init

@@ -1,6 +1,4 @@
-use Rattle.std.proofs.Common.{◌∙◌, refl, sym}
-use Rattle.std.proofs.lemmas.Bool.{false_from_ne_true}
-use Rattle.lis_open.proofs.Common.{has_edge}
+use Rattle.lis_open.proofs.Common.{◌∙◌, refl, sym, has_edge, false_from_ne_true}
 use Rattle.lis_open.proofs.AxiomsRead.{right_below}
 use Rattle.lis_open.proofs.axioms.take_pair.Goals as goal
 

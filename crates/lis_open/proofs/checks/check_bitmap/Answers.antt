@@ -1,8 +1,7 @@
-use Rattle.std.proofs.Common.{◌≡◌, ◌∙◌, refl, sym, ap, subst, ℕ, List, []}
+use Rattle.lis_open.proofs.Common.{◌≡◌, ◌∙◌, refl, sym, ap, subst, ℕ, List, [], bitmap_start}
 use Rattle.lis_blockmap.specs.Bitmap.{IsFirstDifference}
 use Rattle.lis_journal.specs.Images.{look}
 use Rattle.lis_journal.specs.Record.{Entry}
-use Rattle.lis_open.proofs.Common.{bitmap_start}
 use Rattle.lis_open.proofs.checks.check_bitmap.Goals as goal
 
 -- a block that is read where nothing is staged

@@ -1,7 +1,6 @@
-use Rattle.std.proofs.Common.{◌∙◌, ◌<◌, subst, below_more}
-use Rattle.lis_open.proofs.Common.{ends_then, row_slots}
-use Rattle.lis_open.proofs.Quiet.{reads_then, fits_after}
-use Rattle.lis_open.proofs.ZeroRows.{first_row}
+use Rattle.lis_open.proofs.Common.{◌∙◌, ◌<◌, subst, below_more, ends_then, row_slots}
+use Rattle.lis_open.proofs.BlocksRead.{reads_then, fits_after}
+use Rattle.lis_open.proofs.Lefts.{first_row}
 use Rattle.lis_open.proofs.checks.check_rows.Goals as goal
 
 pub returns-then-not-branch-clause-ended : goal.returns-then-not-branch-clause-ended

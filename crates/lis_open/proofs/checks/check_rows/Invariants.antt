@@ -1,5 +1,4 @@
-use Rattle.std.proofs.Common.{◌≡◌, ℕ, ◌<◌, List}
-use Rattle.lis_open.proofs.Common.{DiskFaultEnds, Fits}
+use Rattle.lis_open.proofs.Common.{◌≡◌, ℕ, ◌<◌, List, DiskFaultEnds, Fits}
 use Rattle.lis_open.specs.Reading.{OnlyReads, Recalls}
 use Rattle.lis_open.specs.ReadAll.{IsRowSpelled}
 use Rattle.lis_open.proofs.checks.check_rows.Given as goal

@@ -1,7 +1,6 @@
-use Rattle.std.proofs.Common.{◌≡◌, ◌⊎◌, ◌∙◌, refl, sym, inl, inr, ℕ, ◌<◌, ◌≤◌, Bool, false, List, [], below_more, arith}
-use Rattle.lis_open.proofs.Common.{cases_lt, get, number_from_word, number_below}
+use Rattle.lis_open.proofs.Common.{◌∙◌, refl, sym, inl, inr, false, [], below_more, arith, cases_lt, get, number_from_word, number_below}
 use Rattle.lis_open.specs.ReadAll.{kept_in, is_stray}
-use Rattle.lis_open.proofs.Sides.{sides}
+use Rattle.lis_open.proofs.Descriptions.{sides}
 use Rattle.lis_open.proofs.Lefts.{stray_by_row, no_stray_past}
 use Rattle.lis_open.proofs.checks.check_words.Goals as goal
 
@@ -34,8 +33,7 @@ loop-number-preserved c =
     ∙ (sym c.is_stray.ensures ∙ c.if-is_stray.false))
 
 pub returns : goal.returns
-returns c = λ marks n. by marks n (cases_lt n c.args.limits.now.props)
-  where
-    by : (marks : List Bool) (n : ℕ) → (n < c.args.limits.now.props) ⊎ (c.args.limits.now.props ≤ n) → is_stray (kept_in c.args.limits.now c.args.words.now c.args.axioms.now c.args.files.now marks) n ≡ false
-    by marks n (inl lt) = c.loop-number.invariant n (omega (arith, lt, c.loop-number-test.false))
-    by marks n (inr past) = no_stray_past (kept_in c.args.limits.now c.args.words.now c.args.axioms.now c.args.files.now marks) n (c.requires.words.rest n past)
+returns c = λ marks n. elim (cases_lt n c.args.limits.now.props) [
+  | inl lt ↦ c.loop-number.invariant n (omega (arith, lt, c.loop-number-test.false))
+  | inr past ↦ no_stray_past (kept_in c.args.limits.now c.args.words.now c.args.axioms.now c.args.files.now marks) n (c.requires.words.rest n past)
+]

@@ -1,4 +1,4 @@
-use Rattle.std.proofs.Common.{◌≡◌, ℕ, ◌<◌, false, []}
+use Rattle.lis_open.proofs.Common.{◌≡◌, ℕ, ◌<◌, false, []}
 use Rattle.lis_open.specs.ReadAll.{kept_in, is_stray}
 use Rattle.lis_open.proofs.checks.check_words.Given as goal
 

@@ -1,4 +1,4 @@
-use Rattle.lis_open.proofs.ZeroRows.{zeros_decide}
+use Rattle.lis_open.proofs.Lefts.{zeros_decide}
 use Rattle.lis_open.proofs.checks.is_row.Goals as goal
 
 pub returns-then-number-limits : goal.returns-then-number-limits

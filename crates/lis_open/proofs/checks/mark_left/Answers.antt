@@ -1,13 +1,12 @@
-use Rattle.std.proofs.Common.{◌∙◌, sym, ap, ◌<◌, ◌||◌, Some, arith}
-use Rattle.lis_open.proofs.Common.{get, word_of, is_left_of, is_left_head_of}
-use Rattle.lis_bits.specs.Rows.{Rows}
-use Rattle.lis_open.proofs.Lefts.{head_below, left_marked, both_marked}
+use Rattle.lis_open.proofs.Common.{refl, ◌∙◌, sym, ap, ◌||◌, Some, arith, get, is_left_of, is_left_head_of, Rows}
+use Rattle.lis_open.proofs.Lefts.{left_marked, both_marked}
+use Rattle.lis_open.proofs.AxiomsRead.{head_below}
 use Rattle.lis_open.proofs.checks.mark_left.Goals as goal
 
 pub put-requires-2-clause-bit : goal.put-requires-2-clause-bit
 put-requires-2-clause-bit c =
     let d = c.args.words.now.dict in
-    let below = head_below d c.requires.words.dict (word_of d c.in-Pair.left) c.in-Some.head (sym c.in-Some.ensures) in
+    let below = head_below d c.requires.words.dict c.in-Pair.left (Some c.in-Some.head) d.props c.in-Some.ensures refl in
     let wide = ap (λ (r : Rows). r.bits) c.put.ensures in
     omega (arith, below, c.from.ensures, c.requires.shape.wide, wide)
 

@@ -1,5 +1,4 @@
-use Rattle.std.proofs.Common.{◌||◌, ◌∙◌, ap, arith}
-use Rattle.lis_open.proofs.Common.{list_any, take_all, is_left_of, is_left_head_of}
+use Rattle.lis_open.proofs.Common.{◌||◌, ◌∙◌, ap, arith, take_all, list_any, is_left_of, is_left_head_of}
 use Rattle.lis_open.proofs.Lefts.{shaped, no_bit_set}
 use Rattle.lis_open.proofs.checks.mark_lefts.Goals as goal
 

@@ -1,5 +1,4 @@
-use Rattle.std.proofs.Common.{◌≡◌, ℕ, ◌<◌, ◌||◌, take}
-use Rattle.lis_open.proofs.Common.{list_any, HasShape, get, is_left_of, is_left_head_of}
+use Rattle.lis_open.proofs.Common.{◌≡◌, ℕ, ◌<◌, ◌||◌, take, list_any, HasShape, get, is_left_of, is_left_head_of}
 use Rattle.lis_open.proofs.checks.mark_lefts.Given as goal
 
 abbrev pub invariant-loop-slot : goal.invariant-loop-slot

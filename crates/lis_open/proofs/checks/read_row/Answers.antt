@@ -1,8 +1,7 @@
-use Rattle.std.proofs.Common.{arith}
-use Rattle.lis_open.proofs.Common.{length-take-le}
+use Rattle.lis_open.proofs.Common.{arith, length-take-le}
 use Rattle.lis_kept.proofs.InArea.{few_files}
-use Rattle.lis_open.proofs.Slots.{few_blocks}
-use Rattle.lis_open.proofs.ZeroRows.{row_read}
+use Rattle.lis_open.proofs.BlocksRead.{few_blocks}
+use Rattle.lis_open.proofs.Lefts.{row_read}
 use Rattle.lis_open.proofs.checks.read_row.Goals as goal
 
 pub read_slot-requires-clause-few : goal.read_slot-requires-clause-few

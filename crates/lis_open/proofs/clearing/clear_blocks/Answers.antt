@@ -1,8 +1,7 @@
-use Rattle.std.proofs.Common.{◌≡◌, ℕ, ◌*◌, ◌<◌, ◌≤◌, ◌∙◌, replicate, length, arith}
-use Rattle.lis_open.proofs.Common.{length-replicate, ends_then}
+use Rattle.lis_open.proofs.Common.{◌≡◌, ℕ, ◌*◌, ◌<◌, ◌≤◌, ◌∙◌, replicate, length, arith, length-replicate, ends_then}
 use Rattle.lis_ports.proofs.Moments.{run_then}
 use Rattle.lis_ports.proofs.Ending.{ends_call}
-use Rattle.lis_open.proofs.Zeros.{zeros_are, clearing_spreads, clearing_torn, clearing_zeros}
+use Rattle.lis_open.proofs.Wiping.{zeros_are, clearing_spreads, clearing_torn, clearing_zeros}
 use Rattle.lis_open.proofs.clearing.clear_blocks.Goals as goal
 
 pub returns-in_err-write_at-clause-spreads : goal.returns-in_err-write_at-clause-spreads

@@ -1,4 +1,4 @@
-use Rattle.lis_open.proofs.Zeros.{HasCleared}
+use Rattle.lis_open.proofs.Wiping.{HasCleared}
 use Rattle.lis_open.proofs.clearing.clear_blocks.Given as goal
 
 abbrev pub invariant-loop-n : goal.invariant-loop-n

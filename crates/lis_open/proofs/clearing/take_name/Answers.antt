@@ -1,6 +1,5 @@
-use Rattle.std.proofs.Common.{◌∙◌, arith}
-use Rattle.lis_open.proofs.Common.{on_ok_weaker}
-use Rattle.lis_open.proofs.Names.{nameless_zero}
+use Rattle.lis_open.proofs.Common.{◌∙◌, arith, on_ok_weaker}
+use Rattle.lis_open.proofs.Wiping.{nameless_zero}
 use Rattle.lis_open.proofs.clearing.take_name.Goals as goal
 
 pub returns-then-branch-eq-FIRST_BYTE-clause-nameless :

@@ -1,56 +1,37 @@
-use Rattle.std.proofs.Common.{◌≡◌, inl, inr, ◌-◌, ◌*◌, ◌≤◌, ◌∙◌, length, subst, sym, arith}
-use Rattle.lis_open.proofs.Common.{on_ok_weaker, data_start, image_blocks}
-use Rattle.lis_ports.proofs.Always.{always_settled, settled_synced}
+use Rattle.lis_open.proofs.Common.{◌≡◌, ◌-◌, ◌*◌, ◌≤◌, ◌∙◌, length, subst, sym, arith, on_ok_weaker, data_start, image_blocks, always_settled}
+use Rattle.lis_ports.proofs.Always.{settled_synced}
 use Rattle.lis_journal.proofs.Spreading.{spreads_then, spreads_sync}
 use Rattle.lis_open.specs.Makes.{IsWiped, IsWiping}
-use Rattle.lis_open.proofs.Wiping.{wiped}
-use Rattle.lis_open.proofs.Made.{wiping_refl, wiping_trans, spreads_wiping}
+use Rattle.lis_open.proofs.Wiping.{wiped, wiping_refl, wiping_trans, rest_spreads, gate_spreads, homes_spreads}
 use Rattle.lis_open.proofs.clearing.wipe.Goals as goal
 
 pub image_blocks-requires : goal.image_blocks-requires
 image_blocks-requires g c = c.requires.range
 
 pub returns-in_err-write_rest-clause-spreads : goal.returns-in_err-write_rest-clause-spreads
-returns-in_err-write_rest-clause-spreads g c = λ honest.
-    spreads_wiping c.args.limits.now 1 4095 (omega arith) (inl (omega arith)) (c.write_rest.ensures.spreads honest)
+returns-in_err-write_rest-clause-spreads g c = λ honest. rest_spreads c.args.limits.now (c.write_rest.ensures.spreads honest)
 
 pub returns-in_err-clear_blocks-clause-spreads : goal.returns-in_err-clear_blocks-clause-spreads
 returns-in_err-clear_blocks-clause-spreads g c = λ honest.
-    let limits = c.args.limits.now in
-    let honest1 = c.write_rest.ensures.run.honest ∙ honest in
-    spreads_then (IsWiping limits) (wiping_trans limits)
-    (spreads_wiping limits 1 4095 (omega arith) (inl (omega arith)) (c.write_rest.ensures.spreads honest))
-    (spreads_wiping limits 4096 4096 (omega arith) (inl (omega arith)) (c.clear_blocks.ensures.spreads honest1))
+    gate_spreads c.args.limits.now (c.write_rest.ensures.spreads honest) (c.clear_blocks.ensures.spreads (c.write_rest.ensures.run.honest ∙ honest))
 
 pub returns-in_err-clear_blocks-2-clause-spreads :
     goal.returns-in_err-clear_blocks-2-clause-spreads
 returns-in_err-clear_blocks-2-clause-spreads g c = λ honest.
     let limits = c.args.limits.now in
-    let end = c.image_blocks.result - limits.blocks in
-    let is_end : end ≡ data_start limits = omega (arith, c.image_blocks.ensures.blocks) in
     let honest1 = c.write_rest.ensures.run.honest ∙ honest in
-    let honest2 = c.clear_blocks.ensures.run.honest ∙ honest1 in
-    spreads_then (IsWiping limits) (wiping_trans limits)
-    (spreads_then (IsWiping limits) (wiping_trans limits)
-    (spreads_wiping limits 1 4095 (omega arith) (inl (omega arith)) (c.write_rest.ensures.spreads honest))
-    (spreads_wiping limits 4096 4096 (omega arith) (inl (omega arith)) (c.clear_blocks.ensures.spreads honest1)))
-    (spreads_wiping limits 2367488 (4096 * (end - 578)) (omega arith) (inr (omega arith, omega (arith, is_end))) (c.clear_blocks-2.ensures.spreads honest2))
+    homes_spreads limits (c.image_blocks.result - limits.blocks) (omega (arith, c.image_blocks.ensures.blocks)) (c.write_rest.ensures.spreads honest) (c.clear_blocks.ensures.spreads honest1)
+    (c.clear_blocks-2.ensures.spreads (c.clear_blocks.ensures.run.honest ∙ honest1))
 
 pub returns-clause-spreads : goal.returns-clause-spreads
 returns-clause-spreads g c = λ honest.
     let limits = c.args.limits.now in
-    let end = c.image_blocks.result - limits.blocks in
-    let is_end : end ≡ data_start limits = omega (arith, c.image_blocks.ensures.blocks) in
     let honest1 = c.write_rest.ensures.run.honest ∙ honest in
     let honest2 = c.clear_blocks.ensures.run.honest ∙ honest1 in
-    let honest3 = c.clear_blocks-2.ensures.run.honest ∙ honest2 in
     spreads_then (IsWiping limits) (wiping_trans limits)
-    (spreads_then (IsWiping limits) (wiping_trans limits)
-    (spreads_then (IsWiping limits) (wiping_trans limits)
-    (spreads_wiping limits 1 4095 (omega arith) (inl (omega arith)) (c.write_rest.ensures.spreads honest))
-    (spreads_wiping limits 4096 4096 (omega arith) (inl (omega arith)) (c.clear_blocks.ensures.spreads honest1)))
-    (spreads_wiping limits 2367488 (4096 * (end - 578)) (omega arith) (inr (omega arith, omega (arith, is_end))) (c.clear_blocks-2.ensures.spreads honest2)))
-    (spreads_sync (IsWiping limits) c.sync.result c.sync.ensures.call.run c.sync.ensures.call.time c.sync.ensures.synced c.sync.ensures.unsynced (wiping_refl limits) honest3)
+    (homes_spreads limits (c.image_blocks.result - limits.blocks) (omega (arith, c.image_blocks.ensures.blocks)) (c.write_rest.ensures.spreads honest) (c.clear_blocks.ensures.spreads honest1)
+    (c.clear_blocks-2.ensures.spreads honest2))
+    (spreads_sync (IsWiping limits) c.sync.result c.sync.ensures.call.run c.sync.ensures.call.time c.sync.ensures.synced c.sync.ensures.unsynced (wiping_refl limits) (c.clear_blocks-2.ensures.run.honest ∙ honest2))
 
 pub returns-clause-wiped : goal.returns-clause-wiped
 returns-clause-wiped g c = on_ok_weaker c.sync.result (λ synced. λ honest.

@@ -1,9 +1,6 @@
-use Rattle.std.proofs.Common.{◌≡◌, ◌∙◌, length, ap, arith}
-use Rattle.lis_open.proofs.Common.{on_ok_weaker, Torn}
-use Rattle.lis_ports.specs.Bytes.{put}
+use Rattle.lis_open.proofs.Common.{◌≡◌, ◌∙◌, length, ap, arith, on_ok_weaker, Torn, put}
 use Rattle.lis_journal.proofs.Spreading.{spreads_torn}
-use Rattle.lis_open.proofs.Ranges.{torn_wider}
-use Rattle.lis_open.proofs.Wiping.{rest_is, length-rest}
+use Rattle.lis_open.proofs.Wiping.{torn_wider, rest_is, length-rest}
 use Rattle.lis_open.proofs.clearing.write_rest.Goals as goal
 
 pub write_super-requires-clause-range : goal.write_super-requires-clause-range

@@ -1,14 +1,10 @@
-use Rattle.std.proofs.Common.{◌≡◌, nat_lt, ℕ, List, ◌++◌, length, ap, sym, subst, ◌∙◌}
+use Rattle.lis_open.proofs.Common.{◌≡◌, nat_lt, ℕ, List, ◌++◌, length, ap, sym, subst, ◌∙◌, option_map, list_all, HasShape, FileRecord, met_tests}
 use Rattle.std.proofs.lemmas.Bool.{OnTrue_at}
-use Rattle.lis_open.proofs.Common.{list_all, HasShape, FileRecord, met_tests}
-use Rattle.std.specs.Option.{option_map}
 use Rattle.lis_bits.proofs.Laws.{shaped}
 use Rattle.lis_model.specs.Derived.{derived_words}
 use Rattle.lis_open.specs.ReadWords.{declared_words}
 use Rattle.lis_open.specs.ReadFiles.{Gathered, own_numbers, may_describe, AreDescribed}
-use Rattle.lis_open.proofs.OwnNumbers.{undescribed, listed_described}
-use Rattle.lis_open.proofs.Gathering.{gathered_all, listed_are}
-use Rattle.lis_open.proofs.MetTests.{found_numbered, found_gathered}
+use Rattle.lis_open.proofs.Gathering.{undescribed, listed_described, gathered_all, listed_are, found_numbered, found_gathered}
 use Rattle.lis_open.proofs.files.describe.Goals as goal
 
 pub gather-requires-clause-shape : goal.gather-requires-clause-shape

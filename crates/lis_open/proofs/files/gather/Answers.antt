@@ -1,5 +1,4 @@
-use Rattle.std.proofs.Common.{ap, sym, subst, take, ◌∷◌, [], ◌++◌, ◌∙◌}
-use Rattle.lis_open.proofs.Common.{take_all}
+use Rattle.lis_open.proofs.Common.{ap, sym, subst, take, ◌∷◌, [], ◌++◌, ◌∙◌, take_all}
 use Rattle.std.proofs.lemmas.List.{take_more}
 use Rattle.lis_open.proofs.Gathering.{Gathered, gathered_none, gathered_more}
 use Rattle.lis_open.proofs.files.gather.Goals as goal

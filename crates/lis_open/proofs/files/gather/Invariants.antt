@@ -1,4 +1,4 @@
-use Rattle.std.proofs.Common.{take}
+use Rattle.lis_open.proofs.Common.{take}
 use Rattle.lis_open.proofs.Gathering.{Gathered}
 use Rattle.lis_open.proofs.files.gather.Given as goal
 

@@ -1,9 +1,7 @@
-use Rattle.std.proofs.Common.{length, get_or, refl, sym, ap, subst, ◌∙◌, arith}
-use Rattle.lis_open.proofs.Common.{list_all, take_all, with_row, number_below, entails}
+use Rattle.lis_open.proofs.Common.{length, get_or, refl, sym, ap, subst, ◌∙◌, arith, take_all, list_all, with_row, number_below, entails}
 use Rattle.std.proofs.lemmas.List.Folds.{list_all_at}
 use Rattle.lis_open.specs.ReadFiles.{Gathered, is_numbered, numbers_of}
-use Rattle.lis_open.proofs.Gathering.{gathered_none}
-use Rattle.lis_open.proofs.OwnNumbers.{words_more}
+use Rattle.lis_open.proofs.Gathering.{gathered_none, words_more}
 use Rattle.lis_open.proofs.files.gather_derived.Goals as goal
 
 pub loop-word-init : goal.loop-word-init

@@ -1,4 +1,4 @@
-use Rattle.lis_open.proofs.OwnNumbers.{WordsGathered}
+use Rattle.lis_open.proofs.Gathering.{WordsGathered}
 use Rattle.lis_open.proofs.files.gather_derived.Given as goal
 
 abbrev pub invariant-loop-word : goal.invariant-loop-word

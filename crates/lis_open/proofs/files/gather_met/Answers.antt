@@ -1,11 +1,9 @@
-use Rattle.std.proofs.Common.{◌≡◌, ◌∙◌, ℕ, ◌+◌, Some, sym, ap, subst, arith}
-use Rattle.std.specs.List.{slice_get}
-use Rattle.lis_open.proofs.Common.{with_row, number_below, among_place, entails}
+use Rattle.lis_open.proofs.Common.{◌≡◌, ◌∙◌, ◌+◌, Some, sym, ap, subst, arith, slice_get, with_row, number_below, among_place, entails}
 use Rattle.lis_dict.proofs.Laws.{number_from_among}
 use Rattle.lis_eval.proofs.Members.{past_end}
-use Rattle.lis_open.proofs.MetTests.{MetSoFar, met_none, met_not, met_more, met_all}
-use Rattle.lis_open.proofs.files.gather_met.Goals as goal
+use Rattle.lis_open.proofs.Gathering.{MetSoFar, met_none, met_not, met_more, met_all}
 use Rattle.lis_open.proofs.files.gather_met.Goals.{then-is_met_word, else-is_met_word}
+use Rattle.lis_open.proofs.files.gather_met.Goals as goal
 
 pub loop-k-init : goal.loop-k-init
 loop-k-init c =

@@ -1,4 +1,4 @@
-use Rattle.lis_open.proofs.MetTests.{MetSoFar}
+use Rattle.lis_open.proofs.Gathering.{MetSoFar}
 use Rattle.lis_open.proofs.files.gather_met.Given as goal
 
 abbrev pub invariant-loop-k : goal.invariant-loop-k

@@ -1,5 +1,4 @@
-use Rattle.std.proofs.Common.{arith}
-use Rattle.lis_open.proofs.Common.{number_below}
+use Rattle.lis_open.proofs.Common.{arith, number_below}
 use Rattle.lis_open.proofs.files.is_met_word.Goals as goal
 
 pub get-requires : goal.get-requires

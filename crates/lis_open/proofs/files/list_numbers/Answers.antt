@@ -1,5 +1,5 @@
-use Rattle.std.proofs.Common.{◌≡◌, ◌≤◌, ◌+◌, ◌∙◌, ◌∷◌, [], length, sym, ap, subst, arith, append_assoc, length-append, append-nil}
-use Rattle.lis_open.proofs.Common.{eqb-true, get}
+use Rattle.std.proofs.Common.{append-nil}
+use Rattle.lis_open.proofs.Common.{◌≡◌, ◌≤◌, ◌+◌, ◌∙◌, ◌∷◌, [], length, sym, ap, subst, arith, append_assoc, length-append, eqb-true, get}
 use Rattle.std.proofs.lemmas.Bool.{eqb-false}
 use Rattle.lis_ext.proofs.Numbers.{numbers_from, from_start, none_from, next_from}
 use Rattle.lis_open.proofs.files.list_numbers.Goals as goal

@@ -1,5 +1,4 @@
-use Rattle.std.proofs.Common.{◌≡◌, ◌≤◌, ◌-◌, ◌++◌, length}
-use Rattle.lis_open.proofs.Common.{get}
+use Rattle.lis_open.proofs.Common.{◌≡◌, ◌≤◌, ◌-◌, ◌++◌, length, get}
 use Rattle.lis_ext.specs.Numbers.{numbers_where}
 use Rattle.lis_ext.proofs.Numbers.{numbers_from}
 use Rattle.lis_open.proofs.files.list_numbers.Given as goal

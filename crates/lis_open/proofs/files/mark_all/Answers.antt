@@ -1,4 +1,4 @@
-use Rattle.lis_open.proofs.Numbers.{next_free, marking_on}
+use Rattle.lis_open.proofs.Once.{next_free, marking_on}
 use Rattle.lis_open.proofs.files.mark_all.Goals as goal
 
 pub mark-requires : goal.mark-requires

@@ -1,5 +1,5 @@
-use Rattle.std.proofs.Common.{drop}
-use Rattle.lis_open.proofs.Numbers.{Marking}
+use Rattle.lis_open.proofs.Common.{drop}
+use Rattle.lis_open.proofs.Once.{Marking}
 use Rattle.lis_open.proofs.files.mark_all.Given as goal
 
 abbrev pub invariant-loop-block : goal.invariant-loop-block

@@ -1,5 +1,4 @@
-use Rattle.std.proofs.Common.{◌∙◌, ap, arith}
-use Rattle.lis_open.proofs.Common.{on_ok_weaker, FileRecord}
+use Rattle.lis_open.proofs.Common.{◌∙◌, ap, arith, on_ok_weaker, FileRecord}
 use Rattle.lis_content.specs.Content.{are_within}
 use Rattle.lis_content.proofs.Numbers.{within_if_below}
 use Rattle.lis_open.proofs.BlocksRead.{size_of_form, slot_of_form}

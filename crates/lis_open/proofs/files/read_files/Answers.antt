@@ -1,11 +1,9 @@
-use Rattle.std.proofs.Common.{◌≡◌, ℕ, List, refl, sym, subst, ◌∙◌, arith}
+use Rattle.lis_open.proofs.Common.{◌≡◌, ℕ, List, refl, sym, subst, ◌∙◌, arith, ends_none, ends_then, among_from_contains, Fits, filed_rec}
 use Rattle.std.proofs.lemmas.Bool.{OnTrue_at, OnFalse_at}
-use Rattle.lis_open.proofs.Common.{ends_none, ends_then, among_from_contains, Fits, filed_rec}
 use Rattle.lis_open.specs.declared.files.Files.{Files}
 use Rattle.lis_open.specs.ReadFiles.{AreFirstFiles, TakesFile}
-use Rattle.lis_open.proofs.Quiet.{reads_none, reads_then, fits_after}
-use Rattle.lis_open.proofs.FilesRead.{files_on, so_far_on, no_files_yet, none_so_far}
-use Rattle.lis_open.proofs.FileFaults.{file_fails, files_pass, slot_described}
+use Rattle.lis_open.proofs.BlocksRead.{reads_none, reads_then, fits_after}
+use Rattle.lis_open.proofs.FilesRead.{files_on, so_far_on, no_files_yet, none_so_far, file_fails, files_pass, slot_described}
 use Rattle.lis_open.proofs.files.read_files.Goals as goal
 
 pub loop-slot-init : goal.loop-slot-init

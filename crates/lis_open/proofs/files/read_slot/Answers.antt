@@ -1,7 +1,6 @@
-use Rattle.std.proofs.Common.{arith}
-use Rattle.lis_open.proofs.Common.{file_bytes, is_file, file_slots}
+use Rattle.lis_open.proofs.Common.{arith, file_bytes, is_file, file_slots}
 use Rattle.lis_kept.proofs.InArea.{whole_files}
-use Rattle.lis_open.proofs.Slots.{few_blocks, read_as}
+use Rattle.lis_open.proofs.BlocksRead.{few_blocks, read_as}
 use Rattle.lis_open.proofs.files.read_slot.Goals as goal
 
 pub read_slot-requires-clause-within : goal.read_slot-requires-clause-within

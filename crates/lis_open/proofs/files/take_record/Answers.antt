@@ -1,10 +1,9 @@
-use Rattle.std.proofs.Common.{◌≡◌, refl, sym, ap, subst, ◌∙◌, length, false}
-use Rattle.lis_open.proofs.Common.{are_free, are_distinct, are_below}
+use Rattle.lis_open.proofs.Common.{◌≡◌, refl, sym, ap, subst, ◌∙◌, length, false, are_free, are_distinct, are_below}
 use Rattle.lis_open.specs.ReadFiles.{found_words, own_numbers, may_describe, TakesNumbers}
 use Rattle.lis_open.specs.ReadFiles.RecordFault.{NoBlocks, NotDescribed}
 use Rattle.lis_open.proofs.FilesRead.{tags_below, free_below}
 use Rattle.lis_open.proofs.Gathering.{described_rise, described_in}
-use Rattle.lis_open.proofs.Quiet.{fits_after}
+use Rattle.lis_open.proofs.BlocksRead.{fits_after}
 use Rattle.lis_open.proofs.files.take_record.Goals as goal
 
 pub read_bytes-requires-clause-below : goal.read_bytes-requires-clause-below

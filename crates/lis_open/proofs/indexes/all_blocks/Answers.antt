@@ -1,5 +1,4 @@
-use Rattle.std.proofs.Common.{◌∙◌, sym, ap, ap₂, ◌+◌, ◌++◌}
-use Rattle.lis_open.proofs.Common.{data_start}
+use Rattle.lis_open.proofs.Common.{◌∙◌, sym, ap, ap₂, ◌+◌, ◌++◌, data_start}
 use Rattle.lis_open.proofs.BlocksRead.{large_found, large_missed}
 use Rattle.lis_open.proofs.indexes.all_blocks.Goals as goal
 

@@ -1,5 +1,4 @@
-use Rattle.std.proofs.Common.{◌≡◌, drop}
-use Rattle.lis_open.proofs.Common.{are_distinct}
+use Rattle.lis_open.proofs.Common.{◌≡◌, drop, are_distinct}
 use Rattle.lis_open.proofs.indexes.are_distinct.Given as goal
 
 abbrev pub invariant-loop-k : goal.invariant-loop-k

@@ -1,6 +1,5 @@
-use Rattle.std.proofs.Common.{◌∙◌, sym, ap, Some, None}
-use Rattle.lis_open.proofs.Common.{are_free, are_distinct}
-use Rattle.lis_open.proofs.BlocksRead.{size_of_form, slot_of_form, free_within, read_of, not_own, not_indexed, not_free, not_distinct}
+use Rattle.lis_open.proofs.Common.{◌∙◌, sym, ap, Some, None, are_free, are_distinct}
+use Rattle.lis_open.proofs.BlocksRead.{size_of_form, slot_of_form, free_within, read_of, not_own, not_free, not_distinct}
 use Rattle.lis_open.proofs.indexes.free_blocks.Goals as goal
 
 pub returns-then-not-are_free-clause-found : goal.returns-then-not-are_free-clause-found
@@ -20,8 +19,8 @@ all_blocks-requires-clause-within g c =
 
 pub returns-in_default-clause-found : goal.returns-in_default-clause-found
 returns-in_default-clause-found g c = λ kept fits.
-    not_indexed c.args.limits.now kept c.args.map.now c.args.rec.now
-    (read_of c.args.limits.now kept c.args.rec.now c.as_slice-slot.result.now None c.rec.view_is c.as_slice-slot.ensures.value (rw c.in_default.is at (c.in_ok-blocks.ensures.found kept fits)))
+    let none = read_of c.args.limits.now kept c.args.rec.now c.as_slice-slot.result.now None c.rec.view_is c.as_slice-slot.ensures.value (rw c.in_default.is at (c.in_ok-blocks.ensures.found kept fits)) in
+    λ has. none has.indexed
 
 pub returns-then-not-are_free-2-clause-found : goal.returns-then-not-are_free-2-clause-found
 returns-then-not-are_free-2-clause-found g c = λ kept fits.

@@ -1,5 +1,4 @@
-use Rattle.std.proofs.Common.{Err, ap, ◌∙◌}
-use Rattle.lis_open.proofs.Common.{err_from_is_err_and}
+use Rattle.lis_open.proofs.Common.{Err, ap, ◌∙◌, err_from_is_err_and}
 use Rattle.lis_open.proofs.making.make.Goals as goal
 
 pub image_blocks-requires : goal.image_blocks-requires

@@ -1,10 +1,7 @@
-use Rattle.std.proofs.Common.{rules, refl, sym, ◌∙◌, IsTrue, OnOk}
-use Rattle.lis_open.proofs.Common.{err_from_is_err_and, on_ok_weaker, Always}
+use Rattle.lis_open.proofs.Common.{rules, refl, sym, ◌∙◌, IsTrue, OnOk, err_from_is_err_and, on_ok_weaker, Always, leaves_then}
 use Rattle.std.proofs.lemmas.Result.{IfErr-at_err}
-use Rattle.lis_ports.proofs.Moments.{leaves_then}
 use Rattle.lis_open.specs.Makes.{IsMade, IsSettledAt}
-use Rattle.lis_open.proofs.Wiping.{spared_moments, wiping_moments, naming_moments, named_stands}
-use Rattle.lis_open.proofs.Made.{named_spreads, wiped_spreads, made_spreads, moments_spare, spare_spreads, made_all, spare_either}
+use Rattle.lis_open.proofs.Wiping.{spared_moments, wiping_moments, naming_moments, named_stands, named_spreads, wiped_spreads, made_spreads, moments_spare, spare_spreads, made_all, spare_either}
 use Rattle.lis_open.proofs.making.write_image.Goals as goal
 
 pub returns-in_err-take_name-clause-any_moment : goal.returns-in_err-take_name-clause-any_moment

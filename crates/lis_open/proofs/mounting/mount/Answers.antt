@@ -1,6 +1,4 @@
-use Rattle.std.proofs.Common.{rules, ◌∙◌, sym, ap, subst, inl, Err, IsTrue}
-use Rattle.lis_open.proofs.Common.{err_from_is_err_and}
-use Rattle.lis_ports.proofs.Moments.{leaves_weaken}
+use Rattle.lis_open.proofs.Common.{rules, ◌∙◌, sym, ap, subst, inl, Err, IsTrue, err_from_is_err_and, leaves_weaken}
 use Rattle.lis_open.specs.Opens.{HasOpenCause, InOpening}
 use Rattle.lis_open.proofs.Opening.{opened_before, opening_before, moments_stand, mount_past}
 use Rattle.lis_open.proofs.mounting.mount.Goals as goal

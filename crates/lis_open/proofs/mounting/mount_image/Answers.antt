@@ -1,6 +1,5 @@
-use Rattle.std.proofs.Common.{rules, ◌≡◌, ◌⊎◌, ℕ, List, ◌∙◌, sym, ap, subst, Err, Result, IfOk, false, arith}
-use Rattle.lis_open.proofs.Common.{err_from_is_err_and, block, Held, Leaves, IsSettled, image_blocks, Stored, IsSound}
-use Rattle.lis_journal.specs.Record.{recovered}
+use Rattle.std.proofs.Common.{IfOk}
+use Rattle.lis_open.proofs.Common.{rules, ◌≡◌, ◌⊎◌, ℕ, List, ◌∙◌, sym, ap, subst, Err, Result, false, arith, err_from_is_err_and, block, Held, Leaves, IsSettled, image_blocks, Stored, IsSound, recovered}
 use Rattle.lis_journal.specs.Recovery.{InRecovery, MountEnded}
 use Rattle.lis_journal.specs.declared.journal.JournalFault.{JournalFault}
 use Rattle.lis_journal.specs.declared.journal.JournalFault.TheVariants.{DiskFault as JournalDisk}

@@ -1,4 +1,4 @@
-use Rattle.std.proofs.Common.{inr, ◌*◌, arith}
+use Rattle.lis_open.proofs.Common.{inr, ◌*◌, arith}
 use Rattle.lis_open.proofs.Opening.{short_opened, no_super_opened, super_read, none_read}
 use Rattle.lis_open.proofs.mounting.read_limits.Goals as goal
 

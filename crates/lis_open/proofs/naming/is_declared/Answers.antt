@@ -1,6 +1,5 @@
-use Rattle.std.proofs.Common.{◌∙◌, sym, ap, arith}
-use Rattle.lis_open.proofs.Common.{number_below, bit_of}
-use Rattle.lis_open.proofs.WordUses.{declared_bit}
+use Rattle.lis_open.proofs.Common.{◌∙◌, sym, ap, arith, number_below, bit_of}
+use Rattle.lis_open.proofs.Descriptions.{declared_bit}
 use Rattle.lis_open.proofs.naming.is_declared.Goals as goal
 
 pub get-requires : goal.get-requires

@@ -1,5 +1,5 @@
-use Rattle.std.proofs.Common.{◌≤◌, sym, arith}
-use Rattle.lis_open.proofs.WordUses.{no_word_past}
+use Rattle.lis_open.proofs.Common.{◌≤◌, sym, arith}
+use Rattle.lis_open.proofs.Descriptions.{no_word_past}
 use Rattle.lis_open.proofs.naming.word_at.Goals as goal
 
 pub returns-in-Err : goal.returns-in-Err

@@ -1,9 +1,8 @@
-use Rattle.std.proofs.Common.{refl, []}
-use Rattle.lis_open.proofs.Common.{err_from_is_err_and}
+use Rattle.lis_open.proofs.Common.{refl, [], err_from_is_err_and}
 use Rattle.lis_open.specs.ReadAll.{kept_in, AreRead}
 use Rattle.lis_open.proofs.Joined.{none_past}
-use Rattle.lis_open.proofs.Parts.{words_failed, bitmap_failed, rows_ended, on_ok, stray_cause}
-use Rattle.lis_open.proofs.Quiet.{fits_after}
+use Rattle.lis_open.proofs.AllRead.{words_failed, bitmap_failed, rows_ended, on_ok, stray_cause}
+use Rattle.lis_open.proofs.BlocksRead.{fits_after}
 use Rattle.lis_open.proofs.reading.check_parts.Goals as goal
 
 pub returns-in_err-check_words-clause-cause : goal.returns-in_err-check_words-clause-cause

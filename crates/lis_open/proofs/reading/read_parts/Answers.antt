@@ -1,6 +1,6 @@
 use Rattle.lis_open.proofs.Common.{err_from_is_err_and, on_ok_weaker}
-use Rattle.lis_open.proofs.Parts.{none_recalled}
-use Rattle.lis_open.proofs.Quiet.{fits_after}
+use Rattle.lis_open.proofs.AllRead.{none_recalled}
+use Rattle.lis_open.proofs.BlocksRead.{fits_after}
 use Rattle.lis_open.proofs.reading.read_parts.Goals as goal
 
 pub returns-in_err-read_slots-clause-ended : goal.returns-in_err-read_slots-clause-ended

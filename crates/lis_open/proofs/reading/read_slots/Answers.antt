@@ -1,7 +1,6 @@
 use Rattle.lis_open.proofs.Common.{err_from_is_err_and}
-use Rattle.lis_open.proofs.Order.{none_below, pass_more}
-use Rattle.lis_open.proofs.Parts.{kind_failed}
-use Rattle.lis_open.proofs.Quiet.{fits_after}
+use Rattle.lis_open.proofs.AllRead.{none_below, pass_more, kind_failed}
+use Rattle.lis_open.proofs.BlocksRead.{fits_after}
 use Rattle.lis_open.proofs.reading.read_slots.Goals as goal
 
 pub returns-in_err-read_words-clause-ended : goal.returns-in_err-read_words-clause-ended

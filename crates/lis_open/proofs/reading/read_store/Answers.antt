@@ -1,8 +1,5 @@
-use Rattle.std.proofs.Common.{◌∙◌, sym, ap, subst, false}
-use Rattle.lis_open.proofs.Common.{err_from_is_err_and, Kept, Stored, IsSound}
-use Rattle.lis_open.proofs.Joined.{parts_held}
-use Rattle.lis_open.proofs.TestsMet.{store_sound}
-use Rattle.lis_open.proofs.Told.{store_told}
+use Rattle.lis_open.proofs.Common.{◌∙◌, sym, ap, subst, false, err_from_is_err_and, Kept, Stored, IsSound}
+use Rattle.lis_open.proofs.Joined.{parts_held, store_sound, store_told}
 use Rattle.lis_open.proofs.reading.read_store.Goals as goal
 
 pub returns-in_err-read_parts-clause-ended : goal.returns-in_err-read_parts-clause-ended

@@ -1,8 +1,7 @@
-use Rattle.std.proofs.Common.{rules, ◌∙◌, sym, ap, subst, arith}
-use Rattle.lis_open.proofs.Common.{err_from_is_err_and, Limits}
+use Rattle.lis_open.proofs.Common.{rules, ◌∙◌, sym, ap, subst, arith, err_from_is_err_and, Limits}
 use Rattle.lis_ports.specs.Calls.{Rose}
 use Rattle.lis_store.proofs.FreeAgain.{first_version}
-use Rattle.lis_open.proofs.UpgradedImages.{fault_of, handed_on, not_refused, opening_moments, second_left, second_stands, first_left, upgrade_moments, upgrade_past, first_stands}
+use Rattle.lis_open.proofs.Upgraded.{fault_of, handed_on, not_refused, opening_moments, second_left, second_stands, first_left, upgrade_moments, upgrade_past, first_stands}
 use Rattle.lis_open.proofs.upgrading.upgrade.Goals as goal
 
 -- it is refused

@@ -1,7 +1,6 @@
-use Rattle.std.proofs.Common.{arith}
-use Rattle.lis_open.proofs.Common.{prop_bytes, is_prop, property_slots}
+use Rattle.lis_open.proofs.Common.{arith, prop_bytes, is_prop, property_slots}
 use Rattle.lis_kept.proofs.InArea.{whole_properties}
-use Rattle.lis_open.proofs.Slots.{few_blocks, read_as}
+use Rattle.lis_open.proofs.BlocksRead.{few_blocks, read_as}
 use Rattle.lis_open.proofs.words.read_property.Goals as goal
 
 pub read_slot-requires-clause-within : goal.read_slot-requires-clause-within

@@ -1,6 +1,5 @@
-use Rattle.std.proofs.Common.{◌≡◌, refl, sym, ◌∙◌, arith}
-use Rattle.lis_open.proofs.Common.{ends_none, ends_then}
-use Rattle.lis_open.proofs.Quiet.{reads_none, reads_then, fits_after}
+use Rattle.lis_open.proofs.Common.{refl, sym, ◌∙◌, arith, ends_none, ends_then}
+use Rattle.lis_open.proofs.BlocksRead.{reads_none, reads_then, fits_after}
 use Rattle.lis_open.proofs.WordsRead.{slot_on, property_fails, words_pass, first_words}
 use Rattle.lis_open.proofs.words.read_words.Goals as goal
 
