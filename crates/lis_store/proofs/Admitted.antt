@@ -1,6 +1,7 @@
 -- The row of a new file, told by what a store keeps, is the row of the state; and what holds where it refuses nothing.
-use Rattle.lis_store.proofs.Common.{◌≡◌, refl, sym, ap, ap₂, ◌∙◌, subst, ℕ, ◌≤◌, nat_lt, nat_le, Bool, true, false, not, cond, is_some, Option, Some, None, List, [], ◌∷◌, ◌++◌, length, Result, Err, arith, ◌⊎◌, inl, inr, list_any, list_all, ltb-false, not-false, ltb-true, leb-true, Meaning, free_count, slot_of, Formula, word_cmp, is_file_name, is_built_in, Limits, Refusal, UnknownProperty, NameTaken, LargeFile, NoSpace, place_words, State, File, is_assignable, file_limit, blocks_taken, all_up, met_tests, derived_words, derived_built_in, description, file_cmp, has_name, new_file, file_added, Situation, Payload, assigned_at, free_blocks, add, exceeds_words, exceeds_known, word_order, rising_from_sorted, Kept, declared_of, Among, among_insert_key, with_words, leb-false, known, changed, all_among, all_from, among_from_any, any_from_among, same_tests}
-use Rattle.lis_model.specs.declared.refusal.Refusal.TheVariants.{NotAPlace, NotAssignable, TooManyAssigned, NoFileRoom, BuiltIn, LargeDescription, NoPropertyRoom}
+use Rattle.std.proofs.Common.{rules}
+use Rattle.lis_store.proofs.Common.{◌≡◌, refl, sym, ap, ap₂, ◌∙◌, subst, ℕ, ◌≤◌, nat_lt, nat_le, Bool, true, false, not, cond, is_some, Option, Some, None, List, [], ◌∷◌, ◌++◌, length, Result, Err, arith, ◌⊎◌, inl, inr, list_any, list_all, ltb-false, not-false, ltb-true, leb-true, Meaning, free_count, slot_of, Formula, word_cmp, is_file_name, is_built_in, Limits, Refusal, UnknownProperty, NameTaken, LargeFile, NoSpace, place_words, State, File, is_assignable, file_limit, blocks_taken, derived_words, derived_built_in, description, file_cmp, has_name, new_file, file_added, Situation, Payload, assigned_at, free_blocks, add, exceeds_words, exceeds_known, word_order, rising_from_sorted, Kept, declared_of, Among, among_insert_key, with_words, leb-false, known, changed, all_among, all_from, among_from_any, any_from_among, same_tests}
+use Rattle.lis_model.specs.declared.refusal.Refusal.TheVariants.{NotAPlace, NotAssignable, TooManyAssigned, NoFileRoom, BuiltIn}
 use Rattle.lis_model.specs.Step.{is_head_or_test, room_checks as told_room, add_checks}
 use Rattle.lis_laws.proofs.Derived.{derived_few}
 use Rattle.lis_store.specs.Stored.{Stored, IsSound, StoreHolds}
@@ -30,8 +31,7 @@ module _ (k : Stored) (s : State) (sound : IsSound k) (fits : ToldBy k s) where
   declared_are = ap (λ (t : State). t.declared) fits.tells.state
 
   described_are : (file : File) (own : List (List ℕ)) → AreOwnWords s.declared s.axioms own file → described_by kept (with_own file own) ≡ description s file
-  described_are file own are_own =
-      ap₂ (λ declared axioms. all_up declared axioms (file.assigned ++ own ++ met_tests declared (length file.bytes))) declared_are (ap (λ (t : State). t.axioms) fits.tells.state) ∙ are_own
+  described_are file own are_own = search (rules, declared_are)
 
   pub free_are : free_count kept.taken ≡ free_blocks s
   free_are = omega (arith, used_told k s sound fits)
@@ -71,9 +71,7 @@ module _ (k : Stored) (s : State) (sound : IsSound k) (fits : ToldBy k s) where
 
     pub words_row : (checks others : List (Bool × Refusal)) → first_refusal checks ≡ first_refusal others
         → first_refusal (words_checks kept old (with_own file own) ++ checks) ≡ first_refusal (told_room made ++ others)
-    words_row checks others same =
-        ap₂ (λ large full. cond large (Some LargeDescription) (cond full (Some NoPropertyRoom) (first_refusal checks))) large_told room_told
-        ∙ ap (λ r. cond (exceeds_words made) (Some LargeDescription) (cond (exceeds_known made) (Some NoPropertyRoom) r)) same
+    words_row checks others same = search (rules, large_told, room_told)
 
 -- ---- derived words
 pub derived_own : (name bytes : List ℕ) → list_all is_built_in (derived_words name bytes) ≡ true
@@ -89,14 +87,10 @@ front_checks k place words file size = (nat_lt (file_limit k.limits.version) siz
 pub room_refused : (k : Kept) (place : List Formula) (name : List ℕ) (words : List (List ℕ)) (bytes : List ℕ) (size : ℕ) (given : List (List ℕ)) → given ≡ assigned_at place words
     → first_refusal (front_checks k place words (new_file name (assigned_at place words) bytes) size) ≡ None → (refusal : Refusal)
     → first_refusal (room_checks k (draft_of (new_file name given bytes)) size) ≡ Some refusal → first_refusal (add_checks_of k place name words bytes size) ≡ Some refusal
-room_refused k place name words bytes size given is named refusal first =
-    let new = new_file name (assigned_at place words) bytes in
-    refused_then (front_checks k place words new size) (room_checks k (draft_of new) size) named
-    ∙ (ap (λ ws. first_refusal (room_checks k (draft_of (new_file name ws bytes)) size)) (sym is) ∙ first)
+room_refused k place name words bytes size given is named refusal first = search (rules, refused_then)
 
 pub none_there : {X : Type 0} (o : Option X) → is_some o ≡ false → o ≡ None
-none_there None e = refl
-none_there (Some x) e = absurd cc
+none_there o e = search (rules)
 
 -- What a store asks of a payload speaks of the store's value, and what is proved speaks of its parts.
 pub whole_inside : {old now : Stored} (bytes : List ℕ) (size : ℕ) → old ≡ now → (size ≤ file_limit now.parts.limits.version → length bytes ≡ size)
@@ -135,9 +129,7 @@ module _ (k : Kept) (place : List Formula) (name : List ℕ) (words : List (List
       }
 
   pub enough_free : blocks_taken k.limits.version (length bytes) ≤ free_count k.taken
-  enough_free =
-      let blocks = ltb-false (free_count k.taken) (blocks_taken k.limits.version size) row.1.1.1.1.1.1.1.1.1.1.0 in
-      omega (arith, blocks, ap (blocks_taken k.limits.version) (whole small))
+  enough_free = search (rules, ltb-false, row, small)
 
 -- ---- the row of the state
 module _ (k : Stored) (s : State) (sound : IsSound k) (fits : ToldBy k s) (place : List Formula) (words : List (List ℕ)) where

@@ -21,9 +21,7 @@ abbrev words_if : Bool → List (List ℕ) → Option (List (List ℕ))
 words_if b words = cond b (Some words) None
 
 both_if : (a b : Bool) (x y : List (List ℕ)) → both_lists (words_if a x) (words_if b y) ≡ words_if (a && b) (x ++ y)
-both_if true true x y = refl
-both_if true false x y = refl
-both_if false b x y = refl
+both_if a b x y = search (rules)
 
 abbrev are_conjuncts : List Node → Bool
 are_conjuncts nodes = list_all is_conjunct nodes
@@ -32,19 +30,13 @@ abbrev words_in : List Node → List (List ℕ)
 words_in nodes = flat_map node_words nodes
 
 parts_joined : (x y : List Node) → both_lists (words_if (are_conjuncts x) (words_in x)) (words_if (are_conjuncts y) (words_in y)) ≡ words_if (are_conjuncts (x ++ y)) (words_in (x ++ y))
-parts_joined x y =
-    both_if (are_conjuncts x) (are_conjuncts y) (words_in x) (words_in y)
-    ∙ ap₂ words_if (sym (list_all-append is_conjunct x y)) (sym (flat_map-append node_words x y))
+parts_joined x y = search (rules, both_if, list_all-append, flat_map-append)
 
 with_and : (x : List Node) → words_if (are_conjuncts x) (words_in x) ≡ words_if (are_conjuncts (x ++ And ∷ [])) (words_in (x ++ And ∷ []))
-with_and x =
-    ap₂ words_if (sym (list_all-append is_conjunct x (And ∷ []) ∙ and-true (are_conjuncts x)))
-    (sym (flat_map-append node_words x (And ∷ []) ∙ append-nil (words_in x)))
+with_and x = search (rules, list_all-append, and-true, flat_map-append, append-nil)
 
 with_other : (x : List Node) (node : Node) → is_conjunct node ≡ false → None ≡ words_if (are_conjuncts (x ++ node ∷ [])) (words_in (x ++ node ∷ []))
-with_other x node is =
-    ap (λ b. words_if b (words_in (x ++ node ∷ [])))
-    (sym (list_all-append is_conjunct x (node ∷ []) ∙ (ap (λ b. are_conjuncts x && (b && true)) is ∙ and-false (are_conjuncts x))))
+with_other x node is = search (rules, list_all-append, and-false)
 
 tree_words : (f : Formula) → conjuncts f ≡ words_if (are_conjuncts (tree_node_list f)) (words_in (tree_node_list f))
 tree_words (Has word) = refl
@@ -210,17 +202,13 @@ module _ (place : List Formula) (words start mid : List (List ℕ)) (some : IsSo
 
 -- ---- assignable words
 pub has_declared : (k : Kept) (word : List ℕ) → has_word (declared_of k) word ≡ is_declared k word
-has_declared k word =
-    same_tests (has_word (declared_of k) word) (is_declared k word) (λ h. there_declared k word (among_from_has_word (declared_of k) word h))
-    (λ h. has_word_from_among (declared_of k) word (declared_there k word h))
+has_declared k word = search (rules, same_tests, there_declared, among_from_has_word, has_word_from_among, declared_there)
 
 pub plain_assignable : (k : Kept) (word : List ℕ) → is_plain_word word ≡ true → is_declared k word ≡ is_assignable (declared_of k) word
-plain_assignable k word plain =
-    sym (ap₂ (λ p v. (p && has_word (declared_of k) word) || (v && has_word (declared_of k) (head_bytes word))) plain (plain_not_valued word plain) ∙ (or-false (has_word (declared_of k) word) ∙ has_declared k word))
+plain_assignable k word plain = search (rules, plain_not_valued, or-false, has_declared)
 
 pub valued_assignable : (k : Kept) (word : List ℕ) → is_plain_word word ≡ false → is_valued word ≡ true → is_declared k (head_bytes word) ≡ is_assignable (declared_of k) word
-valued_assignable k word plain valued =
-    sym (ap₂ (λ p v. (p && has_word (declared_of k) word) || (v && has_word (declared_of k) (head_bytes word))) plain valued ∙ has_declared k (head_bytes word))
+valued_assignable k word plain valued = search (rules, has_declared)
 
 pub not_assignable : (k : Kept) (word : List ℕ) → is_plain_word word ≡ false → is_valued word ≡ false → false ≡ is_assignable (declared_of k) word
 not_assignable k word plain bare = sym (ap₂ (λ p v. (p && has_word (declared_of k) word) || (v && has_word (declared_of k) (head_bytes word))) plain bare)
@@ -246,9 +234,7 @@ plain_place place = plain_nodes (nodes_of place) (list_all is_conjunct (nodes_of
 
 -- ---- the words of a place
 words_of_nodes : (place : List Formula) → IsSome (place_words place) → words_at place ≡ set_of (words_in (nodes_of place))
-words_of_nodes place some =
-    ap (λ (o : Option (List (List ℕ))). unwrap_or o [])
-    (place_words_are place ∙ ap (λ b. option_map set_of (cond b (Some (words_in (nodes_of place))) None)) (place_has_words place ∙ some))
+words_of_nodes place some = search (rules, place_words_are, place_has_words)
 
 -- a word of the set is there already
 with_word_same : (words : List (List ℕ)) (word : List ℕ) → IsStrictlySortedBy word_cmp words → Among words word → with_word words word ≡ words
@@ -303,8 +289,7 @@ numbers_next k nodes i node lt is old new fits fit few are takes = grind (arith,
 
 pub numbers_all : (k : Kept) (place : List Formula) (nodes : List Node) (i : ℕ) (numbers : List ℕ) → IsSome (place_words place) → nodes ≡ nodes_of place → length nodes ≤ i
     → AreNumbersIn k (take i nodes) numbers → AreNumbersOf k (words_at place) numbers
-numbers_all k place nodes i numbers some is end are =
-    subst (λ ws. AreNumbersOf k ws numbers) (ap (λ ns. set_of (words_in ns)) (take_all i nodes end ∙ is) ∙ sym (words_of_nodes place some)) are
+numbers_all k place nodes i numbers some is end are = search (rules, take_all, words_of_nodes)
 
 -- where the word of a node is not declared
 pub not_all_declared : (k : Kept) (place : List Formula) (nodes : List Node) (node : Node) (old new : List ℕ) (fits : Bool) → IsSome (place_words place) → nodes ≡ nodes_of place → Among nodes node

@@ -1,4 +1,5 @@
 -- What numbers entail, and the numbers of all that others entail.
+use Rattle.std.proofs.Common.{rules}
 use Rattle.lis_store.proofs.Common.{common_steps, ◌≡◌, refl, sym, ap, ◌∙◌, subst, ℕ, ◌+◌, ◌≤◌, true, false, List, [], ◌∷◌, length, Option, Some, None, is_some, IsSome, arith, ap₂, ◌<◌, ◌||◌, some_word, nat_cmp_total, nat_cmp, insert_key, list_all, IsStrictlySortedBy, same_Some, Among, members_le, sorted_nil, word_of, has, numbers_at, among_where, where_among, sorted_where, is_plain_word, up, all_up, up_self, entails_from_up, entailing, all_up_closed, sorted_all_up, insert_key_le, linked_up, Kept, AreSound, declared_of, axioms_of, link_named, named_below, among_axiom, both_ways, and_parts, among_from_any, any_from_among, among_from_contains, has_number, up_trans, all_from, all_among, is_linked, TellsLinks, words_told, among_from_number, number_from_among, HasShape, get, get_any, numbers_where, numbers_same, Taxonomy, link_cases}
 use Rattle.std.proofs.lemmas.Map.Lookups.{exact_unsigned}
 use Rattle.lis_graph.specs.Graph.{with_more}
@@ -56,8 +57,7 @@ module _ (k : Kept) (sound : AreSound k) where
 
 -- ---- numbers with all that they entail
 pub from_closure : (k : Kept) (numbers : List ℕ) (n : ℕ) → has_number (closure k numbers) n ≡ true → (m : ℕ) × Among numbers m × (is_entailed k m n ≡ true)
-from_closure k numbers n h =
-    among_from_any (λ m. is_entailed k m n) numbers (among_where k.limits.props (is_gained k numbers) n (among_from_number (closure k numbers) n h)).1
+from_closure k numbers n h = search (rules, among_from_any, among_where, among_from_number)
 
 pub closure_named : (k : Kept) (numbers : List ℕ) (n : ℕ) → has_number (closure k numbers) n ≡ true → IsSome (word_of k.dict n)
 closure_named k numbers n h = let from = from_closure k numbers n h in ap is_some (led k from.0 n from.2).is_to
@@ -78,9 +78,7 @@ few_within ns ys sorted within =
 
 module _ (k : Kept) (sound : AreSound k) (numbers : List ℕ) where
   pub in_closure : (m n : ℕ) → Among numbers m → is_entailed k m n ≡ true → has_number (closure k numbers) n ≡ true
-  in_closure m n among is =
-      number_from_among (closure k numbers) n
-      (where_among k.limits.props (is_gained k numbers) n (named_below k sound n (ap is_some (led k m n is).is_to)) (any_from_among (λ i. is_entailed k i n) numbers m among is))
+  in_closure m n among is = search (rules, number_from_among, where_among, named_below, led, any_from_among)
 
   -- they have themselves, and are closed
   pub closure_has : (n : ℕ) → IsSome (word_of k.dict n) → Among numbers n → has_number (closure k numbers) n ≡ true
@@ -139,8 +137,7 @@ module _ (k : Kept) (sound : AreSound k) (t : Taxonomy) (tells : TellsLinks k t)
 
   module _ (values : (p q : ℕ) → p < t.props → q < t.props → get rows p q ≡ entails t p q) where
     row_led : (m n : ℕ) → is_some (word_of k.dict m) ≡ true → n < k.limits.props → get rows m n ≡ is_entailed k m n
-    row_led m n some lt =
-        values m n (omega (arith, named_below k sound m some, tells.props)) (omega (arith, lt, tells.props)) ∙ number_led k sound t tells m n some
+    row_led m n some lt = search (rules, named_below, number_led)
 
     pub any_led : (numbers : List ℕ) → list_all (λ n. is_some (word_of k.dict n)) numbers ≡ true → (n : ℕ) → n < k.limits.props → get_any rows numbers n ≡ is_gained k numbers n
     any_led [] named n lt = refl
@@ -149,6 +146,4 @@ module _ (k : Kept) (sound : AreSound k) (t : Taxonomy) (tells : TellsLinks k t)
         ap₂ (λ a b. a || b) (row_led m n both.0 lt) (any_led ms both.1 n lt)
 
     pub closure_shown : (numbers : List ℕ) → list_all (λ n. is_some (word_of k.dict n)) numbers ≡ true → numbers_where rows.bits (get_any rows numbers) ≡ closure k numbers
-    closure_shown numbers named =
-        ap (λ props. numbers_where props (get_any rows numbers)) (wide_as k t tells rows shape)
-        ∙ numbers_same k.limits.props (get_any rows numbers) (is_gained k numbers) (any_led numbers named)
+    closure_shown numbers named = search (rules, wide_as, numbers_same, any_led)

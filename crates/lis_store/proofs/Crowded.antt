@@ -1,4 +1,5 @@
 -- How many words files would have with a test that is declared.
+use Rattle.std.proofs.Common.{rules}
 use Rattle.lis_store.proofs.Common.{common_steps, ◌≡◌, sym, ap, ◌∙◌, ℕ, ◌<◌, nat_lt, Bool, true, false, Option, Some, None, is_some, IsSome, List, length, refl, arith, ◌⊎◌, ap₂, subst, inl, inr, ◌≤◌, nat_le, ◌&&◌, ◌||◌, get_or, ◌++◌, list_any, range_with_len, Among, range_among, Filed, rec_at, slot_is_below, FileRecord, State, File, description, Kept, AreSound, FreeSlotsAreEmpty, Tells, filed_rec, filed_at_slot, fun_ext, list_all, and_parts, ltb-true, lt-ltb, leb-true, list_any-append, contains_from_among, among_append, among_left, among_right, number_of, word_of, number_from_word, has, numbers_at, is_test, test_of, is_valued, is_met, all_up, declared_under, exceeds_words, word_exact, declared_of, axioms_of, named_all, some_word, among_word, word_among, both_ways, false_from_ne_true, among_from_any, any_from_among, same_tests, file_told, words_told, has_number, known, all_up_has, all_among, among_from_number, number_from_among, numbers_where}
 use Rattle.lis_graph.proofs.Ranges.{among_range}
 use Rattle.lis_store.proofs.Facts.{file_of_filed, filed_of_file, number_of_known, size_of_filed}
@@ -125,14 +126,10 @@ module _ {old : Stored} (sound : IsSound old) {s : State} (fits : ToldBy old s) 
     wide = all_up s.declared s.axioms (words ++ description s (file_at f))
 
     wide_told : words_told k.dict (wider k (is_gained k numbers) f.slot) ≡ wide
-    wide_told =
-        wider_told k sound.parts sound.free sound.closed words numbers told f.slot
-        ∙ ap₂ (λ (x : State) ws. all_up x.declared x.axioms (words ++ ws)) fits.tells.state (fits.tells.described f (contains_from_among k.catalog.entries f there))
+    wide_told = search (rules, wider_told, contains_from_among)
 
     wide_counted : length wide ≡ length (wider k (is_gained k numbers) f.slot)
-    wide_counted =
-        ap₂ (λ (x : State) ws. length (all_up x.declared x.axioms (words ++ ws))) (sym fits.tells.state) (sym (fits.tells.described f (contains_from_among k.catalog.entries f there)))
-        ∙ wider_counted k sound.parts sound.free sound.closed words numbers told f.slot
+    wide_counted = search (rules, contains_from_among, wider_counted)
 
     not_wide : Among wide word → ⊥
     not_wide m =

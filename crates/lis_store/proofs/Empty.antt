@@ -1,6 +1,6 @@
 -- A blank image tells of no words and no files: it stands for the empty state.
-use Rattle.std.proofs.Common.{◌%◌}
-use Rattle.lis_store.proofs.Common.{◌≡◌, refl, sym, ap, ap₂, ◌∙◌, ℕ, zero, suc, ◌+◌, ◌-◌, ◌*◌, ◌/◌, ◌<◌, ◌≤◌, ◌≢◌, false, List, [], ◌∷◌, length, get_or, map, take, drop, replicate, slice_get, slice_index, Some, IsTrue, arith, ◌==◌, insert_key, range_with_len, Contains, length-replicate, get_or-replicate, slice_get_within, get_or_from_slice_get, among_from_contains, part, block, is_taken, Dict, IsDict, has, SpellsSuper, AxiomSlot, FreeAxiom, Pair, Limits, are_in_range, bitmap_start, data_start, State, pair_cmp, Kept, IsWritten, axiom_slots, Properties, Axioms, Bitmap, AreSound, Tells, among_slots, list_any, Meaning, both_ways, Files, Rows}
+use Rattle.std.proofs.Common.{rules}
+use Rattle.lis_store.proofs.Common.{◌≡◌, refl, sym, ap, ap₂, ◌∙◌, ℕ, zero, suc, ◌+◌, ◌-◌, ◌*◌, ◌/◌, ◌<◌, ◌≤◌, ◌≢◌, false, List, [], ◌∷◌, get_or, map, take, drop, replicate, slice_get, slice_index, Some, IsTrue, arith, ◌==◌, insert_key, range_with_len, Contains, length-replicate, get_or-replicate, slice_get_within, get_or_from_slice_get, among_from_contains, part, block, is_taken, Dict, IsDict, has, SpellsSuper, AxiomSlot, FreeAxiom, Pair, Limits, are_in_range, bitmap_start, data_start, State, pair_cmp, Kept, IsWritten, axiom_slots, Properties, Axioms, Bitmap, AreSound, Tells, among_slots, list_any, Meaning, both_ways, Files, Rows}
 use Rattle.std.specs.List.{fold}
 use Rattle.std.proofs.lemmas.List.{drop-replicate, take-replicate, take-take}
 use Rattle.lis_slots.specs.Slots.{Slots, home, place, slot}
@@ -52,43 +52,10 @@ module _ (limits : Limits) (blocks : ℕ) where
   no_set n at = ap (λ ns. has_in ns n) (empty_set at)
 
   empty_are_sound : IsTrue (are_in_range limits) → data_start limits ≤ blocks → AreSound parts
-  empty_are_sound range room = record {
-    range = range;
-    numbers = refl;
-    dict = empty_dict;
-    heads = λ n word is. absurd cc;
-    bits = length-replicate limits.props false;
-    flagged = λ n is. absurd (both_ways (is_taken (replicate limits.props false) n) (none_set limits.props n) is);
-    properties = λ n. refl;
-    axiom_count = length-replicate (axiom_slots limits).count FreeAxiom;
-    axioms = λ at left right is. absurd (no_axiom at left right is);
-    slots = refl;
-    catalog = empty_catalog;
-    records = λ at rec is. absurd cc;
-    blocks = length-replicate limits.blocks false;
-    rows = refl;
-    files = length-replicate limits.files [];
-    named = λ n at file is. absurd (both_ways (has parts.ext n at) (no_set n at) is);
-    settled = refl;
-    marks = omega (arith, room, length-replicate blocks false);
-  }
+  empty_are_sound range room = search (rules, empty_dict, length-replicate, both_ways, none_set, no_axiom, empty_catalog, no_set)
 
   pub empty_sound : IsTrue (are_in_range limits) → data_start limits ≤ blocks → IsSound (empty_stored limits blocks)
-  empty_sound range room = record {
-    parts = empty_are_sound range room;
-    free = λ at none n. no_set n at;
-    pairs = λ at other left right is _. absurd (no_axiom at left right is);
-    closed = λ at p q is _. absurd (both_ways (has parts.ext p at) (no_set p at) is);
-    short = λ at. omega (arith, ap length (empty_set at));
-    in_use = record { used = λ n is. absurd cc; tags = λ at rec is n _. absurd cc; rights = λ at left right is. absurd (no_axiom at left right is) };
-    tests = record { given = λ at rec is n _. absurd cc; met = λ at rec is n _. absurd cc };
-    image = refl;
-    journal = λ unbroken. refl;
-    few = λ _. omega arith;
-    whole = λ _. refl;
-    placed = λ unbroken. refl;
-    clean = λ unbroken. ap (λ n. replicate n false) (sym (length-replicate blocks false));
-  }
+  empty_sound range room = search (rules, empty_are_sound, no_set, no_axiom, both_ways, empty_set, length-replicate)
 
 -- ---- blocks of zeros
 pub zeros-part : (at n total : ℕ) → at + n ≤ total → part at n (zeros total) ≡ zeros n
@@ -115,9 +82,7 @@ bitmap-none n =
 
 -- a row ends inside its block
 row_within : (limits : Limits) (k : ℕ) → IsTrue (are_in_range limits) → place (row_slots limits) k + (row_slots limits).width ≤ 4096
-row_within limits k range =
-    each_files_limit (λ n. n / 8 * (k % (4096 / (n / 8))) + n / 8 ≤ 4096) limits.files (files_range limits range)
-    (omega arith) (omega arith) (omega arith) (omega arith) (omega arith) (omega arith) (omega arith)
+row_within limits k range = search (rules, each_files_limit, files_range)
 
 no_pairs : (n : ℕ) (dict : Dict) → pairs_told dict (replicate n FreeAxiom) ≡ []
 no_pairs zero dict = refl
@@ -162,10 +127,7 @@ module _ (limits : Limits) (blocks : ℕ) (image : List ℕ) (range : IsTrue (ar
 -- an image that does not begin with an L stands for no state
 pub no_state : (image : List ℕ) (s : State) → slice_index (part 0 1 image) 0 ≢ 76 → Stands image s → ⊥
 unfolding Stands super_with
-no_state image s no_name stands =
-    let front : take 1 (part 0 4096 image) ≡ part 0 1 image = take-take 1 4096 (drop 0 image) (omega arith) in
-    let first : slice_index (take 1 (part 0 4096 image)) 0 ≡ 76 = ap (λ xs. slice_index (take 1 xs) 0) stands.super.spelled in
-    no_name (ap (λ xs. slice_index xs 0) (sym front) ∙ first)
+no_state image s no_name stands = search (rules, take-take)
 
 -- ---- the store of such an image
 pub empty_fits : (m : Meaning) (limits : Limits) (blocks : ℕ) (image : List ℕ) → IsTrue (are_in_range limits) → data_start limits ≤ blocks → IsTrue m.is_honest → IsSettled m image

@@ -1,4 +1,5 @@
 -- What a store says of the state that it tells, in other words.
+use Rattle.std.proofs.Common.{rules}
 use Rattle.std.proofs.Common.{option_map}
 use Rattle.lis_store.proofs.Common.{common_steps, ◌≡◌, refl, sym, ap, ap₂, ◌∙◌, subst, inl, inr, ℕ, ◌+◌, ◌*◌, ◌<◌, Bool, is_some, Option, Some, None, List, [], ◌∷◌, length, map, IsSomeAnd, arith, length-append, find, flat_map, list_any, Contains, length-map, length-take-le, same_Some, Among, contains_from_among, same_word, has_word, Formula, FileRecord, Dict, number_of, number_from_word, Filed, slot_of, rec_at, rec_at-slot_of, numbers_at, data_start, State, File, description, up, has_name, file_of_name, Placed, Kept, AreSound, FreeSlotsAreEmpty, declared_of, axioms_of, bytes_told, blocks_told, state_of, Tells, filed_rec, filed_slot, filed_at_slot, map_all, known_word, words_known, among_map, map_among, words, known, file_of, words_told, file_told, number_from_among}
 use Rattle.lis_catalog.proofs.Slots.{any_map}
@@ -21,8 +22,7 @@ any_is_found test [] = refl
 any_is_found test (x ∷ xs) = grind (arith, common_steps, any_is_found test xs)
 
 is_some-map : {X Y : Type 0} (v : X → Y) (o : Option X) → is_some (option_map v o) ≡ is_some o
-is_some-map v None = refl
-is_some-map v (Some x) = refl
+is_some-map v o = search (rules)
 
 -- a word has a number exactly where it is one of the words
 pub numbered : (d : Dict) (word : List ℕ) → has_word (words d) word ≡ is_some (number_of d word)
@@ -44,10 +44,7 @@ module _ (k : Kept) (sound : AreSound k) where
   -- the record in the slot of a name has the name
   pub filed_named : (name : List ℕ) (slot : ℕ) (rec : FileRecord) → slot_of k.catalog name ≡ Some slot → rec_at k.catalog slot ≡ Some rec
       → Among k.catalog.entries (record { slot = slot; rec = rec }) × (rec.name ≡ name)
-  filed_named name slot rec is_slot is_rec =
-      let found = rec_at-slot_of k.catalog name slot sound.catalog is_slot in
-      let same : found.0 ≡ rec = same_Some found.0 rec (sym found.1 ∙ is_rec) in
-      (filed_at_slot k.catalog sound.catalog slot rec is_rec, ap (λ (r : FileRecord). r.name) (sym same) ∙ found.2)
+  filed_named name slot rec is_slot is_rec = search (rules, rec_at-slot_of, same_Some, filed_at_slot)
 
 -- ---- what is told
 module _ (k : Kept) (at : ℕ → List ℕ) (s : State) (sound : AreSound k) (free : FreeSlotsAreEmpty k) (tells : Tells k at s) where
@@ -131,9 +128,7 @@ module _ (k : Stored) (s : State) (sound : IsSound k) (fits : ToldBy k s) where
   told = file_told k.parts.limits k.parts.dict fits.kept
 
   entry_is : (f : Filed) → Among k.parts.catalog.entries f → (placed k.parts f).entry ≡ entry_of (declared_of k.parts) (axioms_of k.parts) (told f)
-  entry_is f there =
-      let of_parts : ℕ → List (List ℕ) → Entry = λ size ws. record { name = f.rec.name; size = size; words = ws } in
-      ap₂ of_parts (sym (size_of_filed f there)) (described_told k.parts fits.kept s sound.parts sound.free fits.tells f (contains_from_among k.parts.catalog.entries f there))
+  entry_is f there = search (rules, size_of_filed, described_told, contains_from_among)
 
   entries_are : map (λ (f : Placed). f.entry) (map (placed k.parts) k.parts.catalog.entries) ≡ map (entry_of (declared_of k.parts) (axioms_of k.parts)) (map told k.parts.catalog.entries)
   entries_are = grind (arith, common_steps, map_map, map_all, entry_is)

@@ -1,4 +1,5 @@
 -- Tests in the descriptions of files: a file has those that its size meets, and no others.
+use Rattle.std.proofs.Common.{rules}
 use Rattle.lis_store.proofs.Common.{◌≡◌, ◌⊎◌, ℕ, Bool, true, false, Option, Some, None, is_some, List, ◌++◌, refl, sym, ap, subst, ◌∙◌, inl, inr, list_all, Among, among_append, among_filter, among_right, filter_among, is_taken, rec_at, Dict, word_of, has, is_prop, FileRecord, has_word, is_plain_word, is_test, test_of, plain_not_test, up, is_assignable, is_built_in, is_met, met_tests, up_self, entails_from_up, entailing, among_from_has_word, met_weaker, Kept, property_by, AreSound, declared_of, axioms_of, test_by, some_word, declared_word, among_axiom, both_ways, false_from_ne_true, entailed_in, all_among, has_word_from_among, same_tests}
 use Rattle.lis_fields.specs.Layouts.{is_undeclared}
 use Rattle.lis_words.proofs.Tests.{valued_not_test}
@@ -49,15 +50,7 @@ module _ (k : Kept) (sound : AreSound k) where
     words = draft.assigned ++ draft.own ++ tests
 
     own_met : (w : List ℕ) → is_test w ≡ true → Among words w → is_met (test_of w) draft.size ≡ true
-    own_met w test m = by (among_append (draft.assigned ++ draft.own) tests w m)
-      where
-        untested : Among draft.assigned w ⊎ Among draft.own w → is_test w ≡ false
-        untested (inl m) = assigned_no_test draft.assigned given w m
-        untested (inr m) = built_in_not_test w (all_among is_built_in draft.own w own m)
-
-        by : Among (draft.assigned ++ draft.own) w ⊎ Among tests w → is_met (test_of w) draft.size ≡ true
-        by (inl m) = absurd (both_ways (is_test w) (untested (among_append draft.assigned draft.own w m)) test)
-        by (inr m) = (among_filter (λ x. is_met (test_of x) draft.size) D w m).1
+    own_met w test m = search (rules, among_append, assigned_no_test, built_in_not_test, all_among, both_ways, among_filter)
 
     had_met : (w : List ℕ) → is_test w ≡ true → Among (described_by k draft) w → is_met (test_of w) draft.size ≡ true
     had_met w test m = at (entailing D A words w m)

@@ -1,5 +1,5 @@
 -- The blocks that no file takes are those that are free.
-use Rattle.lis_store.proofs.Common.{rules, ◌≡◌, refl, sym, ap, ◌∙◌, subst, inl, inr, ℕ, ◌+◌, ◌<◌, nat_lt, not, ◌&&◌, Bool, true, false, cond, List, [], ◌∷◌, length, map, sum, set, replicate, arith, length-append, length-set, get_or-set_other, flat_map, list_all, and_parts, lt-ltb, ltb-true, not-true, not_from_false, length-replicate, get_or-replicate, sum_by-set, Among, among_from_contains, contains_from_among, among_flat_map, is_taken, free_count, are_free, Filed, Limits, State, File, blocks_taken, used_blocks, blocks_told, state_of, Tells, and_from, both_ways, sum_by-cons, flat_map_among, marked, has_number, are_distinct, all_among, all_from, same_tests, file_told, among_from_number, number_from_among}
+use Rattle.lis_store.proofs.Common.{rules, ◌≡◌, refl, sym, ap, ◌∙◌, subst, inl, inr, ℕ, ◌+◌, ◌<◌, nat_lt, not, ◌&&◌, Bool, true, false, List, [], ◌∷◌, length, map, sum, set, replicate, arith, length-append, length-set, get_or-set_other, flat_map, list_all, and_parts, lt-ltb, ltb-true, not-true, not_from_false, length-replicate, get_or-replicate, sum_by-set, Among, among_from_contains, contains_from_among, among_flat_map, is_taken, free_count, are_free, Filed, Limits, State, File, blocks_taken, used_blocks, blocks_told, state_of, Tells, and_from, both_ways, sum_by-cons, flat_map_among, marked, has_number, are_distinct, all_among, all_from, same_tests, file_told, among_from_number, number_from_among}
 use Rattle.lis_blockmap.proofs.Taken.{all_free}
 use Rattle.lis_store.specs.Stored.{Stored, IsSound}
 use Rattle.lis_store.proofs.ToldBy.{ToldBy}
@@ -10,9 +10,7 @@ use Rattle.lis_store.proofs.Spelled.{used, used_once, told_below}
 
 -- ---- blocks that are taken are free no more
 one_fewer : (taken : List Bool) (n : ℕ) → n < length taken → is_taken taken n ≡ false → free_count (set taken n true) + 1 ≡ free_count taken
-one_fewer taken n lt free =
-    let changed = sum_by-set (λ (b : Bool). cond (not b) 1 0) taken n true false lt in
-    omega (arith, changed, ap {B = ℕ} (λ (b : Bool). cond (not b) 1 0) free)
+one_fewer taken n lt free = search (rules, sum_by-set)
 
 pub free_after_marks : (taken : List Bool) (ns : List ℕ) → are_distinct ns ≡ true → are_free taken ns ≡ true → free_count (marked taken ns) + length ns ≡ free_count taken
 free_after_marks taken [] apart free = omega arith
@@ -53,9 +51,7 @@ module _ (k : Stored) (s : State) (sound : IsSound k) (fits : ToldBy k s) where
   version_told = ap (λ (l : Limits). l.version) (sym (limits_told k.parts fits.kept s sound.parts sound.free fits.tells))
 
   one_takes : (f : Filed) → Among k.parts.catalog.entries f → blocks_taken s.limits.version (length (told f).bytes) ≡ length (blocks_of f)
-  one_takes f there =
-      ap (λ v. blocks_taken v (length (told f).bytes)) version_told
-      ∙ (ap (blocks_taken k.parts.limits.version) (size_of_filed k s sound fits f there) ∙ sym (told_counted k.parts sound.parts f there fits.kept))
+  one_takes f there = search (rules, version_told, size_of_filed, told_counted)
 
   all_take : (fs : List Filed) → ((f : Filed) → Among fs f → Among k.parts.catalog.entries f)
       → sum (map (λ (file : File). blocks_taken s.limits.version (length file.bytes)) (map told fs)) ≡ length (flat_map blocks_of fs)
@@ -92,6 +88,4 @@ module _ (k : Stored) (s : State) (sound : IsSound k) (fits : ToldBy k s) where
 
   -- the files take the blocks that are not free
   pub used_told : used_blocks s + free_count k.parts.taken ≡ s.limits.blocks
-  used_told =
-      let marks = free_after_marks (replicate k.parts.limits.blocks false) taken_blocks once free_before in
-      omega (arith, used_counted, ap free_count marks_told, marks, all_free k.parts.limits.blocks, ap (λ (l : Limits). l.blocks) (limits_told k.parts fits.kept s sound.parts sound.free fits.tells))
+  used_told = search (rules, free_after_marks, once, free_before, used_counted, marks_told, all_free, limits_told)

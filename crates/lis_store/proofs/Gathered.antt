@@ -1,4 +1,5 @@
 -- Words that are gathered one after another: the numbers of what those with numbers entail, and those without.
+use Rattle.std.proofs.Common.{rules}
 use Rattle.lis_store.proofs.Common.{◌≡◌, refl, sym, ap, ◌∙◌, subst, ℕ, ◌+◌, ◌*◌, ◌<◌, ◌≤◌, Bool, true, false, not, ◌&&◌, ◌||◌, cond, is_some, is_none, Option, Some, None, List, [], ◌∷◌, ◌++◌, length, take, get_or, arith, length-append, or-false, list_any-append, HasShape, get, with_row, number_of, word_of, number_from_word, number_below, Taxonomy, same_word, has_word, is_valued, head_bytes, same_word_decides, heads, all_up, Kept, AreSound, TellsLinks, declared_of, axioms_of, false_from_ne_true}
 use Rattle.std.proofs.lemmas.List.Elements.{filter-append}
 use Rattle.lis_bits.specs.Rows.{Rows}
@@ -20,20 +21,10 @@ module _ (k : Kept) where
 
   -- ---- no word, and more words
   pub gathers_none : (row : Rows) (fresh : List (List ℕ)) → HasShape row 1 k.limits.props → Gathers k [] row row fresh fresh
-  gathers_none row fresh shape = record {
-    shape = shape;
-    bits = (leaves_none k row shape).bits;
-    few = omega arith;
-    once = λ h. h;
-    noted = λ w. sym (or-false (has_word fresh w));
-  }
+  gathers_none row fresh shape = search (rules, leaves_none, or-false)
 
   noted_both : (a b c d : Bool) → ((a || (b && d)) || (c && d)) ≡ (a || ((b || c) && d))
-  noted_both true b c d = refl
-  noted_both false false c d = refl
-  noted_both false true c true = refl
-  noted_both false true true false = refl
-  noted_both false true false false = refl
+  noted_both a b c d = search (rules)
 
   pub gathers_more : (more others : List (List ℕ)) (p q r : Rows) (f g h : List (List ℕ)) → Gathers k more p q f g → Gathers k others q r g h → Gathers k (more ++ others) p r f h
   gathers_more more others p q r f g h first next = record {
@@ -86,33 +77,13 @@ module _ (k : Kept) where
       bits_stay n lt = (leaves_none k row shape).bits n lt ∙ ap (λ (o : Option ℕ). get row 0 n && not (entailed_by (cond (is_some o) (word ∷ []) []) n)) (sym none)
 
       its_own : (w : List ℕ) → (same_word word w || false) ≡ ((same_word word w || false) && is_none (number_of k.dict w))
-      its_own w = by (same_word word w) refl
-        where
-          by : (b : Bool) → same_word word w ≡ b → (b || false) ≡ ((b || false) && is_none (number_of k.dict w))
-          by true e = sym (ap (λ (o : Option ℕ). is_none o) (same_number w None e none))
-          by false e = refl
+      its_own w = search (rules, same_number)
 
       pub gathers_new : has_word fresh word ≡ false → Gathers k (word ∷ []) row row fresh (fresh ++ word ∷ [])
-      gathers_new lacks = record {
-        shape = shape;
-        bits = bits_stay;
-        few = omega (arith, length-append fresh (word ∷ []));
-        once = λ apart. are_distinct-push fresh word apart lacks;
-        noted = λ w. list_any-append (λ v. same_word v w) fresh (word ∷ []) ∙ ap (λ b. has_word fresh w || b) (its_own w);
-      }
+      gathers_new lacks = search (rules, bits_stay, length-append, are_distinct-push, list_any-append, its_own)
 
       pub gathers_there : has_word fresh word ≡ true → Gathers k (word ∷ []) row row fresh fresh
-      gathers_there has = record {
-        shape = shape;
-        bits = bits_stay;
-        few = omega arith;
-        once = λ apart. apart;
-        noted = λ w. by w (same_word word w) refl ∙ ap (λ b. has_word fresh w || b) (its_own w);
-      }
-        where
-          by : (w : List ℕ) (b : Bool) → same_word word w ≡ b → has_word fresh w ≡ (has_word fresh w || (b || false))
-          by w true e = let there = ap (has_word fresh) (sym ((same_word_decides word w).0 e)) ∙ has in there ∙ sym (ap (λ b. b || true) there)
-          by w false e = sym (or-false (has_word fresh w))
+      gathers_there has = search (rules, bits_stay, its_own, same_word_decides, or-false)
 
 -- ---- words with their heads
 pub headed : (word : List ℕ) → is_valued word ≡ true → heads word ≡ head_bytes word ∷ []

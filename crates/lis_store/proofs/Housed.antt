@@ -1,6 +1,6 @@
 -- The blocks of a file that comes into the place of another.
-use Rattle.lis_store.proofs.Common.{None, Some, ◌≡◌, refl, sym, ap, ◌∙◌, subst, ℕ, ◌+◌, ◌<◌, nat_lt, not, ◌&&◌, ◌||◌, Bool, true, false, List, [], length, IsTrue, arith, and_parts, ltb-true, not-true, Among, contains_from_among, is_taken, are_free, has_home, Filed, Limits, data_start, State, Kept, AreSound, bytes_told, blocks_told, Tells, both_ways, false_from_ne_true, given, marked, are_distinct, has_number, all_among, among_from_number, number_from_among, and-true, common_steps}
-use Rattle.lis_content.specs.Large.{file_content, file_blocks, IsIndexed}
+use Rattle.std.proofs.Common.{rules}
+use Rattle.lis_store.proofs.Common.{None, Some, ◌≡◌, refl, sym, ap, ◌∙◌, ℕ, ◌+◌, ◌<◌, nat_lt, not, ◌&&◌, ◌||◌, Bool, true, false, List, [], length, IsTrue, arith, and_parts, ltb-true, not-true, Among, contains_from_among, is_taken, are_free, has_home, Filed, Limits, data_start, State, Kept, AreSound, bytes_told, blocks_told, Tells, both_ways, false_from_ne_true, given, marked, are_distinct, has_number, all_among, among_from_number, number_from_among, and-true, common_steps}
 use Rattle.lis_content.specs.Placing.{HasFile}
 use Rattle.lis_content.proofs.Laying.{home_new}
 use Rattle.lis_content.proofs.Numbers.{length-given}
@@ -97,24 +97,7 @@ module _ (k : Kept) (at : ℕ → List ℕ) (s : State) (tells : Tells k at s) (
   given_here = tells.given f (contains_from_among k.catalog.entries f m)
 
   pub stay_housed : IsHoused k.limits k.taken k.taken held held bytes f.rec.blocks at at
-  stay_housed = record {
-    below = λ n has. (given_here n has).0;
-    vacant = λ n has was. has;
-    distinct = tells.apart f (contains_from_among k.catalog.entries f m);
-    holds = record {
-      reads = subst (λ n. file_content base f.rec.blocks n at ≡ bytes) size told;
-      index = subst (λ n. IsIndexed base f.rec.blocks n at) size (tells.indexed f (contains_from_among k.catalog.entries f m));
-      all = subst (λ n. file_blocks base f.rec.blocks n at ≡ held) size refl;
-    };
-    same = λ n none. refl;
-    marks = λ n lt. by (is_taken k.taken n) (has_number held n) (λ has. (given_here n has).1);
-  }
-    where
-      by : (t b : Bool) → (b ≡ true → t ≡ true) → t ≡ (b || (t && not b))
-      by true true is = refl
-      by true false is = refl
-      by false true is = absurd (both_ways false refl (is refl))
-      by false false is = refl
+  stay_housed = search (rules, given_here, contains_from_among, both_ways)
 
 -- ---- blocks that are traded
 module _ (k : Kept) (sound : AreSound k) (at there : ℕ → List ℕ) (s : State) (tells : Tells k at s) (f : Filed) (m : Among k.catalog.entries f) (now : List Bool) (blocks bytes numbers : List ℕ) (distinct : are_distinct blocks ≡ true)

@@ -1,4 +1,5 @@
 -- The words in use without a file are those that are known where it is gone; so those known with another in its place are told by memory.
+use Rattle.std.proofs.Common.{rules}
 use Rattle.std.proofs.Common.{eq-eqb}
 use Rattle.lis_store.proofs.Common.{◌≡◌, ◌⊎◌, refl, sym, ap, ap₂, ◌∙◌, subst, inl, inr, ℕ, ◌||◌, ◌&&◌, not, Bool, true, false, cond, Option, Some, None, List, [], ◌∷◌, map, filter, list_any, IsStrictlySortedBy, and_parts, or_cases, not-true, not_from_false, eqb-true, IsStrictlySortedBy-filter, same_Some, Among, contains_from_among, among_filter, filter_among, is_rising, sorted_from_rising, is_taken, number_of, word_of, number_from_word, word_from_number, Filed, slot_of, rec_at, has, numbers_at, FileRecord, AxiomSlot, FreeAxiom, Pair, word_cmp, same_word, is_valued, head_bytes, State, File, description, heads, file_removed, word_order, same_word_decides, among_heads, sorted_known, known_from, Kept, AreSound, FreeSlotsAreEmpty, bit_of, is_declared, state_of, is_left_of, is_head_by, is_left_head_of, is_had, is_named_left, is_used, Tells, filed_rec, filed_slot, filed_at_slot, some_word, among_place, some_number, word_among, among_word, known_word, declared_word, among_axiom, left_out, emptied, and_from, or_left, or_right, both_ways, false_from_ne_true, among_from_any, any_from_among, among_map, map_among, words, known, same_words, Left, file_told}
 use Rattle.lis_dict.proofs.Laws.{among_from_word, number_from_among}
@@ -36,15 +37,10 @@ module _ (k : Kept) (sound : AreSound k) (slot : ℕ) where
   without_is = filter_entries (is_used (emptied k slot)) stays k.dict.entries (λ e m. ap (passes (is_used (emptied k slot))) (number_from_among k.dict sound.dict e.0 e.1 m))
 
   pub sorted_without : IsStrictlySortedBy word_cmp (words_without k slot)
-  sorted_without =
-      subst (λ ws. IsStrictlySortedBy word_cmp ws) (sym without_is)
-      (IsStrictlySortedBy-filter word_cmp stays (words k.dict) (sorted_from_rising word_cmp word_order (words k.dict) sound.dict.rising))
+  sorted_without = search (rules, without_is, IsStrictlySortedBy-filter, sorted_from_rising, word_order)
 
   pub without_word : (w : List ℕ) → Among (words_without k slot) w → (n : ℕ) × (word_of k.dict n ≡ Some w) × (is_used (emptied k slot) n ≡ true)
-  without_word w m =
-      let both = among_filter stays (words k.dict) w (subst (λ ws. Among ws w) without_is m) in
-      let found = known_word k sound w both.0 in
-      (found.0, found.1, sym (ap (passes (is_used (emptied k slot))) (number_from_word k.dict sound.dict w found.0 found.1)) ∙ both.1)
+  without_word w m = search (rules, among_filter, without_is, known_word, number_from_word)
 
   pub word_without : (w : List ℕ) (n : ℕ) → word_of k.dict n ≡ Some w → is_used (emptied k slot) n ≡ true → Among (words_without k slot) w
   word_without w n is used =

@@ -1,10 +1,10 @@
 -- Where what words are refused for refuses nothing, a file may come into the place of another.
+use Rattle.std.proofs.Common.{rules}
 use Rattle.lis_store.proofs.Common.{◌≡◌, ◌≢◌, sym, ap, subst, ℕ, ◌≤◌, Bool, true, option_to_list, Some, None, List, ◌++◌, length, arith, flat_map, list_all, ltb-false, not-false, is_rising, Among, Filed, slot_of, rec_at, word_of, FileRecord, word_cmp, is_built_in, is_file_name, Refusal, State, File, is_assignable, file_limit, word_order, sorted_set_of, rising_from_sorted, Kept, declared_of, Tells, filed_at_slot, record_in_form, all_among, words_told, file_told}
 use Rattle.lis_store.specs.Stored.{Stored, IsSound}
 use Rattle.lis_store.specs.Drafts.{Draft}
-use Rattle.lis_store.specs.Admitting.{described_by}
 use Rattle.lis_store.specs.Instead.{instead_checks}
-use Rattle.lis_store.specs.Replacing.{known_instead, MayReplace}
+use Rattle.lis_store.specs.Replacing.{MayReplace}
 use Rattle.lis_store.proofs.Facts.{file_of_filed}
 use Rattle.lis_store.proofs.Relates.{told_few}
 use Rattle.lis_store.proofs.Judged.{AllPass}
@@ -43,19 +43,7 @@ module _ (k : Stored) (sound : IsSound k) (slot : ℕ) (rec : FileRecord) (is_re
   pub may_stand : (draft : Draft) → is_file_name draft.name ≡ true → (draft.name ≢ rec.name → slot_of p.catalog draft.name ≡ None) → is_rising word_cmp draft.assigned ≡ true → length draft.assigned ≤ 16
       → list_all is_built_in draft.own ≡ true → length draft.own ≤ 128 → draft.size ≤ file_limit p.limits.version → (more : List (Bool × Refusal)) → AllPass (instead_checks p slot draft ++ more)
       → MayReplace p slot rec draft
-  may_stand draft name new set few own few_own small more row = record {
-    there = is_rec;
-    name = name;
-    new = new;
-    set = set;
-    assignable = not-false (list_all (is_assignable (declared_of p)) draft.assigned) row.0;
-    few = few;
-    own = own;
-    few_own = few_own;
-    short = ltb-false 128 (length (described_by p draft)) row.1.0;
-    room = ltb-false p.limits.props (length (known_instead p slot draft)) row.1.1.0;
-    small = small;
-  }
+  may_stand draft name new set few own few_own small more row = search (rules, there, not-false, ltb-false)
 
   pub sized_small : (size : ℕ) → size ≤ rec.size → size ≤ file_limit p.limits.version
   sized_small size sized = omega (arith, sized, (record_in_form p.limits.version p.dict p.limits.blocks rec (sound.parts.records slot rec is_rec)).small)

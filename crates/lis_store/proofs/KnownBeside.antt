@@ -1,4 +1,5 @@
 -- How many words would be known with a file, beside all that are known or in the place of another file.
+use Rattle.std.proofs.Common.{rules}
 use Rattle.lis_store.proofs.Common.{◌≡◌, ◌⊎◌, refl, sym, ap, ap₂, ◌∙◌, subst, inl, inr, ℕ, ◌+◌, not, ◌&&◌, ◌||◌, Bool, true, false, is_some, IsSome, IfSome, Option, Some, None, List, [], length, arith, IsStrictlySortedBy, and-true, and-false, and_parts, cases_eq, length-map, none-some, sorted_from_rising, get, is_taken, rec_at, number_of, word_of, number_from_word, has, numbers_same, word_cmp, has_word, word_order, among_from_has_word, sorted_with_words, Kept, AreSound, is_had, is_named_left, is_used, AreUsed, emptied, had_at, left_out, both_ways, false_from_ne_true, words, numbers_where, has_word_from_among, same_tests, one_number}
 use Rattle.lis_bits.specs.Rows.{Rows}
 use Rattle.lis_ext.proofs.Numbers.{numbers_apart}
@@ -16,23 +17,13 @@ use Rattle.lis_store.proofs.Measured.{IsCounted, counted}
 
 -- a number is used elsewhere or in the row, or it leaves, if it has a word that is used at all
 goes_or_stays : (used row had : Bool) → (used ≡ false → had ≡ true) → (((used || row) && true) || (had && not row && not used)) ≡ true
-goes_or_stays true row had other = refl
-goes_or_stays false true had other = refl
-goes_or_stays false false true other = refl
-goes_or_stays false false false other = absurd (let h = other refl in cc)
+goes_or_stays used row had other = search (rules)
 
 not_both : (used row had named : Bool) → ((used || row) && named) ≡ true → (had && not row && not used) ≡ false
-not_both true row had named h = and-false (had && not row)
-not_both false true true named h = refl
-not_both false true false named h = refl
-not_both false false had named h = absurd cc
+not_both used row had named h = search (rules, and-false)
 
 only_had : (flag had other left : Bool) → (flag || had || left) ≡ true → (flag || other || left) ≡ false → (had ≡ true) × (other ≡ false)
-only_had false true false false some none = (refl, refl)
-only_had true had other left some none = absurd cc
-only_had false had true left some none = absurd cc
-only_had false had false true some none = absurd cc
-only_had false false false false some none = absurd cc
+only_had flag had other left some none = search (rules)
 
 module _ (k : Kept) (sound : AreSound k) where
   -- the word of a number is in use, but for the slot, if one is given
@@ -41,8 +32,7 @@ module _ (k : Kept) (sound : AreSound k) where
   stays (Some slot) n = is_used (emptied k slot) n
 
   sorted_beside : (old : Option ℕ) → IsStrictlySortedBy word_cmp (words_beside k old)
-  sorted_beside None = sorted_from_rising word_cmp word_order (words k.dict) sound.dict.rising
-  sorted_beside (Some slot) = sorted_without k sound slot
+  sorted_beside old = search (rules, sorted_from_rising, word_order, sorted_without)
 
   is_beside : (old : Option ℕ) (w : List ℕ) (n : ℕ) → word_of k.dict n ≡ Some w → has_word (words_beside k old) w ≡ stays old n
   is_beside None w n is = numbered k.dict w ∙ ap (λ (o : Option ℕ). is_some o) (number_from_word k.dict sound.dict w n is)

@@ -1,4 +1,5 @@
 -- Words that are learnt, one behind the other.
+use Rattle.std.proofs.Common.{rules}
 use Rattle.std.proofs.Common.{take-append-drop}
 use Rattle.lis_store.proofs.Common.{◌≡◌, ◌⊎◌, refl, sym, ap, ◌∙◌, subst, inl, inr, ℕ, ◌+◌, ◌<◌, ◌≤◌, ◌&&◌, ◌||◌, Bool, true, false, cond, List, [], ◌∷◌, ◌++◌, length, take, drop, get_or, None, is_some, IsSome, append-nil, length-append, arith, list_all, or_cases, length-map, take_more, Contains-get_or, Among, among_from_contains, Dict, number_of, word_cmp, is_valued, is_plain_word, is_head, is_built_in, head_bytes, with_word, with_words, heads, head_not_valued, word_exact, among_from_has_word, Kept, stays_marked, block_of, is_marked, marked_count, Properties, and_from, or_left, or_right, both_ways, flat_map-append, words, built_in_not_plain, all_among, has_word_from_among}
 use Rattle.std.proofs.lemmas.List.Sums.{fold-append}
@@ -31,15 +32,7 @@ room_for d word more most none room =
 
 -- ---- learning in turn
 pub learns_none : (p : Kept) → LearnsAll [] p p
-learns_none p = record {
-  parts = refl;
-  marks = record { saved = λ at saved. saved; few = omega arith };
-  few = omega arith;
-  marked = λ block is. is;
-  words = refl;
-  keeps = λ n word is. is;
-  state = λ at. refl;
-}
+learns_none p = search (rules)
 
 pub learns_one : (p q : Kept) (word : List ℕ) (number : ℕ) → Learns word number p q → LearnsAll (word ∷ []) p q
 learns_one p q word number learns = record {
@@ -62,18 +55,7 @@ learns_one p q word number learns = record {
 }
 
 pub learns_more : (p q r : Kept) (some more : List (List ℕ)) → LearnsAll some p q → LearnsAll more q r → LearnsAll (some ++ more) p r
-learns_more p q r some more first second = record {
-  parts = second.parts ∙ ap (λ (k : Kept). record k { dict = r.dict; marks = r.marks }) first.parts;
-  marks = record {
-    saved = λ at saved. second.marks.saved at (first.marks.saved at saved);
-    few = omega (arith, first.marks.few, second.marks.few, length-append some more);
-  };
-  few = omega (arith, first.few, second.few);
-  marked = λ block is. second.marked block (first.marked block is);
-  words = second.words ∙ (ap (λ ws. with_words ws more) first.words ∙ sym (fold-append with_word (words p.dict) some more));
-  keeps = λ n word is. second.keeps n word (first.keeps n word is);
-  state = λ at. second.state at ∙ first.state at;
-}
+learns_more p q r some more first second = search (rules, length-append, fold-append)
 
 module _ (p q : Kept) (more : List (List ℕ)) (learns : LearnsAll more p q) where
   pub limits_stay : q.limits.props ≡ p.limits.props
@@ -106,10 +88,7 @@ module _ (p q : Kept) (more : List (List ℕ)) (learns : LearnsAll more p q) whe
 
   -- what is left of the room
   pub room_left : (others : List (List ℕ)) → HasWordRoom p (more ++ others) → HasWordRoom q others
-  room_left others room =
-      let same = ap (λ ws. length (with_words ws others)) learns.words in
-      let joined = ap (λ (ws : List (List ℕ)). length ws) (fold-append with_word (words p.dict) more others) in
-      omega (arith, same, joined, room, limits_stay)
+  room_left others room = search (rules, fold-append, limits_stay)
 
 -- ---- a word and its head
 built_in_is_undeclared : (word : List ℕ) → is_valued word ≡ true → is_built_in (head_bytes word) ≡ true → is_undeclared (head_bytes word) ≡ true
@@ -162,8 +141,7 @@ module _ (p : Kept) (word : List ℕ) (may : may_learn p word ≡ true) (room : 
       subst (λ hs. LearnsAll hs p q) (ap (λ h. h ∷ []) is ∙ sym (heads_are valued)) (learns_one p q head number learns)
 
   pub no_head_learnt : (q : Kept) → q ≡ p → is_valued word ≡ false → LearnsAll (heads word) p q
-  no_head_learnt q same plain =
-      subst (λ (k : Kept). LearnsAll (heads word) p k) (sym same) (subst (λ hs. LearnsAll hs p p) (sym (no_heads plain)) (learns_none p))
+  no_head_learnt q same plain = search (rules, no_heads, learns_none)
 
   module _ (q : Kept) (learns : LearnsAll (heads word) p q) where
     pub word_form : number_of q.dict word ≡ None → is_undeclared word ≡ true

@@ -1,6 +1,6 @@
 -- What is kept once words are learnt.
-use Rattle.lis_store.proofs.Common.{◌≡◌, ◌⊎◌, refl, sym, ap, ap₂, ◌∙◌, subst, inl, inr, ℕ, ◌||◌, true, List, [], Option, Some, None, is_some, IsSome, list_any, Contains, or_cases, Among, among_from_contains, is_taken, word_of, Filed, numbers_at, AxiomSlot, FreeAxiom, Pair, State, description, among_with_words, Kept, is_own_link, has_pair, AreSound, FreeSlotsAreEmpty, declared_of, state_of, is_left_of, is_left_head_of, is_head_by, is_had, is_named_left, is_used, filed_rec, some_word, named_all, known_word, or_left, or_right, among_from_any, any_from_among, words, is_linked, words_told, file_told, number_from_among, one_number}
-use Rattle.lis_ext.specs.Ext.{has as number_has}
+use Rattle.std.proofs.Common.{rules}
+use Rattle.lis_store.proofs.Common.{◌≡◌, ◌⊎◌, refl, sym, ap, ap₂, ◌∙◌, subst, inl, inr, ℕ, ◌||◌, true, List, [], Option, Some, None, is_some, IsSome, Contains, or_cases, Among, among_from_contains, is_taken, word_of, Filed, numbers_at, State, description, among_with_words, Kept, AreSound, FreeSlotsAreEmpty, declared_of, state_of, is_head_by, is_had, is_named_left, is_used, filed_rec, some_word, named_all, known_word, or_left, or_right, among_from_any, any_from_among, words, is_linked, words_told, file_told, number_from_among, one_number}
 use Rattle.lis_kept.proofs.Known.{word_known}
 use Rattle.lis_store.specs.Stored.{AreClosed}
 use Rattle.lis_store.specs.Adding.{LearnsAll}
@@ -24,18 +24,7 @@ module _ (p q : Kept) (more : List (List ℕ)) (learns : LearnsAll more p q) (so
       by (Some w) (Some v) is_x is_y head = ap₂ is_head_by (learns.keeps a w is_x) (learns.keeps b v is_y) ∙ head
 
   pub left_stays : (n : ℕ) → is_named_left p n ≡ true → is_named_left made n ≡ true
-  left_stays n left = by (or_cases (list_any (is_left_of n) p.axioms) (list_any (is_left_head_of p.dict n) p.axioms) left)
-    where
-      head : (a : AxiomSlot) → is_left_head_of p.dict n a ≡ true → is_left_head_of q.dict n a ≡ true
-      head FreeAxiom h = h
-      head (Pair a b) h = head_stays a n h
-
-      by : (list_any (is_left_of n) p.axioms ≡ true) ⊎ (list_any (is_left_head_of p.dict n) p.axioms ≡ true) → is_named_left made n ≡ true
-      by (inl some) = or_left (list_any (is_left_of n) p.axioms) (list_any (is_left_head_of q.dict n) p.axioms) some
-      by (inr some) =
-          let found = among_from_any (is_left_head_of p.dict n) p.axioms some in
-          or_right (list_any (is_left_of n) p.axioms) (list_any (is_left_head_of q.dict n) p.axioms)
-          (any_from_among (is_left_head_of q.dict n) p.axioms found.0 found.1 (head found.0 found.2))
+  left_stays n left = search (rules, or_cases, head_stays, or_left, among_from_any, or_right, any_from_among)
 
   pub used_learnt : (n : ℕ) → is_used p n ≡ true → is_used q n ≡ true
   used_learnt n used = subst (λ (k : Kept). is_used k n ≡ true) (sym learns.parts) (by (or_cases (is_taken p.declared n || is_had p.ext n) (is_named_left p n) used))
@@ -80,18 +69,7 @@ module _ (p q : Kept) (more : List (List ℕ)) (learns : LearnsAll more p q) (so
     declared_same = ap (λ (s : State). s.declared) (learns.state (λ n. []))
 
     pub link_before : (a b : ℕ) → IsSome (word_of p.dict a) → is_linked q a b ≡ true → is_linked p a b ≡ true
-    link_before a b some linked = by (or_cases (is_own_link (declared_of q) (word_of q.dict a) (word_of q.dict b)) (has_pair q.axioms a b) linked)
-      where
-        by : (is_own_link (declared_of q) (word_of q.dict a) (word_of q.dict b) ≡ true) ⊎ (has_pair q.axioms a b ≡ true) → is_linked p a b ≡ true
-        by (inl own) =
-            or_left (is_own_link (declared_of p) (word_of p.dict a) (word_of p.dict b)) (has_pair p.axioms a b)
-            (own_back p sound q.dict after.dict learns.keeps a b some (subst (λ ws. is_own_link ws (word_of q.dict a) (word_of q.dict b) ≡ true) declared_same own))
-        by (inr pair) =
-            or_right (is_own_link (declared_of p) (word_of p.dict a) (word_of p.dict b)) (has_pair p.axioms a b)
-            (ap (λ (k : Kept). has_pair k.axioms a b) (sym learns.parts) ∙ pair)
+    link_before a b some linked = search (rules, or_cases, or_left, own_back, declared_same, or_right)
 
     pub closed_learnt : FreeSlotsAreEmpty p → AreClosed p → AreClosed q
-    closed_learnt free closed slot a b h linked =
-        let ext = ap (λ (k : Kept). k.ext) learns.parts in
-        let was = ap (λ e. number_has e a slot) (sym ext) ∙ h in
-        ap (λ e. number_has e b slot) ext ∙ closed slot a b was (link_before a b (named_all p sound free a slot was) linked)
+    closed_learnt free closed slot a b h linked = search (rules, link_before, named_all)

@@ -1,5 +1,6 @@
 -- What memory keeps and tells when a file is gone with the words that nothing else used: its slot may be described anew.
-use Rattle.lis_store.proofs.Common.{◌≡◌, ◌⊎◌, refl, sym, ap, ◌∙◌, subst, inl, inr, ℕ, ◌+◌, ◌<◌, ◌≤◌, ◌==◌, not, ◌||◌, Bool, true, List, [], length, get_or, set, Some, is_some, arith, get_or-set_same, get_or-set_other, ap₂, ◌++◌, list_all, Contains, and_parts, or_cases, cases_eq, ne_eqb, not_from_false, same_Some, Among, among_from_contains, contains_from_among, among_filter, filter_among, members_le, sorted_from_rising, is_taken, Filed, rec_at, word_of, Ext, has, numbers_at, FileRecord, word_cmp, State, description, is_assignable, file_removed, word_order, among_with_words, with_words_new, sorted_with_words, Kept, is_own_link, has_pair, AreSound, FreeSlotsAreEmpty, declared_of, axioms_of, blocks_told, state_of, is_had, is_named_left, is_used, AreUsed, Tells, emptied, filed_rec, filed_at_slot, known_word, all_up, met_tests, and_from, or_left, or_right, both_ways, eq-eqb, false_from_ne_true, given, has_number, words, filter_drops, with_words_old, is_linked, words_told, file_told, number_from_among}
+use Rattle.std.proofs.Common.{rules}
+use Rattle.lis_store.proofs.Common.{◌≡◌, ◌⊎◌, refl, sym, ap, ◌∙◌, subst, inl, inr, ℕ, ◌+◌, ◌<◌, ◌≤◌, ◌==◌, not, Bool, true, List, [], length, get_or, set, Some, is_some, arith, get_or-set_same, get_or-set_other, ap₂, ◌++◌, list_all, Contains, and_parts, or_cases, cases_eq, ne_eqb, not_from_false, same_Some, Among, among_from_contains, contains_from_among, among_filter, filter_among, members_le, sorted_from_rising, is_taken, Filed, rec_at, word_of, Ext, has, numbers_at, FileRecord, word_cmp, State, description, is_assignable, file_removed, word_order, among_with_words, with_words_new, sorted_with_words, Kept, is_own_link, has_pair, AreSound, FreeSlotsAreEmpty, declared_of, axioms_of, blocks_told, state_of, is_used, AreUsed, Tells, emptied, filed_rec, filed_at_slot, known_word, all_up, met_tests, and_from, or_left, or_right, both_ways, eq-eqb, false_from_ne_true, given, has_number, words, filter_drops, with_words_old, is_linked, words_told, file_told, number_from_among}
 use Rattle.lis_catalog.specs.Catalog.{without_slot}
 use Rattle.lis_kept.proofs.Emptied.{emptied_before, emptied_stays}
 use Rattle.lis_store.specs.Stored.{DescriptionsAreShort}
@@ -122,9 +123,7 @@ module _ (p v : Kept) (slot : ℕ) (rec : FileRecord) (form : AreInForm p) (out 
     set_other at differ = ap (λ ss. get_or ss at []) sets ∙ get_or-set_other p.ext.sets slot at [] [] differ
 
     used_gone : AreUsed gone
-    used_gone n some =
-        let here : is_had e n ≡ is_had (emptied left slot).ext n = ap (λ ss. is_had (record e { sets = ss }) n) sets in
-        ap (λ b. is_taken p.declared n || b || is_named_left left n) here ∙ still_used n some
+    used_gone n some = search (rules, still_used)
 
     pub form_gone : AreSound gone → AreInForm gone
     form_gone sound = record {
@@ -200,9 +199,7 @@ module _ (o : Kept) (taken marks : List Bool) (v : Kept) (slot : ℕ) (rec : Fil
       (contains_from_among o.catalog.entries f kept.0, λ same. both_ways (not (f.slot == slot)) (ap not (eq-eqb f.slot slot same)) kept.1)
 
   stays : (f : Filed) → Among o.catalog.entries f → (f.slot ≡ slot → ⊥) → Contains without.catalog.entries f
-  stays f m differ =
-      contains_from_among without.catalog.entries f
-      (filter_among (λ (g : Filed). not (g.slot == slot)) o.catalog.entries f m (not_from_false (f.slot == slot) (ne_eqb f.slot slot differ)))
+  stays f m differ = search (rules, contains_from_among, filter_among, not_from_false, ne_eqb)
 
   pub tells_without : Tells without at (file_removed s rec.name)
   tells_without = record {

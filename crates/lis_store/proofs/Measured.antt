@@ -1,5 +1,6 @@
 -- How many words the description of a new file has, and how many of them are not known yet.
-use Rattle.lis_store.proofs.Common.{◌≡◌, ◌⊎◌, refl, sym, ap, ap₂, ◌∙◌, subst, inl, inr, ℕ, zero, suc, ◌+◌, ◌<◌, ◌≤◌, Bool, true, false, not, ◌&&◌, ◌||◌, cond, is_some, is_none, Option, Some, None, option_to_list, IsSome, List, [], ◌∷◌, ◌++◌, length, map, arith, flat_map, range_with_len, nat_cmp, nat_cmp_total, tied_itself, Ordering, IsStrictlySortedBy, and-true, and-false, or-false, and_parts, not-true, none-some, Among, among_from_contains, among_flat_map, among_filter, filter_among, below_tail, sorted_tail, HasShape, get, with_row, number_of, word_of, number_from_word, word_from_number, word_cmp, has_word, is_valued, head_bytes, with_words, heads, up, all_up, met_tests, word_exact, among_from_has_word, among_with_words, with_words_new, sorted_with_words, sorted_set_of, head_not_valued, among_heads, up_self, entails_from_up, up_from_entails, Head, Weaker, entailing, sorted_all_up, Kept, AreSound, declared_of, axioms_of, among_where, where_among, numbers_same, sorted_where, among_axiom, declared_has_number, word_among, among_word, some_word, both_ways, false_from_ne_true, sum_by-cons, Chain, flat_map_among, links, has_word_from_among, with_words_old, same_words, OwnLink, up_trans, entailed_in, same_tests, words_told, among_from_number, number_from_among, one_number, only_word}
+use Rattle.std.proofs.Common.{rules}
+use Rattle.lis_store.proofs.Common.{◌≡◌, ◌⊎◌, refl, sym, ap, ap₂, ◌∙◌, subst, inl, inr, ℕ, zero, suc, ◌+◌, ◌<◌, ◌≤◌, Bool, true, false, not, ◌&&◌, ◌||◌, is_some, is_none, Option, Some, None, option_to_list, IsSome, List, [], ◌∷◌, ◌++◌, length, map, arith, flat_map, range_with_len, nat_cmp, nat_cmp_total, tied_itself, Ordering, IsStrictlySortedBy, and-true, and-false, or-false, and_parts, not-true, none-some, Among, among_from_contains, among_flat_map, among_filter, filter_among, below_tail, sorted_tail, HasShape, get, with_row, number_of, word_of, number_from_word, word_from_number, word_cmp, has_word, is_valued, head_bytes, with_words, heads, up, all_up, met_tests, word_exact, among_from_has_word, among_with_words, with_words_new, sorted_with_words, sorted_set_of, head_not_valued, among_heads, up_self, entails_from_up, up_from_entails, Head, Weaker, entailing, sorted_all_up, Kept, AreSound, declared_of, axioms_of, among_where, where_among, numbers_same, sorted_where, among_axiom, declared_has_number, word_among, among_word, some_word, both_ways, false_from_ne_true, sum_by-cons, Chain, flat_map_among, links, has_word_from_among, with_words_old, same_words, OwnLink, up_trans, entailed_in, same_tests, words_told, among_from_number, number_from_among, one_number, only_word}
 use Rattle.lis_ext.specs.Numbers.{numbers_where}
 use Rattle.std.specs.Prelude.{count_by}
 use Rattle.std.specs.Cmp.{IsTotalOrder}
@@ -36,8 +37,7 @@ sorted_apart cmp order (x ∷ xs) sorted =
 -- ---- the true bits of a row
 count_map : (f : ℕ → Bool) (xs : List ℕ) → count_by (λ (b : Bool). b) (map f xs) ≡ count_by f xs
 count_map f [] = refl
-count_map f (x ∷ xs) =
-    omega (arith, sum_by-cons (λ (b : Bool). cond b 1 0) (f x) (map f xs), sum_by-cons (λ (y : ℕ). cond (f y) 1 0) x xs, count_map f xs)
+count_map f (x ∷ xs) = search (rules, sum_by-cons, count_map f xs)
 
 pub row_counted : (bits : ℕ) (f : ℕ → Bool) → count_by (λ (b : Bool). b) (row_of bits f) ≡ length (numbers_where bits f)
 unfolding row_of numbers_where
@@ -235,11 +235,7 @@ module _ (k : Kept) (sound : AreSound k) where
     noted w = second.noted w ∙ ap (λ b. b || (has_word (with_heads draft.own) w && is_none (number_of k.dict w))) (first.noted w)
 
     told_new : (w : List ℕ) → has_word fresh w ≡ true → number_of k.dict w ≡ None
-    told_new w has = by (number_of k.dict w) (sym (noted w) ∙ has)
-      where
-        by : (o : Option ℕ) → ((has_word (with_heads draft.assigned) w && is_none o) || (has_word (with_heads draft.own) w && is_none o)) ≡ true → o ≡ None
-        by None h = refl
-        by (Some n) h = absurd (both_ways _ (ap₂ (λ a b. a || b) (and-false (has_word (with_heads draft.assigned) w)) (and-false (has_word (with_heads draft.own) w))) h)
+    told_new w has = search (rules, noted, both_ways, and-false)
 
     told_others : (w : List ℕ) → number_of k.dict w ≡ None → has_word (described_by k draft) w ≡ has_word fresh w
     told_others w none =
@@ -270,14 +266,7 @@ module _ (k : Kept) (sound : AreSound k) where
         ∙ ap length (numbers_same k.limits.props off (get row 0) (λ n lt. sym (value_at last row k.limits.props n off last_shape turned lt))))))
 
     pub file_told : IsTold k draft row fresh
-    file_told = record {
-      count = told_count;
-      shape = same_shape last row 1 k.limits.props 0 (λ bit. not (get last 0 bit)) last_shape turned;
-      numbers = told_numbers;
-      once = second.once (first.once refl);
-      new = told_new;
-      others = told_others;
-    }
+    file_told = search (rules, told_count, same_shape, told_numbers, told_new, told_others)
 
   -- ---- and measured
   module _ (draft : Draft) (row : Rows) (fresh : List (List ℕ)) (told : IsTold k draft row fresh) where

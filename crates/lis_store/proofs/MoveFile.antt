@@ -1,8 +1,8 @@
 -- The call that moves a file to another place.
+use Rattle.std.proofs.Common.{rules}
 use Rattle.lis_store.proofs.Common.{◌≡◌, sym, ap, ap₂, ◌∙◌, subst, ℕ, ◌≤◌, true, false, List, length, Some, None, Result, Ok, Err, IsSomeAnd, same_Some, slot_of, rec_at, FileRecord, Formula, resolved, text_words, is_file_name, new_file, file_replaced, State, File, Meaning, Refusal, NoFileHere, Situation, mv, retagged, Kept, file_of, changed, tags_at}
-use Rattle.std.specs.Result.{result_ok}
 use Rattle.lis_grammar.specs.Places.{Resolution}
-use Rattle.lis_grammar.specs.Places.Resolution.{NewPlace, BeyondLimits, Unreadable}
+use Rattle.lis_grammar.specs.Places.Resolution.{NewPlace}
 use Rattle.lis_kept.proofs.Filed.{record_named}
 use Rattle.lis_store.specs.declared.change.Change.{Change}
 use Rattle.lis_store.specs.declared.change.Change.TheVariants.{Refused}
@@ -26,17 +26,13 @@ use Rattle.lis_store.proofs.WriteFile.{found_there}
 
 -- the place to which a text leads
 pub led_to : (r : Resolution) (next : List Formula) → led_by r ≡ Ok next → r ≡ NewPlace next
-led_to (Unreadable n) next is = absurd cc
-led_to BeyondLimits next is = absurd cc
-led_to (NewPlace place) next is = ap NewPlace (same_Some place next (ap result_ok is))
+led_to r next is = search (rules, same_Some)
 
 -- no file of the name is here
 pub moved_nowhere : {T : Type 0} (old : Stored) (m : Meaning) (base s : State) (place next : List Formula) (name text : List ℕ) (result : Result T Change) → IsSound old → StoreHolds old m base s
     → resolved place text ≡ NewPlace next → is_among old.parts place name ≡ false → result ≡ Err (Refused NoFileHere)
     → Holds base (record { state = s; place = place }) (mv (record { state = s; place = place }) name text) old m m result
-moved_nowhere old m base s place next name text result sound holds leads none ends =
-    change_refused old m base (record { state = s; place = place }) (mv (record { state = s; place = place }) name text) NoFileHere result holds
-    (mv_nowhere old s sound (told_held old m base s sound holds) place next name text leads none) ends
+moved_nowhere old m base s place next name text result sound holds leads none ends = search (rules, change_refused, mv_nowhere, told_held)
 
 -- ---- a file that is here
 -- What a call asks speaks of the store's value `now`, and what is proved of its parts, `old`.

@@ -1,5 +1,6 @@
 -- The numbers of words.
-use Rattle.lis_store.proofs.Common.{◌≡◌, ◌⊎◌, refl, sym, ap, ap₂, ◌∙◌, subst, inl, inr, ℕ, ◌<◌, ◌≤◌, ◌==◌, not, ◌||◌, if◌then◌else◌, Bool, true, false, List, [], ◌∷◌, ◌++◌, length, filter, Option, Some, None, is_some, option_to_list, arith, Less, nat_cmp, nat_cmp_total, tied_itself, AllByRecursion, flat_map, IsStrictlySortedBy, or-false, cases_eq, ne_eqb, not_from_false, list_any-append, same_Some, Among, among_flat_map, filter_among, below_tail, sorted_tail, HasShape, get, with_row, Dict, IsDict, number_of, word_of, word_from_number, number_from_word, number_below, word_cmp, same_word, same_word_decides, among_from_has_word, among_set_of, sorted_set_of, among_where, where_among, numbers_same, sorted_where, some_number, both_ways, eq-eqb, false_from_ne_true, flat_map_among, has_number, numbers_where, filter_drops, has_word_from_among, set_of_among, same_words, same_tests, words_told, among_from_number, number_from_among, only_word}
+use Rattle.std.proofs.Common.{rules}
+use Rattle.lis_store.proofs.Common.{◌≡◌, ◌⊎◌, refl, sym, ap, ap₂, ◌∙◌, subst, inl, inr, ℕ, ◌<◌, ◌≤◌, ◌==◌, not, ◌||◌, if◌then◌else◌, Bool, true, false, List, [], ◌∷◌, ◌++◌, length, filter, Option, Some, None, option_to_list, arith, Less, nat_cmp, nat_cmp_total, tied_itself, AllByRecursion, flat_map, IsStrictlySortedBy, or-false, cases_eq, ne_eqb, not_from_false, list_any-append, same_Some, Among, among_flat_map, filter_among, below_tail, sorted_tail, HasShape, get, with_row, Dict, IsDict, number_of, word_of, word_from_number, number_from_word, number_below, word_cmp, same_word, same_word_decides, among_from_has_word, among_set_of, sorted_set_of, among_where, where_among, numbers_same, sorted_where, some_number, both_ways, eq-eqb, false_from_ne_true, flat_map_among, has_number, numbers_where, filter_drops, has_word_from_among, set_of_among, same_words, same_tests, words_told, among_from_number, number_from_among, only_word}
 use Rattle.std.proofs.Math.Bool.{or-true}
 use Rattle.std.proofs.lemmas.Bool.{not_from_true}
 use Rattle.lis_bits.specs.Rows.{Rows}
@@ -8,19 +9,16 @@ use Rattle.lis_store.specs.Adding.{is_one_of, numbers_named, AreNumbered}
 
 -- ---- one of these words
 pub one_of : (words : List (List ℕ)) (o : Option (List ℕ)) → is_one_of words o ≡ true → (word : List ℕ) × (o ≡ Some word) × Among words word
-one_of words None h = absurd cc
-one_of words (Some word) h = (word, refl, among_from_has_word words word h)
+one_of words o h = search (rules, among_from_has_word)
 
 pub of_one : (words : List (List ℕ)) (o : Option (List ℕ)) (word : List ℕ) → o ≡ Some word → Among words word → is_one_of words o ≡ true
 of_one words o word is m = ap (is_one_of words) is ∙ has_word_from_among words word m
 
 pub one_of_none : (o : Option (List ℕ)) → is_one_of [] o ≡ false
-one_of_none None = refl
-one_of_none (Some word) = refl
+one_of_none o = search (rules)
 
 pub one_of_both : (some more : List (List ℕ)) (o : Option (List ℕ)) → is_one_of (some ++ more) o ≡ (is_one_of some o || is_one_of more o)
-one_of_both some more None = refl
-one_of_both some more (Some word) = list_any-append (λ w. same_word w word) some more
+one_of_both some more o = search (rules, list_any-append)
 
 -- ---- how many there are
 all_of : {X : Type 0} (P : X → Type 0) (xs : List X) (x : X) → AllByRecursion P xs → Among xs x → P x
@@ -64,10 +62,7 @@ module _ (d : Dict) (dict : IsDict d) (words : List (List ℕ)) where
   named_one n m = (among_where d.props (λ k. is_one_of words (word_of d k)) n m).1
 
   pub named_has : (n : ℕ) → has_number (numbers_named d words) n ≡ is_one_of words (word_of d n)
-  named_has n =
-      same_tests (has_number (numbers_named d words) n) (is_one_of words (word_of d n))
-      (λ h. named_one n (among_from_number (numbers_named d words) n h))
-      (λ h. let found = one_of words (word_of d n) h in number_from_among (numbers_named d words) n (among_named n found.0 found.1 found.2))
+  named_has n = search (rules, same_tests, named_one, among_from_number, one_of, number_from_among, among_named)
 
   pub named_few : length (numbers_named d words) ≤ length words
   named_few = few_named d dict (numbers_named d words) words (sorted_where d.props (λ n. is_one_of words (word_of d n))) named_one
@@ -88,18 +83,14 @@ module _ (d : Dict) (dict : IsDict d) (words : List (List ℕ)) where
 
 -- ---- rows
 pub same_shape : (row new : Rows) (rows bits at : ℕ) (value : ℕ → Bool) → HasShape row rows bits → new ≡ with_row row at value → HasShape new rows bits
-same_shape row new rows bits at value shape is = record {
-  tall = ap (λ (r : Rows). length r.rows) is ∙ (length-with_row row at value ∙ shape.tall);
-  wide = ap (λ (r : Rows). r.bits) is ∙ shape.wide;
-}
+same_shape row new rows bits at value shape is = search (rules, length-with_row)
 
 -- a row that was set anew
 pub value_at : (row new : Rows) (bits bit : ℕ) (value : ℕ → Bool) → HasShape row 1 bits → new ≡ with_row row 0 value → bit < bits → get new 0 bit ≡ value bit
 value_at row new bits bit value shape is lt = ap (λ (r : Rows). get r 0 bit) is ∙ get-with_row_same row 0 bit value (omega (arith, shape.tall)) (omega (arith, lt, shape.wide))
 
 or_comes : (a b : Bool) → (if b then true else a) ≡ (a || b)
-or_comes a true = sym (or-true a)
-or_comes a false = sym (or-false a)
+or_comes a b = search (rules, or-true, or-false)
 
 module _ (d : Dict) (dict : IsDict d) (words : List (List ℕ)) (word : List ℕ) (n : ℕ) (before : Bool) (was : before ≡ is_one_of words (word_of d n)) where
   -- with a word that has a number
@@ -120,15 +111,7 @@ module _ (d : Dict) (dict : IsDict d) (words : List (List ℕ)) (word : List ℕ
 
   -- and with one that has none
   pub none_more : number_of d word ≡ None → before ≡ is_one_of (words ++ word ∷ []) (word_of d n)
-  none_more none =
-      sym (or-false before)
-      ∙ (ap₂ (λ a b. a || b) was (sym (false_from_ne_true (is_one_of (word ∷ []) (word_of d n)) (λ h. this (one_of (word ∷ []) (word_of d n) h)))) ∙ sym (one_of_both words (word ∷ []) (word_of d n)))
-    where
-      this : (other : List ℕ) × (word_of d n ≡ Some other) × Among (word ∷ []) other → ⊥
-      this found = elim found.2 [
-        | inl same ↦ both_ways (is_some (number_of d word)) (ap is_some none) (ap is_some (number_from_word d dict word n (found.1 ∙ ap Some (sym same))))
-        | inr other ↦ absurd other
-      ]
+  none_more none = search (rules, or-false, false_from_ne_true, one_of, one_of_both, both_ways, number_from_word)
 
 -- a row has the bits of the numbers of these words
 pub record ShowsNumbers (d : Dict) (props : ℕ) (words : List (List ℕ)) (row : Rows) : Type 0 where
@@ -154,5 +137,4 @@ module _ (d : Dict) (dict : IsDict d) (props : ℕ) (words : List (List ℕ)) (w
   shows_same none = record { shape = shows.shape; bits = λ n lt. none_more d dict words word n (get row 0 n) (shows.bits n lt) none }
 
 pub shown_numbers : (d : Dict) (props : ℕ) (words : List (List ℕ)) (row : Rows) → d.props ≡ props → ((n : ℕ) → n < props → get row 0 n ≡ is_one_of words (word_of d n)) → numbers_where props (get row 0) ≡ numbers_named d words
-shown_numbers d props words row same bits =
-    numbers_same props (get row 0) (λ n. is_one_of words (word_of d n)) bits ∙ ap (λ m. numbers_where m (λ n. is_one_of words (word_of d n))) (sym same)
+shown_numbers d props words row same bits = search (rules, numbers_same)

@@ -1,4 +1,5 @@
 -- The words that a file has by itself are the built-in ones of its description: no other word leads to one of them.
+use Rattle.std.proofs.Common.{rules}
 use Rattle.lis_store.proofs.Common.{◌≡◌, ◌⊎◌, sym, ap, ◌∙◌, subst, inl, inr, refl, ℕ, suc, zero, true, false, List, ◌++◌, option_to_list, Some, length, list_all, Among, among_append, among_filter, among_flat_map, among_left, among_right, contains_from_among, filter_among, Filed, slot_of, rec_at, numbers_at, word_of, FileRecord, State, WellFormed, File, all_up, up, description, met_tests, derived_words, derived_built_in, new_file, file_of_name, is_built_in, is_plain_word, is_test, is_valued, head_bytes, plain_not_valued, entails_from_up, up_self, entailing, sorted_all_up, OwnWord, own_word, Assigned, Derived, Met, Head, Weaker, Kept, filed_at_slot, among_word, word_among, both_ways, false_from_ne_true, Chain, flat_map_among, file_of, links, built_in_not_plain, declarable_not_valued, OwnLink, up_trans, entailed_in, all_among, all_from, link_cases, same_words, words_told, file_told, among_from_number, number_from_among, only_word}
 use Rattle.lis_model.specs.State.{is_declarable}
 use Rattle.lis_laws.proofs.Apart.{head_built_in, built_in_not_test, declarable_not_built_in}
@@ -42,11 +43,7 @@ module _ (s : State) (formed : WellFormed s) where
 
   -- a word that is declared, or whose head is, leads to none
   none_to_own : (p w : List ℕ) → is_built_in w ≡ true → is_built_in p ≡ false → (is_valued p ≡ true → Among D (head_bytes p)) → Among (up D A p) w → ⊥
-  none_to_own p w own apart head leads = by (leads_to_own p w own leads)
-    where
-      by : (p ≡ w) ⊎ ((is_valued p ≡ true) × (head_bytes p ≡ w)) → ⊥
-      by (inl same) = both_ways (is_built_in p) apart (ap is_built_in same ∙ own)
-      by (inr headed) = both_ways (is_built_in (head_bytes p)) (declared_apart (head_bytes p) (head headed.0)) (ap is_built_in headed.1 ∙ own)
+  none_to_own p w own apart head leads = search (rules, leads_to_own, both_ways, declared_apart)
 
   built_in_from : (file : File) → Among s.files file → (w : List ℕ) → is_built_in w ≡ true → Among (description s file) w
       → (d : List ℕ) × Among (derived_words file.name file.bytes) d × Among (up D A d) w
@@ -92,9 +89,7 @@ module _ (s : State) (formed : WellFormed s) where
 
 -- ---- in memory
 pub own_built_in : (k : Kept) (slot : ℕ) → list_all is_built_in (own_kept k slot) ≡ true
-own_built_in k slot = all_from is_built_in (own_kept k slot) (λ w m.
-    let found = among_flat_map (kept_word k) (numbers_at k.ext slot) w m in
-    (among_filter is_built_in (option_to_list (word_of k.dict found.0)) w found.2).1)
+own_built_in k slot = search (rules, all_from, among_flat_map, among_filter)
 
 module _ (k : Stored) (s : State) (sound : IsSound k) (fits : ToldBy k s) (name : List ℕ) (slot : ℕ) (rec : FileRecord)
     (is_slot : slot_of k.parts.catalog name ≡ Some slot) (is_rec : rec_at k.parts.catalog slot ≡ Some rec) where
@@ -136,6 +131,4 @@ module _ (k : Stored) (s : State) (sound : IsSound k) (fits : ToldBy k s) (name 
 
   -- what the file's description has kept gives it the description that it has elsewhere
   pub own_told : (words : List (List ℕ)) → AreOwnWords s.declared s.axioms (own_kept p slot) (new_file name words old.bytes)
-  own_told words =
-      subst (λ n. AreOwnWords s.declared s.axioms (own_kept p slot) (new_file n words old.bytes)) (file_of_name s.files name)
-      (own_described s fits.tells.formed old old_there (own_kept p slot) kept_described described_kept words)
+  own_told words = search (rules, file_of_name, own_described, old_there, kept_described, described_kept)

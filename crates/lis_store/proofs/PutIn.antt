@@ -1,6 +1,7 @@
 -- A file that is admitted: its words may be learnt, and its numbers are in form.
+use Rattle.std.proofs.Common.{rules}
 use Rattle.std.proofs.Common.{◌^◌}
-use Rattle.lis_store.proofs.Common.{◌≡◌, ◌⊎◌, refl, sym, ap, ap₂, ◌∙◌, subst, inl, inr, ℕ, ◌≤◌, nat_lt, nat_le, ◌&&◌, ◌||◌, cond, Bool, true, false, List, [], ◌∷◌, ◌++◌, length, is_some, IsSome, arith, flat_map, list_all, IsStrictlyIncreasing, nat_cmp, nat_cmp_total, and_parts, or_cases, lt-ltb, is_rising, Among, among_filter, among_append, among_left, among_flat_map, members_le, sorted_from_rising, number_of, word_of, are_blocks, is_record, word_cmp, has_word, is_plain_word, is_valued, is_head, is_built_in, head_bytes, with_word, with_words, State, heads, up, all_up, is_assignable, met_tests, plain_not_valued, among_heads, up_self, all_weaker, rising_from_sorted, word_order, among_with_words, with_words_new, sorted_with_words, among_from_has_word, Kept, AreSound, is_sound_record, is_declared, declared_of, axioms_of, among_where, sorted_where, few_properties, and_from, or_left, or_right, both_ways, le-leb, flat_map-append, IsStrictlyIncreasing-from_sorted, flat_map_among, words, has_number, all_among, all_from, with_words_old, set_of_among, number_from_among}
+use Rattle.lis_store.proofs.Common.{◌≡◌, ◌⊎◌, refl, sym, ap, ap₂, ◌∙◌, subst, inl, inr, ℕ, ◌≤◌, nat_lt, nat_le, ◌&&◌, ◌||◌, cond, Bool, true, false, List, [], ◌∷◌, ◌++◌, length, is_some, IsSome, arith, flat_map, list_all, IsStrictlyIncreasing, nat_cmp, nat_cmp_total, and_parts, or_cases, lt-ltb, is_rising, Among, among_filter, among_append, among_left, among_flat_map, members_le, sorted_from_rising, number_of, word_of, are_blocks, is_record, word_cmp, has_word, is_valued, is_head, is_built_in, head_bytes, with_word, with_words, State, heads, up, all_up, is_assignable, met_tests, plain_not_valued, among_heads, up_self, all_weaker, rising_from_sorted, word_order, among_with_words, with_words_new, sorted_with_words, among_from_has_word, Kept, AreSound, is_sound_record, is_declared, declared_of, axioms_of, among_where, sorted_where, few_properties, and_from, or_left, or_right, both_ways, le-leb, flat_map-append, IsStrictlyIncreasing-from_sorted, flat_map_among, words, has_number, all_among, all_from, with_words_old, set_of_among, number_from_among}
 use Rattle.std.proofs.lemmas.List.Sums.{fold-append}
 use Rattle.lis_fields.specs.Layouts.{are_short, are_tags}
 use Rattle.lis_fields.proofs.Parts.{record_from}
@@ -23,15 +24,7 @@ abbrev pub may_by : Kept → List ℕ → Bool → Bool
 may_by k word b = cond b (is_some (number_of k.dict (head_bytes word)) || is_built_in (head_bytes word)) (is_some (number_of k.dict word) || (is_head word && is_built_in word))
 
 assignable_may : (k : Kept) (word : List ℕ) → is_assignable (declared_of k) word ≡ true → may_learn k word ≡ true
-assignable_may k word h = by (or_cases (is_plain_word word && has_word (declared_of k) word) (is_valued word && has_word (declared_of k) (head_bytes word)) h)
-  where
-    by : ((is_plain_word word && has_word (declared_of k) word) ≡ true) ⊎ ((is_valued word && has_word (declared_of k) (head_bytes word)) ≡ true) → may_learn k word ≡ true
-    by (inl both) =
-        let parts = and_parts (is_plain_word word) (has_word (declared_of k) word) both in
-        ap (may_by k word) (plain_not_valued word parts.0) ∙ or_left (is_some (number_of k.dict word)) (is_head word && is_built_in word) (declared_known k word parts.1)
-    by (inr both) =
-        let parts = and_parts (is_valued word) (has_word (declared_of k) (head_bytes word)) both in
-        ap (may_by k word) parts.0 ∙ ap (λ b. b || is_built_in (head_bytes word)) (declared_known k (head_bytes word) parts.1)
+assignable_may k word h = search (rules, or_cases, and_parts, plain_not_valued, or_left, declared_known)
 
 -- a built-in word is valued, and its head is built in, or it is a bare head
 built_in_may : (k : Kept) (word : List ℕ) → is_built_in word ≡ true → may_learn k word ≡ true
@@ -75,18 +68,7 @@ behind_itself own word m = flat_map_among behind_head own word word m (by (is_va
 
 -- a file that is admitted
 pub may_come : (p : Kept) (draft : Draft) → IsAdmitted p draft → MayComeIn p draft
-may_come p draft admitted = record {
-  name = admitted.name;
-  new = admitted.new;
-  set = admitted.set;
-  assignable = admitted.assignable;
-  few = admitted.few;
-  own = admitted.own;
-  few_own = admitted.few_own;
-  short = admitted.short;
-  room = admitted.room;
-  small = admitted.small;
-}
+may_come p draft admitted = search (rules)
 
 -- ---- the file
 module _ {p : Kept} (sound : AreSound p) {draft : Draft} (may : MayComeIn p draft) where
@@ -130,9 +112,7 @@ module _ {p : Kept} (sound : AreSound p) {draft : Draft} (may : MayComeIn p draf
   own_room {q} learns = room_left p q (with_heads draft.assigned) learns (with_heads draft.own) (subst (λ ws. HasWordRoom p ws) heads_split words_fit)
 
   pub both_learnt : {q r : Kept} → LearnsAll (with_heads draft.assigned) p q → LearnsAll (with_heads draft.own) q r → LearnsAll (with_heads (learnt_words draft)) p r
-  both_learnt {q} {r} first second =
-      subst (λ ws. LearnsAll ws p r) (sym heads_split)
-      (learns_more p q r (with_heads draft.assigned) (with_heads draft.own) first second)
+  both_learnt {q} {r} first second = search (rules, heads_split, learns_more)
 
   module _ {r : Kept} (learns : LearnsAll (with_heads (learnt_words draft)) p r) where
     pub own_numbered : AreNumbered r.dict (learnt_words draft)

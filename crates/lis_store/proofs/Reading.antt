@@ -1,5 +1,6 @@
 -- One block of a file's bytes.
-use Rattle.lis_store.proofs.Common.{◌≡◌, ◌⊎◌, refl, sym, ap, ◌∙◌, subst, inl, inr, ℕ, zero, suc, ◌+◌, ◌-◌, ◌*◌, ◌<◌, ◌≤◌, List, [], ◌∷◌, ◌++◌, length, get_or, take, drop, replicate, slice_index, nat_lt, true, Option, Some, IsSomeAnd, arith, flat_map, cases_lt, lt-ltb, take_all, length-take-le, Meaning, part, Fits, looked, is_large, slot_count, content_blocks, Among, FileRecord, size_fits, Filed, slot_of, rec_at, data_start, State, File, bytes_told, filed_at_slot, Entry, file_of}
+use Rattle.std.proofs.Common.{rules}
+use Rattle.lis_store.proofs.Common.{◌≡◌, refl, sym, ap, ◌∙◌, subst, inl, inr, ℕ, zero, suc, ◌+◌, ◌-◌, ◌*◌, ◌<◌, ◌≤◌, List, [], ◌∷◌, ◌++◌, length, get_or, take, drop, replicate, slice_index, nat_lt, true, Some, IsSomeAnd, arith, flat_map, cases_lt, lt-ltb, take_all, length-take-le, Meaning, part, Fits, looked, is_large, slot_count, content_blocks, Among, FileRecord, size_fits, Filed, slot_of, rec_at, data_start, State, File, bytes_told, filed_at_slot, Entry, file_of}
 use Rattle.std.proofs.lemmas.Bool.{cond-true}
 use Rattle.std.proofs.lemmas.List.{take_at, take-take, take-append-le, drop-drop, drop_at, drop-take}
 use Rattle.lis_journal.specs.Images.{held_in}
@@ -28,17 +29,7 @@ module _ {X : Type 0} (w : ℕ) (at : X → List ℕ) where
       ∙ drop_pieces xs n d (λ y m. whole y (inr m)) (omega arith)))
 
   front_of : (size : ℕ) (piece rest : List ℕ) → length piece ≡ w → take (length (take w (take size (piece ++ rest)))) piece ≡ take w (take size (piece ++ rest))
-  front_of size piece rest whole = by (cases_lt size w)
-    where
-      by : (size < w) ⊎ (w ≤ size) → take (length (take w (take size (piece ++ rest)))) piece ≡ take w (take size (piece ++ rest))
-      by (inl less) =
-          let short : take size (piece ++ rest) ≡ take size piece = take-append-le size piece rest (omega (arith, whole)) in
-          let len : length (take size piece) ≡ size = length-take-le size piece (omega (arith, whole)) in
-          let is : take w (take size (piece ++ rest)) ≡ take size piece = ap (take w) short ∙ take_all w (take size piece) (omega (arith, len)) in
-          ap (λ xs. take (length xs) piece) is ∙ (ap (λ n. take n piece) len ∙ sym is)
-      by (inr more) =
-          let is : take w (take size (piece ++ rest)) ≡ piece = take-take w size (piece ++ rest) more ∙ take_at piece rest w whole in
-          ap (λ xs. take (length xs) piece) is ∙ (take_all (length piece) piece (omega arith) ∙ sym is)
+  front_of size piece rest whole = search (rules, cases_lt, take-append-le, length-take-le, take_all, take-take, take_at)
 
   -- the n-th piece begins with the n-th part of the first bytes
   part_of_pieces : (xs : List X) (n size : ℕ) (d : X) → ((x : X) → Among xs x → length (at x) ≡ w) → n < length xs → w * n ≤ size
@@ -62,13 +53,7 @@ pub record HasBlock (k : Stored) (slot n : ℕ) (rec : FileRecord) (ns : List �
 
 pub has_block : {k now : Stored} {slot : ℕ} {rec inside : FileRecord} {ns : List ℕ} (n : ℕ) → k ≡ now → IsSound k → rec_at k.parts.catalog slot ≡ Some rec
     → IsSomeAnd (rec_at now.parts.catalog slot) (λ (r : FileRecord). 4096 * n < r.size) → inside ≡ rec → ns ≡ inside.blocks → HasBlock k slot n rec ns inside.size
-has_block {slot = slot} n view sound is_rec within is_it numbers = record {
-  sound = sound;
-  is_rec = is_rec;
-  within = subst (λ (o : Option FileRecord). IsSomeAnd o (λ (r : FileRecord). 4096 * n < r.size)) (sym (ap (λ (s : Stored). rec_at s.parts.catalog slot) view) ∙ is_rec) within;
-  numbers = numbers ∙ ap (λ (r : FileRecord). r.blocks) is_it;
-  sized = ap (λ (r : FileRecord). r.size) is_it;
-}
+has_block {slot = slot} n view sound is_rec within is_it numbers = search (rules)
 
 module _ {k : Stored} {slot n : ℕ} {rec : FileRecord} {ns : List ℕ} {size : ℕ} (has : HasBlock k slot n rec ns size) where
   abbrev filed : Filed
@@ -94,19 +79,11 @@ module _ {k : Stored} {slot n : ℕ} {rec : FileRecord} {ns : List ℕ} {size : 
   index_is base is_base = ap (λ b. index_home b ns) is_base ∙ ap (index_home (data_start k.parts.limits)) has.numbers
 
   pub index_held : (base : ℕ) (index bytes : List ℕ) → base ≡ data_start k.parts.limits → (is_large size ≡ true → index ≡ held_in k.journal bytes (index_home base ns)) → IsIndex k bytes slot index
-  index_held base index bytes is_base held other is_other large =
-      let same : rec ≡ other = some_same (sym has.is_rec ∙ is_other) in
-      held (ap is_large (has.sized ∙ ap (λ (r : FileRecord). r.size) same) ∙ large)
-      ∙ ap (held_in k.journal bytes) (index_is base is_base ∙ ap (λ (r : FileRecord). index_home (data_start k.parts.limits) r.blocks) same)
-    where
-      some_same : {a b : FileRecord} → Some a ≡ Some b → a ≡ b
-      some_same h = cc
+  index_held base index bytes is_base held other is_other large = search (rules, index_is)
 
   pub index_kept : (m : Meaning) (base : ℕ) (index : List ℕ) → base ≡ data_start k.parts.limits → 578 ≤ base → IsIndex k m.bytes slot index
       → (kept : ℕ → List ℕ) → Fits k.journal m kept → is_large size ≡ true → index ≡ looked k.journal.staged kept (index_home base ns)
-  index_kept m base index is_base high is_index kept fits large =
-      is_index rec has.is_rec (ap is_large (sym has.sized) ∙ large)
-      ∙ (ap (held_in k.journal m.bytes) (sym (index_is base is_base)) ∙ fits_held k.journal fits (index_home base ns) (inr (omega (arith, high))))
+  index_kept m base index is_base high is_index kept fits large = search (rules, index_is, fits_held)
 
   module _ (m : Meaning) (s : State) (fits : StoreFits k m s) where
     abbrev numbers : List ℕ

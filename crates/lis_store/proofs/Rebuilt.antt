@@ -1,4 +1,5 @@
 -- Descriptions that become others, slot by slot, and those that are made anew: what holds of memory then, and how much is edited and marked.
+use Rattle.std.proofs.Common.{rules}
 use Rattle.lis_store.proofs.Common.{◌≡◌, ◌⊎◌, inl, inr, refl, subst, ℕ, zero, suc, ◌+◌, ◌≤◌, Bool, true, false, cond, List, [], ◌∷◌, ◌++◌, length, count_by, arith, length-append, sym, ap, ap₂, ◌∙◌, ◌<◌, map, get_or-set_same, get_or-set_other, length-set, if◌then◌else◌, filter, take, not, Option, Some, is_some, IsSome, both_ways, false_from_ne_true, sum_by-cons, Among, among_left, among_right, is_taken, Kept, is_marked, marked_count, cases_lt, numbers_at, differs, IsSaved, block_of, Describes, among_where, map_all, length-map, length-take-le, list_all, among_append, among_filter, word_of, rec_at, slot_is_below, Ext, has, FileRecord, is_test, is_had, had_at, AreSound, FreeSlotsAreEmpty, among_map, map_among, numbers_where, Rows, has_number, all_among, all_from, is_linked, common_steps}
 use Rattle.lis_kept.proofs.Marking.{marked_within, marked_only}
 use Rattle.std.proofs.lemmas.List.FromFn.{sum_by-map-range_with_len_more}
@@ -6,9 +7,8 @@ use Rattle.lis_store.specs.Redescribing.{Gives, turned_at, IsTurnedRow, Redescri
 use Rattle.lis_store.proofs.Edits.{AreEditsFew}
 use Rattle.std.proofs.lemmas.List.Filters.{length-filter_both}
 use Rattle.lis_kept.proofs.WordLess.{had_from}
-use Rattle.lis_store.specs.Closing.{is_concerned, is_base, added, base_at, has_words, closure, anew, rebuilt}
+use Rattle.lis_store.specs.Closing.{is_concerned, added, base_at, has_words, closure, anew, rebuilt}
 use Rattle.lis_store.specs.declared.closing.Rebuild.{Rebuild}
-use Rattle.lis_store.specs.declared.closing.Rebuild.TheVariants.{Having, Losing, Meeting}
 use Rattle.lis_store.specs.Stored.{AreClosed, DescriptionsAreShort, TestsAreMet}
 use Rattle.lis_store.proofs.Closed.{closure_closed}
 use Rattle.lis_store.proofs.FileTests.{tests_stay}
@@ -96,24 +96,16 @@ module _ (n : ℕ) (p : Kept) (ext : Ext) (marks : List Bool) (here : numbers_at
   so_far = record p { ext = ext; marks = marks }
 
   words_yet : (how : Rebuild) → has_words so_far how ≡ has_words p how
-  words_yet (Having number) = refl
-  words_yet (Losing left right) = refl
-  words_yet (Meeting test number) = refl
+  words_yet how = search (rules)
 
   concerned_yet : (how : Rebuild) → is_concerned so_far how n ≡ is_concerned p how n
-  concerned_yet (Having number) = ap (λ ns. has_number ns number) here
-  concerned_yet (Losing left right) = ap (λ ns. has_number ns left) here
-  concerned_yet (Meeting test number) = refl
+  concerned_yet how = search (rules)
 
   base_yet : (how : Rebuild) → base_at so_far how n ≡ base_at p how n
-  base_yet (Having number) = ap (λ ns. filter (is_base p (Having number) n) ns) here
-  base_yet (Losing left right) = ap (λ ns. filter (is_base p (Losing left right) n) ns) here
-  base_yet (Meeting test number) = ap (λ ns. number ∷ filter (is_base p (Meeting test number) n) ns) here
+  base_yet how = search (rules)
 
   rebuilt_yet : (how : Rebuild) → rebuilt so_far how n ≡ rebuilt p how n
-  rebuilt_yet how =
-      ap₂ (λ c base. if c then closure p base else numbers_at ext n) (concerned_yet how) (base_yet how)
-      ∙ ap (λ ns. if is_concerned p how n then closure p (base_at p how n) else ns) here
+  rebuilt_yet how = search (rules, concerned_yet, base_yet)
 
 module _ (how : Rebuild) (n : ℕ) (p q : Kept) (so_far : Redescribes (rebuilt p how) n p q) where
   pub words_same_yet : has_words q how ≡ has_words p how
@@ -130,9 +122,7 @@ module _ (how : Rebuild) (n : ℕ) (p q : Kept) (so_far : Redescribes (rebuilt p
 
 -- ---- the numbers of which it is made anew
 added_few : (how : Rebuild) → length (added how) ≤ 1
-added_few (Having number) = omega arith
-added_few (Losing left right) = omega arith
-added_few (Meeting test number) = omega arith
+added_few how = search (rules)
 
 filter_few : (test : ℕ → Bool) (xs : List ℕ) → length (filter test xs) ≤ length xs
 filter_few test xs = let both = length-filter_both test (λ n. not (test n)) (λ n. refl) xs in omega (arith, both)
@@ -181,9 +171,7 @@ module _ {concerned : ℕ → Bool} {base : ℕ → List ℕ} {k m : Kept} (r : 
   made_is = r.redescribes.parts
 
   none_past : (slot : ℕ) → k.limits.files ≤ slot → anew k concerned base slot ≡ numbers_at k.ext slot
-  none_past slot le =
-      ap (λ b. if b then closure k (base slot) else numbers_at k.ext slot)
-      (false_from_ne_true (concerned slot) (λ is. let below = slot_is_below k.catalog slot r.sound.catalog (r.filed slot is) in omega (arith, below, r.sound.slots, le)))
+  none_past slot le = search (rules, false_from_ne_true, slot_is_below)
 
   -- a slot that is concerned has the numbers of all that its base entails, and each other one is as before
   pub set_where : (P : List ℕ → Type 0) (slot : ℕ) → (concerned slot ≡ true → P (closure k (base slot))) → (concerned slot ≡ false → P (numbers_at k.ext slot)) → P (numbers_at m.ext slot)

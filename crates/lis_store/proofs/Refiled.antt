@@ -1,4 +1,5 @@
 -- What memory comes to when a file has come into it, in the place of another or into a free slot.
+use Rattle.std.proofs.Common.{rules}
 use Rattle.lis_store.proofs.Common.{◌≡◌, refl, sym, ap, ◌∙◌, subst, ℕ, ◌+◌, ◌<◌, ◌≤◌, ◌==◌, zero, suc, not, Bool, true, List, [], length, map, filter, set, Option, None, Some, is_some, IfSome, IsSome, IsSomeAnd, arith, ne_eqb, not_from_false, length-map, Among, filter_among, Filed, rec_at, Ext, numbers_at, FileRecord, Limits, State, File, blocks_taken, used_blocks, file_added, file_removed, Kept, IsSaved, block_of, is_marked, marked_count, AreSound, emptied, blocks_told, Tells, filed_at_slot, eq-eqb, map_among, given, filter_drops, Files}
 use Rattle.std.proofs.lemmas.List.{set-get_or}
 use Rattle.lis_content.proofs.Numbers.{length-given}
@@ -58,12 +59,7 @@ vacant_free p slot form below none spare = record {
 }
 
 pub may_there : (asked : Option ℕ) (p : Kept) (draft : Draft) → MayPut p asked draft → IfSome asked (λ s. IsSome (rec_at p.catalog s))
-may_there None p draft may = tt
-may_there (Some s) p draft may = by (rec_at p.catalog s) may
-  where
-    by : (o : Option FileRecord) → IsSomeAnd o (λ (rec : FileRecord). MayReplace p s rec draft) → is_some o ≡ true
-    by None may = absurd may
-    by (Some rec) may = refl
+may_there asked p draft may = search (rules)
 
 pub may_comes : (asked : Option ℕ) (p v : Kept) (slot : ℕ) (draft : Draft) → AreInForm p → IfSome asked (λ s. slot ≡ s) → MayPut p asked draft → MakesRoom slot (record_in p asked) p v → MayComeIn v draft
 may_comes None p v slot draft form is may same = subst (λ (k : Kept). MayComeIn k draft) (sym same) (may_come p draft may)
@@ -83,15 +79,7 @@ record Stays (p v : Kept) : Type 0 where
   marked : (block : ℕ) → is_marked p block ≡ true → is_marked v block ≡ true
 
 stays : (gone : Option FileRecord) (slot : ℕ) (p v : Kept) → MakesRoom slot gone p v → Stays p v
-stays None slot p v same = subst (λ (k : Kept). Stays p k) (sym same) (record { limits = refl; axioms = refl; taken = refl; ext = refl; saved = λ at saved. saved; marked = λ block is. is })
-stays (Some rec) slot p v makes = record {
-  limits = ap (λ (k : Kept). k.limits) makes.parts;
-  axioms = ap (λ (k : Kept). k.axioms) makes.parts;
-  taken = ap (λ (k : Kept). k.taken) makes.parts;
-  ext = ap (λ (k : Kept). k.ext) makes.parts;
-  saved = makes.marks.saved;
-  marked = makes.marked;
-}
+stays gone slot p v same = search (rules)
 
 pub limits_room : (gone : Option FileRecord) (slot : ℕ) (p v : Kept) → MakesRoom slot gone p v → v.limits ≡ p.limits
 limits_room gone slot p v makes = (stays gone slot p v makes).limits
@@ -129,18 +117,7 @@ few_refiled (Some rec) {draft} {blocks} {p} form r =
 -- ---- the state that it tells
 -- memory tells the same, whatever is marked
 tells_marked : {o : Kept} {at : ℕ → List ℕ} {s : State} (marks : List Bool) → Tells o at s → Tells (record o { marks = marks }) at s
-tells_marked marks tells = record {
-  super = tells.super;
-  state = tells.state;
-  formed = tells.formed;
-  used = tells.used;
-  described = tells.described;
-  taken = λ n lt is. let b = tells.taken n lt is in record { file = b.file; kept = b.kept; has = b.has };
-  given = tells.given;
-  indexed = tells.indexed;
-  apart = tells.apart;
-  one_use = tells.one_use;
-}
+tells_marked marks tells = search (rules)
 
 -- Memory told s, whatever blocks are taken now, and a file goes, if one does.
 tells_room : (gone : Option FileRecord) (o : Kept) (taken marks : List Bool) (v : Kept) (slot : ℕ) → AreInForm (retaken o taken marks) → MakesRoom slot gone (retaken o taken marks) v → rec_at v.catalog slot ≡ None → AreSound o

@@ -1,6 +1,7 @@
 -- What refuses an axiom: the row of `axiom`, told by what a store keeps, is the row of the state; and what holds where it refuses nothing.
+use Rattle.std.proofs.Common.{rules}
 use Rattle.std.proofs.Common.{◌↔◌}
-use Rattle.lis_store.proofs.Common.{◌≡◌, ◌⊎◌, refl, sym, ap, ap₂, ◌∙◌, subst, inl, inr, ℕ, ◌+◌, Bool, true, false, cond, is_some, Some, None, List, [], ◌∷◌, ◌++◌, length, arith, ◌<◌, ◌≤◌, ◌&&◌, ◌||◌, nat_lt, nat_le, Option, IsSome, option_to_list, not, declared_has_number, IsStrictlySortedBy, length-map, none-some, Among, among_insert_key, insert_key_old, sorted_from_rising, sorted_insert_key, number_of, number_from_word, word_from_number, Taxonomy, leads, entails_decides, word_cmp, has_word, is_valued, head_bytes, with_word, with_words, up, head_not_valued, word_exact, word_order, among_from_has_word, Kept, AreSound, declared_of, axioms_of, fun_ext, and_parts, cases_lt, leb-true, ltb-true, get_or_past, contains_from_among, Filed, rec_at, word_of, has, numbers_at, State, File, all_up, own_words, description, axiom_added, exceeds_words, entailing, sorted_all_up, all_up_closed, among_with_words, with_words_new, sorted_with_words, FreeSlotsAreEmpty, is_declared, Tells, among_word, number_told, not-false, ltb-false, same_word, is_plain_word, Limits, Refusal, pair_cmp, same_pair, has_axiom, Situation, refused, exceeds_known, add_axiom, pair_exact, same_word_decides, is_filled, axioms_counted, both_ways, false_from_ne_true, and_from, words, has_word_from_among, same_words, with_words_old, same_tests, has_number, set_of, entailed_in, all_up_has, all_among, words_told, file_told, any_from_among, changed, declared_there}
+use Rattle.lis_store.proofs.Common.{◌≡◌, ◌⊎◌, refl, sym, ap, ap₂, ◌∙◌, subst, inl, inr, ℕ, ◌+◌, Bool, true, false, cond, is_some, Some, None, List, [], ◌∷◌, ◌++◌, length, arith, ◌<◌, ◌&&◌, ◌||◌, nat_lt, nat_le, Option, IsSome, option_to_list, not, declared_has_number, IsStrictlySortedBy, length-map, none-some, Among, among_insert_key, insert_key_old, sorted_from_rising, sorted_insert_key, number_of, number_from_word, word_from_number, Taxonomy, leads, entails_decides, word_cmp, has_word, is_valued, head_bytes, with_word, with_words, up, head_not_valued, word_exact, word_order, among_from_has_word, Kept, AreSound, declared_of, axioms_of, fun_ext, and_parts, cases_lt, leb-true, ltb-true, get_or_past, contains_from_among, Filed, rec_at, word_of, has, numbers_at, State, File, all_up, own_words, description, axiom_added, exceeds_words, entailing, sorted_all_up, all_up_closed, among_with_words, with_words_new, sorted_with_words, FreeSlotsAreEmpty, is_declared, Tells, among_word, number_told, not-false, ltb-false, same_word, is_plain_word, Limits, Refusal, pair_cmp, same_pair, has_axiom, Situation, refused, exceeds_known, add_axiom, pair_exact, same_word_decides, is_filled, axioms_counted, both_ways, false_from_ne_true, and_from, words, has_word_from_among, same_words, with_words_old, same_tests, set_of, entailed_in, all_up_has, all_among, words_told, file_told, any_from_among, changed, declared_there}
 use Rattle.lis_taxonomy.specs.Taxonomy.{Entails as Leads}
 use Rattle.lis_laws.specs.Changes.{AxiomFits}
 use Rattle.lis_laws.proofs.Steps.{axiom_fits}
@@ -66,9 +67,7 @@ module _ (k : Kept) (sound : AreSound k) (word : List ℕ) where
   sorted = sorted_from_rising word_cmp word_order known sound.dict.rising
 
   known_more : (w : List ℕ) → length (with_word known w) ≡ length k.dict.entries + lacked w
-  known_more w =
-      word_counted known sorted w
-      ∙ ap₂ (λ n b. n + cond b 0 1) (length-map k.dict.entries (λ (e : List ℕ × ℕ). e.0)) (numbered k.dict w)
+  known_more w = search (rules, word_counted, sorted, length-map, numbered)
 
   pub lacks_one : (is_valued word ≡ true → ⊥) → length (with_words known (behind_head word)) ≡ length k.dict.entries + lacked word
   lacks_one unheaded = ap (λ (hs : List (List ℕ)). length (with_words known (hs ++ word ∷ []))) (headless word unheaded) ∙ known_more word
@@ -93,11 +92,7 @@ module _ (k : Kept) (sound : AreSound k) (word : List ℕ) where
 -- ---- descriptions that an axiom would make too large, by their numbers and by their words
 -- a slot that has a number is one of those that there are
 pub had_below : (k : Kept) (n slot : ℕ) → has k.ext n slot ≡ true → slot < length k.ext.sets
-had_below k n slot had = by (cases_lt slot (length k.ext.sets))
-  where
-    by : (slot < length k.ext.sets) ⊎ (length k.ext.sets ≤ slot) → slot < length k.ext.sets
-    by (inl lt) = lt
-    by (inr past) = let none : has k.ext n slot ≡ false = ap (λ ns. has_number ns n) (get_or_past k.ext.sets slot [] past) in absurd (both_ways (has k.ext n slot) none had)
+had_below k n slot had = search (rules, cases_lt, get_or_past, both_ways)
 
 -- what the right word entails, by its number
 gains_of : (k : Kept) (right : List ℕ) (number : ℕ) → word_of k.dict number ≡ Some right → is_gained k (number ∷ []) ≡ is_gained_by k (right ∷ [])
@@ -106,13 +101,11 @@ gains_of k right number is = fun_ext (λ n. ap (λ o. entails_by k o (word_of k.
 -- one slot, by the numbers of the two words
 pub overfull_here : (k : Kept) (left right : List ℕ) (from number : ℕ) → number_of k.dict left ≡ Some from → word_of k.dict number ≡ Some right → (slot : ℕ)
     → is_overfull k left right slot ≡ (has k.ext from slot && nat_lt 128 (length (wider k (is_gained k (number ∷ [])) slot)))
-overfull_here k left right from number is_left is_right slot =
-    ap₂ (λ o gains. is_number_of (numbers_at k.ext slot) o && nat_lt 128 (length (wider k gains slot))) is_left (sym (gains_of k right number is_right))
+overfull_here k left right from number is_left is_right slot = search (rules, gains_of)
 
 -- none has a word that has no number
 pub overfull_unnumbered : (k : Kept) (left right : List ℕ) → number_of k.dict left ≡ None → has_overfull k left right ≡ false
-overfull_unnumbered k left right none =
-    full_nowhere (is_overfull k left right) k.limits.files (λ slot lt. ap (λ o. is_number_of (numbers_at k.ext slot) o && nat_lt 128 (length (wider k (is_gained_by k (right ∷ [])) slot))) none)
+overfull_unnumbered k left right none = search (rules, full_nowhere)
 
 module _ (k : Kept) (sound : AreSound k) (at : ℕ → List ℕ) (s : State) (free : FreeSlotsAreEmpty k) (closed : AreClosed k) (tells : Tells k at s) (left right : List ℕ) (declared : is_declared k right ≡ true) where
   abbrev added : State
@@ -277,9 +270,7 @@ module _ {k : Stored} {at : ℕ → List ℕ} (sound : IsSound k) (now : Situati
   -- ---- the rows
   -- what the first two checks leave
   pair_form : not (is_plain_word right) ≡ false → not (is_declared p right && is_nameable (declared_of p) left) ≡ false → (is_declared p right ≡ true) × ((is_plain_word right && has_word s.declared right) ≡ true)
-  pair_form plain formed =
-      let declared = (and_parts (is_declared p right) (is_nameable (declared_of p) left) (not-false (is_declared p right && is_nameable (declared_of p) left) formed)).0 in
-      (declared, and_from (is_plain_word right) (has_word s.declared right) (not-false (is_plain_word right) plain) (sym right_told ∙ declared))
+  pair_form plain formed = search (rules, and_parts, not-false, and_from, right_told)
 
   overfull_same : is_declared p right ≡ true → has_overfull p left right ≡ exceeds_words made
   overfull_same declared = overfull_told p sound.parts at s sound.free sound.closed tells left right declared

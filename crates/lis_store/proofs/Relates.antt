@@ -1,6 +1,7 @@
 -- What an axiom that is added comes to: it links two numbers, and descriptions gain what its right word entails.
+use Rattle.std.proofs.Common.{rules}
 use Rattle.std.proofs.Common.{eq-eqb}
-use Rattle.lis_store.proofs.Common.{◌≡◌, ◌⊎◌, refl, sym, ap, ap₂, ◌∙◌, subst, inl, inr, ℕ, ◌==◌, true, false, List, [], ◌∷◌, Some, is_some, IsSome, ◌+◌, ◌*◌, ◌/◌, ◌<◌, ◌≤◌, ◌&&◌, ◌||◌, Bool, length, count_by, arith, cond, ◌++◌, slice_get, slice_set, Option, None, option_to_list, length-append, Result, and_parts, or_cases, eqb-true, same_Some, Among, among_filter, filter_among, insert_key_old, word_of, rec_at, Ext, has, numbers_at, differs, is_plain_word, is_test, has_word, plain_not_test, with_axiom, State, File, pair_cmp, up, all_up, own_words, file_words, up_self, Kept, AreSound, FreeSlotsAreEmpty, declared_of, axioms_of, is_used, named_all, among_word, word_among, number_told, used_had, among_right, number_of, number_from_word, word_from_number, among_where, where_among, sorted_where, is_valued, is_head, is_built_in, head_bytes, heads, has_axiom, plain_not_valued, has_pair, is_filled, some_word, some_number, flat_map, Contains, contains_from_among, among_append, among_left, is_taken, Dict, Filed, AxiomSlot, FreeAxiom, Pair, word_cmp, same_word, with_words, description, axiom_added, sorted_known, IsStrictlySortedBy, among_heads, same_word_decides, among_with_words, with_words_new, sorted_with_words, IsSaved, KeepsInUse, bit_of, state_of, is_head_by, AreUsed, Tells, named_below, marked_count, Meaning, looked, Situation, Outcome, filed_rec, both_ways, and_from, or_left, or_right, has_number, all_up_has, same_tests, is_linked, words_told, file_told, among_from_number, number_from_among, known, one_number, words, numbers_where, with_words_old, same_words, changed}
+use Rattle.lis_store.proofs.Common.{◌≡◌, ◌⊎◌, refl, sym, ap, ap₂, ◌∙◌, subst, inl, inr, ℕ, ◌==◌, true, false, List, [], ◌∷◌, Some, is_some, IsSome, ◌+◌, ◌*◌, ◌/◌, ◌<◌, ◌≤◌, ◌&&◌, ◌||◌, Bool, length, count_by, arith, cond, ◌++◌, slice_get, slice_set, Option, None, option_to_list, length-append, Result, and_parts, or_cases, eqb-true, same_Some, Among, among_filter, filter_among, insert_key_old, word_of, Ext, has, numbers_at, differs, is_plain_word, is_test, has_word, plain_not_test, with_axiom, State, File, pair_cmp, up, all_up, own_words, file_words, up_self, Kept, AreSound, FreeSlotsAreEmpty, declared_of, axioms_of, is_used, named_all, among_word, word_among, number_told, used_had, among_right, number_of, number_from_word, word_from_number, among_where, where_among, sorted_where, is_valued, is_head, is_built_in, head_bytes, heads, has_axiom, plain_not_valued, has_pair, is_filled, some_word, some_number, flat_map, Contains, contains_from_among, among_append, among_left, is_taken, Dict, Filed, AxiomSlot, FreeAxiom, Pair, word_cmp, same_word, with_words, description, axiom_added, sorted_known, IsStrictlySortedBy, among_heads, same_word_decides, among_with_words, with_words_new, sorted_with_words, IsSaved, KeepsInUse, bit_of, state_of, is_head_by, AreUsed, Tells, named_below, marked_count, Meaning, looked, Situation, Outcome, filed_rec, both_ways, and_from, or_left, or_right, has_number, all_up_has, same_tests, is_linked, words_told, file_told, among_from_number, number_from_among, known, one_number, words, numbers_where, with_words_old, same_words, changed}
 use Rattle.lis_laws.proofs.Axioms.{up_with_axiom}
 use Rattle.lis_laws.proofs.Chains.{up_cons, up_through}
 use Rattle.lis_laws.proofs.Closures.{all_up_within}
@@ -122,8 +123,7 @@ module _ {left right : List ℕ} {from to : ℕ} {k linked : Kept} (l : IsLinked
       by a had (inr new) = inr new
 
   closure_had : (n slot : ℕ) → has k.ext n slot ≡ true → has_number (closure linked (of_all linked from slot)) n ≡ true
-  closure_had n slot had =
-      closure_has linked l.sound_then (of_all linked from slot) n (ap is_some (word_same n) ∙ named_all k l.sound l.free n slot had) (in_base n slot had)
+  closure_had n slot had = search (rules, closure_has, word_same, named_all, in_base)
 
   pub closure_up : (n slot : ℕ) → has k.ext from slot ≡ true → is_entailed k to n ≡ true → has_number (closure linked (of_all linked from slot)) n ≡ true
   closure_up n slot had is = in_closure linked l.sound_then (of_all linked from slot) from n (in_base from slot had) (left_leads n is)
@@ -149,10 +149,7 @@ module _ {left right : List ℕ} {from to : ℕ} {k linked : Kept} (l : IsLinked
   -- ---- memory
   module _ {q : Kept} (rebuilds : Redescribes (rebuilt linked (Having from)) linked.limits.files linked q) where
     pub is_rebuilt : IsRebuilt (is_concerned linked (Having from)) (of_all linked from) linked q
-    is_rebuilt = record { sound = l.sound_then; filed = filed; redescribes = rebuilds }
-      where
-        filed : (slot : ℕ) → has linked.ext from slot ≡ true → IsSome (rec_at linked.catalog slot)
-        filed slot had = had_filed linked (subst (λ (x : Kept). FreeSlotsAreEmpty x) (sym l.links.parts) l.free) from slot had
+    is_rebuilt = search (rules, had_filed)
 
     pub had_linked : (n slot : ℕ) → has k.ext n slot ≡ true → has q.ext n slot ≡ true
     had_linked n slot had = set_where is_rebuilt (λ ns. has_number ns n ≡ true) slot (λ here. closure_had n slot had) (λ other. has_same n slot ∙ had)
@@ -192,28 +189,13 @@ module _ {left right : List ℕ} {from to : ℕ} {k linked : Kept} (l : IsLinked
 
     -- a row turns only of what the right word entails
     pub turned_linked : (slot n : ℕ) → differs (numbers_at linked.ext slot) (closure linked (of_all linked from slot)) n ≡ true → is_entailed k to n ≡ true
-    turned_linked slot n turned = by (turned_cases (numbers_at linked.ext slot) new n turned)
-      where
-        new : List ℕ
-        new = closure linked (of_all linked from slot)
-
-        gained : has linked.ext n slot ≡ false → (has k.ext n slot ≡ true) ⊎ (is_entailed k to n ≡ true) → is_entailed k to n ≡ true
-        gained lacks (inl had) = absurd (both_ways (has linked.ext n slot) lacks (has_same n slot ∙ had))
-        gained lacks (inr is) = is
-
-        by : ((has_number new n ≡ true) × (has linked.ext n slot ≡ false)) ⊎ ((has linked.ext n slot ≡ true) × (has_number new n ≡ false)) → is_entailed k to n ≡ true
-        by (inl more) = gained more.1 (closure_cases n slot more.0)
-        by (inr fewer) = absurd (both_ways (has_number new n) fewer.1 (closure_had n slot (sym (has_same n slot) ∙ fewer.0)))
+    turned_linked slot n turned = search (rules, turned_cases, both_ways, has_same, closure_cases, closure_had)
 
 -- ---- what an axiom that may come allows memory
 -- ---- the two words
 module _ {k : Kept} {left right : List ℕ} (may : MayRelate k left right) where
   head_known : (word : List ℕ) → is_known_head (declared_of k) word ≡ true → (is_head word ≡ true) × ((is_some (number_of k.dict word) || is_built_in word) ≡ true)
-  head_known word h = let parts = and_parts (is_head word) (has_word (declared_of k) word || is_built_in word) h in (parts.0, by (or_cases (has_word (declared_of k) word) (is_built_in word) parts.1))
-    where
-      by : (has_word (declared_of k) word ≡ true) ⊎ (is_built_in word ≡ true) → (is_some (number_of k.dict word) || is_built_in word) ≡ true
-      by (inl there) = or_left (is_some (number_of k.dict word)) (is_built_in word) (declared_known k word there)
-      by (inr own) = or_right (is_some (number_of k.dict word)) (is_built_in word) own
+  head_known word h = search (rules, and_parts, or_cases, or_left, declared_known, or_right)
 
   abbrev named : Bool
   named = (is_plain_word left || is_test left) && has_word (declared_of k) left
@@ -295,16 +277,7 @@ module _ {k : Kept} {left right : List ℕ} (may : MayRelate k left right) where
 
       module _ {linked : Kept} (links : Links from to learnt linked) (sound : AreSound k) (sound_linked : AreSound linked) (free : FreeSlotsAreEmpty k) (closed : AreClosed k) where
         pub linked_in : IsLinked left right from to learnt linked
-        linked_in = record {
-          sound = after;
-          free = free_learnt k learnt (behind_head left) learns sound free;
-          closed = closed_learnt k learnt (behind_head left) learns sound after free closed;
-          is_from = left_named;
-          is_to = right_named;
-          plain = may.plain;
-          links = links;
-          sound_then = sound_linked;
-        }
+        linked_in = search (rules, free_learnt, closed_learnt, left_named, right_named)
 
         ext_learnt : learnt.ext ≡ k.ext
         ext_learnt = ap (λ (x : Kept). x.ext) learns.parts
@@ -431,10 +404,7 @@ module _ {old : Stored} {q : Kept} {left right : List ℕ} (was : IsSound old) (
   end = record p { dict = learnt.dict; axioms = slice_set p.axioms relates.links.slot (Pair from to); ext = q.ext; marks = q.marks }
 
   pub end_is : q ≡ end
-  end_is =
-      relates.rebuilds.parts
-      ∙ (ap (λ (k : Kept). record k { ext = q.ext; marks = q.marks }) relates.links.parts
-      ∙ ap (λ (k : Kept). record k { axioms = slice_set k.axioms relates.links.slot (Pair from to); ext = q.ext; marks = q.marks }) relates.learns.parts)
+  end_is = search (rules)
 
   made_end : record linked { ext = q.ext; marks = q.marks } ≡ end
   made_end = sym relates.rebuilds.parts ∙ end_is
@@ -453,8 +423,7 @@ module _ {old : Stored} {q : Kept} {left right : List ℕ} (was : IsSound old) (
   slot_was_free = ap (λ (k : Kept). slice_get k.axioms relates.links.slot) (sym relates.learns.parts) ∙ relates.links.free
 
   none_there : InSlot learnt.axioms from to → ⊥
-  none_there there =
-      both_ways (has_pair learnt.axioms from to) (new_pair may relates.learns relates.sound relates.is_left relates.is_right) (slot_pair learnt.axioms there.0 from to there.1)
+  none_there there = search (rules, both_ways, new_pair, slot_pair)
 
   abbrev AreOnce : List AxiomSlot → Type 0
   AreOnce axioms = (slot other x y : ℕ) → slice_get axioms slot ≡ Some (Pair x y) → slice_get axioms other ≡ Some (Pair x y) → slot ≡ other

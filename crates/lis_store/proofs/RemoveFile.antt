@@ -1,5 +1,6 @@
 -- A call that takes a file away.
-use Rattle.lis_store.proofs.Common.{◌≡◌, refl, sym, ap, ◌∙◌, subst, ℕ, ◌+◌, ◌≤◌, not, Bool, true, false, cond, List, length, set, Some, Result, Err, arith, Meaning, Held, looked, Asks, slot_of, rec_at, rec_at-slot_of, Ext, Formula, FileRecord, NoFileHere, bitmap_start, image_blocks, State, Situation, Outcome, refused, rm, file_removed, Kept, IsSaved, marked_count, AreSound, changed, Gives}
+use Rattle.std.proofs.Common.{rules}
+use Rattle.lis_store.proofs.Common.{◌≡◌, sym, ap, ◌∙◌, subst, ℕ, ◌+◌, ◌≤◌, not, Bool, true, false, cond, List, length, set, Some, Result, Err, arith, Meaning, Held, looked, Asks, slot_of, rec_at, rec_at-slot_of, Ext, Formula, FileRecord, NoFileHere, bitmap_start, image_blocks, State, Situation, Outcome, refused, rm, file_removed, Kept, IsSaved, marked_count, AreSound, changed, Gives}
 use Rattle.lis_store.specs.declared.change.Change.{Change}
 use Rattle.lis_store.specs.declared.change.Change.TheVariants.{Refused, Disk}
 use Rattle.lis_store.specs.Stored.{Stored, IsSound, StoreHolds}
@@ -23,16 +24,12 @@ use Rattle.lis_store.proofs.Torn.{ended_broken}
 -- one that is refused
 pub removed_refused : {T : Type 0} (old : Stored) (m : Meaning) (place : List Formula) (name : List ℕ) (result : Result T Change) → IsSound old → is_among old.parts place name ≡ false
     → result ≡ Err (Refused NoFileHere) → (base s : State) → StoreHolds old m base s → Holds base (record { state = s; place = place }) (rm (record { state = s; place = place }) name) old m m result
-removed_refused old m place name result sound none ends base s holds =
-    let now : Situation = record { state = s; place = place } in
-    change_refused old m base now (rm now name) NoFileHere result holds
-    (ap (λ b. cond (not b) (refused now NoFileHere) (changed now (file_removed s name))) (sym (here_told old s sound (told_held old m base s sound holds) place name) ∙ none)) ends
+removed_refused old m place name result sound none ends base s holds = search (rules, change_refused, here_told, told_held)
 
 -- what is known where the disk fails while its blocks are asked for
 given_err : (T : Type 0) (rec : FileRecord) (p q : Kept) (journal : Held) (before after : Meaning) (change : Change) → ContentGiven {T = T} rec p q journal before after (Err change)
     → (change ≡ Disk) × (q ≡ p) × Asks journal before after
-given_err T rec p q journal before after (Refused refusal) never = absurd (let e : false ≡ true = never in cc)
-given_err T rec p q journal before after Disk stays = (refl, stays.0, stays.1)
+given_err T rec p q journal before after change never = search (rules)
 
 module _ (T : Type 0) (old : Stored) (slot : ℕ) (name : List ℕ) (sound : IsSound old) (named : slot_of old.parts.catalog name ≡ Some slot) (q : Kept) (b : Bool) (change : Change) (before after : Meaning)
     (stays : (rec : FileRecord) → rec_at old.parts.catalog slot ≡ Some rec → ContentGiven {T = T} rec old.parts q old.journal before after (Err change)) (ended : ContentEnded {T = T} b (Err change)) where
@@ -48,9 +45,7 @@ module _ (T : Type 0) (old : Stored) (slot : ℕ) (name : List ℕ) (sound : IsS
   lost_parts = lost.1
 
   pub lost_sound : IsSound (record { parts = q; journal = old.journal; is_broken = b })
-  lost_sound =
-      subst (λ (k : Kept). IsSound (record { parts = k; journal = old.journal; is_broken = b })) (sym lost_parts)
-      (subst (λ c. IsSound (record { parts = old.parts; journal = old.journal; is_broken = c })) (sym broken) (sound_lost old.parts old.journal (in_form old sound) sound.pairs sound.image))
+  lost_sound = search (rules, lost_parts, broken, sound_lost, in_form)
 
   pub lost_holds : {U : Type 0} (base : State) (now : Situation) (outcome : Outcome) (result : Result U Change) → result ≡ Err change → StoreHolds old before base now.state
       → Holds base now outcome (record { parts = q; journal = old.journal; is_broken = b }) before after result

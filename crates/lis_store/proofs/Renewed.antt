@@ -1,7 +1,8 @@
 -- Bytes that come into blocks in the place of others, and what the disk keeps meanwhile.
+use Rattle.std.proofs.Common.{rules}
 use Rattle.std.proofs.Common.{OnErr}
-use Rattle.lis_store.proofs.Common.{◌≡◌, refl, sym, ap, ap₂, ◌∙◌, subst, ℕ, true, false, Bool, List, [], ◌∷◌, length, Option, Some, None, Result, Ok, Err, IsSomeAnd, IsTrue, set, get_or-set_same, arith, both_ways, false_from_ne_true, ArrayVec, Meaning, Leaves, Held, block, replayed, looked, Fits, KeepsPast, are_free, has_home, is_large, Asks, homes_of, stays_marked, among_homes, FileRecord, bitmap_start, data_start, Kept, is_marked, AreSound, blocks_told, Puts, leaves_weaken, leaves_then, is_among, given, marked, Gives}
-use Rattle.lis_journal.specs.Images.{KeepsBut, StandsBut}
+use Rattle.lis_store.proofs.Common.{◌≡◌, refl, sym, ap, ◌∙◌, subst, ℕ, true, false, Bool, List, [], ◌∷◌, length, Some, None, Result, Ok, Err, IsTrue, set, get_or-set_same, arith, both_ways, false_from_ne_true, ArrayVec, Meaning, Leaves, Held, block, looked, Fits, KeepsPast, are_free, has_home, is_large, Asks, homes_of, stays_marked, among_homes, FileRecord, bitmap_start, data_start, Kept, is_marked, AreSound, blocks_told, Puts, leaves_weaken, leaves_then, is_among, given, marked, Gives}
+use Rattle.lis_journal.specs.Images.{StandsBut}
 use Rattle.lis_journal.proofs.Fitting.{fits_but}
 use Rattle.lis_journal.proofs.Phases.{stands_less}
 use Rattle.lis_kept.specs.Changes.{Marks, Takes}
@@ -15,18 +16,12 @@ use Rattle.lis_store.specs.Contents.Trades.{First, Last}
 pub stands_same : (blocks : ℕ) (placed : List ℕ) (kept was : ℕ → List ℕ) (image : List ℕ) → ((n : ℕ) → is_among placed n ≡ false → kept n ≡ was n)
     → StandsBut blocks placed kept image → StandsBut blocks placed was image
 unfolding StandsBut
-stands_same blocks placed kept was image same but = (but.0, by (replayed blocks image) but.1)
-  where
-    by : (o : Option (List ℕ)) → IsSomeAnd o (KeepsBut blocks placed kept) → IsSomeAnd o (KeepsBut blocks placed was)
-    by None h = h
-    by (Some r) h = record { long = h.long; same = λ n out none. h.same n out none ∙ same n none }
+stands_same blocks placed kept was image same but = search (rules)
 
 -- blocks that are placed among the homes of these
 pub stands_homes : (blocks base : ℕ) (placed some : List ℕ) (kept : ℕ → List ℕ) (image : List ℕ) → ((n : ℕ) → is_among placed n ≡ true → has_home base some n ≡ true)
     → StandsBut blocks placed kept image → StandsBut blocks (homes_of base some) kept image
-stands_homes blocks base placed some kept image homes but =
-    stands_less blocks placed (homes_of base some) kept image
-    (λ n none. false_from_ne_true (is_among placed n) (λ among. both_ways (has_home base some n) (sym (among_homes base some n) ∙ none) (homes n among))) but
+stands_homes blocks base placed some kept image homes but = search (rules, stands_less, false_from_ne_true, both_ways, among_homes)
 
 -- with nothing placed, an image stands for what is kept
 unplaced_stands : (journal : Held) {m : Meaning} {kept : ℕ → List ℕ} (more : List ℕ) → journal.placed ≡ [] → Fits journal m kept → (image : List ℕ) → m.images image → StandsBut journal.blocks more kept image
@@ -39,11 +34,7 @@ marked_bitmap p q sound ts takes = ap (λ (x : Kept). is_marked x (bitmap_start 
 
 module _ (p mid q : Kept) (sound : AreSound p) (ts us : List Bool) (one : Takes ts p mid) (two : Takes us mid q) where
   pub twice_parts : q ≡ record p { taken = q.taken; marks = q.marks }
-  twice_parts =
-      let taken : List Bool → List Bool → Kept = λ t m. record mid { taken = t; marks = m } in
-      two.parts
-      ∙ (ap₂ taken (sym (ap (λ (x : Kept). x.taken) two.parts)) (sym (ap (λ (x : Kept). x.marks) two.parts))
-      ∙ ap (λ (x : Kept). record x { taken = q.taken; marks = q.marks }) one.parts)
+  twice_parts = search (rules)
 
   pub twice_marks : Marks 2 p q
   twice_marks = record { saved = λ at saved. two.marks.saved at (one.marks.saved at saved); few = omega (arith, one.marks.few, two.marks.few) }
@@ -77,9 +68,7 @@ renews_alone p q bytes numbers old new before after sound puts = record {
 
 pub put_alone : (p q : Kept) (bytes : List ℕ) (old new : Held) (before after : Meaning) (result : Result (ArrayVec ℕ) Change) → AreSound p → ContentPut bytes p q old new before after result
     → ContentRenewed bytes None p q old new before after result
-put_alone p q bytes old new before after (Ok numbers) sound puts = renews_alone p q bytes numbers.items old new before after sound puts
-put_alone p q bytes old new before after (Err (Refused refusal)) sound never = never
-put_alone p q bytes old new before after (Err Disk) sound torn = torn
+put_alone p q bytes old new before after result sound puts = search (rules, renews_alone)
 
 -- ---- the blocks of the other file are given back first
 module _ (p q : Kept) (ts ms : List Bool) (rec : FileRecord) (bytes numbers : List ℕ) (old new : Held) (before asked after : Meaning) (sound : AreSound p) (unplaced : old.placed ≡ []) (small : is_large (length bytes) ≡ false)
@@ -184,37 +173,11 @@ module _ (p : Kept) (ts ms : List Bool) (bytes numbers : List ℕ) (old new : He
         }
 
     pub renews_last : Renews bytes numbers (Some rec) p q old new before after
-    renews_last = record {
-      parts = twice_parts p put q sound (marked p.taken puts.blocks) q.taken puts.takes gives.takes;
-      marks = twice_marks p put q sound (marked p.taken puts.blocks) q.taken puts.takes gives.takes;
-      bitmap = twice_bitmap p put q sound (marked p.taken puts.blocks) q.taken puts.takes gives.takes;
-      in_form = puts.in_form;
-      below = puts.below;
-      image = puts.image;
-      broken = puts.broken;
-      few_staged = puts.few_staged;
-      unplaced = puts.unplaced;
-      spare = puts.blocks;
-      were_free = puts.fills.were_free;
-      placed = puts.placed;
-      moments = last_moments;
-      past = last_past;
-      blocks = puts.blocks;
-      distinct = puts.fills.distinct;
-      renewed = last_renewed;
-    }
+    renews_last = search (rules, twice_parts, twice_marks, twice_bitmap, last_moments, last_past, last_renewed)
 
 -- ---- blocks that are not given back at all
 pub torn_first : (bytes : List ℕ) (p : Kept) (old : Held) (before after : Meaning) → old.placed ≡ [] → Asks old before after → ContentTorn bytes p p old old before after
-torn_first bytes p old before after unplaced asks = record {
-  parts = refl;
-  image = refl;
-  spare = [];
-  were_free = refl;
-  small = λ _. refl;
-  moments = λ kept fits. leaves_weaken (StandsBut old.blocks [] kept) (asks.moments fits.honest) (unplaced_stands old [] unplaced fits);
-  past = λ kept fits n le. ap (block n) (asks.same fits.honest).bytes;
-}
+torn_first bytes p old before after unplaced asks = search (rules, leaves_weaken, unplaced_stands)
 
 -- ---- the same, over what memory keeps in between
 pub renews_given : (p mid q : Kept) (rec : FileRecord) (bytes numbers : List ℕ) (old new : Held) (before asked after : Meaning) → AreSound p → old.placed ≡ [] → is_large (length bytes) ≡ false
@@ -250,12 +213,7 @@ lost_last T p mid q rec bytes numbers old new before placed after change result 
 
 pub lost_first : (T : Type 0) (p q : Kept) (rec : FileRecord) (bytes : List ℕ) (old : Held) (before after : Meaning) (change : Change) (result : Result (ArrayVec ℕ) Change) → old.placed ≡ []
     → ContentGiven {T = T} rec p q old before after (Err change) → result ≡ Err change → ContentRenewed bytes (Some rec) p q old old before after result
-lost_first T p q rec bytes old before after change result unplaced gave ends =
-    subst (λ r. ContentRenewed bytes (Some rec) p q old old before after r) (sym ends) (by change gave)
-  where
-    by : (x : Change) → ContentGiven {T = T} rec p q old before after (Err x) → ContentRenewed bytes (Some rec) p q old old before after (Err x)
-    by (Refused refusal) never = never
-    by Disk lost = let P : Kept → Type 0 = λ x. ContentTorn bytes p x old old before after in subst P (sym lost.0) (torn_first bytes p old before after unplaced lost.1)
+lost_first T p q rec bytes old before after change result unplaced gave ends = search (rules, torn_first)
 
 -- a put of a content that is not large fails never
 pub put_last : (p mid q : Kept) (rec : FileRecord) (bytes : List ℕ) (old new : Held) (before asked after : Meaning) (result : Result (ArrayVec ℕ) Change) → AreSound p → old.placed ≡ [] → is_large (length bytes) ≡ false

@@ -1,5 +1,6 @@
 -- Calls in which a file comes into a free slot, or takes the place of another.
-use Rattle.lis_store.proofs.Common.{◌≡◌, refl, sym, ap, ap₂, ◌∙◌, subst, ℕ, ◌+◌, ◌≤◌, ◌==◌, ◌&&◌, not, nat_lt, is_some, cond, true, false, Bool, IsSome, IfSome, IsSomeAnd, List, [], length, Option, Some, None, Result, arith, list_all, and_parts, eqb-true, Meaning, Held, Fits, KeepsPast, looked, Filed, slot_of, rec_at, is_large, word_of, same_word, FileRecord, are_blocks, is_record, Limits, bitmap_start, data_start, image_blocks, State, File, blocks_taken, used_blocks, derived_words, new_file, file_added, file_removed, file_replaced, file_limit, Situation, Outcome, same_word_decides, Kept, IsSaved, is_marked, marked_count, is_sound_record, AreSound, bytes_told, blocks_told, Tells, record_in_form, filed_at_slot, among_from_any, leaves_weaken, StandsBut, changed, file_told}
+use Rattle.std.proofs.Common.{rules}
+use Rattle.lis_store.proofs.Common.{◌≡◌, refl, sym, ap, ◌∙◌, subst, ℕ, ◌+◌, ◌≤◌, ◌==◌, ◌&&◌, not, nat_lt, is_some, cond, true, false, Bool, IsSome, IfSome, List, [], length, Option, Some, None, Result, arith, list_all, and_parts, eqb-true, Meaning, Held, Fits, KeepsPast, looked, Filed, slot_of, rec_at, is_large, word_of, same_word, FileRecord, are_blocks, is_record, Limits, bitmap_start, data_start, image_blocks, State, File, blocks_taken, used_blocks, derived_words, new_file, file_added, file_removed, file_replaced, file_limit, Situation, Outcome, same_word_decides, Kept, IsSaved, is_marked, marked_count, is_sound_record, AreSound, bytes_told, blocks_told, Tells, record_in_form, filed_at_slot, among_from_any, leaves_weaken, StandsBut, changed, file_told}
 use Rattle.lis_catalog.proofs.Laws.{slot_of-rec_at}
 use Rattle.lis_laws.proofs.Counts.{filter_sum_drops}
 use Rattle.lis_store.specs.declared.change.Change.{Change}
@@ -27,52 +28,17 @@ use Rattle.lis_store.proofs.ToldBy.{ToldBy, told_held}
 use Rattle.lis_store.proofs.WriteFile.{found_there, written_enough}
 
 may_retaken : (p : Kept) (taken marks : List Bool) (slot : ℕ) (rec : FileRecord) (draft : Draft) → MayReplace p slot rec draft → MayReplace (retaken p taken marks) slot rec draft
-may_retaken p taken marks slot rec draft may = record {
-  there = may.there;
-  name = may.name;
-  new = may.new;
-  set = may.set;
-  assignable = may.assignable;
-  few = may.few;
-  own = may.own;
-  few_own = may.few_own;
-  short = may.short;
-  room = may.room;
-  small = may.small;
-}
+may_retaken p taken marks slot rec draft may = search (rules)
 
 -- a file that may be put into a slot may be where other blocks are taken
 put_retaken : (p : Kept) (taken marks : List Bool) (slot : Option ℕ) (draft : Draft) → MayPut p slot draft → MayPut (retaken p taken marks) slot draft
-put_retaken p taken marks None draft may = record {
-  name = may.name;
-  new = may.new;
-  set = may.set;
-  assignable = may.assignable;
-  few = may.few;
-  own = may.own;
-  few_own = may.few_own;
-  slots = may.slots;
-  short = may.short;
-  room = may.room;
-  small = may.small;
-}
-put_retaken p taken marks (Some slot) draft may = by (rec_at p.catalog slot) may
-  where
-    by : (o : Option FileRecord) → IsSomeAnd o (λ (rec : FileRecord). MayReplace p slot rec draft) → IsSomeAnd o (λ (rec : FileRecord). MayReplace (retaken p taken marks) slot rec draft)
-    by None may = absurd may
-    by (Some rec) may = may_retaken p taken marks slot rec draft may
+put_retaken p taken marks slot draft may = search (rules, retaken, may_retaken)
 
 put_small : (p : Kept) (slot : Option ℕ) (draft : Draft) → MayPut p slot draft → draft.size ≤ file_limit p.limits.version
-put_small p None draft may = may.small
-put_small p (Some slot) draft may = by (rec_at p.catalog slot) may
-  where
-    by : (o : Option FileRecord) → IsSomeAnd o (λ (rec : FileRecord). MayReplace p slot rec draft) → draft.size ≤ file_limit p.limits.version
-    by None may = absurd may
-    by (Some rec) may = may.small
+put_small p slot draft may = search (rules)
 
 record_retaken : (p : Kept) (taken marks : List Bool) (slot : Option ℕ) → record_in (retaken p taken marks) slot ≡ record_in p slot
-record_retaken p taken marks None = refl
-record_retaken p taken marks (Some slot) = refl
+record_retaken p taken marks slot = search (rules)
 
 -- ---- memory tells the next state, from wherever the bytes come
 module _ (old : Stored) (taken marks : List Bool) (q : Kept) (j : Held) (gone : Option FileRecord) (draft : Draft) (numbers : List ℕ) (sound : IsSound old) (sound_p : AreSound (retaken old.parts taken marks))
@@ -195,9 +161,7 @@ module _ {old now : Stored} (same : old ≡ now) {mid : Kept} {j : Held} (slot :
 
   module _ {q : Kept} (again_mid : RefilesIn (record_in mid slot) (draft_of file) numbers mid q) where
     again : RefilesIn goes (draft_of file) numbers renewed q
-    again =
-        subst (λ g. RefilesIn g (draft_of file) numbers renewed q) (record_retaken k mid.taken mid.marks slot)
-        (subst (λ (x : Kept). RefilesIn (record_in x slot) (draft_of file) numbers x q) renews.parts again_mid)
+    again = search (rules, record_retaken)
 
     written_same : q.limits ≡ k.limits
     written_same = limits_then old mid.taken mid.marks q j goes (draft_of file) numbers sound sound_renewed again
@@ -289,9 +253,7 @@ module _ {old now : Stored} (same : old ≡ now) {mid : Kept} {j : Held} (slot :
             but_stands old base s before sound holds j.placed renews.spare renews.were_free renews.placed (small_or_alone (length bytes) j.placed old.journal.staged renews.unplaced alone)
 
         stands_then : (image : List ℕ) → StandsBut j.blocks j.placed comes.lands.kept image → Stands image base
-        stands_then image but =
-            stands_old image
-            (stands_same old.journal.blocks j.placed comes.lands.kept holds.kept image comes.stays (subst (λ n. StandsBut n j.placed comes.lands.kept image) renews.image but))
+        stands_then image but = search (rules, stands_old, stands_same, comes)
 
         -- where its blocks are enough
         replaces : {T : Type 0} (new : Stored) (after : Meaning) (result : Result T Change) → blocks_taken k.limits.version (length bytes) ≤ free_for k goes → Saves q j new placed after result
@@ -327,9 +289,7 @@ module _ {old now : Stored} (same : old ≡ now) (sound : IsSound old) (name : L
   sound_rec = sound.parts.records slot there.0 there.1
 
   pub still_in_form : {size : ℕ} → ((rec : FileRecord) → rec_at old.parts.catalog slot ≡ Some rec → size ≡ rec.size) → are_blocks old.parts.limits.version size numbers ≡ true
-  still_in_form size =
-      ap₂ (are_blocks old.parts.limits.version) (size there.0 there.1) blocks_are
-      ∙ (record_in_form old.parts.limits.version old.parts.dict old.parts.limits.blocks there.0 sound_rec).blocks
+  still_in_form size = search (rules, there, blocks_are, record_in_form, sound_rec)
 
   pub still_below : list_all (λ n. nat_lt n old.parts.limits.blocks) numbers ≡ true
   still_below =

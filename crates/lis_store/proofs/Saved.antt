@@ -1,10 +1,9 @@
 -- How parts are saved, and what is held back is committed.
-use Rattle.lis_store.proofs.Common.{◌≡◌, ◌⊎◌, ℕ, zero, suc, ◌+◌, ◌<◌, ◌≤◌, ◌||◌, Bool, true, false, List, [], ◌∷◌, length, Result, Ok, Err, refl, sym, ap, ◌∙◌, subst, inl, inr, IsTrue, arith, eq-eqb, false_from_ne_true, contains_from_among, Meaning, Leaves, Held, are_whole, Fits, KeepsPast, looked, bitmap_start, data_start, image_blocks, State, Situation, Outcome, Kept, IsWritten, Properties, Axioms, Bitmap, AreSound, Tells, leaves_weaken, Entry, StandsBut, is_among, changed, Files, Rows}
+use Rattle.std.proofs.Common.{rules}
+use Rattle.lis_store.proofs.Common.{◌≡◌, ◌⊎◌, ℕ, zero, suc, ◌+◌, ◌<◌, ◌≤◌, ◌||◌, Bool, true, false, List, [], ◌∷◌, length, Result, Ok, Err, refl, sym, ap, ◌∙◌, subst, inl, inr, IsTrue, arith, eq-eqb, false_from_ne_true, contains_from_among, Meaning, Leaves, Held, are_whole, Fits, KeepsPast, looked, bitmap_start, data_start, image_blocks, State, Situation, Outcome, Kept, IsWritten, AreSound, Tells, leaves_weaken, Entry, StandsBut, is_among, changed}
 use Rattle.lis_ports.proofs.Moments.{leaves_none}
-use Rattle.lis_journal.specs.Journal.{OpenRecords}
-use Rattle.lis_journal.specs.Images.{StandsFor, StandsForAllOrNone, FitsAt}
+use Rattle.lis_journal.specs.Images.{StandsFor, StandsForAllOrNone}
 use Rattle.lis_model.specs.Image.{properties_start}
-use Rattle.lis_kept.specs.Areas.{Area, spelled}
 use Rattle.lis_kept.specs.Staging.{Stages}
 use Rattle.lis_store.specs.declared.change.Change.{Change}
 use Rattle.lis_store.specs.declared.change.Change.TheVariants.{Refused, Disk}
@@ -61,18 +60,10 @@ none_placed p j mid (suc most) are stages some few = stages.placed ∙ some (ome
 
 -- ---- what the parts tell and spell without their marks
 written_clean : (p : Kept) (at : ℕ → List ℕ) → IsWritten p at → IsWritten (clean p) at
-written_clean p at written area n lt = written area n lt ∙ by area
-  where
-    by : (area : Area) → spelled p area n ≡ spelled (clean p) area n
-    by Properties = refl
-    by Axioms = refl
-    by Files = refl
-    by Rows = refl
-    by Bitmap = refl
+written_clean p at written area n lt = search (rules)
 
 tells_clean : (p : Kept) (at : ℕ → List ℕ) (s : State) → Tells p at s → Tells (clean p) at s
-tells_clean p at s tells =
-    retold p (clean p) refl (λ f m n tag. refl) at s s tells refl tells.state tells.formed tells.used (λ f m. tells.described f (contains_from_among p.catalog.entries f m))
+tells_clean p at s tells = search (rules, retold, contains_from_among)
 
 -- ---- what becomes of a change whose blocks are staged
 module _ (p : Kept) (j mid : Held) (before : Meaning) (stages : Stages p j mid) (sound : AreSound p) (settles : IsSound (settled p j)) (image_is : j.blocks ≡ image_blocks p.limits)
@@ -101,14 +92,10 @@ module _ (p : Kept) (j mid : Held) (before : Meaning) (stages : Stages p j mid) 
   written = written_clean p there (stages.written kept ready.saved)
 
   journal_fits : Fits mid before kept
-  journal_fits =
-      subst (λ (n : ℕ). FitsAt n mid.records mid.placed before kept) (sym stages.image)
-      (subst (λ (r : OpenRecords). FitsAt j.blocks r mid.placed before kept) (sym stages.records)
-      (subst (λ (ns : List ℕ). FitsAt j.blocks j.records ns before kept) (sym stages.placed) fits))
+  journal_fits = search (rules)
 
   base_stands : (image : List ℕ) → StandsBut mid.blocks mid.placed kept image → Stands image base
-  base_stands image but =
-      stood image (subst (λ (n : ℕ). StandsBut n j.placed kept image) stages.image (subst (λ (ns : List ℕ). StandsBut mid.blocks ns kept image) stages.placed but))
+  base_stands image but = search (rules)
 
   next_stands : (image : List ℕ) → StandsFor mid.blocks there image → Stands image next
   next_stands image stands =
@@ -116,21 +103,7 @@ module _ (p : Kept) (j mid : Held) (before : Meaning) (stages : Stages p j mid) 
 
   -- held back: the disk stays
   pub change_held : {T : Type 0} (q : Kept) (b : Bool) (done : T) → q ≡ clean p → b ≡ false → Holds base now outcome (record { parts = q; journal = mid; is_broken = b }) before before (Ok done)
-  change_held {T = T} q b done parts whole =
-      let holds : StoreHolds (record { parts = clean p; journal = mid; is_broken = b }) before base next = record {
-        kept = kept;
-        journal = journal_fits;
-        unbroken = whole;
-        limits = limits;
-        stands = λ image stands. base_stands image (stands_all_but mid.blocks mid.placed kept image stands);
-        tells = tells;
-        written = written;
-      } in
-      subst (λ (k : Kept). Holds {T = T} base now outcome (record { parts = k; journal = mid; is_broken = b }) before before (Ok done)) (sym parts) (record {
-        moments = leaves_none before _;
-        past = λ n le. refl;
-        ended = (ap (λ (o : Outcome). o.reply) is, inl holds);
-      })
+  change_held {T = T} q b done parts whole = search (rules, journal_fits, base_stands, stands_all_but, tells, written, leaves_none)
 
   -- or committed
   module _ {T : Type 0} (x : Held) (after : Meaning) (result : Result T Change) (keeps : KeepsStaged mid x before after result) where
@@ -178,17 +151,7 @@ module _ {T : Type 0} (old : Stored) (x : Held) (b : Bool) (before after : Meani
       by (e ∷ es) none some = some (omega arith)
 
   pub committed_sound : IsSound (record { parts = old.parts; journal = x; is_broken = b })
-  committed_sound = by result keeps ends
-    where
-      by : (r : Result T Change) → KeepsStaged old.journal x before after r → SaveEnded b r → IsSound (record { parts = old.parts; journal = x; is_broken = b })
-      by (Ok done) keeps whole =
-          let none = ap (λ (h : Held). h.staged) keeps.done in
-          sound_at old.parts x b (in_form old sound) sound.pairs (ap (λ (h : Held). h.blocks) keeps.done ∙ sound.image) (ap (λ (h : Held). h.is_broken) keeps.done ∙ sound.journal unbroken)
-          (omega (arith, ap (λ (es : List Entry). length es) none)) (ap are_whole none) (none_after keeps.none_placed) (sound.clean unbroken)
-      by (Err (Refused refusal)) keeps never = absurd (let e : false ≡ true = never in cc)
-      by (Err Disk) keeps broken =
-          subst (λ c. IsSound (record { parts = old.parts; journal = x; is_broken = c })) (sym broken)
-          (sound_lost old.parts x (in_form old sound) sound.pairs (ap (λ (h : Held). h.blocks) keeps.broken ∙ sound.image))
+  committed_sound = search (rules, sound_at, in_form, none_after, sound_lost)
 
   pub committed : (base s : State) → StoreHolds old before base s → Commits base s (record { parts = old.parts; journal = x; is_broken = b }) before after result
   committed base s holds = record {

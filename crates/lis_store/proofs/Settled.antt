@@ -1,4 +1,5 @@
 -- What memory keeps when a file has come into a vacant slot.
+use Rattle.std.proofs.Common.{rules}
 use Rattle.lis_store.proofs.Common.{◌≡◌, ◌⊎◌, refl, sym, ap, ap₂, ◌∙◌, subst, inl, inr, ℕ, zero, suc, if◌then◌else◌, Bool, true, false, List, [], length, get_or, set, Option, None, Some, is_some, arith, get_or-set_same, get_or-set_other, ◌++◌, cases_eq, ne_eqb, same_Some, Among, among_append, among_left, number_of, word_of, word_from_number, number_from_word, slot_of, rec_at, Ext, has, numbers_at, FileRecord, up, all_up, is_test, test_of, is_met, met_tests, up_from_entails, entailing, among_from_has_word, Kept, block_of, AreSound, FreeSlotsAreEmpty, KeepsInUse, emptied, declared_of, axioms_of, is_used, AreUsed, test_by, link_named, named_all, some_number, used_flagged, used_had, both_ways, eq-eqb, false_from_ne_true, has_number, up_trans, entailed_in, has_word_from_among, is_linked, used_left}
 use Rattle.lis_catalog.specs.Catalog.{with_filed}
 use Rattle.lis_catalog.proofs.Laws.{rec_at-with_filed}
@@ -65,8 +66,7 @@ module _ {slot : ℕ} {old : List ℕ} {draft : Draft} {blocks : List ℕ} {v q 
   rec_here = rec_at-with_filed v.catalog slot rec slot absent vacant.free ∙ ap (λ b. if b then Some rec else rec_at v.catalog slot) (eq-eqb slot slot refl)
 
   rec_other : (at : ℕ) → (at ≡ slot → ⊥) → rec_at end.catalog at ≡ rec_at v.catalog at
-  rec_other at differ =
-      rec_at-with_filed v.catalog slot rec at absent vacant.free ∙ ap (λ b. if b then Some rec else rec_at v.catalog at) (ne_eqb slot at (λ e. differ (sym e)))
+  rec_other at differ = search (rules, rec_at-with_filed, absent, ne_eqb)
 
   same_rec : (at : ℕ) (r : FileRecord) → at ≡ slot → rec_at end.catalog at ≡ Some r → rec ≡ r
   same_rec at r same there = same_Some rec r (sym rec_here ∙ (ap (rec_at end.catalog) (sym same) ∙ there))
@@ -236,11 +236,4 @@ module _ {slot : ℕ} {old : List ℕ} {draft : Draft} {blocks : List ℕ} {v q 
   ]
 
   pub form_end : AreInForm end
-  form_end = record {
-    sound = sound_end;
-    free = free_then;
-    closed = closed_then;
-    short = short_then;
-    in_use = in_use_then;
-    tests = tests_then;
-  }
+  form_end = search (rules, sound_end, free_then, closed_then, short_then, in_use_then, tests_then)

@@ -1,5 +1,6 @@
 -- How much is marked when a file has come into a vacant slot, and how often rows are edited.
-use Rattle.lis_store.proofs.Common.{◌≡◌, sym, ap, ◌∙◌, subst, ℕ, ◌+◌, ◌<◌, ◌≤◌, Bool, true, false, cond, List, [], ◌∷◌, length, set, map, count_by, arith, sum_by-set, is_taken, stays_marked, Ext, numbers_at, differs, Kept, IsSaved, block_of, is_marked, marked_count, numbers_where, words, Files, Rows}
+use Rattle.std.proofs.Common.{rules}
+use Rattle.lis_store.proofs.Common.{◌≡◌, sym, ap, ◌∙◌, subst, ℕ, ◌+◌, ◌<◌, ◌≤◌, Bool, true, List, [], ◌∷◌, length, set, map, count_by, arith, sum_by-set, is_taken, stays_marked, Ext, numbers_at, differs, Kept, IsSaved, block_of, is_marked, marked_count, numbers_where, words, Files, Rows}
 use Rattle.lis_content.proofs.Numbers.{below_if_taken}
 use Rattle.lis_store.specs.Drafts.{Draft}
 use Rattle.lis_store.specs.Admitting.{described_by}
@@ -13,9 +14,7 @@ use Rattle.lis_store.proofs.Settled.{described_is, set_here}
 
 -- a mark that is there already
 kept_true : (bits : List Bool) (n : ℕ) → is_taken bits n ≡ true → count_by (λ (b : Bool). b) (set bits n true) ≡ count_by (λ (b : Bool). b) bits
-kept_true bits n is =
-    let changed = sum_by-set (λ (b : Bool). cond b 1 0) bits n true false (below_if_taken bits n is) in
-    omega (arith, changed, ap {B = ℕ} (λ (b : Bool). cond b 1 0) is)
+kept_true bits n is = search (rules, sum_by-set, below_if_taken)
 
 module _ {slot : ℕ} {old : List ℕ} {draft : Draft} {blocks : List ℕ} {v q : Kept} (vacant : IsVacant slot old v) (may : MayComeIn v draft) (settles : SettlesIn slot draft blocks v q) where
   abbrev l : Kept
@@ -61,9 +60,7 @@ module _ {slot : ℕ} {old : List ℕ} {draft : Draft} {blocks : List ℕ} {v q 
 
   -- and the block of the slot is marked once
   pub few_again : is_marked v (block_of v.limits Files slot) ≡ true → marked_count q ≤ marked_count v + 384
-  few_again is =
-      let home = ap (λ (x : Kept). is_marked d (block_of x.limits Files slot)) (described_is vacant may settles) ∙ still_marked (block_of v.limits Files slot) is in
-      omega (arith, few_described, ap (λ (x : Kept). marked_count x) settles.files.parts, kept_true d.marks (block_of d.limits Files slot) home)
+  few_again is = search (rules, described_is, still_marked, few_described, kept_true)
 
   pub edits_settled : AreEditsFew v.ext q.ext
   edits_settled =

@@ -1,12 +1,12 @@
 -- What memory tells when a file has come into a vacant slot.
-use Rattle.lis_store.proofs.Common.{◌≡◌, ◌⊎◌, refl, sym, ap, ap₂, ◌∙◌, subst, inl, inr, ℕ, ◌+◌, ◌<◌, ◌≤◌, not, ◌&&◌, ◌||◌, Bool, true, false, List, [], ◌++◌, length, is_some, IsSome, arith, list_all, Contains, and_parts, or_cases, length-map, same_Some, Among, among_from_contains, contains_from_among, among_left, among_insert_key, insert_key_old, sorted_from_rising, is_taken, Filed, slot_of, rec_at, numbers_at, FileRecord, word_cmp, SpellsSuper, Limits, data_start, State, File, file_cmp, all_up, met_tests, description, is_assignable, file_limit, blocks_taken, used_blocks, new_file, file_added, word_order, sorted_all_up, among_from_has_word, Kept, AreSound, emptied, declared_of, axioms_of, bytes_told, blocks_told, state_of, HasIndex, Tells, filed_rec, filed_slot, filed_at_slot, words_known, both_ways, or_left, or_right, and_from, false_from_ne_true, map_among, has_number, are_distinct, known, has_word_from_among, words_told, file_told, number_from_among}
+use Rattle.std.proofs.Common.{rules}
+use Rattle.lis_store.proofs.Common.{◌≡◌, ◌⊎◌, refl, sym, ap, ap₂, ◌∙◌, subst, inl, inr, ℕ, ◌+◌, ◌<◌, ◌≤◌, not, ◌&&◌, ◌||◌, Bool, true, false, List, [], ◌++◌, length, is_some, IsSome, arith, list_all, Contains, and_parts, or_cases, length-map, same_Some, Among, among_from_contains, contains_from_among, among_left, among_insert_key, insert_key_old, sorted_from_rising, is_taken, Filed, slot_of, rec_at, numbers_at, FileRecord, SpellsSuper, Limits, data_start, State, File, file_cmp, all_up, met_tests, description, is_assignable, file_limit, blocks_taken, used_blocks, new_file, file_added, word_order, sorted_all_up, among_from_has_word, Kept, AreSound, emptied, declared_of, axioms_of, bytes_told, blocks_told, state_of, HasIndex, Tells, filed_rec, filed_slot, filed_at_slot, words_known, both_ways, or_left, or_right, and_from, false_from_ne_true, map_among, has_number, are_distinct, known, has_word_from_among, words_told, file_told, number_from_among}
 use Rattle.lis_content.proofs.Laying.{home_new}
 use Rattle.lis_catalog.specs.Catalog.{filed_cmp}
 use Rattle.lis_laws.specs.Changes.{FileFits}
 use Rattle.lis_kept.specs.Telling.{IsFileBlock}
 use Rattle.lis_store.specs.Drafts.{Draft, with_own, AreOwnWords}
 use Rattle.lis_store.specs.Admitting.{described_by}
-use Rattle.lis_store.specs.Adding.{learnt_words}
 use Rattle.lis_store.specs.ReplacingIn.{MayComeIn, IsVacant, SettlesIn}
 use Rattle.lis_store.proofs.Elsewhere.{AreFilesSame, blocks_there, index_there, state_there, no_home_before}
 use Rattle.lis_store.proofs.Facts.{limits_told, files_counted, filed_of_file}
@@ -62,10 +62,7 @@ module _ (file : File) (own : List (List ℕ)) {slot : ℕ} {old : List ℕ} {bl
 
   -- ---- the state
   tags_told : words_told k.dict filed.rec.tags ≡ file.assigned
-  tags_told =
-      named_told k.dict sound.dict file.assigned (sorted_from_rising word_cmp word_order file.assigned may.set) (λ word h.
-      own_numbered vacant.sound may settles.own.learns word
-      (has_word_from_among (learnt_words draft) word (among_left file.assigned _ word (among_from_has_word file.assigned word h))))
+  tags_told = search (rules, named_told, sound, sorted_from_rising, word_order, own_numbered, has_word_from_among, among_left, among_from_has_word)
 
   state_then : state_of k there ≡ t
   state_then =
@@ -95,12 +92,10 @@ module _ (file : File) (own : List (List ℕ)) {slot : ℕ} {old : List ℕ} {bl
   old_there f m = contains_from_among k.catalog.entries f (insert_key_old filed_cmp o.catalog.entries filed f m)
 
   old_slot : (f : Filed) → Among o.catalog.entries f → f.slot ≡ slot → ⊥
-  old_slot f m same =
-      both_ways (is_some (rec_at o.catalog slot)) (ap is_some vacant.free) (ap is_some (ap (rec_at o.catalog) (sym same) ∙ filed_rec o.catalog sound_o.catalog f m))
+  old_slot f m same = search (rules, both_ways, filed_rec)
 
   old_name : (f : Filed) → Among o.catalog.entries f → f.rec.name ≡ file.name → ⊥
-  old_name f m same =
-      both_ways (is_some (slot_of o.catalog file.name)) (ap is_some may.new) (ap is_some (ap (slot_of o.catalog) (sym same) ∙ filed_slot o.catalog sound_o.catalog f m))
+  old_name f m same = search (rules, both_ways, filed_slot)
 
   -- a file of the state is that of a record
   of_state : (other : File) → Among s.files other → (f : Filed) × Among o.catalog.entries f × (told f ≡ other)
@@ -113,11 +108,7 @@ module _ (file : File) (own : List (List ℕ)) {slot : ℕ} {old : List ℕ} {bl
       (subst (λ (x : State). Among x.files (told_then f)) state_then (map_among told_then k.catalog.entries f (among_from_contains k.catalog.entries f m)))
 
   told_new : told_then filed ≡ file
-  told_new = by (told_of filed new_there)
-    where
-      by : (file ≡ told_then filed) ⊎ Among s.files (told_then filed) → told_then filed ≡ file
-      by (inl same) = sym same
-      by (inr m) = let found = of_state (told_then filed) m in absurd (old_name found.0 found.1 (ap (λ (x : File). x.name) found.2))
+  told_new = search (rules, told_of, new_there, of_state, old_name)
 
   told_old : (f : Filed) → Among o.catalog.entries f → told_then f ≡ told f
   told_old f m = by (told_of f (old_there f m))

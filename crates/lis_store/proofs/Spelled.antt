@@ -1,6 +1,7 @@
 -- What memory tells of a state, the slots and blocks that it spells tell too.
+use Rattle.std.proofs.Common.{rules}
 use Rattle.std.proofs.Common.{option_map}
-use Rattle.lis_store.proofs.Common.{◌≡◌, ◌⊎◌, refl, sym, ap, ap₂, ◌∙◌, subst, inl, inr, ℕ, suc, ◌+◌, ◌/◌, ◌<◌, ◌≤◌, ◌==◌, ◌&&◌, nat_lt, Bool, true, false, is_some, Option, Some, None, option_to_list, List, [], ◌∷◌, ◌++◌, length, get_or, map, drop, replicate, slice_get, IsTrue, arith, append-nil, insert_key, find, flat_map, list_all, range_with_len, and_parts, ltb-true, lt-ltb, cases_lt, get_or_past, length-map, slice_get_within, get_or_from_slice_get, Among, among_from_contains, contains_from_among, among_filter, among_flat_map, range_among, sorted_from_rising, is_taken, number_of, word_of, number_from_word, number_below, Filed, rec_at, has, numbers_at, FileRecord, is_prop, is_record, AxiomSlot, FreeAxiom, Pair, word_cmp, has_word, State, File, pair_cmp, file_cmp, description, file_limit, all_weaker, sorted_known, word_order, pair_exact, among_set_of, sorted_set_of, Kept, property_by, IsWritten, axiom_slots, Properties, Axioms, Bitmap, AreSound, FreeSlotsAreEmpty, bit_of, is_declared, declared_of, bytes_told, blocks_told, HasIndex, state_of, Tells, some_word, filed_rec, filed_at_slot, number_told, declared_word, declared_has_number, words_known, flat_all, and_from, false_from_ne_true, among_map, map_among, flat_map_among, marked, has_number, are_distinct, words, prop_bytes, axiom_bytes, file_bytes, set_of, known, all_among, all_from, set_of_among, same_words, same_tests, Files, Rows, words_told, file_told, among_from_number, one_number}
+use Rattle.lis_store.proofs.Common.{◌≡◌, ◌⊎◌, refl, sym, ap, ap₂, ◌∙◌, subst, inl, inr, ℕ, suc, ◌+◌, ◌/◌, ◌<◌, ◌≤◌, ◌==◌, ◌&&◌, nat_lt, Bool, true, false, is_some, Option, Some, None, option_to_list, List, [], ◌∷◌, ◌++◌, length, get_or, map, drop, replicate, slice_get, IsTrue, arith, append-nil, insert_key, find, flat_map, list_all, range_with_len, and_parts, ltb-true, lt-ltb, cases_lt, get_or_past, length-map, slice_get_within, get_or_from_slice_get, Among, among_from_contains, contains_from_among, among_filter, among_flat_map, range_among, sorted_from_rising, is_taken, number_of, word_of, number_from_word, number_below, Filed, rec_at, has, numbers_at, FileRecord, is_prop, is_record, AxiomSlot, FreeAxiom, Pair, has_word, State, File, pair_cmp, file_cmp, description, file_limit, all_weaker, sorted_known, word_order, pair_exact, among_set_of, sorted_set_of, Kept, property_by, IsWritten, axiom_slots, Properties, Axioms, Bitmap, AreSound, FreeSlotsAreEmpty, bit_of, is_declared, declared_of, bytes_told, blocks_told, HasIndex, state_of, Tells, some_word, filed_rec, filed_at_slot, number_told, declared_word, declared_has_number, words_known, flat_all, and_from, false_from_ne_true, among_map, map_among, flat_map_among, marked, has_number, are_distinct, words, prop_bytes, axiom_bytes, file_bytes, set_of, known, all_among, all_from, set_of_among, same_words, same_tests, Files, Rows, words_told, file_told, among_from_number, one_number}
 use Rattle.std.specs.List.{fold}
 use Rattle.std.specs.List.Sorted.{IsPermutation}
 use Rattle.std.proofs.lemmas.List.{get_or-drop, length-drop}
@@ -35,15 +36,10 @@ use Rattle.lis_store.proofs.Marks.{marks_are, distinct_pieces}
 
 -- ---- slots by their numbers
 pub word_by : (o : Option (List ℕ)) (b : Bool) → word_in (property_by o b) ≡ o
-word_by None b = refl
-word_by (Some w) true = refl
-word_by (Some w) false = refl
+word_by o b = search (rules)
 
 pub declared_by : (o : Option (List ℕ)) (b : Bool) (w : List ℕ) → Among (option_to_list (declared_in (property_by o b))) w → (o ≡ Some w) × (b ≡ true)
-declared_by None b w m = absurd m
-declared_by (Some v) true w (inl same) = (ap Some same, refl)
-declared_by (Some v) true w (inr m) = absurd m
-declared_by (Some v) false w m = absurd m
+declared_by o b w m = search (rules)
 
 abbrev properties_told : Kept → List PropSlot
 properties_told k = map (property_at k.dict k.declared) (range_with_len 0 k.limits.props)
@@ -93,9 +89,7 @@ module _ (k : Kept) (sound : AreSound k) where
   entry_at n = find (λ (e : List ℕ × ℕ). e.1 == n) k.dict.entries
 
   word_once : (o : Option (List ℕ × ℕ)) (b : Bool) → option_to_list (word_in (property_by (option_map (λ e. e.0) o) b)) ≡ held (λ (e : List ℕ × ℕ). e.0 ∷ []) o
-  word_once None b = refl
-  word_once (Some e) true = refl
-  word_once (Some e) false = refl
+  word_once o b = search (rules)
 
   number_in : (w : List ℕ) (n : ℕ) → number_of k.dict w ≡ Some n → n < k.limits.props
   number_in w n is = omega (arith, number_below k.dict sound.dict w n is, sound.numbers)
@@ -132,12 +126,7 @@ module _ (k : Kept) (sound : AreSound k) where
   among_numbers w n is = let below = number_in w n (number_from_word k.dict sound.dict w n is) in range_among 0 k.limits.props n (omega arith) (omega arith)
 
   declared_slot : (w : List ℕ) → Among (all_declared (properties_told k)) w → Among (declared_of k) w
-  declared_slot w m =
-      let found = among_flat_map (λ x. option_to_list (declared_in x)) (properties_told k) w m in
-      let n = among_map property numbers found.0 found.1 in
-      let there = subst (λ x. Among (option_to_list (declared_in x)) w) (sym n.2) found.2 in
-      let is = declared_by (word_of k.dict n.0) (is_taken k.declared n.0) w there in
-      declared_word k sound n.0 w is.0 is.1
+  declared_slot w m = search (rules, among_flat_map, among_map, declared_by, declared_word)
 
   declared_bit : (n : ℕ) (w : List ℕ) → word_of k.dict n ≡ Some w → Among (declared_of k) w → is_taken k.declared n ≡ true
   declared_bit n w is m = sym (ap (bit_of k.declared) (number_from_word k.dict sound.dict w n is)) ∙ (among_filter (is_declared k) (words k.dict) w m).1
@@ -152,29 +141,17 @@ module _ (k : Kept) (sound : AreSound k) where
       (subst (λ x. Among (option_to_list (declared_in x)) w) (sym is_it) (inl refl))
 
   declared_are : declared_of k ≡ set_of (all_declared (properties_told k))
-  declared_are =
-      same_words (declared_of k) (set_of (all_declared (properties_told k))) (sorted_from_rising word_cmp word_order (declared_of k) (declared_set k sound)) (sorted_set_of (all_declared (properties_told k)))
-      (λ w m. set_of_among (all_declared (properties_told k)) w (slot_declared w m))
-      (λ w m. declared_slot w (among_set_of (all_declared (properties_told k)) w m))
+  declared_are = search (rules, same_words, sorted_from_rising, word_order, declared_set, sorted_set_of, set_of_among, slot_declared, declared_slot, among_set_of)
 
   -- ---- axioms
   pair_is : (a : AxiomSlot) → pair_in (properties_told k) a ≡ pair_told k.dict a
-  pair_is FreeAxiom = refl
-  pair_is (Pair p q) = ap₂ pair_by (word_at_told p) (word_at_told q)
+  pair_is a = search (rules, word_at_told)
 
   pairs_are : pairs_in (properties_told k) k.axioms ≡ pairs_told k.dict k.axioms
   pairs_are = flat_all (pair_in (properties_told k)) (pair_told k.dict) k.axioms (λ a m. pair_is a)
 
   all_axioms_named : IsTrue (list_all (is_named_axiom (properties_told k)) k.axioms)
-  all_axioms_named = all_from (is_named_axiom (properties_told k)) k.axioms named
-    where
-      named : (a : AxiomSlot) → Among k.axioms a → is_named_axiom (properties_told k) a ≡ true
-      named FreeAxiom m = refl
-      named (Pair p q) m =
-          let place = placed_at k.axioms (Pair p q) m in
-          let sides = sound.axioms place.0 p q place.1 in
-          and_from (is_some (word_at (properties_told k) p)) (is_some (word_at (properties_told k) q))
-          (ap is_some (word_at_told p ∙ (some_word (word_of k.dict p) sides.left).1)) (ap is_some (word_at_told q ∙ (some_word (word_of k.dict q) sides.right).1))
+  all_axioms_named = search (rules, all_from, placed_at, and_from, word_at_told, some_word)
 
   axioms_past_free : IsTrue (list_all is_free_axiom (drop k.limits.props k.axioms))
   axioms_past_free = all_from is_free_axiom (drop k.limits.props k.axioms) free
@@ -197,8 +174,7 @@ module _ (k : Kept) (sound : AreSound k) where
       omega (arith, ltb-true f.slot k.catalog.files below, sound.slots)
 
   record_once : (o : Option Filed) → records_in (file_by (option_map (λ (f : Filed). f.rec) o)) ≡ held (λ (f : Filed). f.rec ∷ []) o
-  record_once None = refl
-  record_once (Some f) = refl
+  record_once o = search (rules)
 
   records_permuted : IsPermutation (map (λ (f : Filed). f.rec) k.catalog.entries) (all_records (files_told k))
   records_permuted =
@@ -233,9 +209,7 @@ module _ (k : Kept) (sound : AreSound k) where
   }
 
   pub same_file : (at : ℕ → List ℕ) (rec : FileRecord) → file_of_record k.limits (properties_told k) at rec ≡ file_by_record at rec
-  same_file at rec =
-      let with_words : List (List ℕ) → File = λ ws. record (file_by_record at rec) { assigned = set_of ws } in
-      ap with_words (flat_all (λ n. option_to_list (word_at (properties_told k) n)) (λ n. option_to_list (word_of k.dict n)) rec.tags (λ n m. ap option_to_list (word_at_told n)))
+  same_file at rec = search (rules, flat_all, word_at_told)
 
   file_from_slot : (at : ℕ → List ℕ) (file : File) → Among (map (file_of_record k.limits (properties_told k) at) (all_records (files_told k))) file → Among (map (file_told k.limits k.dict at) k.catalog.entries) file
   file_from_slot at file m =
@@ -255,8 +229,7 @@ module _ (k : Kept) (sound : AreSound k) where
   used at = flat_map (λ (f : Filed). blocks_told k.limits at f.rec) k.catalog.entries
 
   blocks_once : (at : ℕ → List ℕ) (o : Option Filed) → all_blocks k.limits at (records_in (file_by (option_map (λ (f : Filed). f.rec) o))) ≡ held (λ (f : Filed). blocks_told k.limits at f.rec) o
-  blocks_once at None = refl
-  blocks_once at (Some f) = append-nil (blocks_told k.limits at f.rec)
+  blocks_once at o = search (rules, append-nil)
 
   blocks_permuted : (at : ℕ → List ℕ) → IsPermutation (used at) (all_blocks k.limits at (all_records (files_told k)))
   blocks_permuted at =
@@ -282,22 +255,10 @@ module _ (k : Kept) (at : ℕ → List ℕ) (sound : AreSound k) (free : FreeSlo
       (λ w m. set_of_among (words_in (properties_told k)) w (permuted_among (words k.dict) (words_in (properties_told k)) w (words_permuted k sound) (subst (λ ws. Among ws w) (sym known_are) m)))
 
   files_are : s.files ≡ fold (insert_key file_cmp) [] (map (file_of_record k.limits (properties_told k) at) (all_records (files_told k)))
-  files_are =
-      set_of_points file_cmp file_order (map (file_of_record k.limits (properties_told k) at) (all_records (files_told k))) s.files (sorted_from_rising file_cmp file_order s.files tells.formed.file_set)
-      (λ file m. file_from_slot k sound at file m)
-      (λ file m. file_in_slot k sound at file m)
+  files_are = search (rules, set_of_points, file_order, sorted_from_rising, file_from_slot, file_in_slot)
 
   state_is : s ≡ spelled_state k.limits (contents_of k) at
-  state_is =
-      let of_words : List (List ℕ) → State = λ declared. record s { declared = declared } in
-      let of_axioms : List (List ℕ × List ℕ) → State = λ axioms. record { limits = k.limits; declared = set_of (all_declared (properties_told k)); axioms = fold (insert_key pair_cmp) [] axioms; files = s.files } in
-      let of_files : List File → State = λ files. record {
-        limits = k.limits;
-        declared = set_of (all_declared (properties_told k));
-        axioms = fold (insert_key pair_cmp) [] (pairs_in (properties_told k) k.axioms);
-        files = files;
-      } in
-      ap of_words (declared_are k sound) ∙ (ap of_axioms (sym (pairs_are k sound)) ∙ ap of_files files_are)
+  state_is = search (rules, declared_are, pairs_are, files_are)
 
   -- ---- slots
   property_slots_are : AreSlots prop_bytes is_prop (property_slots k.limits) at (properties_told k)
@@ -452,5 +413,4 @@ module _ (k : Kept) (at : ℕ → List ℕ) (sound : AreSound k) (free : FreeSlo
 
 -- the same, at the state that is told
 pub tells_spells : (k : Kept) (at : ℕ → List ℕ) (s : State) → AreSound k → FreeSlotsAreEmpty k → PairsAreApart k → IsWritten k at → Tells k at s → Spells s.limits (contents_of k) at s
-tells_spells k at s sound free pairs written tells =
-    subst (λ t. Tells k at t → Spells t.limits (contents_of k) at t) tells.state (spells_told k at sound free pairs written) tells
+tells_spells k at s sound free pairs written tells = search (rules, spells_told)

@@ -1,8 +1,9 @@
 -- What home blocks spell, the images with these blocks stand for.
+use Rattle.std.proofs.Common.{rules}
 use Rattle.lis_store.proofs.Common.{◌≡◌, refl, ap, ◌∙◌, subst, ℕ, List, [], Option, Some, None, IsTrue, IsSomeAnd, arith, Meaning, block, replayed, are_free, homes_of, among_homes, SpellsSuper, data_start, image_blocks, State, Kept, IsWritten, AreSound, FreeSlotsAreEmpty, Tells}
 use Rattle.lis_ports.specs.Runs.{Always}
 use Rattle.lis_ports.proofs.Always.{always_weaken}
-use Rattle.lis_journal.specs.Images.{Keeps, KeepsBut, StandsFor as KeptBy, StandsBut}
+use Rattle.lis_journal.specs.Images.{KeepsBut, StandsFor as KeptBy, StandsBut}
 use Rattle.lis_journal.proofs.Fitting.{fits_stand, replayed-front}
 use Rattle.lis_store.specs.Stands.{Stands}
 use Rattle.lis_store.specs.Stored.{Stored, PairsAreApart, IsSound, StoreFits}
@@ -47,26 +48,17 @@ module _ (k : Kept) (at : ℕ → List ℕ) (s : State) (sound : AreSound k) (em
 -- what keeps all blocks keeps all but some
 pub stands_all_but : (count : ℕ) (ns : List ℕ) (at : ℕ → List ℕ) (image : List ℕ) → KeptBy count at image → StandsBut count ns at image
 unfolding StandsBut KeptBy
-stands_all_but count ns at image kept = (kept.0, by (replayed count image) kept.1)
-  where
-    by : (o : Option (List ℕ)) → IsSomeAnd o (Keeps count at) → IsSomeAnd o (KeepsBut count ns at)
-    by None h = h
-    by (Some r) h = record { long = h.long; same = λ n out none. h.same n out }
+stands_all_but count ns at image kept = search (rules)
 
 -- and back, where there are none
 pub stands_none_but : (count : ℕ) (ns : List ℕ) (at : ℕ → List ℕ) (image : List ℕ) → ns ≡ [] → StandsBut count ns at image → KeptBy count at image
 unfolding StandsBut KeptBy
-stands_none_but count ns at image none but = (but.0, by (replayed count image) (subst (λ ms. IsSomeAnd (replayed count image) (KeepsBut count ms at)) none but.1))
-  where
-    by : (o : Option (List ℕ)) → IsSomeAnd o (KeepsBut count [] at) → IsSomeAnd o (Keeps count at)
-    by None h = h
-    by (Some r) h = record { long = h.long; same = λ n out. h.same n out refl }
+stands_none_but count ns at image none but = search (rules)
 
 -- ---- the laws
 pub placed_stand : (k : Stored) (kept : ℕ → List ℕ) (blocks : List ℕ) (s : State) → IsSound k → Tells k.parts kept s → IsWritten k.parts kept → IsTrue (are_free k.parts.taken blocks)
     → (image : List ℕ) → StandsBut k.journal.blocks (homes_of (data_start k.parts.limits) blocks) kept image → Stands image s
-placed_stand k kept blocks s sound tells written free image but =
-    stands_but k.parts kept s sound.parts sound.free sound.pairs tells written blocks free k.journal.blocks sound.image image but
+placed_stand k kept blocks s sound tells written free image but = search (rules, stands_but)
 
 pub change_stands : (new : Stored) (blocks : ℕ) (kept : ℕ → List ℕ) (t : State) → AreSound new.parts → FreeSlotsAreEmpty new.parts → PairsAreApart new.parts
     → Tells new.parts kept t → IsWritten new.parts kept → blocks ≡ image_blocks new.parts.limits

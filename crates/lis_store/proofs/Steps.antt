@@ -1,6 +1,6 @@
 -- Contents that are put or given back before a change is saved: what is kept then, and what images stand for meanwhile.
 pub use Rattle.lis_store.proofs.Retaken.{sound_lost}
-use Rattle.lis_store.proofs.Common.{rules, ◌≡◌, ◌⊎◌, sym, ap, ◌∙◌, subst, inl, inr, ℕ, true, false, Bool, List, [], length, set, slice_get, Result, Err, length-set, Meaning, Leaves, Held, KeepsPast, block, are_free, has_home, is_large, Asks, homes_of, among_homes, AxiomSlot, bitmap_start, data_start, image_blocks, State, Situation, Outcome, Kept, leaves_weaken, leaves_then, StandsBut, is_among}
+use Rattle.lis_store.proofs.Common.{rules, ◌≡◌, ◌⊎◌, sym, ap, ◌∙◌, subst, inl, inr, ℕ, true, false, Bool, List, [], length, set, Result, Err, length-set, Meaning, Leaves, Held, KeepsPast, block, are_free, has_home, is_large, Asks, homes_of, among_homes, bitmap_start, data_start, image_blocks, State, Situation, Outcome, Kept, leaves_weaken, leaves_then, StandsBut, is_among}
 use Rattle.lis_journal.proofs.Fitting.{fits_stand}
 use Rattle.lis_kept.specs.Changes.{Takes}
 use Rattle.lis_store.specs.declared.change.Change.{Change}
@@ -26,8 +26,7 @@ form_taken o mid taken takes form =
 
 -- pairs stay apart where the axioms stay
 pub pairs_same : (o q : Kept) → q.axioms ≡ o.axioms → PairsAreApart o → PairsAreApart q
-pairs_same o q same pairs slot other left right is also =
-    pairs slot other left right (ap (λ (axioms : List AxiomSlot). slice_get axioms slot) (sym same) ∙ is) (ap (λ (axioms : List AxiomSlot). slice_get axioms other) (sym same) ∙ also)
+pairs_same o q same pairs slot other left right is also = search (rules)
 
 -- a content is not large, or it is alone
 pub small_or_alone : {X Y : Type 0} (size : ℕ) (placed : List X) (staged : List Y) → (is_large size ≡ false → placed ≡ []) → (is_large size ≡ true → staged ≡ []) → (placed ≡ []) ⊎ (staged ≡ [])

@@ -1,5 +1,6 @@
 -- A word that is declared under others: the files that meet it have it, where it is a test, and all that the others entail.
-use Rattle.lis_store.proofs.Common.{◌≡◌, ◌⊎◌, refl, sym, ap, ap₂, ◌∙◌, subst, inl, inr, ℕ, ◌+◌, ◌<◌, ◌≤◌, nat_lt, ◌&&◌, ◌||◌, Bool, true, false, List, [], ◌∷◌, ◌++◌, length, Option, Some, None, is_some, IsSome, arith, Result, if◌then◌else◌, list_any, range_with_len, or_cases, cases_eq, ltb-false, same_Some, Among, contains_from_among, range_among, word_of, rec_at, Filed, slot_is_below, Ext, has, numbers_at, differs, FileRecord, is_valued, is_test, test_of, plain_not_test, with_word, is_met, State, up, File, all_up, own_words, description, WellFormed, under, Kept, marked_count, IsSaved, AreSound, FreeSlotsAreEmpty, KeepsInUse, declared_of, axioms_of, bytes_told, state_of, AreUsed, Tells, test_by, among_where, where_among, sorted_where, filed_rec, named_all, some_word, among_axiom, among_word, word_among, declared_has_number, used_had, met_weaker, Meaning, Held, Formula, Refusal, image_blocks, declared_under, Situation, refused, words_at, mkdir, link_named, linked_up, Head, Weaker, fun_ext, or_right, both_ways, false_from_ne_true, among_from_any, any_from_among, has_number, numbers_where, known, all_among, is_linked, words_told, file_told, among_from_number, number_from_among, one_number, same_tests, changed, all_up_has, declarable_not_valued, link_cases}
+use Rattle.std.proofs.Common.{rules}
+use Rattle.lis_store.proofs.Common.{◌≡◌, ◌⊎◌, refl, sym, ap, ap₂, ◌∙◌, subst, inl, inr, ℕ, ◌+◌, ◌<◌, ◌≤◌, nat_lt, ◌&&◌, ◌||◌, Bool, true, false, List, [], ◌∷◌, ◌++◌, length, Option, Some, None, is_some, IsSome, arith, Result, list_any, range_with_len, or_cases, cases_eq, ltb-false, same_Some, Among, contains_from_among, range_among, word_of, rec_at, Filed, slot_is_below, Ext, has, numbers_at, differs, FileRecord, is_valued, is_test, test_of, plain_not_test, with_word, is_met, State, up, File, all_up, own_words, description, WellFormed, under, Kept, marked_count, IsSaved, AreSound, FreeSlotsAreEmpty, KeepsInUse, declared_of, axioms_of, bytes_told, state_of, AreUsed, Tells, test_by, among_where, where_among, sorted_where, filed_rec, named_all, some_word, among_axiom, among_word, word_among, declared_has_number, used_had, met_weaker, Meaning, Held, Formula, Refusal, image_blocks, declared_under, Situation, refused, words_at, mkdir, link_named, linked_up, Head, Weaker, fun_ext, or_right, both_ways, false_from_ne_true, among_from_any, any_from_among, has_number, numbers_where, known, all_among, is_linked, words_told, file_told, among_from_number, number_from_among, one_number, same_tests, changed, all_up_has, declarable_not_valued, link_cases}
 use Rattle.lis_words.specs.Words.{is_property}
 use Rattle.lis_model.specs.Tests.{are_weaker}
 use Rattle.lis_laws.proofs.Chains.{tests_by}
@@ -39,12 +40,10 @@ use Rattle.lis_laws.proofs.Forms as forms
 -- ---- the sizes of files
 -- a slot whose file meets a test has one
 met_rec : (t : Option (Bool × ℕ)) (o : Option FileRecord) → is_met_by t o ≡ true → (rec : FileRecord) × (o ≡ Some rec) × (is_met t rec.size ≡ true)
-met_rec t None h = absurd (both_ways false refl h)
-met_rec t (Some rec) h = (rec, refl, h)
+met_rec t o h = search (rules, both_ways)
 
 some_rec : (o : Option FileRecord) → is_some o ≡ true → (rec : FileRecord) × (o ≡ Some rec)
-some_rec None h = absurd (both_ways false refl h)
-some_rec (Some rec) h = (rec, refl)
+some_rec o h = search (rules, both_ways)
 
 -- ---- descriptions that are made anew
 pub base_is : (k : Kept) (test : Bool × ℕ) (number slot : ℕ) → base_at k (Meeting test number) slot ≡ number ∷ numbers_at k.ext slot
@@ -55,21 +54,7 @@ tested_is k test number = ap (anew k (is_met_at k (Some test))) (fun_ext (base_i
 
 -- a word that is no test changes nothing
 pub untested_same : (k : Kept) (word : List ℕ) (number : ℕ) → test_of word ≡ None → Redescribes (tested k (test_of word) number) k.limits.files k k
-untested_same k word number no_test = record {
-  parts = refl;
-  props = refl;
-  slots = refl;
-  done = λ slot lt. sym (ap (λ b. if b then closure k (number ∷ numbers_at k.ext slot) else numbers_at k.ext slot) (ap (λ o. is_met_by o (rec_at k.catalog slot)) no_test ∙ never (rec_at k.catalog slot)));
-  others = λ slot le. refl;
-  saved = λ at saved. saved;
-  within = λ block is. inl is;
-  edits = omega arith;
-  no_fewer = omega arith;
-}
-  where
-    never : (o : Option FileRecord) → is_met_by None o ≡ false
-    never None = refl
-    never (Some rec) = refl
+untested_same k word number no_test = search (rules)
 
 -- ---- memory with the word
 module _ {p made : Kept} {word : List ℕ} {rights : List ℕ} (form : AreInForm p) (may : MayDeclare p word rights) (stands : DeclaresUnder word rights p made) (sound_made : AreSound made) where

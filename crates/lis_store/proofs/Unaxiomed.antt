@@ -1,5 +1,6 @@
 -- What a store comes to when an axiom is taken away: the axiom is looked for by its words, it goes, and descriptions lose what they had by it alone.
-use Rattle.lis_store.proofs.Common.{◌≡◌, refl, sym, ap, ◌∙◌, subst, ℕ, ◌==◌, true, false, List, Some, None, ◌⊎◌, inl, inr, not, ◌||◌, Bool, cond, length, set, slice_get, Option, is_some, IsSome, option_to_list, arith, ap₂, ◌≤◌, ◌&&◌, if◌then◌else◌, [], filter, slice_set, Result, and_parts, none-some, Among, number_of, word_from_number, number_from_word, AxiomSlot, FreeAxiom, Pair, same_word, same_pair, has_axiom, same_word_decides, Kept, AreSound, has_pair, axioms_of, among_axiom, or_cases, not-true, not_from_false, among_filter, filter_among, is_taken, Dict, IsDict, word_of, rec_at, has, numbers_at, FileRecord, is_plain_word, is_test, is_valued, has_word, test_of, plain_not_test, with_axiom, with_words, File, up, all_up, own_words, file_words, is_met, entails_from_up, derived_built_in, among_with_words, OwnWord, own_word, own_from, Assigned, Derived, Met, MayForget, FreeSlotsAreEmpty, bit_of, is_declared, declared_of, is_head_by, is_used, AreUsed, among_word, word_among, declared_word, declared_has_number, used_flagged, used_had, IsStrictlySortedBy, contains_from_among, sorted_from_rising, Filed, Ext, differs, State, pair_cmp, description, image_blocks, IsSaved, is_own_link, state_of, Tells, among_where, where_among, sorted_where, filed_rec, some_word, named_below, named_all, number_told, same_Some, Meaning, looked, Situation, refused, both_ways, false_from_ne_true, or_left, or_right, among_from_any, has_number, words, all_up_has, same_tests, is_linked, words_told, file_told, among_from_number, number_from_among, one_number, numbers_where, changed, built_in_not_plain}
+use Rattle.std.proofs.Common.{rules}
+use Rattle.lis_store.proofs.Common.{◌≡◌, refl, sym, ap, ◌∙◌, subst, ℕ, ◌==◌, true, false, List, Some, None, ◌⊎◌, inl, inr, not, ◌||◌, Bool, cond, length, slice_get, Option, is_some, IsSome, option_to_list, arith, ap₂, ◌≤◌, ◌&&◌, if◌then◌else◌, [], filter, slice_set, Result, and_parts, none-some, Among, number_of, word_from_number, number_from_word, FreeAxiom, Pair, same_word, same_pair, has_axiom, same_word_decides, Kept, AreSound, has_pair, axioms_of, among_axiom, or_cases, not-true, not_from_false, among_filter, filter_among, is_taken, Dict, IsDict, word_of, rec_at, has, numbers_at, FileRecord, is_plain_word, is_test, is_valued, has_word, test_of, plain_not_test, with_axiom, File, up, all_up, own_words, file_words, is_met, entails_from_up, derived_built_in, among_with_words, OwnWord, own_word, own_from, Assigned, Derived, Met, MayForget, FreeSlotsAreEmpty, bit_of, is_declared, declared_of, is_head_by, is_used, AreUsed, among_word, word_among, declared_word, declared_has_number, used_flagged, used_had, IsStrictlySortedBy, contains_from_among, sorted_from_rising, Filed, Ext, differs, State, pair_cmp, description, image_blocks, IsSaved, is_own_link, state_of, Tells, among_where, where_among, sorted_where, filed_rec, some_word, named_below, named_all, number_told, same_Some, Meaning, looked, Situation, refused, both_ways, false_from_ne_true, or_left, or_right, among_from_any, has_number, words, all_up_has, same_tests, is_linked, words_told, file_told, among_from_number, number_from_among, one_number, numbers_where, changed, built_in_not_plain}
 use Rattle.lis_kept.specs.Sound.{IsSoundAxiom}
 use Rattle.lis_kept.proofs.AxiomsTold.{axiom_told}
 use Rattle.lis_kept.proofs.OwnLinks.{pair_slot}
@@ -8,7 +9,7 @@ use Rattle.lis_store.specs.Unlinking.{IsAxiomAt, heads_by, with_head, TakesAxiom
 use Rattle.lis_words.proofs.Tests.{test_not_plain}
 use Rattle.lis_laws.proofs.Closures.{with_one_axiom}
 use Rattle.lis_laws.proofs.Leads.{declared_leads}
-use Rattle.lis_kept.specs.Linking.{are_both, Unlinks, MayUnlink}
+use Rattle.lis_kept.specs.Linking.{Unlinks, MayUnlink}
 use Rattle.lis_kept.proofs.AxiomSlots.{set_cases}
 use Rattle.lis_kept.proofs.Emptied.{flagged_not_valued}
 use Rattle.lis_kept.proofs.Known.{axiom_among}
@@ -91,14 +92,7 @@ TagsAreHad k = (slot : ℕ) (rec : FileRecord) → rec_at k.catalog slot ≡ Som
 module _ {left right : ℕ} {p k : Kept} (unlinks : Unlinks left right p k) where
   -- each other axiom was there
   was_there : (at x y : ℕ) → slice_get k.axioms at ≡ Some (Pair x y) → slice_get p.axioms at ≡ Some (Pair x y)
-  was_there at x y is = by (set_cases p.axioms unlinks.slot (Pair left right) FreeAxiom unlinks.there at (Pair x y) (subst (λ (xs : List AxiomSlot). slice_get xs at ≡ Some (Pair x y)) axioms_are is))
-    where
-      axioms_are : k.axioms ≡ set p.axioms unlinks.slot FreeAxiom
-      axioms_are = ap (λ (x : Kept). x.axioms) unlinks.parts
-
-      by : ((at ≡ unlinks.slot) × (◌≡◌ {A = AxiomSlot} FreeAxiom (Pair x y))) ⊎ ((at ≡ unlinks.slot → ⊥) × (slice_get p.axioms at ≡ Some (Pair x y))) → slice_get p.axioms at ≡ Some (Pair x y)
-      by (inl new) = absurd (let none = new.1 in cc)
-      by (inr old) = old.1
+  was_there at x y is = search (rules, set_cases)
 
   pub rights_unlinked : RightsAreDeclared p → RightsAreDeclared k
   rights_unlinked rights slot x y is = ap (λ (u : Kept). is_taken u.declared y) unlinks.parts ∙ rights slot x y (was_there slot x y is)
@@ -107,10 +101,7 @@ module _ {left right : ℕ} {p k : Kept} (unlinks : Unlinks left right p k) wher
   pairs_unlinked apart slot other x y is_slot is_other = apart slot other x y (was_there slot x y is_slot) (was_there other x y is_other)
 
   pub closed_unlinked : AreClosed p → AreClosed k
-  closed_unlinked closed slot a b had linked =
-      let was = ap (λ (u : Kept). has u.ext a slot) (sym unlinks.parts) ∙ had in
-      let before = (and_parts (not (are_both left right a b)) (is_linked p a b) (sym (unlinks.linked a b) ∙ linked)).1 in
-      ap (λ (u : Kept). has u.ext b slot) unlinks.parts ∙ closed slot a b was before
+  closed_unlinked closed slot a b had linked = search (rules, and_parts)
 
   pub tags_unlinked : TagsAreHad p → TagsAreHad k
   tags_unlinked = subst TagsAreHad (sym unlinks.parts)
@@ -145,8 +136,7 @@ module _ {left right : ℕ} {k m : Kept} (l : IsLessened left right k m) where
 
   -- a number that stays is left
   pub base_has : (n slot : ℕ) → IsSome (word_of k.dict n) → has k.ext n slot ≡ true → stays k right (tags_at k slot) n ≡ true → has_number (closure k (base slot)) n ≡ true
-  base_has n slot worded had held =
-      closure_has k l.sound (base slot) n worded (filter_among (stays k right (tags_at k slot)) (numbers_at k.ext slot) n (among_from_number (numbers_at k.ext slot) n had) held)
+  base_has n slot worded had held = search (rules, closure_has, filter_among, among_from_number)
 
   pub had_on : (n slot : ℕ) → IsSome (word_of k.dict n) → has k.ext n slot ≡ true → stays k right (tags_at k slot) n ≡ true → has m.ext n slot ≡ true
   had_on n slot worded had held = set_where is_rebuilt (λ ns. has_number ns n ≡ true) slot (λ here. base_has n slot worded had held) (λ other. had)
@@ -166,9 +156,7 @@ module _ {left right : ℕ} {k m : Kept} (l : IsLessened left right k m) where
       set_where is_rebuilt (λ ns. has_number ns n ≡ false → is_entailed k right n ≡ true) slot (λ here. lost_led n slot worded had) (λ other none. absurd (both_ways (has k.ext n slot) none had)) gone
 
   pub tags_less : TagsAreHad k → TagsAreHad less
-  tags_less tags slot rec is n tag =
-      had_on n slot (l.sound.named n slot (ap is_some is) (tags slot rec is n tag)) (tags slot rec is n tag)
-      (or_left (has_number (tags_at k slot) n) (not (is_entailed k right n)) (ap (λ o. has_number (tags_by o) n) is ∙ tag))
+  tags_less tags slot rec is n tag = search (rules, had_on, or_left)
 
   pub short_less : DescriptionsAreShort k → DescriptionsAreShort less
   short_less short = short_made is_rebuilt (λ slot here. omega (arith, closure_few k l.sound (base slot) l.closed slot (base_had slot), short slot)) short
@@ -211,12 +199,10 @@ module _ {left right : ℕ} {k m : Kept} (l : IsLessened left right k m) where
 
 -- ---- what may be forgotten
 at_has : (o : Option ℕ) (n : ℕ) → is_at o n ≡ true → has_number (option_to_list o) n ≡ true
-at_has None n is = absurd (both_ways false refl is)
-at_has (Some h) n is = or_left (h == n) false is
+at_has o n is = search (rules, both_ways, or_left)
 
 head_has : (d : Dict) → IsDict d → (o : Option (List ℕ)) (n : ℕ) → is_head_by o (word_of d n) ≡ true → has_number (heads_by d o) n ≡ true
-head_has d dict None n is = absurd (both_ways false refl is)
-head_has d dict (Some w) n is = at_has _ n (head_by_number d dict w n ∙ is)
+head_has d dict o n is = search (rules, both_ways, at_has, head_by_number)
 
 module _ {left right : ℕ} {k m : Kept} (l : IsLessened left right k m) (p : Kept) (sound_before : AreSound p) (used : AreUsed p) (unlinks : Unlinks left right p k) (rights : RightsAreDeclared p) where
   -- a known word that is not in use is the left one, or its head
@@ -265,13 +251,10 @@ module _ {left right : ℕ} {k m : Kept} (l : IsLessened left right k m) (slot :
 
   -- what is not plain the right word does not entail
   not_plain_stays : (u : List ℕ) (n : ℕ) → word_of k.dict n ≡ Some u → is_plain_word u ≡ false → stays k right tags n ≡ true
-  not_plain_stays u n is never =
-      or_right (has_number tags n) (not (is_entailed k right n))
-      (not_from_false (is_entailed k right n) (false_from_ne_true (is_entailed k right n) (λ h. both_ways (is_plain_word u) never (led_plain k l.sound right n r u is_right plain is h))))
+  not_plain_stays u n is never = search (rules, or_right, not_from_false, false_from_ne_true, both_ways, led_plain)
 
   met_not_plain : (u : List ℕ) → (t : Option (Bool × ℕ)) → test_of u ≡ t → is_met t (length file.bytes) ≡ true → is_plain_word u ≡ false
-  met_not_plain u None is met = absurd (both_ways false refl met)
-  met_not_plain u (Some test) is met = test_not_plain u (ap (λ (o : Option (Bool × ℕ)). is_some o) is)
+  met_not_plain u t is met = search (rules, both_ways, test_not_plain)
 
   own_stays : (u : List ℕ) (n : ℕ) → word_of k.dict n ≡ Some u → OwnWord D file u → stays k right tags n ≡ true
   own_stays u n is (Assigned of) =
@@ -282,11 +265,7 @@ module _ {left right : ℕ} {k m : Kept} (l : IsLessened left right k m) (slot :
 
   -- a word of the old description comes without the axiom, or by its right word
   come : (u : List ℕ) → Among (file_words D (with_axiom A (w, r)) file) u → Among (all_up D A own) u ⊎ Among (up D A r) u
-  come u among = by (has_word (all_up D A own) w) (subst (λ ws. Among ws u) (with_one_axiom D A (w, r) own) among)
-    where
-      by : (b : Bool) → Among (cond b (with_words (all_up D A own) (up D A r)) (all_up D A own)) u → Among (all_up D A own) u ⊎ Among (up D A r) u
-      by true h = among_with_words (all_up D A own) (up D A r) u h
-      by false h = inl h
+  come u among = search (rules, with_one_axiom, among_with_words)
 
   -- one of a number that stays comes without it
   held_come : (n : ℕ) (u : List ℕ) → word_of k.dict n ≡ Some u → Among old n → stays k right tags n ≡ true → Among (all_up D A own) u
@@ -308,17 +287,12 @@ module _ {left right : ℕ} {k m : Kept} (l : IsLessened left right k m) (slot :
 -- ---- the call
 -- an axiom that may go
 pub may_go : (k : Kept) → PairsAreApart k → (l r : List ℕ) (left right : ℕ) → IsAxiomAt k l r left right → MayUnlink left right k
-may_go k apart l r left right found = record {
-  there = found.there;
-  once = λ slot other is_slot is_other. apart slot other left right is_slot is_other;
-  plain = λ to is. subst (λ w. is_plain_word w ≡ true) (same_Some r to (sym found.is_right ∙ is)) found.plain;
-}
+may_go k apart l r left right found = search (rules, same_Some)
 
 -- what it answers
 pub unaxiom_is : {old : Stored} {m : Meaning} {base : State} (l r : List ℕ) (b : Bool) → has_axiom (axioms_of old.parts) (l, r) ≡ b → (now : Situation) → StoreHolds old m base now.state
     → unaxiom now (l, r) ≡ cond (not b) (refused now NoAxiom) (changed now (axiom_removed now.state (l, r)))
-unaxiom_is l r b has now fits =
-    ap (λ c. cond (not c) (refused now NoAxiom) (changed now (axiom_removed now.state (l, r)))) (ap (λ (t : State). has_axiom t.axioms (l, r)) (sym fits.tells.state) ∙ has)
+unaxiom_is l r b has now fits = search (rules)
 
 -- ---- what the store comes to
 heads_few : (d : Dict) (o : Option (List ℕ)) → length (heads_by d o) ≤ 1
@@ -356,12 +330,7 @@ module _ {left right : ℕ} {old : Stored} {q : Kept} (was : IsSound old) (takes
   dict_is = ap (λ (u : Kept). u.dict) takes.unlinks.parts
 
   lessened : IsLessened left right k m
-  lessened = record {
-    sound = takes.sound;
-    closed = closed_unlinked takes.unlinks was.closed;
-    free = subst (λ (u : Kept). FreeSlotsAreEmpty u) (sym takes.unlinks.parts) was.free;
-    lessens = takes.lessens;
-  }
+  lessened = search (rules, closed_unlinked)
 
   tags_k : TagsAreHad k
   tags_k = tags_unlinked takes.unlinks was.in_use.tags

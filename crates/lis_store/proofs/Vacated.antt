@@ -1,4 +1,5 @@
 -- What is in use where a file is gone whose slot is still described, and the words that may be forgotten then.
+use Rattle.std.proofs.Common.{rules}
 use Rattle.lis_store.proofs.Common.{◌≡◌, ◌⊎◌, refl, sym, ap, ◌∙◌, subst, inl, inr, ℕ, ◌<◌, ◌==◌, not, ◌&&◌, Bool, true, false, if◌then◌else◌, [], ◌∷◌, length, set, Option, Some, None, is_some, arith, length-set, get_or-set_same, IsStrictlyIncreasing, cases_eq, ne_eqb, is_taken, stays_marked, word_of, slot_of, rec_at, has, numbers_at, FileRecord, same_word, same_word_decides, Kept, block_of, AreSound, state_of, is_used, MayForget, emptied, among_slots, left_out, used_flagged, used_had, both_ways, eq-eqb, has_number, Files, used_left}
 use Rattle.std.proofs.lemmas.Map.Entries.{option_filter}
 use Rattle.lis_catalog.specs.Catalog.{without_slot}
@@ -23,8 +24,7 @@ vacated p slot = record p {
 }
 
 pub rec_there : (o : Option FileRecord) → is_some o ≡ true → (rec : FileRecord) × (o ≡ Some rec)
-rec_there None none = absurd (both_ways false refl none)
-rec_there (Some rec) some = (rec, refl)
+rec_there o none = search (rules, both_ways)
 
 -- memory stays sound where a slot without a file is not described
 pub sound_emptied : (k : Kept) (slot : ℕ) → AreSound k → AreSound (emptied k slot)
@@ -60,11 +60,7 @@ module _ (p : Kept) (slot : ℕ) (rec : FileRecord) (form : AreInForm p) (there 
   slot_vacant = rec_at-without_slot p.catalog slot slot ∙ ap (λ b. if b then None else rec_at p.catalog slot) (eq-eqb slot slot refl)
 
   pub rec_before : (at : ℕ) (r : FileRecord) → rec_at (without_slot p.catalog slot) at ≡ Some r → (at ≡ slot → ⊥) × (rec_at p.catalog at ≡ Some r)
-  rec_before at r is = by (cases_eq at slot) (sym (rec_at-without_slot p.catalog slot at) ∙ is)
-    where
-      by : (at ≡ slot) ⊎ (at ≡ slot → ⊥) → (if at == slot then None else rec_at p.catalog at) ≡ Some r → (at ≡ slot → ⊥) × (rec_at p.catalog at ≡ Some r)
-      by (inl same) e = let none : ◌≡◌ {A = Option FileRecord} None (Some r) = sym (ap (λ b. if b then None else rec_at p.catalog at) (eq-eqb at slot same)) ∙ e in absurd cc
-      by (inr differ) e = (differ, sym (ap (λ b. if b then None else rec_at p.catalog at) (ne_eqb at slot differ)) ∙ e)
+  rec_before at r is = search (rules, rec_at-without_slot, eq-eqb, ne_eqb)
 
   pub none_before : (at : ℕ) → (at ≡ slot → ⊥) → rec_at (without_slot p.catalog slot) at ≡ None → rec_at p.catalog at ≡ None
   none_before at differ none = sym (rec_at-without_slot p.catalog slot at ∙ ap (λ c. if c then None else rec_at p.catalog at) (ne_eqb at slot differ)) ∙ none
@@ -130,8 +126,7 @@ module _ (p : Kept) (slot : ℕ) (rec : FileRecord) (form : AreInForm p) (there 
     free_dropped = ap (λ (x : Kept). rec_at x.catalog slot) drops.parts ∙ slot_vacant
 
     pub may_forget_dropped : AreSound dropped → MayForget (numbers_at p.ext slot) (emptied dropped slot)
-    may_forget_dropped sound =
-        subst (λ (x : Kept). MayForget (numbers_at p.ext slot) (emptied x slot)) (sym drops.parts) (may_forget (subst (λ (x : Kept). AreSound x) drops.parts sound))
+    may_forget_dropped sound = search (rules, may_forget)
 
     pub vacates : (q : Kept) → IsStrictlyIncreasing (numbers_at p.ext slot) → ForgetsWithout slot (numbers_at p.ext slot) dropped q → AreSound q → Vacates slot rec p q
     vacates q rising forgets sound = record {

@@ -1,4 +1,5 @@
 -- The calls that write and rename a file.
+use Rattle.std.proofs.Common.{rules}
 use Rattle.lis_store.proofs.Common.{◌≡◌, sym, ap, ap₂, ◌∙◌, subst, ℕ, ◌+◌, ◌≤◌, ◌==◌, nat_lt, not, cond, Bool, true, false, List, [], ◌∷◌, length, Some, None, Result, Err, IsSomeAnd, arith, ltb-false, Meaning, slot_of, rec_at, rec_at-slot_of, FileRecord, is_file_name, Formula, Refusal, NoFileHere, NoSpace, LargeFile, State, File, file_limit, blocks_taken, used_blocks, new_file, file_removed, file_replaced, Situation, Payload, free_blocks, write, rename, Kept, bytes_told, both_ways, file_of, changed, words_told}
 use Rattle.std.proofs.lemmas.Bool.{le-ltb}
 use Rattle.lis_kept.proofs.Filed.{record_named}
@@ -27,10 +28,7 @@ found_there {old} same sound name {slot} named = rec_at-slot_of old.parts.catalo
 -- ---- rows
 pub rest_of_write : (k : Kept) (place : List Formula) (name : List ℕ) (slot : ℕ) (rec : FileRecord) (file : File) (size : ℕ) → size ≤ file_limit k.limits.version → is_among k place name ≡ true
     → first_refusal (write_checks_of k place name slot rec file size) ≡ first_refusal (overwriting_checks k slot rec file size)
-rest_of_write k place name slot rec file size small here =
-    let rest = first_refusal (overwriting_checks k slot rec file size) in
-    ap (λ b. cond b (Some LargeFile) (cond (not (is_among k place name)) (Some NoFileHere) rest)) (le-ltb (file_limit k.limits.version) size small)
-    ∙ ap (λ b. cond (not b) (Some NoFileHere) rest) here
+rest_of_write k place name slot rec file size small here = search (rules, le-ltb)
 
 pub rest_of_rename : (k : Kept) (place : List Formula) (name : List ℕ) (slot : ℕ) (file : File) → is_among k place name ≡ true
     → first_refusal (rename_checks_of k place name slot file) ≡ first_refusal (renaming_checks k slot file)
@@ -174,13 +172,11 @@ module _ {T : Type 0} (old : Stored) (m : Meaning) (place : List Formula) (name 
   module _ (slot : ℕ) (rec : FileRecord) (there : is_among old.parts place name ≡ true → (slot_of old.parts.catalog name ≡ Some slot) × (rec_at old.parts.catalog slot ≡ Some rec)) where
     pub written_refused : (payload : Payload) (refusal : Refusal) → first_refusal (write_checks_of old.parts place name slot rec (given_before old.parts rec name payload.bytes) payload.size) ≡ Some refusal
         → result ≡ Err (Refused refusal) → Holds base now (write now name payload) old m m result
-    written_refused payload refusal first ends =
-        change_refused old m base now (write now name payload) refusal result holds (write_refused old s sound (told_held old m base s sound holds) place name slot rec there payload refusal first) ends
+    written_refused payload refusal first ends = search (rules, change_refused, write_refused, told_held)
 
     pub renamed_refused : (other : List ℕ) (refusal : Refusal) → first_refusal (rename_checks_of old.parts place name slot (given_before old.parts rec other (file_of s.files name).bytes)) ≡ Some refusal
         → result ≡ Err (Refused refusal) → Holds base now (rename now name other) old m m result
-    renamed_refused other refusal first ends =
-        change_refused old m base now (rename now name other) refusal result holds (rename_refused old s sound (told_held old m base s sound holds) place name slot rec there other refusal first) ends
+    renamed_refused other refusal first ends = search (rules, change_refused, rename_refused, told_held)
 
   -- where the file is not here, its slot and its record do not matter
   abbrev any_rec : FileRecord
