@@ -1,7 +1,7 @@
 -- The contents of the slots that were read, and the state that they spell.
 pub use Rattle.lis_open.specs.ReadAll.{HasRead}
 use Rattle.std.proofs.Common.{◌≢◌}
-use Rattle.lis_open.proofs.Common.{rules, ◌≡◌, ◌∙◌, refl, sym, ap, ap₂, subst, inl, inr, ℕ, Bool, true, List, [], map, Option, Some, None, slice_get, IsTrue, arith, ◌⊎◌, ◌+◌, ◌/◌, ◌<◌, ◌≤◌, not, false, is_some, replicate, Result, Ok, Err, IfSome, OnOk, ⊎_elim, fold, eq-eqb, insert_key, Among, contains_from_among, among_map, map_among, among_flat_map, IsDict, word_of, number_from_word, Filed, rec_at, has, numbers_at, FileRecord, file_bytes, is_file, Pair, FileSlot, word_cmp, is_valued, same_word, head_bytes, same_word_decides, Limits, State, file_cmp, description, known, Kept, record_at, axiom_slots, file_slots, bit_of, words_told, file_told, state_of, is_head_by, is_used, among_from_number, filed_rec, filed_at_slot, declared_there, there_declared, Contents, AreSlots, all_records, spelled_state, contents_of, cases_eq, cases_lt, length-replicate, bits_bytes, is_taken, has_bit, FreeFile, among_from_has_word, Spot, Word, Row, are_in_range, bitmap_start, data_start, row_slots, AreSound, word_at, is_had_by, row_bit, and_parts, and_from, both_ways, false_from_ne_true, flat_map_among, File, has_from_among, file_of_record, not_true, zeros, has_word, has_word_from_among, Bitmap, or_left, list_any, is_left_of, is_left_head_of, any_from_among, among_place, cases_Bool}
+use Rattle.lis_open.proofs.Common.{rules, ◌≡◌, ◌∙◌, refl, sym, ap, ap₂, subst, inl, inr, ℕ, Bool, true, List, [], map, Option, Some, None, slice_get, IsTrue, arith, ◌+◌, ◌/◌, ◌<◌, ◌≤◌, not, false, is_some, replicate, Result, Ok, Err, IfSome, OnOk, ⊎_elim, fold, eq-eqb, insert_key, Among, contains_from_among, among_map, map_among, among_flat_map, IsDict, word_of, number_from_word, Filed, rec_at, has, numbers_at, FileRecord, file_bytes, is_file, Pair, FileSlot, word_cmp, is_valued, same_word, head_bytes, same_word_decides, Limits, State, file_cmp, description, known, Kept, record_at, axiom_slots, file_slots, bit_of, words_told, file_told, state_of, is_head_by, is_used, among_from_number, filed_rec, filed_at_slot, declared_there, there_declared, Contents, AreSlots, all_records, spelled_state, contents_of, cases_eq, cases_lt, length-replicate, bits_bytes, is_taken, has_bit, FreeFile, among_from_has_word, Spot, Word, Row, are_in_range, bitmap_start, data_start, row_slots, AreSound, word_at, is_had_by, row_bit, and_parts, and_from, both_ways, false_from_ne_true, flat_map_among, File, has_from_among, file_of_record, not_true, zeros, has_word, has_word_from_among, Bitmap, or_left, list_any, is_left_of, is_left_head_of, any_from_among, among_place, cases_Bool}
 use Rattle.std.specs.List.{range_with_len}
 use Rattle.std.proofs.lemmas.List.FromFn.{length-map-range_with_len, get_or-map-range_with_len}
 use Rattle.lis_graph.proofs.Ranges.{range_among}

@@ -1,5 +1,6 @@
 -- The blocks of a file as they are read: those that its slot numbers, and those that its index block does.
-use Rattle.lis_open.proofs.Common.{◌∙◌, ℕ, List, IsTrue, ◌≡◌, sym, ap, ◌*◌, ◌^◌, ◌<◌, ◌≤◌, Bool, Option, Some, None, [], arith, IfSome, refl, subst, ◌&&◌, not, nat_lt, true, false, ◌++◌, length, option_map, Meaning, IsSettled, Held, Fits, leaves_weaken, leaves_then, Slots, slot, PropSlot, FileSlot, prop_once, Limits, are_in_range, image_blocks, few_properties, list_all-append, is_taken, are_free, are_distinct, is_large, index_bytes, numbers_in, index_home, FileRecord, is_record, data_start, blocks_needed, and_parts, both_ways}
+use Rattle.std.proofs.Common.{rules}
+use Rattle.lis_open.proofs.Common.{◌∙◌, ℕ, List, IsTrue, ◌≡◌, sym, ap, ◌^◌, ◌<◌, ◌≤◌, Bool, Option, Some, None, [], arith, IfSome, subst, true, false, ◌++◌, length, option_map, Meaning, IsSettled, Held, Fits, leaves_weaken, leaves_then, Slots, slot, PropSlot, FileSlot, prop_once, Limits, are_in_range, image_blocks, few_properties, list_all-append, are_free, are_distinct, is_large, index_bytes, numbers_in, index_home, FileRecord, is_record, data_start, blocks_needed, and_parts, both_ways}
 use Rattle.lis_ports.proofs.Moments.{run_none, run_then, leaves_none}
 use Rattle.lis_journal.proofs.Fitting.{fits_unchanged}
 use Rattle.lis_content.proofs.Reading.{unchanged_none, unchanged_then}
@@ -20,28 +21,16 @@ use Rattle.lis_kept.proofs.Contents.{slot_blocks_counted}
 use Rattle.lis_open.specs.ReadFiles.{HasBlocks, AreIndexed, AreReadBlocks}
 
 pub reads_none : (m : Meaning) → OnlyReads m m
-reads_none m = record {
-  run = run_none m;
-  same = λ honest. unchanged_none m;
-  moments = λ honest. leaves_none m m.images;
-}
+reads_none m = search (rules, run_none, unchanged_none, leaves_none)
 
 pub reads_then : {a b c : Meaning} → OnlyReads a b → OnlyReads b c → OnlyReads a c
-reads_then {a} first second = record {
-  run = run_then first.run second.run;
-  same = λ honest. unchanged_then second.run (first.same honest) (second.same (first.run.honest ∙ honest));
-  moments = λ honest.
-      leaves_then (first.moments honest)
-      (leaves_weaken a.images (second.moments (first.run.honest ∙ honest)) (first.same honest).images.only);
-}
+reads_then {a} first second = search (rules, run_then, unchanged_then, leaves_then, leaves_weaken)
 
 pub fits_after : {a b : Meaning} (journal : Held) (kept : ℕ → List ℕ) → OnlyReads a b → Fits journal a kept → Fits journal b kept
 fits_after journal kept reads fits = fits_unchanged journal reads.run (reads.same fits.honest) fits
 
 pub settled_after : {a b : Meaning} {bytes : List ℕ} → OnlyReads a b → IsTrue a.is_honest → IsSettled a bytes → IsSettled b bytes
-settled_after reads honest settled =
-    let same = reads.same honest in
-    record { reads = same.bytes ∙ settled.reads; only = λ image is. settled.only image (same.images.only image is) }
+settled_after reads honest settled = search (rules)
 
 -- what the last block that was read recalls of the image, a later one recalls
 abbrev pub StillRecalls : Held → Meaning → LastBlock → LastBlock → Type 0
@@ -50,10 +39,7 @@ StillRecalls journal old before last = (kept : ℕ → List ℕ) → Fits journa
 -- ---- slots and the values that they spell
 -- the blocks of an image have numbers of 32 bits
 pub few_blocks : (limits : Limits) (blocks : ℕ) → IsTrue (are_in_range limits) → blocks ≡ image_blocks limits → blocks < 2 ^ 32
-few_blocks limits blocks range is =
-    let files = few_files limits range in
-    let bits : limits.props * limits.files ≤ limits.props * 4096 = mul-le-mul_left limits.props files in
-    omega (arith, is, bits, files, few_properties limits range, few_data limits range)
+few_blocks limits blocks range is = search (rules, few_files, mul-le-mul_left, few_properties, few_data)
 
 -- what is read of a slot where nothing is staged
 pub slot_read : (slots : Slots) (staged : List Entry) (kept : ℕ → List ℕ) (n : ℕ) (bytes : List ℕ) → staged ≡ [] → bytes ≡ slot slots (looked staged kept) n → bytes ≡ slot slots kept n
@@ -63,8 +49,7 @@ module _ {X : Type 0} (spelled : X → List ℕ) (is_in_range : X → Bool) (slo
   -- from what reading the bytes of the slot gave
   pub read_as : (found : Option X) (bytes : List ℕ) → n < slots.count → bytes ≡ slot slots at n → IfSome found (λ value. IsTrue (is_in_range value) × (bytes ≡ spelled value))
       → ((value : X) → IsTrue (is_in_range value) → bytes ≡ spelled value → found ≡ Some value) → IsReadAs spelled is_in_range slots at n found
-  read_as None bytes below read told same = λ value is. absurd (let none = same value is.range (read ∙ is.bytes) in cc)
-  read_as (Some value) bytes below read told same = record { below = below; bytes = sym read ∙ told.1; range = told.0 }
+  read_as found bytes below read told same = search (rules)
 
 pub one_property : (limits : Limits) (at : ℕ → List ℕ) (n : ℕ) (a b : PropSlot) → IsProperty limits at n a → IsProperty limits at n b → a ≡ b
 one_property limits at n a b is_a is_b = prop_once a b is_a.range is_b.range (sym is_a.bytes ∙ is_b.bytes)
@@ -75,36 +60,26 @@ one_file limits at n a b is_a is_b = file_once limits.version a b is_a.range is_
 -- ---- the blocks of a file as they are read: those that its slot numbers, and those that its index block does
 -- ---- records in form
 pub size_of_form : (version : ℕ) (rec : FileRecord) {seen : FileRecord} → IsTrue (is_record version rec) → seen ≡ rec → seen.size ≤ 1048576
-size_of_form version rec form view =
-    subst (λ (r : FileRecord). r.size ≤ 1048576) (sym view) (size_fits version rec.size (record_tests version rec form).small)
+size_of_form version rec form view = search (rules, size_fits, record_tests)
 
 pub slot_of_form : (version : ℕ) (rec : FileRecord) {seen : FileRecord} (slot : List ℕ) → IsTrue (is_record version rec) → seen ≡ rec → slot ≡ seen.blocks → length slot ≡ slot_count seen.size
-slot_of_form version rec slot form view same =
-    let tests = record_tests version rec form in
-    let counted : length rec.blocks ≡ slot_count rec.size = few_in_form version rec.size rec.blocks tests.blocks ∙ slot_blocks_counted version rec.size tests.small in
-    ap length same ∙ subst (λ (r : FileRecord). length r.blocks ≡ slot_count r.size) (sym view) counted
+slot_of_form version rec slot form view same = search (rules, record_tests, few_in_form, slot_blocks_counted)
 
 -- ---- an index block
 pub numbers_counted : {X : Type 0} (found : Option X) (items : X → List ℕ) (size : ℕ) (block : List ℕ)
     → IfSome found (λ x. (items x ≡ numbers_in (blocks_needed size) block) × (block ≡ index_bytes (items x))) → IfSome found (λ x. length (items x) ≡ blocks_needed size)
-numbers_counted None items size block some = some
-numbers_counted (Some x) items size block some = ap length some.0 ∙ length-numbers_in (blocks_needed size) block
+numbers_counted found items size block some = search (rules, length-numbers_in)
 
 -- what was told of its numbers as it was read, told of what is kept there
 pub numbers_found : {X : Type 0} (found : Option X) (items : X → List ℕ) (size : ℕ) (block held : List ℕ) → block ≡ held
     → IfSome found (λ x. (items x ≡ numbers_in (blocks_needed size) block) × (block ≡ index_bytes (items x)))
     → (found ≡ None → block ≡ index_bytes (numbers_in (blocks_needed size) block) → ⊥) → AreIndexed size held (option_map items found)
-numbers_found None items size block held same some none = subst (λ bytes. bytes ≡ index_bytes (numbers_in (blocks_needed size) bytes) → ⊥) same (none refl)
-numbers_found (Some x) items size block held same some none =
-    subst (λ bytes. (items x ≡ numbers_in (blocks_needed size) bytes) × (bytes ≡ index_bytes (numbers_in (blocks_needed size) bytes))) same
-    (some.0, some.1 ∙ ap index_bytes some.0)
+numbers_found found items size block held same some none = search (rules)
 
 -- ---- all blocks
 pub large_found : (base : ℕ) (slot : List ℕ) (size : ℕ) (at : ℕ → List ℕ) (home : ℕ) (numbers blocks : List ℕ) → is_large size ≡ true → home ≡ index_home base slot
     → AreIndexed size (at home) (Some numbers) → blocks ≡ numbers ++ slot → AreReadBlocks base slot size at (Some blocks)
-large_found base slot size at home numbers blocks large is_home indexed same =
-    let there = subst (λ h. AreIndexed size (at h) (Some numbers)) is_home indexed in
-    ((λ _. there.1), same ∙ (ap (λ ns. ns ++ slot) there.0 ∙ sym (large_blocks base slot size at large)))
+large_found base slot size at home numbers blocks large is_home indexed same = search (rules, large_blocks)
 
 pub large_missed : (base : ℕ) (slot : List ℕ) (size : ℕ) (at : ℕ → List ℕ) (home : ℕ) → is_large size ≡ true → home ≡ index_home base slot → AreIndexed size (at home) None → AreReadBlocks base slot size at None
 large_missed base slot size at home large is_home none = λ indexed. subst (λ h. AreIndexed size (at h) None) is_home none (indexed large)
@@ -112,21 +87,12 @@ large_missed base slot size at home large is_home none = λ indexed. subst (λ h
 -- told by the numbers of the record
 pub read_of : (limits : Limits) (at : ℕ → List ℕ) (rec : FileRecord) {seen : FileRecord} (slot : List ℕ) (found : Option (List ℕ)) → seen ≡ rec → slot ≡ seen.blocks
     → AreReadBlocks (data_start limits) slot seen.size at found → AreReadBlocks (data_start limits) rec.blocks rec.size at found
-read_of limits at rec {seen} slot found view same are =
-    subst (λ (r : FileRecord). AreReadBlocks (data_start limits) r.blocks r.size at found) view
-    (subst (λ ns. AreReadBlocks (data_start limits) ns seen.size at found) same are)
+read_of limits at rec {seen} slot found view same are = search (rules)
 
 -- ---- free blocks
 -- the numbers of the slot are among all
 slot_free : (taken : List Bool) (base : ℕ) (slot : List ℕ) (size : ℕ) (at : ℕ → List ℕ) → are_free taken (file_blocks base slot size at) ≡ true → are_free taken slot ≡ true
-slot_free taken base slot size at free = by (is_large size) refl
-  where
-    by : (large : Bool) → is_large size ≡ large → are_free taken slot ≡ true
-    by true large =
-        let numbers = numbers_in (blocks_needed size) (at (index_home base slot)) in
-        (and_parts (are_free taken numbers) (are_free taken slot)
-        (sym (list_all-append (λ n. nat_lt n (length taken) && not (is_taken taken n)) numbers slot) ∙ (ap (are_free taken) (sym (large_blocks base slot size at large)) ∙ free))).1
-    by false small = ap (are_free taken) (sym (small_blocks base slot size at small)) ∙ free
+slot_free taken base slot size at free = search (rules, and_parts, list_all-append, large_blocks, small_blocks)
 
 -- where they are free, they lie within the image
 pub free_within : (limits : Limits) (taken : List Bool) (slot : List ℕ) → length taken ≡ limits.blocks → are_free taken slot ≡ true → IsTrue (are_within (data_start limits) (image_blocks limits) slot)
@@ -134,8 +100,7 @@ free_within limits taken slot len free = within_if_below (data_start limits) (im
 
 module _ (limits : Limits) (at : ℕ → List ℕ) (taken : List Bool) (rec : FileRecord) where
   pub not_own : {seen : FileRecord} (slot : List ℕ) → seen ≡ rec → slot ≡ seen.blocks → are_free taken slot ≡ false → HasBlocks limits at taken rec → ⊥
-  not_own slot view same taken_one has =
-      both_ways (are_free taken slot) taken_one (ap (are_free taken) (same ∙ ap (λ (r : FileRecord). r.blocks) view) ∙ slot_free taken (data_start limits) rec.blocks rec.size at has.free)
+  not_own slot view same taken_one has = search (rules, both_ways, slot_free)
 
   pub not_free : (blocks : List ℕ) → AreReadBlocks (data_start limits) rec.blocks rec.size at (Some blocks) → are_free taken blocks ≡ false → HasBlocks limits at taken rec → ⊥
   not_free blocks are taken_one has = both_ways (are_free taken blocks) taken_one (ap (are_free taken) are.1 ∙ has.free)

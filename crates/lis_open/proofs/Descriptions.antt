@@ -1,5 +1,6 @@
 -- The numbers that the words of a file lead to are those of the words of its description.
-use Rattle.lis_open.proofs.Common.{◌≡◌, ◌∙◌, refl, sym, ap, subst, ℕ, ◌||◌, not, Bool, true, false, List, Option, Some, None, is_some, IsSome, ◌≤◌, [], arith, slice_get, ◌⊎◌, inl, inr, option_to_list, ◌++◌, length, append_assoc, flat_map, ◌+◌, ap₂, zero, suc, ◌==◌, eq-eqb, ◌<◌, ◌∷◌, ⊎_elim, nat_cmp, Among, among_map, is_taken, IsDict, number_of, word_of, number_from_word, is_plain_word, is_valued, head_bytes, among_from_has_word, Limits, is_assignable, is_nameable, bit_of, Dict, number_below, declared_there, there_declared, Pair, list_all, among_left, among_flat_map, word_from_number, FileRecord, plain_not_valued, among_set_of, own_words, met_tests, words_told, some_number, and_parts, both_ways, flat_map_among, has_word, has_word_from_among, set_of_among, all_among, set_of, File, contains_from_among, Taxonomy, no_links, has_edge, or_cases, or_left, or_right, same_Some, Chain, among_from_contains, among_from_any, Leads, AxiomSlot, FreeAxiom, head_not_valued, up, Kept, pair_told, pairs_told, axioms_of, has_pair, placed_at, among_place, IsStrictlySortedBy, entails, word_cmp, sorted_set_of, file_words, AllApart, and_from, any_from_among, pair_cmp}
+use Rattle.std.proofs.Common.{rules}
+use Rattle.lis_open.proofs.Common.{◌≡◌, ◌∙◌, refl, sym, ap, subst, ℕ, ◌||◌, not, Bool, true, false, List, Option, Some, None, is_some, IsSome, ◌≤◌, [], arith, slice_get, inl, inr, option_to_list, ◌++◌, length, append_assoc, flat_map, ◌+◌, ap₂, zero, suc, ◌==◌, eq-eqb, ◌<◌, ◌∷◌, ⊎_elim, nat_cmp, Among, among_map, is_taken, IsDict, number_of, word_of, number_from_word, is_plain_word, is_valued, head_bytes, among_from_has_word, Limits, is_assignable, is_nameable, bit_of, Dict, number_below, declared_there, there_declared, Pair, list_all, among_left, among_flat_map, word_from_number, FileRecord, plain_not_valued, among_set_of, own_words, met_tests, words_told, some_number, and_parts, both_ways, flat_map_among, has_word, has_word_from_among, set_of_among, all_among, set_of, File, contains_from_among, Taxonomy, no_links, has_edge, or_cases, or_left, or_right, same_Some, Chain, among_from_contains, among_from_any, Leads, AxiomSlot, FreeAxiom, head_not_valued, up, Kept, pair_told, pairs_told, axioms_of, has_pair, placed_at, among_place, IsStrictlySortedBy, entails, word_cmp, sorted_set_of, file_words, AllApart, and_from, any_from_among, pair_cmp}
 use Rattle.lis_graph.proofs.Members.{among_filter, among_append, among_right, among_with_more, with_more_new}
 use Rattle.lis_dict.specs.Dict.{words as words_of}
 use Rattle.lis_dict.proofs.Laws.{number_from_among}
@@ -38,10 +39,7 @@ pub record RightWord (words : Words) (o : Option (List ℕ)) : Type 0 where
   pub declared : has_word (declared_words words) word ≡ true
 
 pub right_word : (words : Words) (o : Option (List ℕ)) → is_right words o ≡ true → RightWord words o
-right_word words None h = absurd (both_ways false refl h)
-right_word words (Some word) h =
-    let parts = and_parts (is_plain_word word) (has_word (declared_words words) word) h in
-    record { word = word; is = refl; plain = parts.0; declared = parts.1 }
+right_word words o h = search (rules, both_ways, and_parts)
 
 pub record LeftWord (words : Words) (o : Option (List ℕ)) : Type 0 where
   pub word : List ℕ
@@ -64,16 +62,12 @@ pub some_from : (o : Option (List ℕ)) (w : List ℕ) → o ≡ Some w → IsSo
 some_from o w is = ap is_some is
 
 pub valued_headed : (a b : Bool) → (not a || b) ≡ true → a ≡ true → b ≡ true
-valued_headed true b h e = h
-valued_headed false b h e = absurd (both_ways false refl e)
+valued_headed a b h e = search (rules, both_ways)
 
 module _ (limits : Limits) (words : Words) (dict : IsDict words.dict) where
   -- a declared word has a number
   pub declared_numbered : (w : List ℕ) → Among (declared_words words) w → IsSome (number_of words.dict w)
-  declared_numbered w m =
-      let there = (among_filter (λ word. bit_of words.declared (number_of words.dict word)) (words_of words.dict) w m).0 in
-      let e = among_map (λ (e : List ℕ × ℕ). e.0) words.dict.entries w there in
-      ap is_some (subst (λ v. number_of words.dict v ≡ Some (e.0).1) e.2 (number_from_among words.dict dict (e.0).0 (e.0).1 e.1))
+  declared_numbered w m = search (rules, among_filter, among_map, number_from_among)
 
   pub declared_flagged : (n : ℕ) (w : List ℕ) → word_of words.dict n ≡ Some w → has_word (declared_words words) w ≡ true → is_taken words.declared n ≡ true
   declared_flagged n w is h =
@@ -121,9 +115,7 @@ bare_numbered words n word is bare = record { named = is; headed = λ valued. ab
 
 -- what an option has
 pub only_one : {X : Type 0} (o : Option X) (x : X) → Among (option_to_list o) x → o ≡ Some x
-only_one None x m = absurd m
-only_one (Some y) x (inl same) = ap Some same
-only_one (Some y) x (inr none) = absurd none
+only_one o x m = search (rules)
 
 pub one_in : {X : Type 0} (o : Option X) (x : X) → o ≡ Some x → Among (option_to_list o) x
 one_in o x is = subst (λ p. Among (option_to_list p) x) (sym is) (inl refl)
@@ -135,21 +127,10 @@ pub record AreOf (words : Words) (numbers : List ℕ) (named : List (List ℕ)) 
   pub number : (w : List ℕ) → Among named w → (n : ℕ) × Among numbers n × IsNumbered words n w
 
 of_set : (words : Words) (numbers : List ℕ) (named : List (List ℕ)) → AreOf words numbers named → AreOf words numbers (set_of named)
-of_set words numbers named of = record {
-  word = λ n m. let word = of.word n m in (word.0, set_of_among named word.0 word.1, word.2);
-  number = λ w m. of.number w (among_set_of named w m);
-}
+of_set words numbers named of = search (rules, set_of_among, among_set_of)
 
 of_both : (words : Words) (ms ns : List ℕ) (us vs : List (List ℕ)) → AreOf words ms us → AreOf words ns vs → AreOf words (ms ++ ns) (us ++ vs)
-of_both words ms ns us vs first second = record { word = λ n m. word n (among_append ms ns n m); number = λ w m. number w (among_append us vs w m) }
-  where
-    word : (n : ℕ) → Among ms n ⊎ Among ns n → (w : List ℕ) × Among (us ++ vs) w × IsNumbered words n w
-    word n (inl m) = let found = first.word n m in (found.0, among_left us vs found.0 found.1, found.2)
-    word n (inr m) = let found = second.word n m in (found.0, among_right us vs found.0 found.1, found.2)
-
-    number : (w : List ℕ) → Among us w ⊎ Among vs w → (n : ℕ) × Among (ms ++ ns) n × IsNumbered words n w
-    number w (inl m) = let found = first.number w m in (found.0, among_left ms ns found.0 found.1, found.2)
-    number w (inr m) = let found = second.number w m in (found.0, among_right ms ns found.0 found.1, found.2)
+of_both words ms ns us vs first second = search (rules, among_append, among_left, among_right)
 
 -- ---- of a file
 -- a record's file, if it has these bytes
@@ -165,15 +146,7 @@ module _ (limits : Limits) (words : Words) (dict : IsDict words.dict) where
   ]
 
   tags_are : (tags : List ℕ) → list_all (is_assignable_number words) tags ≡ true → AreOf words tags (flat_map (λ n. option_to_list (word_of words.dict n)) tags)
-  tags_are tags given = record {
-    word = λ n m.
-        let word = assignable_word words (word_of words.dict n) (all_among (is_assignable_number words) tags n given m) in
-        (word.0, flat_map_among (λ k. option_to_list (word_of words.dict k)) tags n word.0 m (one_in (word_of words.dict n) word.0 word.1), given_numbered n word.0 word.1 word.2);
-    number = λ w m.
-        let found = among_flat_map (λ k. option_to_list (word_of words.dict k)) tags w m in
-        let is = only_one (word_of words.dict found.0) w found.2 in
-        (found.0, found.1, given_numbered found.0 w is (ap (is_assignable_by words) (sym is) ∙ all_among (is_assignable_number words) tags found.0 given found.1));
-  }
+  tags_are tags given = search (rules, assignable_word, all_among, flat_map_among, one_in, given_numbered, among_flat_map, only_one)
 
   module _ (found : List (List ℕ)) (all : list_all (is_numbered words.dict) found ≡ true) where
     parts : (w : List ℕ) → Among found w → (is_some (number_of words.dict w) ≡ true) × ((not (is_valued w) || is_some (number_of words.dict (head_bytes w))) ≡ true)
@@ -349,15 +322,12 @@ module _ (limits : Limits) (words : Words) (dict : IsDict words.dict) (axioms : 
     -- and what a number leads to has a word, which its word entails
     pub up_named : (n m : ℕ) (p : List ℕ) → word_of words.dict n ≡ Some p → Leads t n m
         → (q : List ℕ) × (word_of words.dict m ≡ Some q) × Among (up (declared_words words) (axioms_of (kept_words limits words axioms)) p) q
-    up_named n m p is leads =
-        let found = chain_named leads.0 n m p is leads.1 in
-        (found.0, found.1, up_from_entails (declared_words words) (axioms_of k) p found.0 (leads.0, found.2))
+    up_named n m p is leads = search (rules, chain_named, up_from_entails)
 
 -- ---- the numbers that the words of a file lead to are those of the words of its description
 -- ---- words of numbers
 pub told_among : (dict : Dict) (ns : List ℕ) (n : ℕ) (w : List ℕ) → word_of dict n ≡ Some w → Among ns n → Among (words_told dict ns) w
-told_among dict ns n w is m =
-    set_of_among (flat_map (λ kept. option_to_list (word_of dict kept)) ns) w (flat_map_among (λ kept. option_to_list (word_of dict kept)) ns n w m (one_in (word_of dict n) w is))
+told_among dict ns n w is m = search (rules, set_of_among, flat_map_among, one_in)
 
 pub among_told : (dict : Dict) (ns : List ℕ) (w : List ℕ) → Among (words_told dict ns) w → (n : ℕ) × Among ns n × (word_of dict n ≡ Some w)
 among_told dict ns w m =
@@ -430,10 +400,7 @@ module _ (limits : Limits) (words : Words) (axioms : Axioms) (end : ℕ) (are : 
 
   -- a number of the description is led to by one of the file's own
   led_to : (own : List ℕ) (n : ℕ) → Among (described axioms.taxonomy own) n → (m : ℕ) × Among own m × Leads axioms.taxonomy m n
-  led_to own n m =
-      let inside = among_where t.props (is_described t own) n m in
-      let found = among_from_any (λ j. entails t j n) own inside.1 in
-      (found.0, found.1, (entails_decides t found.0 n).0 found.2)
+  led_to own n m = search (rules, among_where, among_from_any, entails_decides)
 
   pub leads_there : (own : List ℕ) (m n : ℕ) → Among own m → Leads axioms.taxonomy m n → n < axioms.taxonomy.props → Among (described axioms.taxonomy own) n
   leads_there own m n here leads below = where_among t.props (is_described t own) n below (any_from_among (λ j. entails t j n) own m here ((entails_decides t m n).1 leads))

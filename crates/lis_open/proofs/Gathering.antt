@@ -1,7 +1,8 @@
 -- A row of what numbers entail, gathered number by number, and the numbers of the row.
+use Rattle.std.proofs.Common.{rules}
 pub use Rattle.lis_open.specs.ReadFiles.{Gathered}
 use Rattle.std.proofs.Common.{All}
-use Rattle.lis_open.proofs.Common.{◌≡◌, ℕ, ◌<◌, false, ◌||◌, Option, List, [], ◌∷◌, ◌++◌, get_or, sym, ap, ap₂, ◌∙◌, subst, arith, ◌+◌, nat_le, true, ◌&&◌, Some, None, option_to_list, length, take, refl, ◌≤◌, Bool, not, is_some, slice_get, append_assoc, nat_cmp, le-leb, IsStrictlySortedBy, or-false, Among, among_from_contains, HasShape, get, with_row, Taxonomy, entails, list_all, list_all-append, number_of, FileRecord, or_left, IsDict, is_valued, head_bytes, met_tests, Kept, bit_of, Rows, and_from, both_ways}
+use Rattle.lis_open.proofs.Common.{◌≡◌, ℕ, ◌<◌, false, ◌||◌, Option, List, [], ◌∷◌, ◌++◌, get_or, sym, ap, ap₂, ◌∙◌, subst, arith, ◌+◌, nat_le, true, ◌&&◌, Some, None, option_to_list, length, take, refl, ◌≤◌, Bool, not, is_some, slice_get, le-leb, or-false, Among, among_from_contains, HasShape, get, with_row, Taxonomy, entails, list_all, list_all-append, number_of, FileRecord, or_left, IsDict, is_valued, head_bytes, met_tests, Kept, bit_of, Rows, and_from, both_ways}
 use Rattle.std.specs.List.Sorted.{IsStrictlyIncreasing}
 use Rattle.std.proofs.Math.Bool.{or_assoc, and-true}
 use Rattle.std.proofs.lemmas.List.Elements.{Contains-get_or}
@@ -29,13 +30,7 @@ pub gathered_none : (t : Taxonomy) (row : Rows) → HasShape row 2 t.props → G
 gathered_none t row shape = record { shape = shape; bits = λ n lt. sym (or-false (get row 0 n)) }
 
 pub gathered_then : (t : Taxonomy) (old row new : Rows) (ms ns : List ℕ) → Gathered t old row ms → Gathered t row new ns → Gathered t old new (ms ++ ns)
-gathered_then t old row new ms ns first second = record {
-  shape = second.shape;
-  bits = λ n lt.
-      second.bits n lt
-      ∙ (ap (λ b. b || is_described t ns n) (first.bits n lt)
-      ∙ (or_assoc (get old 0 n) (is_described t ms n) (is_described t ns n) ∙ ap (λ b. get old 0 n || b) (sym (list_any-append (λ m. entails t m n) ms ns))));
-}
+gathered_then t old row new ms ns first second = search (rules, or_assoc, list_any-append)
 
 pub gathered_more : (t : Taxonomy) (old row mid new : Rows) (numbers : List ℕ) (number : ℕ) → Gathered t old row numbers → mid ≡ with_row row 1 (entails t number)
     → new ≡ with_row mid 0 (λ bit. get mid 0 bit || get mid 1 bit) → Gathered t old new (numbers ++ number ∷ [])
@@ -52,20 +47,15 @@ gathered_more t old row mid new numbers number was ups joined = gathered_then t 
 
 -- the row was cleared before
 pub gathered_all : (t : Taxonomy) (old row new : Rows) (numbers : List ℕ) → HasShape old 2 t.props → row ≡ with_row old 0 (λ _. false) → Gathered t row new numbers → (n : ℕ) → n < t.props → get new 0 n ≡ is_described t numbers n
-gathered_all t old row new numbers shape cleared all n lt =
-    all.bits n lt ∙ ap (λ b. b || is_described t numbers n) ((row_sets old row 2 t.props 0 (λ _. false) shape (omega arith) cleared).at n lt)
+gathered_all t old row new numbers shape cleared all n lt = search (rules, row_sets)
 
 -- the numbers of the row are those of the description
 pub listed_are : (t : Taxonomy) (own : List ℕ) (row : Rows) (listed : Option (List ℕ)) → HasShape row 2 t.props → ((n : ℕ) → n < t.props → get row 0 n ≡ is_described t own n)
     → AreListed (numbers_where row.bits (get row 0)) listed → AreListed (described t own) listed
-listed_are t own row listed shape bits = subst (λ numbers. AreListed numbers listed) all
-  where
-    all : numbers_where row.bits (get row 0) ≡ described t own
-    all = ap (λ n. numbers_where n (get row 0)) shape.wide ∙ numbers_same t.props (get row 0) (is_described t own) bits
+listed_are t own row listed shape bits = search (rules, numbers_same)
 
 pub described_rise : (t : Taxonomy) (tags numbers : List ℕ) → numbers ≡ described t tags → IsStrictlyIncreasing numbers
-described_rise t tags numbers is =
-    IsStrictlyIncreasing-from_sorted numbers (subst (λ ns. IsStrictlySortedBy nat_cmp ns) (sym is) (sorted_where t.props (is_described t tags)))
+described_rise t tags numbers is = search (rules, IsStrictlyIncreasing-from_sorted, sorted_where)
 
 pub described_in : (t : Taxonomy) (tags numbers : List ℕ) (props : ℕ) → props ≡ t.props → numbers ≡ described t tags → All (λ n. n < props) numbers
 described_in t tags numbers props same is k d lt =
@@ -104,12 +94,7 @@ module _ (words : Words) (t : Taxonomy) (rec : FileRecord) (in_file : List (List
   -- and else it depends on how many numbers it has
   pub listed_described : (listed : Option (List ℕ)) → list_all (is_numbered words.dict) in_file ≡ true → AreListed (described t (own_numbers words.dict rec.tags in_file)) listed
       → AreDescribed words t rec in_file listed
-  listed_described None all many =
-      let numbers = described t (own_numbers words.dict rec.tags in_file) in
-      ap (λ b. b && nat_le (length numbers) 128) all ∙ lt-leb (length numbers) 128 many
-  listed_described (Some listed) all are =
-      let numbers = described t (own_numbers words.dict rec.tags in_file) in
-      (and_from (list_all (is_numbered words.dict) in_file) (nat_le (length numbers) 128) all (le-leb (length numbers) 128 are.1), are.0)
+  listed_described listed all many = search (rules, lt-leb, and_from, le-leb)
 
 -- ---- the declared tests that a file meets, and their numbers
 -- ---- the tests that are met, one after another
@@ -143,8 +128,7 @@ module _ (words : Words) (t : Taxonomy) (size : ℕ) (old : Rows) where
 -- ---- with what is derived
 -- only a test is met
 met_is_test : (test : Option (Bool × ℕ)) (size : ℕ) → is_met test size ≡ true → is_some test ≡ true
-met_is_test None size met = absurd (both_ways false refl met)
-met_is_test (Some test) size met = refl
+met_is_test test size met = search (rules, both_ways)
 
 module _ (words : Words) (dict : IsDict words.dict) (size : ℕ) where
   abbrev met : List (List ℕ)
@@ -165,7 +149,4 @@ module _ (words : Words) (dict : IsDict words.dict) (size : ℕ) where
   pub found_gathered : (t : Taxonomy) (tags : List ℕ) (derived : List (List ℕ)) (old given row new : Rows) → Gathered t old given tags → Gathered t given row (numbers_of words.dict derived)
       → Gathered t row new (numbers_of words.dict (met_tests (declared_words words) size)) → Gathered t old new (own_numbers words.dict tags (derived ++ met_tests (declared_words words) size))
   unfolding own_numbers
-  found_gathered t tags derived old given row new first second third =
-      let all = append_assoc tags (numbers_of words.dict derived) (numbers_of words.dict met) ∙ ap (λ ns. tags ++ ns) (sym (flat_map-append (λ word. option_to_list (number_of words.dict word)) derived met)) in
-      subst (λ ns. Gathered t old new ns) all
-      (gathered_then t old row new (tags ++ numbers_of words.dict derived) (numbers_of words.dict met) (gathered_then t old given row tags (numbers_of words.dict derived) first second) third)
+  found_gathered t tags derived old given row new first second third = search (rules, flat_map-append, gathered_then)

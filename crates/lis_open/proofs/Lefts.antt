@@ -1,4 +1,5 @@
 -- Rows of the left sides of axioms and of their heads, and the words that are not in use.
+use Rattle.std.proofs.Common.{rules}
 use Rattle.std.proofs.Common.{min, ◌↔◌}
 use Rattle.lis_open.proofs.Common.{◌≡◌, ◌∙◌, sym, ap, ap₂, ℕ, ◌*◌, ◌/◌, ◌<◌, ◌==◌, Bool, false, List, [], length, IsTrue, arith, subst, refl, if◌then◌else◌, ◌&&◌, ◌||◌, not, true, cond, Some, None, is_some, list_all, length-replicate, bits_bytes, has, Limits, slot, Row, row_slots, both_ways, has_number, list_any, or-false, HasShape, get, with_row, is_taken, Dict, IsDict, word_of, AxiomSlot, Kept, is_head_by, is_had, is_left_of, is_left_head_of, is_used, Rows}
 use Rattle.lis_fields.specs.Layouts.{zeros}
@@ -40,10 +41,7 @@ no_file_has e files number count none = ap (λ n. bits_bytes (n / 8) (has e numb
 -- it is what bytes are that are all zero
 pub zeros_decide : (e : Ext) (files number : ℕ) (bytes : List ℕ) (all : Bool) → length e.sets ≡ files → length bytes ≡ files / 8 → ((slot : ℕ) → has e number slot ≡ false)
     → all ≡ list_all (λ b. b == 0) bytes → IsTrue all ↔ (bytes ≡ row_bytes e number)
-zeros_decide e files number bytes all count width none is = (
-  λ yes. zeros_of (files / 8) bytes width (sym is ∙ yes) ∙ sym (no_file_has e files number count none),
-  λ same. is ∙ (ap (λ bs. list_all (λ b. b == 0) bs) (same ∙ no_file_has e files number count none) ∙ zeros_pass (files / 8)),
-)
+zeros_decide e files number bytes all count width none is = search (rules, zeros_of, no_file_has, zeros_pass)
 
 -- ---- rows as they are read
 pub row_read : (limits : Limits) (kept : ℕ → List ℕ) (ext : Ext) (p first width : ℕ) (buf : List ℕ) (same : Bool) → first ≡ rows_start limits → width ≡ limits.files / 8
@@ -62,11 +60,7 @@ row_place_is limits p = grind (arith, nat_tests)
 -- the first row that is spelled otherwise
 pub first_row : (limits : Limits) (kept : ℕ → List ℕ) (ext : Ext) (p place : ℕ) (same : Bool) → p < (row_slots limits).count → place ≡ min p limits.props → (IsTrue same ↔ IsRowSpelled limits kept ext p) → same ≡ false
     → SameBelow limits kept ext p → (q : ℕ) × (Row place ≡ Row (row_place limits q)) × IsFirstRow limits kept ext q
-first_row limits kept ext p place same below is test differs before = (
-  p,
-  ap Row (is ∙ sym (row_place_is limits p)),
-  record { below = below; differs = λ spelled. both_ways same differs (test.1 spelled); same_before = before },
-)
+first_row limits kept ext p place same below is test differs before = search (rules, row_place_is, both_ways)
 
 -- ---- rows of the left sides of axioms and of their heads, and the words that are not in use
 -- a row keeps its shape when it is set
@@ -78,13 +72,10 @@ put_or n m b = grind (arith, nat_tests)
 
 -- one bit more
 pub bit_put : (r next : Rows) (bits m n : ℕ) → HasShape r 2 bits → next ≡ with_row r 0 (λ j. if j == m then true else get r 0 j) → n < bits → get next 0 n ≡ (get r 0 n || (m == n))
-bit_put r next bits m n shape is below =
-    ap (λ (x : Rows). get x 0 n) is
-    ∙ (get-with_row_same r 0 n (λ j. if j == m then true else get r 0 j) (omega (arith, shape.tall)) (omega (arith, shape.wide, below)) ∙ put_or n m (get r 0 n))
+bit_put r next bits m n shape is below = search (rules, get-with_row_same, put_or)
 
 pub no_bit_set : (r next : Rows) (bits n : ℕ) → HasShape r 2 bits → next ≡ with_row r 0 (λ _. false) → n < bits → get next 0 n ≡ false
-no_bit_set r next bits n shape is below =
-    ap (λ (x : Rows). get x 0 n) is ∙ get-with_row_same r 0 n (λ _. false) (omega (arith, shape.tall)) (omega (arith, shape.wide, below))
+no_bit_set r next bits n shape is below = search (rules, get-with_row_same)
 
 -- ---- the left side of one axiom
 module _ (d : Dict) (dict : IsDict d) (left n : ℕ) where

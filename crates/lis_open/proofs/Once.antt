@@ -1,7 +1,7 @@
 -- Lists in whose places nothing stands twice.
-use Rattle.std.proofs.Common.{eqb, add-one, drop-cons, Ordering, is_lt, Less, Equal, Greater}
+use Rattle.std.proofs.Common.{rules}
+use Rattle.std.proofs.Common.{add-one, drop-cons, Ordering, is_lt}
 use Rattle.lis_open.proofs.Common.{◌≡◌, refl, sym, ap, ap₂, subst, inl, inr, ℕ, ◌+◌, zero, suc, ◌<◌, ◌≤◌, true, ◌&&◌, List, [], ◌∷◌, length, map, take, arith, sum, length-append, ◌⊎◌, ◌∙◌, nat_lt, Bool, false, not, ◌||◌, ◌++◌, get_or, set, drop, length-set, get_or-set_other, slice_get, Some, ⊎_elim, flat_map, eqb-true, ltb-true, list_all, insert_key, Among, among_from_any, are_distinct, cases_lt, among_left, is_taken, marked, are_free, are_below, among_from_number, IsStrictlySortedBy, slice_get_within, Slots, word_cmp, file_cmp, among_place, AreSlots, AllApart, all_among, and_parts, and_from, both_ways, false_from_ne_true, get_or_past, has_number, not_true, slice_get-get_or, flat_map_among, File, cases_eq}
-use Rattle.std.specs.Ordering.{match_ordering}
 use Rattle.std.proofs.lemmas.List.Sums.{sum_by-cons}
 use Rattle.std.proofs.lemmas.Map.Steps.{length-le_from_distinct_below}
 use Rattle.lis_graph.specs.Graph.{is_rising, with_more}
@@ -20,9 +20,7 @@ use Rattle.lis_open.specs.Checks.{IsSlot}
 
 -- ---- numbers below a bound, none of them twice
 pub few_below : (ns : List ℕ) (end : ℕ) → are_distinct ns ≡ true → ((n : ℕ) → Among ns n → n < end) → length ns ≤ end
-few_below ns end distinct below =
-    length-le_from_distinct_below ns end (each_once ns distinct)
-    (λ q is. let found = among_from_any (eqb q) ns is in below q (subst (λ n. Among ns n) (sym (eqb-true q found.0 found.2)) found.1))
+few_below ns end distinct below = search (rules, length-le_from_distinct_below, each_once, among_from_any, eqb-true)
 
 -- ---- a set has no more members than were put into it
 pub more_le : {K : Type 0} (cmp : K → K → Ordering) (xs more : List K) → length (with_more cmp xs more) ≤ length xs + length more
@@ -52,9 +50,7 @@ rising_map cmp other f g (x ∷ xs) same = ap₂ (λ a b. a && b) (all xs) (risi
 -- ---- lists of numbers of which none stands twice, and blocks that are taken
 -- ---- no number twice
 pub apart_first : (n : ℕ) (ns : List ℕ) → are_distinct (n ∷ ns) ≡ true → (Among ns n → ⊥) × (are_distinct ns ≡ true)
-apart_first n ns distinct =
-    let parts = and_parts (not (has_number ns n)) (are_distinct ns) distinct in
-    (λ m. both_ways (has_number ns n) (not_true (has_number ns n) parts.0) (number_from_among ns n m), parts.1)
+apart_first n ns distinct = search (rules, and_parts, both_ways, not_true, number_from_among)
 
 distinct_front : (ms ns : List ℕ) → are_distinct (ms ++ ns) ≡ true → are_distinct ms ≡ true
 distinct_front [] ns distinct = refl
@@ -105,20 +101,10 @@ module _ (start now : List Bool) (ns : List ℕ) (k : ℕ) (lt : k < length ns) 
   at_first = subst (λ left. Marking start now ns left) (drop-cons ns k 0 lt ∙ ap (λ i. get_or ns k 0 ∷ drop i ns) (sym (add-one k))) marking
 
   pub next_free : (get_or ns k 0 < length now) × (is_taken now (get_or ns k 0) ≡ false)
-  next_free =
-      let parts = and_parts (nat_lt (get_or ns k 0) (length now) && not (is_taken now (get_or ns k 0))) (are_free now (drop (k + 1) ns)) at_first.free in
-      let first = and_parts (nat_lt (get_or ns k 0) (length now)) (not (is_taken now (get_or ns k 0))) parts.0 in
-      (ltb-true (get_or ns k 0) (length now) first.0, not_true (is_taken now (get_or ns k 0)) first.1)
+  next_free = search (rules, and_parts, at_first, ltb-true, not_true)
 
   pub marking_on : (after : List Bool) → after ≡ set now (get_or ns k 0) true → Marking start after ns (drop (k + 1) ns)
-  marking_on after is =
-      let parts = and_parts (nat_lt (get_or ns k 0) (length now) && not (is_taken now (get_or ns k 0))) (are_free now (drop (k + 1) ns)) at_first.free in
-      let rest = apart_first (get_or ns k 0) (drop (k + 1) ns) at_first.distinct in
-      record {
-        marks = ap (λ t. marked t (drop (k + 1) ns)) is ∙ at_first.marks;
-        free = ap (λ t. are_free t (drop (k + 1) ns)) is ∙ free_still now (drop (k + 1) ns) (get_or ns k 0) parts.1 rest.0;
-        distinct = rest.1;
-      }
+  marking_on after is = search (rules, and_parts, at_first, apart_first, free_still)
 
 -- ---- lists in whose places nothing stands twice
 -- ---- places of a list
@@ -167,9 +153,7 @@ part_once parts (x ∷ xs) apart (suc j) (suc n) a b k lt is_a is_b has_a has_b 
 module _ {K : Type 0} (cmp : K → K → Ordering) (order : IsTotalOrder cmp) (exact : CmpEqualImpliesEq cmp) where
   -- a member makes a set no longer
   old_member : (xs : List K) (k : K) → IsStrictlySortedBy cmp xs → Among xs k → length (insert_key cmp xs k) ≤ length xs
-  old_member xs k sorted m =
-      members_le cmp order (insert_key cmp xs k) xs (sorted_insert_key cmp order xs k sorted) sorted (λ x in_it.
-      ⊎_elim (λ same. subst (λ j. Among xs j) same m) (λ old. old) (among_insert_key cmp xs k x in_it))
+  old_member xs k sorted m = search (rules, members_le, sorted_insert_key, among_insert_key)
 
   apart_from : (xs more : List K) → IsStrictlySortedBy cmp xs → length (with_more cmp xs more) ≡ length xs + length more → AllApart more × ((k : K) → Among more k → Among xs k → ⊥)
   apart_from xs [] sorted full = (tt, λ k there here. there)
@@ -189,14 +173,7 @@ module _ {K : Type 0} (cmp : K → K → Ordering) (order : IsTotalOrder cmp) (e
 -- a file comes into the list, or the list stays as long
 inserted_or_not : {K : Type 0} (cmp : K → K → Ordering) (xs : List K) (k : K) → Among (insert_key cmp xs k) k ⊎ (length (insert_key cmp xs k) ≡ length xs)
 inserted_or_not cmp [] k = inl (inl refl)
-inserted_or_not cmp (x ∷ xs) k = by (cmp k x) (inserted_or_not cmp xs k)
-  where
-    by : (r : Ordering) → Among (insert_key cmp xs k) k ⊎ (length (insert_key cmp xs k) ≡ length xs)
-        → Among (match_ordering r (k ∷ x ∷ xs) (x ∷ xs) (x ∷ insert_key cmp xs k)) k ⊎ (length (match_ordering r (k ∷ x ∷ xs) (x ∷ xs) (x ∷ insert_key cmp xs k)) ≡ length (x ∷ xs))
-    by Less more = inl (inl refl)
-    by Equal more = inr refl
-    by Greater (inl m) = inl (inr m)
-    by Greater (inr same) = inr (ap suc same)
+inserted_or_not cmp (x ∷ xs) k = search (rules, inserted_or_not cmp xs k)
 
 all_there : {K : Type 0} (cmp : K → K → Ordering) (xs more : List K) → length (with_more cmp xs more) ≡ length xs + length more → (k : K) → Among more k → Among (with_more cmp xs more) k
 all_there cmp xs [] full k m = absurd m

@@ -1,19 +1,18 @@
 -- Images whose first gate is closed: after a recovery, and where bytes before the gates change.
+use Rattle.std.proofs.Common.{rules}
 use Rattle.std.proofs.Common.{get_or-take}
-use Rattle.lis_open.proofs.Common.{◌≡◌, refl, sym, ap, ◌∙◌, subst, ℕ, ◌+◌, ◌*◌, ◌<◌, ◌≤◌, ◌==◌, Bool, true, false, cond, Option, Some, None, is_some, IsSomeAnd, List, [], ◌∷◌, ◌++◌, length, take, drop, get_or, replicate, inl, inr, arith, length-append, length-drop, length-take, list_any, part, Torn, part-torn, part-put, block, Keeps}
+use Rattle.lis_open.proofs.Common.{◌≡◌, refl, sym, ap, ◌∙◌, subst, ℕ, ◌+◌, ◌*◌, ◌<◌, ◌≤◌, ◌==◌, Bool, true, false, cond, Option, Some, IsSomeAnd, List, [], ◌∷◌, length, get_or, replicate, inl, inr, arith, length-append, length-drop, length-take, list_any, part, Torn, part-torn, part-put, block, Keeps}
 use Rattle.lis_ports.specs.Bytes.{put}
 use Rattle.std.proofs.lemmas.Bool.{or_parts}
 use Rattle.std.proofs.lemmas.List.Sums.{prefix_len_is}
 use Rattle.lis_ports.proofs.Parts.{part-put_other}
-use Rattle.lis_journal.specs.Record.{gates, is_open, has_open, open_count, first_bad, all_recorded, apply, bad_record, gates_closed, recovered_as, replayed, recovered}
+use Rattle.lis_journal.specs.Record.{gates, is_open, has_open, open_count, all_recorded, apply, bad_record, gates_closed, recovered_as, replayed, recovered}
 use Rattle.lis_journal.specs.Images.{StandsFor}
 use Rattle.lis_journal.proofs.Fitting.{replayed_parts}
 
 -- ---- the first gate
 first_gate : (image : List ℕ) → is_open 0 image ≡ (get_or (part 4096 1 image) 0 0 == 1)
-first_gate image =
-    ap (λ gate. gate == 1)
-    (get_or-take 64 (drop 4096 image) 0 0 (omega arith) ∙ sym (get_or-take 1 (drop 4096 image) 0 0 (omega arith)))
+first_gate image = search (rules, get_or-take)
 
 none_first : (gates_are : List ℕ) → list_any (λ gate. gate == 1) gates_are ≡ false → (get_or gates_are 0 0 == 1) ≡ false
 none_first [] none = refl
@@ -27,8 +26,7 @@ none_open image shut = prefix_len_is (λ gate. gate == 1) (gates image) 0 0 (ome
 -- and the image is its own replayed image
 pub shut_replays : (blocks : ℕ) (image : List ℕ) → is_open 0 image ≡ false → replayed blocks image ≡ Some image
 unfolding replayed bad_record
-shut_replays blocks image shut =
-    ap (λ n. cond (is_some (first_bad blocks 2 n image)) None (Some (apply (all_recorded 2 n image) image))) (none_open image shut)
+shut_replays blocks image shut = search (rules, none_open)
 
 -- ---- what it keeps
 pub shut_keeps : (blocks : ℕ) (kept : ℕ → List ℕ) (image : List ℕ) → is_open 0 image ≡ false → StandsFor blocks kept image → Keeps blocks kept image
@@ -37,9 +35,7 @@ shut_keeps blocks kept image shut stands = subst (λ (o : Option (List ℕ)). Is
 
 pub shut_stands : (blocks : ℕ) (image : List ℕ) → is_open 0 image ≡ false → 4096 * blocks ≤ length image → StandsFor blocks (λ n. block n image) image
 unfolding StandsFor
-shut_stands blocks image shut long =
-    let keeps : Keeps blocks (λ n. block n image) image = record { long = long; same = λ n out. refl } in
-    (long, subst (λ (o : Option (List ℕ)). IsSomeAnd o (Keeps blocks (λ n. block n image))) (sym (shut_replays blocks image shut)) keeps)
+shut_stands blocks image shut long = search (rules, shut_replays)
 
 -- what is torn before the gates leaves them as they are
 pub shut_torn : (at n : ℕ) (from image : List ℕ) → at + n ≤ 4096 → Torn at n from image → is_open 0 from ≡ false → is_open 0 image ≡ false
@@ -50,14 +46,7 @@ shut_torn at n from image low torn shut =
 -- what is longer than the end of what was put there was so before
 put_long : (xs : List ℕ) (at : ℕ) (bytes : List ℕ) → at + length bytes < length (put xs at bytes) → at + length bytes ≤ length xs
 unfolding put
-put_long xs at bytes long = omega (
-  arith,
-  long,
-  length-append (take at xs ++ bytes) (drop (at + length bytes) xs),
-  length-append (take at xs) bytes,
-  length-take at xs,
-  length-drop (at + length bytes) xs,
-)
+put_long xs at bytes long = search (rules, length-append, length-take, length-drop)
 
 rest_closed : (image : List ℕ) → 4160 < length (put image 4097 (replicate 63 0)) → (4160 ≤ length image) × (is_open 0 (put image 4097 (replicate 63 0)) ≡ is_open 0 image)
 rest_closed image long =

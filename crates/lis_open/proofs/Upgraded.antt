@@ -1,6 +1,7 @@
 -- A state of version 1 and what memory keeps of it, in another version: the same in all but the limits.
+use Rattle.std.proofs.Common.{rules}
 use Rattle.std.proofs.Common.{take-append-drop}
-use Rattle.lis_open.proofs.Common.{◌≡◌, sym, ap, ◌∙◌, subst, ℕ, ◌+◌, ◌≤◌, ◌&&◌, nat_lt, nat_le, true, is_some, Some, List, length, map, slice_get, sum, IsTrue, arith, ◌⊎◌, refl, ap₂, inl, inr, ◌*◌, ◌==◌, Bool, false, [], ◌∷◌, ◌++◌, take, drop, Result, Ok, Err, if◌then◌else◌, eq-eqb, le-leb, drop-drop, Contains, leb-true, ne_eqb, list_all, among_from_contains, Filed, rec_at, are_distinct, Dict, word_of, FileRecord, SpellsSuper, is_record, Pair, Used, data_start, State, blocks_needed, description, WellFormed, Kept, AreSound, blocks_told, Tells, Meaning, part, Torn, Always, IsSettled, Leaves, part-torn, part-put, block, Keeps, Spreads, Limits, image_blocks, Stored, IsSound, and_parts, and_from, has_number, all_among, File, IsWritten, put, always_settled, leaves_then, leaves_weaken, replayed, recovered, ⊎_map}
+use Rattle.lis_open.proofs.Common.{◌≡◌, sym, ap, ◌∙◌, subst, ℕ, ◌+◌, ◌≤◌, nat_le, true, Some, List, length, map, slice_get, sum, IsTrue, arith, ◌⊎◌, refl, ap₂, inl, inr, ◌*◌, ◌==◌, Bool, false, [], ◌∷◌, ◌++◌, take, drop, Result, Ok, Err, if◌then◌else◌, eq-eqb, le-leb, drop-drop, Contains, leb-true, list_all, among_from_contains, Filed, rec_at, are_distinct, Dict, FileRecord, SpellsSuper, Pair, data_start, State, description, WellFormed, Kept, AreSound, blocks_told, Tells, Meaning, part, Torn, Always, IsSettled, Leaves, part-torn, part-put, block, Keeps, Spreads, Limits, image_blocks, Stored, IsSound, and_parts, and_from, has_number, all_among, File, IsWritten, put, always_settled, leaves_then, leaves_weaken, replayed, recovered, ⊎_map}
 use Rattle.lis_store.specs.Stands.{Stands}
 use Rattle.std.proofs.lemmas.Bool.{cond-false}
 use Rattle.lis_content.proofs.Indexes.{small_size}
@@ -46,16 +47,10 @@ are_short most files = IsTrue (list_all (λ (file : File). nat_le (length file.b
 
 used_alike : (files : List File) → are_short 65536 files
     → sum (map (λ (file : File). blocks_taken 2 (length file.bytes)) files) ≡ sum (map (λ (file : File). blocks_taken 1 (length file.bytes)) files)
-used_alike files short =
-    ap sum (map_all (λ (file : File). blocks_taken 2 (length file.bytes)) (λ (file : File). blocks_taken 1 (length file.bytes)) files (λ file m.
-    cond-false (nat_lt 16 (blocks_needed (length file.bytes))) (blocks_needed (length file.bytes) + 1) (blocks_needed (length file.bytes))
-    (small_size (length file.bytes) (leb-true (length file.bytes) 65536 (all_among (λ (f : File). nat_le (length f.bytes) 65536) files file short m)))))
+used_alike files short = search (rules, map_all, cond-false, small_size, leb-true, all_among)
 
 longer : (files : List File) → are_short 65536 files → are_short 1048576 files
-longer files short =
-    all_weaker (λ (file : File). nat_le (length file.bytes) 65536) (λ (file : File). nat_le (length file.bytes) 1048576) files (λ file m le.
-    let few = leb-true (length file.bytes) 65536 le in
-    le-leb (length file.bytes) 1048576 (omega (arith, few))) short
+longer files short = search (rules, all_weaker, leb-true, le-leb)
 
 pub formed_upgraded : (s : State) → s.limits.version ≡ 1 → WellFormed s → WellFormed (state_in 2 s)
 formed_upgraded s one formed =
@@ -67,12 +62,7 @@ formed_upgraded s one formed =
 
 -- ---- what memory keeps
 record_upgraded : (dict : Dict) (blocks : ℕ) (rec : FileRecord) → IsTrue (is_sound_record 1 dict blocks rec) → IsTrue (is_sound_record 2 dict blocks rec)
-record_upgraded dict blocks rec sound =
-    let tagged = list_all (λ n. is_some (word_of dict n)) rec.tags in
-    let within = list_all (λ n. nat_lt n blocks) rec.blocks in
-    let all = and_parts (is_record 1 rec && tagged) within sound in
-    let two = and_parts (is_record 1 rec) tagged all.0 in
-    and_from (is_record 2 rec && tagged) within (and_from (is_record 2 rec) tagged (file_upgraded (Used rec) two.0) two.1) all.1
+record_upgraded dict blocks rec sound = search (rules, and_parts, and_from, file_upgraded)
 
 pub sound_upgraded : (k : Kept) → k.limits.version ≡ 1 → AreSound k → AreSound (kept_in 2 k)
 sound_upgraded k one sound = assumption (upgraded_in_range k.limits sound.range, axioms, records)
@@ -121,17 +111,12 @@ module _ (version : ℕ) (k : Kept) (at there : ℕ → List ℕ) (sound : AreSo
 -- the fault of an answer that was handed on
 pub fault_of : {S T : Type 0} {result : Result T OpenFault} {fault given other : OpenFault} → result ≡ Err fault → fault ≡ given → result ≡ Err other
     → ◌≡◌ {A = Result S OpenFault} (Err given) (Err other)
-fault_of {T = T} {fault = fault} {other = other} was is told =
-    let both : ◌≡◌ {A = Result T OpenFault} (Err fault) (Err other) = sym was ∙ told in
-    let same : fault ≡ other = cc in
-    ap Err (sym is ∙ same)
+fault_of {T = T} {fault = fault} {other = other} was is told = search (rules, was)
 
 -- and the answer of that fault
 pub handed_on : {S T : Type 0} {result : Result T OpenFault} {fault given other : OpenFault} → result ≡ Err fault → fault ≡ given → ◌≡◌ {A = Result S OpenFault} (Err given) (Err other)
     → result ≡ Err other
-handed_on {given = given} {other = other} was is told =
-    let same : given ≡ other = cc in
-    was ∙ ap Err (is ∙ same)
+handed_on {given = given} {other = other} was is told = search (rules, was)
 
 pub not_refused : {S : Type 0} {done : S} {fault : OpenFault} → ◌≡◌ {A = Result S OpenFault} (Ok done) (Err fault) → ⊥
 not_refused is = cc
@@ -199,8 +184,7 @@ module _ (k : Stored) (m : Meaning) (s : State) (sound : IsSound k) (fits : Stor
 -- ---- runs
 pub opening_moments : {old mid : Meaning} (t : State) → Leaves old mid (λ image. old.images image ⊎ Stands image t)
     → Leaves old mid (λ image. old.images image ⊎ (Stands image t ⊎ Stands image (upgraded t)))
-opening_moments {old} t moments =
-    leaves_weaken (λ image. old.images image ⊎ (Stands image t ⊎ Stands image (upgraded t))) moments (λ image. ⊎_map (λ is. is) (λ stands. inl stands))
+opening_moments {old} t moments = search (rules, leaves_weaken)
 
 module _ (old mid : Meaning) (k : Stored) (sound : IsSound k) (ended : OpenEnded old mid (Ok k)) (left : OpenLeft old mid (Ok k)) where
   abbrev s : State
@@ -253,8 +237,7 @@ module _ (old mid : Meaning) (k : Stored) (sound : IsSound k) (ended : OpenEnded
 
     -- and of an image of version 1 its gate is put
     pub first_left : {new : Meaning} → IsSettled new (put mid.bytes 24 (2 ∷ [])) → GateLeft old new
-    first_left {new} written =
-        gate_left false (ne_eqb left.0.version 2 (λ e. omega (arith, e, version_told, one))) (subst (λ bytes. IsSettled new (put bytes 24 (2 ∷ []))) left.2.reads written)
+    first_left {new} written = search (rules, gate_left, version_told)
 
     -- at each moment it stands for the state as before, or in version 2
     gate_moments : {new : Meaning} → Spreads mid new (Torn 24 1) → Leaves mid new (λ image. Stands image s ⊎ Stands image (upgraded s))

@@ -1,5 +1,5 @@
-use Rattle.lis_open.proofs.Common.{◌∙◌, refl, sym, inl, inr, false, [], below_more, arith, cases_lt, get, number_from_word, number_below}
-use Rattle.lis_open.specs.ReadAll.{kept_in, is_stray}
+use Rattle.lis_open.proofs.Common.{◌∙◌, refl, sym, inl, inr, [], below_more, arith, cases_lt, get, number_from_word, number_below}
+use Rattle.lis_open.specs.ReadAll.{kept_in}
 use Rattle.lis_open.proofs.Descriptions.{sides}
 use Rattle.lis_open.proofs.Lefts.{stray_by_row, no_stray_past}
 use Rattle.lis_open.proofs.checks.check_words.Goals as goal
