@@ -4,8 +4,6 @@
 mod across;
 mod flags;
 mod rows;
-#[cfg(test)]
-mod tests;
 mod words;
 
 pub use across::{and_not_row, and_row, copy_row, meets, within};

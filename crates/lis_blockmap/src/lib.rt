@@ -2,7 +2,5 @@
 #![tactic(auto)]
 
 mod block_map;
-#[cfg(test)]
-mod tests;
 
 pub use block_map::BlockMap;

@@ -2,7 +2,5 @@
 #![tactic(auto)]
 
 mod catalog;
-#[cfg(test)]
-mod tests;
 
 pub use catalog::{Catalog, CatalogFault};

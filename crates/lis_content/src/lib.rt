@@ -7,8 +7,6 @@ mod content;
 mod fault;
 mod large;
 mod placing;
-#[cfg(test)]
-mod tests;
 
 pub use buffer::Buffer;
 pub use content::{drop_file, put, read};

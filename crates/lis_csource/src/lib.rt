@@ -13,6 +13,3 @@ mod source;
 mod words;
 
 pub use source::source_props;
-
-#[cfg(test)]
-mod tests;

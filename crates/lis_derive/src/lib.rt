@@ -7,6 +7,3 @@ mod size;
 mod suffix;
 
 pub use derive::derive_words;
-
-#[cfg(test)]
-mod tests;

@@ -2,7 +2,5 @@
 #![tactic(auto)]
 
 mod dict;
-#[cfg(test)]
-mod tests;
 
 pub use dict::{Dict, NoPropertyRoom};

@@ -3,7 +3,5 @@
 
 mod ext;
 mod tables;
-#[cfg(test)]
-mod tests;
 
 pub use ext::Ext;

@@ -8,8 +8,6 @@ mod files;
 mod props;
 mod slots;
 mod super_block;
-#[cfg(test)]
-mod tests;
 
 pub use axioms::{AXIOM_LEN, read_axiom, write_axiom};
 pub use files::{FILE_LEN, read_file, write_file};

@@ -10,8 +10,6 @@ mod read;
 mod reader;
 mod resolution;
 mod signs;
-#[cfg(test)]
-mod tests;
 
 pub use fault::FormulaFault;
 pub use laws::{one_reading, places_stay, printed_reads, reading_is_fit, text_is_read};

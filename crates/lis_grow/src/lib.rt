@@ -10,6 +10,3 @@ pub mod summary;
 mod summing;
 
 pub use source::GrowSource;
-
-#[cfg(test)]
-mod tests;

@@ -15,5 +15,3 @@ pub mod room;
 pub mod stock;
 pub mod tagged;
 pub mod taken;
-#[cfg(test)]
-mod tests;

@@ -8,6 +8,3 @@ mod tokens;
 mod words;
 
 pub use mail::mail_props;
-
-#[cfg(test)]
-mod tests;

@@ -10,6 +10,3 @@ mod mem_station;
 
 pub use file_station::FileStation;
 pub use mem_station::MemStation;
-
-#[cfg(test)]
-mod tests;

@@ -2,7 +2,5 @@
 #![tactic(auto)]
 
 mod region;
-#[cfg(test)]
-mod tests;
 
 pub use region::{Frame, Region};

@@ -3,7 +3,5 @@
 
 mod tables;
 mod taxonomy;
-#[cfg(test)]
-mod tests;
 
 pub use taxonomy::{EdgeFault, Taxonomy};

@@ -9,6 +9,8 @@ mod failures;
 #[cfg(test)]
 mod first_fault;
 #[cfg(test)]
+mod grow_source;
+#[cfg(test)]
 mod growing;
 #[cfg(test)]
 mod images;

@@ -1,4 +1,6 @@
-use crate::BlockMap;
+//! Blocks taken and given, and the first bit that differs.
+
+use lis_blockmap::BlockMap;
 use std::test::Fail;
 
 #[test]

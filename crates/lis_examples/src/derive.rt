@@ -1,6 +1,6 @@
 //! Files and the words that are derived from them, worked out by hand.
 
-use crate::derive_words;
+use lis_derive::derive_words;
 use lis_words::read_name;
 use std::alloc::{AllocError, Global};
 use std::test::Fail;

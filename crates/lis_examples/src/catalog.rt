@@ -1,5 +1,7 @@
-use crate::{Catalog, CatalogFault};
+//! Files by name and by slot.
+
 use arrayvec::ArrayVec;
+use lis_catalog::{Catalog, CatalogFault};
 use lis_fields::FileRec;
 use lis_words::read_name;
 use std::process::Abort;

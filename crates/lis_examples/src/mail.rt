@@ -1,6 +1,6 @@
 //! Mails and the words that they give, as another program that was written apart from this one computed them.
 
-use crate::mail_props;
+use lis_mail::mail_props;
 use lis_model::derived::Derived;
 use std::alloc::{AllocError, Global};
 use std::test::Fail;

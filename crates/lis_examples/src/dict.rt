@@ -1,4 +1,6 @@
-use crate::{Dict, NoPropertyRoom};
+//! Words and their numbers.
+
+use lis_dict::{Dict, NoPropertyRoom};
 use lis_words::read_word;
 use std::test::Fail;
 

@@ -1,8 +1,10 @@
+//! What was put is read back, of small files and of large ones.
+
 ghost use Rattle.std.specs.Prelude.{◌≡◌, ◌+◌, ◌*◌, ◌<◌, ◌≤◌, length, IfOk};
 ghost use Rattle.lis_memdisk.specs.MemStation.{meaning_of};
 
-use crate::{PutFault, drop_file, drop_large, place_file, put, read, read_block};
 use lis_blockmap::BlockMap;
+use lis_content::{PutFault, drop_file, drop_large, place_file, put, read, read_block};
 use lis_journal::Journal;
 use lis_memdisk::MemStation;
 use std::alloc::{AllocError, Global};

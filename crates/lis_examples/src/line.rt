@@ -2,9 +2,8 @@
 
 ghost use Rattle.std.specs.Prelude.{◌≡◌, false};
 
-use crate::ahead::lies_whole;
-use crate::input::InputItem;
-use crate::reader::{Item, LineReader, Next, Payload};
+use lis_line::input::InputItem;
+use lis_line::reader::{Item, LineReader, Next, Payload};
 use lis_model::command::Command;
 use lis_model::refusal::number;
 use lis_ports::{Failed, MemSource, Source};
@@ -89,7 +88,7 @@ static ROOMS: [(&str, u64, &str); 8] = [
     ("@1 ls;@2 add f 1;x;", 19, "1other,2add 1 x,-end,"),
 ];
 
-/// Bytes, and whether an item lies whole in them. Here `*` stands for 1,024 blanks, as many bytes as a line may have.
+/// Bytes behind a command, and whether an item lies whole in them. Here `*` stands for 1,024 blanks, as many bytes as a line may have.
 static FRONTS: [(&str, bool); 28] = [
     ("", false),
     (";", false),
@@ -163,14 +162,18 @@ fn note(row: &mut String, item: &Item, payload: &Payload) -> Result<(), AllocErr
 }
 
 fn input_of(alloc: Global, row: &str, step: usize) -> Result<MemSource, AllocError> {
-    Ok(MemSource {
-        bytes: bytes_of(alloc, row)?,
+    Ok(source_of(bytes_of(alloc, row)?, step))
+}
+
+fn source_of(bytes: Vec<u8>, step: usize) -> MemSource {
+    MemSource {
+        bytes,
         place: 0,
         step: step.max(1),
         fail_at: None,
         faults: 0,
         behind: 0,
-    })
+    }
 }
 
 // The next item, in the way of a loop whose carrier may hold things back.
@@ -272,9 +275,15 @@ fn items_of_rooms_are_the_same_in_any_pieces(rt: HostRuntime) -> Result<(), Fail
 
 #[test]
 fn an_item_lies_whole_where_nothing_behind_it_can_change_it(rt: HostRuntime) -> Result<(), Fail> {
+    let mut payload = Payload::new(rt.alloc())?;
     for (row, wanted) in &FRONTS {
-        let bytes = bytes_of(rt.alloc(), row)?;
-        assert_eq!(rt; lies_whole(&bytes), *wanted, "{row}");
+        let mut bytes = bytes_of(rt.alloc(), "ls;")?;
+        bytes.extend_from_slice(&bytes_of(rt.alloc(), row)?)?;
+        let mut input = source_of(bytes, 4_096);
+        let mut reader = LineReader::new(99_999);
+        let first = reader.next(&mut input, &mut payload);
+        assert!(rt; matches!(first, Ok(Item::Command(Command::Ls))), "{row}");
+        assert_eq!(rt; reader.lies_whole(), *wanted, "{row}");
     }
     Ok(())
 }

@@ -1,6 +1,6 @@
 //! Sources and the words that they give, as another program that was written apart from this one computed them.
 
-use crate::source_props;
+use lis_csource::source_props;
 use lis_model::derived::Derived;
 use std::alloc::{AllocError, Global};
 use std::test::Fail;

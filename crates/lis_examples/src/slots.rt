@@ -1,9 +1,11 @@
+//! Slots kept over a commit.
+
 ghost use Rattle.std.specs.Prelude.{◌≡◌, ◌*◌, ◌<◌, ◌≤◌, length, IfOk};
 ghost use Rattle.lis_memdisk.specs.MemStation.{meaning_of};
 
-use crate::Slots;
 use lis_journal::Journal;
 use lis_memdisk::MemStation;
+use lis_slots::Slots;
 use std::alloc::{AllocError, Global};
 use std::test::Fail;
 

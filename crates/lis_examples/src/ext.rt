@@ -1,4 +1,6 @@
-use crate::Ext;
+//! Which rows a change of a description touches.
+
+use lis_ext::Ext;
 use std::test::Fail;
 
 #[test]

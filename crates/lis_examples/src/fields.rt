@@ -1,6 +1,6 @@
 //! Spellings that were worked out by hand, read and written back.
 
-use crate::{
+use lis_fields::{
     AxiomSlot, FileSlot, PropSlot, read_axiom, read_file, read_prop, read_super, write_axiom,
     write_file, write_prop, write_super,
 };

@@ -1,6 +1,6 @@
 //! Sessions against how many bytes another program made, written apart from this one, and what their sum was.
 
-use crate::GrowSource;
+use lis_grow::GrowSource;
 use lis_ports::Source;
 
 /// A number, how many bytes its session has, and their sum, each weighed by its place.

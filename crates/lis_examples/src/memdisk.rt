@@ -1,6 +1,6 @@
 //! What a crash leaves after each call, how each field makes calls fail, and that a real file is read and written.
 
-use super::*;
+use lis_memdisk::{FileStation, MemStation};
 use lis_ports::{Disk, Failed, Station};
 use std::fs::{self, OpenOptions};
 use std::test::Fail;

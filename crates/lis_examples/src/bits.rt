@@ -1,4 +1,6 @@
-use crate::{Flags, Rows, and_not_row, and_row, copy_row, meets, within};
+//! Rows of bits: finding, counting and joining.
+
+use lis_bits::{Flags, Rows, and_not_row, and_row, copy_row, meets, within};
 use std::test::Fail;
 
 #[test]

@@ -1,6 +1,6 @@
 //! Formula texts and their answers, as the grammar gives them by generating formula texts, and not by reading them.
 
-use crate::{FormulaFault, print, read_formula, resolve};
+use lis_formula::{FormulaFault, print, read_formula, resolve};
 use lis_place::Place;
 
 /// Every formula of at most three bytes over the word `a`, the signs and the parentheses: the text, whether it is rooted,

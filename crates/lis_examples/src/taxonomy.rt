@@ -1,6 +1,8 @@
+//! Edges beside a plain list and a plain search.
+
 ghost use Rattle.std.specs.Prelude.{◌≡◌, ◌<◌};
 
-use crate::{EdgeFault, Taxonomy};
+use lis_taxonomy::{EdgeFault, Taxonomy};
 use std::alloc::AllocError;
 use std::test::Fail;
 

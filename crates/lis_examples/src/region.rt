@@ -1,4 +1,6 @@
-use crate::Region;
+//! Frames, each handed out once.
+
+use lis_region::Region;
 use std::test::Fail;
 
 #[test]

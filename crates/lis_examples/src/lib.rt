@@ -1,0 +1,37 @@
+//! Worked examples of the lower crates: what each public call gives, by hand or by another program. All here are tests.
+#![tactic(auto)]
+
+#[cfg(test)]
+mod bits;
+#[cfg(test)]
+mod blockmap;
+#[cfg(test)]
+mod catalog;
+#[cfg(test)]
+mod content;
+#[cfg(test)]
+mod csource;
+#[cfg(test)]
+mod derive;
+#[cfg(test)]
+mod dict;
+#[cfg(test)]
+mod ext;
+#[cfg(test)]
+mod fields;
+#[cfg(test)]
+mod formula;
+#[cfg(test)]
+mod line;
+#[cfg(test)]
+mod mail;
+#[cfg(test)]
+mod memdisk;
+#[cfg(test)]
+mod ports;
+#[cfg(test)]
+mod region;
+#[cfg(test)]
+mod slots;
+#[cfg(test)]
+mod taxonomy;
