@@ -2,7 +2,7 @@ use Rattle.std.proofs.Common.{◌≡◌, ◌+◌, ◌≤◌, false, length, ap, 
 use Rattle.std.proofs.lemmas.List.{length-replicate}
 use Rattle.lis_journal.specs.Journal.{Held}
 use Rattle.lis_content.proofs.Numbers.{below_from_taken, within_if_below}
-use Rattle.lis_content.proofs.tests.reads_back.Goals as goal
+use Rattle.lis_examples.proofs.content.reads_back.Goals as goal
 
 pub read-requires-clause-within : goal.read-requires-clause-within
 read-requires-clause-within c =

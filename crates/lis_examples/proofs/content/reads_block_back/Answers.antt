@@ -2,7 +2,7 @@ use Rattle.std.proofs.Common.{◌≡◌, ◌+◌, ◌≤◌, false, length, ap, 
 use Rattle.std.proofs.lemmas.List.{length-replicate}
 use Rattle.lis_journal.specs.Journal.{Held}
 use Rattle.lis_content.proofs.Files.{slot_within}
-use Rattle.lis_content.proofs.tests.reads_block_back.Goals as goal
+use Rattle.lis_examples.proofs.content.reads_block_back.Goals as goal
 
 pub read_block-requires-clause-within : goal.read_block-requires-clause-within
 read_block-requires-clause-within c =
