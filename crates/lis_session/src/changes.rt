@@ -58,8 +58,8 @@ pub(crate) fn change<D: Disk>(
     match command {
         Command::Mkdir(word) => store.declare(disk, place, word),
         Command::Rmdir(word) => store.undeclare(disk, word),
-        Command::Axiom(left, right) => store.axiom(disk, scratch, left, right),
-        Command::Unaxiom(left, right) => store.unaxiom(disk, scratch, left, right),
+        Command::Axiom(left, right) => store.axiom(disk, left, right),
+        Command::Unaxiom(left, right) => store.unaxiom(disk, left, right),
         Command::Create(name, tags) => {
             // To create a file is to add one without bytes.
             create_is_add();
@@ -103,8 +103,8 @@ pub(crate) fn hold<D: Disk>(
     match command {
         Command::Mkdir(word) => store.declare_held(disk, place, word),
         Command::Rmdir(word) => store.undeclare_held(disk, word),
-        Command::Axiom(left, right) => store.axiom_held(disk, scratch, left, right),
-        Command::Unaxiom(left, right) => store.unaxiom_held(disk, scratch, left, right),
+        Command::Axiom(left, right) => store.axiom_held(disk, left, right),
+        Command::Unaxiom(left, right) => store.unaxiom_held(disk, left, right),
         Command::Create(name, tags) => {
             // To create a file is to add one without bytes.
             create_is_add();

@@ -5,7 +5,6 @@ ghost use Rattle.lis_ports.specs.Calls.{DiskFaultEnds};
 ghost use Rattle.lis_ports.specs.Runs.{IsDiskRun};
 ghost use Rattle.lis_model.specs.declared.refusal.Refusal.{Refusal};
 ghost use Rattle.lis_model.specs.Step.{Situation, unaxiom};
-ghost use Rattle.lis_eval.specs.Room.{HasRoom};
 ghost use Rattle.lis_model.specs.State.{State};
 ghost use Rattle.lis_store.specs.declared.change.Change.TheVariants.{Refused};
 ghost use Rattle.lis_store.specs.Stored.{IsSound, StoreFits, StoreHolds};
@@ -16,7 +15,6 @@ use crate::lessening::take_axiom;
 use crate::relating::axiom_numbers;
 use crate::saving::{MOST_HELD, hold};
 use crate::store::Store;
-use lis_eval::Scratch;
 use lis_model::refusal::Refusal;
 use lis_ports::Disk;
 use lis_words::Word;
@@ -26,14 +24,11 @@ impl Store {
     pub fn unaxiom<D: Disk>(
         &mut self,
         disk: &mut D,
-        scratch: &mut Scratch,
         left: &Word,
         right: &Word,
     ) -> Result<(), Change>
-        requires scratch { HasRoom scratch.old self.old.parts.limits }
         requires unbroken { self.old.is_broken ≡ false }
         requires long { 4096 * self.old.journal.blocks ≤ (D.meaning disk.old).len }
-        ensures scratch { HasRoom scratch.new self.old.parts.limits }
         ensures changes { (now : Situation) → StoreFits self.old (D.meaning disk.old) now.state
             → Changes now (unaxiom now (left.now, right.now)) self.new (D.meaning disk.old) (D.meaning disk.new) result }
         ensures untouched { (refusal : Refusal) → result ≡ Err (Refused refusal) → disk.new ≡ disk.old }
@@ -47,7 +42,7 @@ impl Store {
         ensures cause { HasChangeCause (D.meaning disk.old).disk_faults (D.meaning disk.new).disk_faults result }
         ensures first_fault { DiskFaultEnds (D.meaning disk.old) (D.meaning disk.new) }
     {
-        self.unaxiom_held(disk, scratch, left, right)?;
+        self.unaxiom_held(disk, left, right)?;
         self.commit(disk)
     }
 
@@ -55,14 +50,11 @@ impl Store {
     pub fn unaxiom_held<D: Disk>(
         &mut self,
         disk: &mut D,
-        scratch: &mut Scratch,
         left: &Word,
         right: &Word,
     ) -> Result<(), Change>
-        requires scratch { HasRoom scratch.old self.old.parts.limits }
         requires unbroken { self.old.is_broken ≡ false }
         requires long { 4096 * self.old.journal.blocks ≤ (D.meaning disk.old).len }
-        ensures scratch { HasRoom scratch.new self.old.parts.limits }
         ensures holds { (base : State) (now : Situation) → StoreHolds self.old (D.meaning disk.old) base now.state
             → Holds base now (unaxiom now (left.now, right.now)) self.new (D.meaning disk.old) (D.meaning disk.new) result }
         ensures untouched { (refusal : Refusal) → result ≡ Err (Refused refusal) → disk.new ≡ disk.old }
