@@ -3,13 +3,13 @@ use Rattle.std.proofs.Common.{◌≡◌, ◌⊎◌, ℕ, ◌+◌, ◌-◌, ◌<�
 use Rattle.std.proofs.lemmas.Bool.{and_from, false≢true, not_from_false, ne_eqb}
 use Rattle.std.proofs.lemmas.List.{append_cancel_right, take-append-drop}
 use Rattle.memchr.specs.Find.{IsFirstByte, IsLastByte, is_byte}
-use Rattle.lis_transducers.specs.Bytes.{is_feed}
 use Rattle.lis_model.specs.Replies.{line}
-use Rattle.lis_views.specs.Lines.{Lines, joined, has_no_feed, byte_before, before, lines_of}
+use Rattle.lis_views.specs.Lines.{Lines, joined_lines, has_no_feed, byte_before, before, lines_of}
 use Rattle.lis_views.proofs.Cutting.{lines, line_cut, joined_cut, cut_content}
 use Rattle.lis_cuts.specs.Cuts.{IsFirst, IsClosed, IsTrimmed}
 use Rattle.lis_cuts.specs.Returns.{are_none}
 use Rattle.lis_cuts.proofs.Places.{before_first_place, cut_at_first, none_at_last, behind_last_place, front_at_last, last_apart}
+use Rattle.lis_words.specs.Bytes.{is_feed}
 
 -- ---- bytes behind a closed front
 byte_closed : (b : ℕ) (texts : List (List ℕ)) (o : Bool) (more : Lines) → (byte_before b texts o).is_open ≡ false
@@ -111,28 +111,28 @@ first_at bytes text rest k found front back = record {
 }
 
 -- ---- without the last line feed
-closed_joined : (text : List ℕ) (texts : List (List ℕ)) → joined false (text ∷ texts) ≡ joined true (text ∷ texts) ++ 10 ∷ []
+closed_joined : (text : List ℕ) (texts : List (List ℕ)) → joined_lines false (text ∷ texts) ≡ joined_lines true (text ∷ texts) ++ 10 ∷ []
 closed_joined text [] = refl
 closed_joined text (next ∷ texts) =
-    ap (λ xs. line text ++ xs) (closed_joined next texts) ∙ sym (append_assoc (line text) (joined true (next ∷ texts)) (10 ∷ []))
+    ap (λ xs. line text ++ xs) (closed_joined next texts) ∙ sym (append_assoc (line text) (joined_lines true (next ∷ texts)) (10 ∷ []))
 
-pub trimmed_joined : (bytes trimmed : List ℕ) → IsTrimmed bytes trimmed → trimmed ≡ joined true (lines_of bytes).texts
+pub trimmed_joined : (bytes trimmed : List ℕ) → IsTrimmed bytes trimmed → trimmed ≡ joined_lines true (lines_of bytes).texts
 trimmed_joined bytes trimmed t = elim t [ inl e ↦ closed e | inr e ↦ sym e.0 ∙ open_by e.1 ]
   where
-    closed_by : (texts : List (List ℕ)) → trimmed ++ 10 ∷ [] ≡ joined false texts → 0 < length texts → trimmed ≡ joined true texts
+    closed_by : (texts : List (List ℕ)) → trimmed ++ 10 ∷ [] ≡ joined_lines false texts → 0 < length texts → trimmed ≡ joined_lines true texts
     closed_by [] e some = absurd (omega arith)
-    closed_by (text ∷ texts) e some = append_cancel_right trimmed (joined true (text ∷ texts)) (10 ∷ []) (e ∙ closed_joined text texts)
+    closed_by (text ∷ texts) e some = append_cancel_right trimmed (joined_lines true (text ∷ texts)) (10 ∷ []) (e ∙ closed_joined text texts)
 
-    closed : bytes ≡ trimmed ++ 10 ∷ [] → trimmed ≡ joined true (lines_of bytes).texts
+    closed : bytes ≡ trimmed ++ 10 ∷ [] → trimmed ≡ joined_lines true (lines_of bytes).texts
     closed e =
         closed_by (lines_of bytes).texts
-        (sym e ∙ sym (cut_content bytes) ∙ ap (λ o. joined o (lines_of bytes).texts) (ap (λ xs. (lines_of xs).is_open) e ∙ feed_closed trimmed))
+        (sym e ∙ sym (cut_content bytes) ∙ ap (λ o. joined_lines o (lines_of bytes).texts) (ap (λ xs. (lines_of xs).is_open) e ∙ feed_closed trimmed))
         (some_texts bytes (subst (λ xs. 0 < length xs) (sym e) (behind_some trimmed 10)))
 
-    open_by : (bytes ≡ []) ⊎ ((lines_of bytes).is_open ≡ true) → bytes ≡ joined true (lines_of bytes).texts
+    open_by : (bytes ≡ []) ⊎ ((lines_of bytes).is_open ≡ true) → bytes ≡ joined_lines true (lines_of bytes).texts
     open_by e = elim e [
-      | inl none ↦ none ∙ sym (ap (λ xs. joined true (lines_of xs).texts) none)
-      | inr is_open ↦ sym (cut_content bytes) ∙ ap (λ o. joined o (lines_of bytes).texts) is_open
+      | inl none ↦ none ∙ sym (ap (λ xs. joined_lines true (lines_of xs).texts) none)
+      | inr is_open ↦ sym (cut_content bytes) ∙ ap (λ o. joined_lines o (lines_of bytes).texts) is_open
     ]
 
 -- ---- the last line

@@ -4,11 +4,11 @@ use Rattle.std.specs.List.{list_all, AllByRecursion}
 use Rattle.std.proofs.lemmas.Bool.{not_from_false, ne_eqb}
 use Rattle.lis_words.specs.Words.{same_word}
 use Rattle.lis_transducers.specs.Bytes.{but_first}
-use Rattle.lis_transducers.specs.Lines.{is_some_bytes}
 use Rattle.lis_views.specs.Lines.{ends_in_some}
 use Rattle.lis_views.specs.Views.{mark_of}
 use Rattle.lis_views.specs.Edits.{is_kept, is_end, has_end, before_end, marked, run_at, texts_at, new_texts}
 use Rattle.lis_views.proofs.Pieces.{AreSome}
+use Rattle.lis_words.specs.Bytes.{is_some_bytes}
 
 pub end_dropped : (texts : List (List ℕ)) (last : List ℕ) → before_end (texts ++ last ∷ []) ≡ cond (is_end last) texts (texts ++ last ∷ [])
 end_dropped [] last = refl

@@ -9,10 +9,10 @@ use Rattle.std.proofs.lemmas.List.Folds.{list_any-append}
 use Rattle.std.proofs.lemmas.Map.Views.{any-filter_same}
 use Rattle.std.proofs.lemmas.Slice.Eq.{bytes_eq-Decides}
 use Rattle.lis_words.specs.Words.{same_word, has_word}
-use Rattle.lis_transducers.specs.Lines.{is_some_bytes}
 use Rattle.lis_transducers.specs.Tokens.{is_between}
 use Rattle.lis_views.specs.Truth.{is_bare, kind_of, is_directive, line_kinds, is_short, short_runs, with_head, line_words}
 use Rattle.lis_cuts.specs.Words.{has_value}
+use Rattle.lis_words.specs.Bytes.{is_some_bytes}
 
 same : (xs ys : List ℕ) → same_word xs ys ≡ true → xs ≡ ys
 same xs ys = (bytes_eq-Decides xs ys).0
@@ -71,33 +71,6 @@ line_word text kind =
     (head_none (codes "word:") (codes "line:" ++ kind) (λ v. refl) refl (short_runs text))
     ∙ or_false _
     ∙ head_value (codes "line:") (λ v value. refl) refl (λ value. refl) (line_kinds text) kind
-
-pub directive_kind : (text : List ℕ) → has_value (line_kinds text) (codes "directive") ≡ is_directive text
-directive_kind text = by (list_all is_bare text) (is_directive text)
-  where
-    by : (bare directive : Bool)
-        → has_value (cond bare (codes "empty") (codes "text") ∷ cond directive (codes "directive" ∷ []) []) (codes "directive") ≡ directive
-    by true true = refl
-    by true false = refl
-    by false true = refl
-    by false false = refl
-
-pub empty_kind : (text : List ℕ) → has_value (line_kinds text) [] ≡ true
-empty_kind text = refl
-
-pub other_kind : (text kind : List ℕ) → (length kind ≡ 0 → ⊥) → same_word kind (codes "directive") ≡ false → has_value (line_kinds text) kind ≡ same_word (kind_of text) kind
-other_kind text [] some other = absurd (some refl)
-other_kind text (b ∷ kind) some other = by (is_directive text)
-  where
-    apart : same_word (codes "directive") (b ∷ kind) ≡ false
-    apart = false_from_ne_true _ (λ e.
-        let is : codes "directive" ≡ b ∷ kind = same (codes "directive") (b ∷ kind) e in
-        let yes : same_word (b ∷ kind) (codes "directive") ≡ true = subst (λ xs. same_word xs (codes "directive") ≡ true) is refl in
-        absurd (cc yes))
-
-    by : (directive : Bool) → has_value (kind_of text ∷ cond directive (codes "directive" ∷ []) []) (b ∷ kind) ≡ same_word (kind_of text) (b ∷ kind)
-    by true = ap (λ t. same_word (kind_of text) (b ∷ kind) || (t || false)) apart ∙ or_false _
-    by false = or_false _
 
 -- ---- the words `word:..`
 pub run_word : (text value : List ℕ) → has_word (line_words text) (codes "word:" ++ value) ≡ has_value (short_runs text) value

@@ -10,7 +10,7 @@ use Rattle.lis_model.specs.Replies.{line}
 use Rattle.lis_model.specs.Step.{Payload}
 use Rattle.lis_model.specs.Script.{payload_limit, payload_of}
 use Rattle.lis_line.specs.Parts.{with_bytes}
-use Rattle.lis_views.specs.Lines.{lines_of, joined}
+use Rattle.lis_views.specs.Lines.{lines_of, joined_lines}
 use Rattle.lis_views.specs.Truth.{line_holds}
 use Rattle.lis_views.specs.Views.{Piece, pieces, texts_in, runs_of, mark_of, piece_lines}
 use Rattle.lis_views.specs.Views.Piece.{Shown, Hidden}
@@ -20,15 +20,6 @@ use Rattle.lis_views.proofs.Backs.{kept_no_mark, words_decide, edited, pieces_me
 use Rattle.lis_cuts.specs.Returns.{Holds, feed_unless, are_none}
 
 -- ---- bytes behind a payload
-pub appended_twice : (payload : Payload) (xs ys : List ℕ) → with_bytes (with_bytes payload xs) ys ≡ with_bytes payload (xs ++ ys)
-appended_twice payload xs ys =
-    let long : payload.size + length xs + length ys ≡ payload.size + length (xs ++ ys) = omega (arith, length-append xs ys) in
-    elim (cases_lt payload_limit (payload.size + length (xs ++ ys))) as (λ _. with_bytes (with_bytes payload xs) ys ≡ with_bytes payload (xs ++ ys)) [
-      | inl more ↦ rw (long, lt-leb (payload.size + length (xs ++ ys)) payload_limit more) refl
-      | inr le ↦ rw (long, le-leb (payload.size + length (xs ++ ys)) payload_limit le, le-leb (payload.size + length xs) payload_limit (omega (arith, long)))
-          (ap (λ bytes. record { size = payload.size + length (xs ++ ys); bytes = bytes }) (append_assoc payload.bytes xs ys))
-    ]
-
 pub held_more : (payload longer : Payload) (bytes more : List ℕ) → Holds payload bytes → longer ≡ with_bytes payload more → Holds longer (bytes ++ more)
 held_more payload longer bytes more held is =
     is ∙ ap (λ (p : Payload). with_bytes p more) held
@@ -47,7 +38,7 @@ feed_len bytes t = by t (length-append bytes (feed_unless t))
 -- ---- texts that are joined one behind another
 -- a run before other texts
 pub joined_parts : (is_open : Bool) (run texts : List (List ℕ)) → 0 < length run
-    → joined is_open (run ++ texts) ≡ (joined true run ++ feed_unless (is_open && are_none texts)) ++ joined is_open texts
+    → joined_lines is_open (run ++ texts) ≡ (joined_lines true run ++ feed_unless (is_open && are_none texts)) ++ joined_lines is_open texts
 joined_parts is_open [] texts some = absurd (omega arith)
 joined_parts true (text ∷ []) [] some = sym (append-nil (text ++ []) ∙ append-nil text)
 joined_parts false (text ∷ []) [] some = sym (append-nil (line text))
@@ -55,8 +46,8 @@ joined_parts true (text ∷ []) (next ∷ texts) some = refl
 joined_parts false (text ∷ []) (next ∷ texts) some = refl
 joined_parts is_open (text ∷ next ∷ run) texts some =
     ap (λ xs. line text ++ xs) (joined_parts is_open (next ∷ run) texts (omega arith))
-    ∙ sym (append_assoc (line text) (joined true (next ∷ run) ++ feed_unless (is_open && are_none texts)) (joined is_open texts))
-    ∙ ap (λ xs. xs ++ joined is_open texts) (sym (append_assoc (line text) (joined true (next ∷ run)) (feed_unless (is_open && are_none texts))))
+    ∙ sym (append_assoc (line text) (joined_lines true (next ∷ run) ++ feed_unless (is_open && are_none texts)) (joined_lines is_open texts))
+    ∙ ap (λ xs. xs ++ joined_lines is_open texts) (sym (append_assoc (line text) (joined_lines true (next ∷ run)) (feed_unless (is_open && are_none texts))))
 
 -- ---- the texts of lines, with the runs in order at whatever marks there are
 abbrev pub first_run : List (List (List ℕ)) → List (List ℕ)
@@ -111,9 +102,6 @@ kept_marks marks text texts kept = marks_with marks text texts false (kept_no_ma
 mark_there : (text : List ℕ) → is_edited text ≡ true → is_kept text ≡ false → is_mark text ≡ true
 mark_there text formed other = ap (λ t. t || is_mark text) (sym other) ∙ formed
 
-pub no_run_left : (n : ℕ) (text : List ℕ) (texts : List (List ℕ)) → is_edited text ≡ true → is_kept text ≡ false → has_marks (marked n []) (text ∷ texts) ≡ false
-no_run_left n text texts formed other = marks_with [] text texts true (mark_there text formed other)
-
 pub other_mark : (n : ℕ) (run : List (List ℕ)) (runs : List (List (List ℕ))) (text : List ℕ) (texts : List (List ℕ)) → is_edited text ≡ true → is_kept text ≡ false
     → same_word text (mark_of n run) ≡ false → has_marks (marked n (run ∷ runs)) (text ∷ texts) ≡ false
 other_mark n run runs text texts formed other differs =
@@ -132,7 +120,7 @@ pub record Pours (runs : List (List (List ℕ))) (texts : List (List ℕ)) (is_o
   pub written : List ℕ
   pub held : Holds payload written
   pub same : has_marks (marked number left) rest ≡ has_marks (marked 1 runs) texts
-  pub whole : written ++ joined is_open (poured left rest) ≡ joined is_open (poured runs texts)
+  pub whole : written ++ joined_lines is_open (poured left rest) ≡ joined_lines is_open (poured runs texts)
   pub formed : list_all is_edited rest ≡ true
   pub some : AreSome left
 
@@ -142,15 +130,15 @@ pours_none runs texts is_open payload held formed some = record { written = []; 
 
 module _ (runs : List (List (List ℕ))) (texts : List (List ℕ)) (is_open : Bool) (number : ℕ) (left : List (List (List ℕ))) (rest : List (List ℕ)) (payload : Payload)
     (p : Pours runs texts is_open number left rest payload) where
-  part_written : (others : List (List (List ℕ))) (run more : List (List ℕ)) (part : List ℕ) → AreSome others → 0 < length run → part ≡ joined true run
+  part_written : (others : List (List (List ℕ))) (run more : List (List ℕ)) (part : List ℕ) → AreSome others → 0 < length run → part ≡ joined_lines true run
       → poured left rest ≡ run ++ poured others more
-      → (p.written ++ (part ++ feed_unless (is_open && are_none more))) ++ joined is_open (poured others more) ≡ joined is_open (poured runs texts)
+      → (p.written ++ (part ++ feed_unless (is_open && are_none more))) ++ joined_lines is_open (poured others more) ≡ joined_lines is_open (poured runs texts)
   part_written others run more part some least is cut =
-      append_assoc p.written (part ++ feed_unless (is_open && are_none more)) (joined is_open (poured others more))
-      ∙ ap (λ xs. p.written ++ ((xs ++ feed_unless (is_open && are_none more)) ++ joined is_open (poured others more))) is
-      ∙ ap (λ t. p.written ++ ((joined true run ++ feed_unless (is_open && t)) ++ joined is_open (poured others more))) (sym (poured_none others more some))
+      append_assoc p.written (part ++ feed_unless (is_open && are_none more)) (joined_lines is_open (poured others more))
+      ∙ ap (λ xs. p.written ++ ((xs ++ feed_unless (is_open && are_none more)) ++ joined_lines is_open (poured others more))) is
+      ∙ ap (λ t. p.written ++ ((joined_lines true run ++ feed_unless (is_open && t)) ++ joined_lines is_open (poured others more))) (sym (poured_none others more some))
       ∙ ap (λ xs. p.written ++ xs) (sym (joined_parts is_open run (poured others more) least))
-      ∙ ap (λ ts. p.written ++ joined is_open ts) (sym cut)
+      ∙ ap (λ ts. p.written ++ joined_lines is_open ts) (sym cut)
       ∙ p.whole
 
   pub pours_kept : (text part : List ℕ) (more : List (List ℕ)) (longer : Payload) → rest ≡ text ∷ more → is_kept text ≡ true → part ≡ but_first text
@@ -169,7 +157,7 @@ module _ (runs : List (List (List ℕ))) (texts : List (List ℕ)) (is_open : Bo
   first_formed text more cut = (and_parts (is_edited text) (list_all is_edited more) (ap (list_all is_edited) (sym cut) ∙ p.formed)).0
 
   pub pours_run : (text part : List ℕ) (more run : List (List ℕ)) (others : List (List (List ℕ))) (longer : Payload) → rest ≡ text ∷ more → is_kept text ≡ false → left ≡ run ∷ others
-      → same_word text (mark_of number run) ≡ true → part ≡ joined true run
+      → same_word text (mark_of number run) ≡ true → part ≡ joined_lines true run
       → longer ≡ with_bytes payload (part ++ feed_unless (is_open && are_none more)) → Pours runs texts is_open (number + 1) others more longer
   pours_run text part more run others longer cut kept next is part_is put =
       let some : AreSome (run ∷ others) = subst AreSome next p.some in
@@ -185,12 +173,6 @@ module _ (runs : List (List (List ℕ))) (texts : List (List ℕ)) (is_open : Bo
         some = some.1;
       }
 
-  -- a mark, and no run is left
-  pub differs_none : (text : List ℕ) (more : List (List ℕ)) → rest ≡ text ∷ more → is_kept text ≡ false → left ≡ [] → false ≡ has_marks (marked 1 runs) texts
-  differs_none text more cut kept none =
-      sym (no_run_left number text more (first_formed text more cut) kept)
-      ∙ ap (λ ls. has_marks (marked number ls) (text ∷ more)) (sym none) ∙ ap (has_marks (marked number left)) (sym cut) ∙ p.same
-
   -- a mark that is not the one of the next run
   pub differs_here : (text : List ℕ) (more run : List (List ℕ)) (others : List (List (List ℕ))) → rest ≡ text ∷ more → is_kept text ≡ false → left ≡ run ∷ others
       → same_word text (mark_of number run) ≡ false → false ≡ has_marks (marked 1 runs) texts
@@ -198,18 +180,14 @@ module _ (runs : List (List (List ℕ))) (texts : List (List ℕ)) (is_open : Bo
       sym (other_mark number run others text more (first_formed text more cut) kept other)
       ∙ ap (λ ls. has_marks (marked number ls) (text ∷ more)) (sym next) ∙ ap (has_marks (marked number left)) (sym cut) ∙ p.same
 
-  -- no line is left
-  pub ends_with_runs : (run : List (List ℕ)) (others : List (List (List ℕ))) → rest ≡ [] → left ≡ run ∷ others → false ≡ has_marks (marked 1 runs) texts
-  ends_with_runs run others none next = ap (λ ls. has_marks (marked number ls) []) (sym next) ∙ ap (has_marks (marked number left)) (sym none) ∙ p.same
-
   pub ends_same : rest ≡ [] → left ≡ [] → true ≡ has_marks (marked 1 runs) texts
   ends_same none over = ap (λ ls. has_marks (marked number ls) []) (sym over) ∙ ap (has_marks (marked number left)) (sym none) ∙ p.same
 
-  pub ends_whole : list_all is_edited texts ≡ true → rest ≡ [] → left ≡ [] → Holds payload (joined is_open (new_texts (marked 1 runs) texts))
+  pub ends_whole : list_all is_edited texts ≡ true → rest ≡ [] → left ≡ [] → Holds payload (joined_lines is_open (new_texts (marked 1 runs) texts))
   ends_whole formed none over =
       subst (λ xs. Holds payload xs)
-      (sym (append-nil p.written) ∙ ap (λ ts. p.written ++ joined is_open (poured left ts)) (sym none) ∙ p.whole
-      ∙ ap (joined is_open) (poured_new runs texts formed (sym (ends_same none over)))) p.held
+      (sym (append-nil p.written) ∙ ap (λ ts. p.written ++ joined_lines is_open (poured left ts)) (sym none) ∙ p.whole
+      ∙ ap (joined_lines is_open) (poured_new runs texts formed (sym (ends_same none over)))) p.held
 
 -- the runs of a view have texts
 pub view_some : (bytes : List ℕ) (place : List Formula) → AreSome (runs_of (pieces bytes place))

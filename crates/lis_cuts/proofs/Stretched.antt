@@ -5,7 +5,6 @@ use Rattle.std.proofs.lemmas.Bool.{and_parts, and_from, not-true, not_from_false
 use Rattle.std.proofs.lemmas.List.{take_at}
 use Rattle.std.proofs.lemmas.List.Folds.{list_all-append}
 use Rattle.lis_grammar.specs.Formula.{Formula}
-use Rattle.lis_transducers.specs.Bytes.{is_feed}
 use Rattle.lis_views.specs.Lines.{Lines, byte_before, before, lines_of}
 use Rattle.lis_views.specs.Truth.{line_holds}
 use Rattle.lis_views.specs.Views.{Piece, hidden_before, pieces_by, pieces, runs_of}
@@ -14,17 +13,7 @@ use Rattle.lis_views.proofs.Cutting.{lines, line_cut}
 use Rattle.lis_cuts.specs.Cuts.{IsFirst, IsClosed}
 use Rattle.lis_cuts.specs.Stretches.{run_piece, shown_piece}
 use Rattle.lis_cuts.proofs.Cut.{closed_cut, feed_closed, open_text, first_texts}
-
--- ---- each text takes a byte
-pub texts_few : (bytes : List ℕ) → length (lines_of bytes).texts ≤ length bytes
-texts_few [] = omega arith
-texts_few (b ∷ bytes) = by (is_feed b) (lines_of bytes).texts (texts_few bytes)
-  where
-    by : (t : Bool) (texts : List (List ℕ)) → length texts ≤ length bytes
-        → length (cond t (lines ([] ∷ texts) (lines_of bytes).is_open) (byte_before b texts (lines_of bytes).is_open)).texts ≤ length (b ∷ bytes)
-    by true texts few = omega arith
-    by false [] few = omega arith
-    by false (text ∷ texts) few = omega arith
+use Rattle.lis_words.specs.Bytes.{is_feed}
 
 -- ---- pieces behind hidden texts
 module _ (test : List ℕ → Bool) where
@@ -70,9 +59,6 @@ pub record Passed (place : List Formula) (bytes rest : List ℕ) (hidden : ℕ) 
   pub closed : (rest ≡ []) ⊎ IsClosed run
   pub count : hidden ≡ length (lines_of run).texts
   pub fails : list_all (λ text. not (line_holds place text)) (lines_of run).texts ≡ true
-
-pub passed_none : (place : List Formula) (bytes : List ℕ) → Passed place bytes bytes 0
-passed_none place bytes = record { run = []; whole = refl; closed = inr refl; count = refl; fails = refl }
 
 some_first : (bytes text rest : List ℕ) → IsFirst bytes text rest → bytes ≡ [] → ⊥
 some_first bytes text rest first none =
@@ -135,20 +121,3 @@ pub all_passed : (place : List Formula) (bytes rest : List ℕ) (hidden : ℕ) �
 all_passed place bytes rest hidden p none =
     run_last (line_holds place) (lines_of bytes).texts
     (subst (λ xs. list_all (λ text. not (line_holds place text)) (lines_of xs).texts ≡ true) (at_end place bytes rest hidden p none) p.fails)
-
-pub all_counted : (place : List Formula) (bytes rest : List ℕ) (hidden : ℕ) → (p : Passed place bytes rest hidden) → rest ≡ [] → hidden ≡ length (lines_of bytes).texts
-all_counted place bytes rest hidden p none = p.count ∙ ap (λ xs. length (lines_of xs).texts) (at_end place bytes rest hidden p none)
-
--- ---- the runs of stretches
-runs_shown : (shown : Option (List ℕ)) (parts : List Piece) → runs_of (shown_piece shown ++ parts) ≡ runs_of parts
-runs_shown None parts = refl
-runs_shown (Some text) parts = refl
-
-pub runs_none : (parts more : List Piece) (run : List (List ℕ)) (shown : Option (List ℕ)) → parts ≡ run_piece run ++ (shown_piece shown ++ more) → length run ≡ 0 → runs_of parts ≡ runs_of more
-runs_none parts more [] shown is none = ap runs_of is ∙ runs_shown shown more
-runs_none parts more (text ∷ run) shown is none = absurd (omega arith)
-
-pub runs_some : (parts more : List Piece) (run : List (List ℕ)) (shown : Option (List ℕ)) → parts ≡ run_piece run ++ (shown_piece shown ++ more) → 0 < length run
-    → runs_of parts ≡ run ∷ runs_of more
-runs_some parts more [] shown is some = absurd (omega arith)
-runs_some parts more (text ∷ run) shown is some = ap runs_of is ∙ ap (λ runs. (text ∷ run) ∷ runs) (runs_shown shown more)

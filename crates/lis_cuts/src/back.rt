@@ -4,7 +4,7 @@ ghost use Rattle.std.specs.Prelude.{◌≡◌, ℕ, ◌+◌, ◌<◌, ◌≤◌,
 ghost use Rattle.std.specs.Bool.{OnTrue};
 ghost use Rattle.std.specs.List.{list_all};
 ghost use Rattle.lis_line.specs.Parts.{with_bytes};
-ghost use Rattle.lis_views.specs.Lines.{lines_of, joined, ends_in_some};
+ghost use Rattle.lis_views.specs.Lines.{lines_of, joined_lines, ends_in_some};
 ghost use Rattle.lis_views.specs.Edits.{is_edited, has_end, before_end, run_at, new_texts, has_marks, is_in_form, view_marks, back_of};
 ghost use Rattle.lis_cuts.specs.Returns.{Returns, Holds, feed_unless, are_none};
 
@@ -130,7 +130,7 @@ fn pour(place: &Place, old: &[u8], lines: &[u8], is_open: bool, new: &mut Payloa
     requires edited { list_all is_edited (lines_of lines.now).texts ≡ true }
     requires short { length old.now + length lines.now < 2 ^ 63 }
     ensures same { result ≡ has_marks (view_marks old.now place.now) (lines_of lines.now).texts }
-    ensures whole { OnTrue result (Holds new.new (joined is_open (new_texts (view_marks old.now place.now) (lines_of lines.now).texts))) }
+    ensures whole { OnTrue result (Holds new.new (joined_lines is_open (new_texts (view_marks old.now place.now) (lines_of lines.now).texts))) }
 {
     new.clear();
     let mut rest = lines;

@@ -1,7 +1,7 @@
 //! The lines of a content, one after another.
 
 ghost use Rattle.std.specs.Prelude.{◌≡◌, ◌⊎◌, ℕ, ◌+◌, ◌<◌, ◌≤◌, true, List, [], ◌∷◌, ◌++◌, length, MatchOption, IfSome};
-ghost use Rattle.lis_views.specs.Lines.{lines_of, joined};
+ghost use Rattle.lis_views.specs.Lines.{lines_of, joined_lines};
 ghost use Rattle.lis_cuts.specs.Cuts.{IsFirst, IsTrimmed};
 
 use memchr::{memchr, memrchr};
@@ -29,7 +29,7 @@ pub fn first_line(bytes: &[u8]) -> Option<(&[u8], &[u8])>
 /// The bytes without the line feed at their end, if there is one: their texts, with a line feed between two of them.
 pub fn without_feed(bytes: &[u8]) -> &[u8]
     ensures trimmed { IsTrimmed bytes.now result.now }
-    ensures joined { result.now ≡ joined true (lines_of bytes.now).texts }
+    ensures joined { result.now ≡ joined_lines true (lines_of bytes.now).texts }
     ensures within { length result.now ≤ length bytes.now }
 {
     match bytes {

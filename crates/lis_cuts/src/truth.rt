@@ -5,10 +5,10 @@ ghost use Rattle.std.specs.List.{list_all, list_any, slice_split};
 ghost use Rattle.lis_words.specs.Words as words;
 ghost use Rattle.lis_words.specs.Words.{same_word};
 ghost use Rattle.lis_transducers.specs.Bytes.{past};
-ghost use Rattle.lis_transducers.specs.Lines.{is_some_bytes};
 ghost use Rattle.lis_transducers.specs.Tokens.{is_between};
 ghost use Rattle.lis_views.specs.Truth.{is_bare, kind_of, is_directive, line_kinds, is_short, short_runs, line_words, line_entry, line_holds};
 ghost use Rattle.lis_cuts.specs.Words.{has_value};
+ghost use Rattle.lis_words.specs.Bytes.{is_some_bytes};
 
 use lis_place::Place;
 use lis_table::truth::{Described, holds_all};

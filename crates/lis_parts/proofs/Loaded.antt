@@ -38,16 +38,6 @@ pub record Reading {E : Type 0} (k : Stored) (old new : Meaning) (result : Resul
   pub any_moment : IsTrue old.is_honest → Leaves old new old.images
   pub fits : (s : State) → StoreFits k old s → StoreFits k new s
 
-pub reading_none : {E : Type 0} (k : Stored) (m : Meaning) → Reading {E = E} k m m (Ok tt)
-reading_none k m = record {
-  run = run_none m;
-  cause = record { later = omega arith; stays = refl; rose = tt };
-  first_fault = ends_none m;
-  same = λ honest. unchanged_none m;
-  any_moment = λ honest. leaves_none m m.images;
-  fits = λ s fits. fits;
-}
-
 pub reading_then : {E : Type 0} {k : Stored} {a b c : Meaning} (u : Unit {0}) (result : Result (Unit {0}) E) → Reading {E = E} k a b (Ok u) → Reading k b c result → Reading k a c result
 reading_then {a = a} {c = c} u result first second = record {
   run = run_then first.run second.run;

@@ -85,11 +85,6 @@ module _ {T : Type 0} {old new : Meaning} {unmoved : Type 0} (fault : OpenFault)
     };
   }
 
--- ---- no input was taken
-pub few_none : (limit : ℕ) (left : Option (List ℕ)) → TakesFew limit left left
-few_none limit None = record { taken = []; consumed = tt; few = omega arith }
-few_none limit (Some bytes) = record { taken = []; consumed = refl; few = omega arith }
-
 -- ---- counts of faults
 pub same_counts : {old new : Meaning} (input : ℕ) → new.disk_faults ≡ old.disk_faults → IsDiskRun old new → counts new input ≡ counts old input
 same_counts input disk run = ap₂ (λ (faults show : ℕ). record { disk = faults; input = input; show = show }) disk run.show_faults

@@ -2,9 +2,9 @@ use Rattle.std.proofs.Common.{not, ◌&&◌, List, rules, tests}
 use Rattle.std.specs.List.{list_any}
 use Rattle.std.proofs.lemmas.Iterator.Splits.{YieldsList-from_slice_split}
 use Rattle.std.proofs.lemmas.Iterator.Search.{any_from_yields_List}
-use Rattle.lis_transducers.specs.Lines.{is_some_bytes}
 use Rattle.lis_transducers.specs.Tokens.{is_between}
 use Rattle.lis_views.specs.Truth.{is_short}
+use Rattle.lis_words.specs.Bytes.{is_some_bytes}
 use Rattle.lis_cuts.proofs.truth.has_some_run.Goals as goal
 
 pub returns : goal.returns
