@@ -67,8 +67,23 @@ fn looks_into_some_rows(rt: HostRuntime) -> Result<(), Fail> {
     assert_eq!(rt; rows.next_of(&[1, 3], 0), Some(100));
     assert_eq!(rt; rows.next_of(&[1, 3], 101), Some(191));
     assert_eq!(rt; rows.next_of(&[0, 1, 2], 101), None);
+    Ok(())
+}
+
+#[test]
+fn finds_nothing_in_no_rows(rt: HostRuntime) -> Result<(), Fail> {
+    let mut rows = Rows::new(rt.alloc(), 4, 192)?;
+    rows.fill(3, true);
     assert_eq!(rt; rows.next_of(&[], 0), None);
     assert_eq!(rt; rows.next_of(&[0, 3], 192), None);
+    Ok(())
+}
+
+#[test]
+fn counts_with_other_rows(rt: HostRuntime) -> Result<(), Fail> {
+    let mut rows = Rows::new(rt.alloc(), 4, 192)?;
+    rows.put(1, 100, true);
+    rows.put(3, 191, true);
     let mut own = Rows::new(rt.alloc(), 1, 192)?;
     own.put(0, 100, true);
     own.put(0, 101, true);

@@ -28,13 +28,20 @@ fn holds_files_by_name_and_slot(rt: HostRuntime) -> Result<(), Fail> {
     let first = catalog.file_at(0).expect(&rt, "the first file");
     assert_eq!(rt; first.0.bytes(), b"a".as_slice());
     assert_eq!(rt; catalog.slot_of(&first.0), Some(3));
-    assert_eq!(rt; catalog.rec(1).expect(&rt, "a file").size, 1);
-    let taken = catalog.add(file(&rt, b"c", 4));
-    assert!(rt; matches!(taken, Err(CatalogFault::NameTaken)));
     let (slot, rec) = catalog.entry(1).expect(&rt, "the second file");
     assert!(rt; slot == 0 && rec.name.bytes() == b"b".as_slice());
+    Ok(())
+}
+
+#[test]
+fn has_a_name_once(rt: HostRuntime) -> Result<(), Fail> {
+    let mut catalog = Catalog::new(rt.alloc(), 64)?;
+    catalog.place(1, file(&rt, b"c", 1));
+    let taken = catalog.add(file(&rt, b"c", 4));
+    assert!(rt; matches!(taken, Err(CatalogFault::NameTaken)));
     assert_eq!(rt; catalog.remove(1).expect(&rt, "a file").size, 1);
-    assert!(rt; catalog.rec(1).is_none() && catalog.rec(2).is_some());
+    assert!(rt; catalog.rec(1).is_none());
+    assert!(rt; matches!(catalog.add(file(&rt, b"c", 4)), Ok(0)));
     Ok(())
 }
 
