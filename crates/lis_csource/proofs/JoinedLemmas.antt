@@ -1,41 +1,47 @@
 -- Joined lines, byte by byte.
-use Rattle.std.proofs.Common.{◌≡◌, ◌≢◌, ℕ, suc, zero, ◌-◌, ◌<◌, ◌≤◌, cond, eqb, List, [], ◌∷◌, length, take, drop, get_or, refl, sym, ap, ◌∙◌, arith}
-use Rattle.std.proofs.lemmas.Bool.{eq-eqb}
+use Rattle.std.proofs.Common.{◌≡◌, ◌≢◌, ℕ, suc, zero, ◌-◌, ◌<◌, ◌≤◌, ◌==◌, ◌&&◌, Bool, true, false, cond, List, [], ◌∷◌, length, take, drop, get_or, refl, sym, ap, ◌∙◌, arith}
 use Rattle.std.proofs.lemmas.List.{take_rest}
-use Rattle.std.proofs.Math.Dec.{eqb-suc-zero}
-use Rattle.lis_transducers.specs.Joined.{joint_len, joined_behind, joined}
+use Rattle.lis_transducers.specs.Joined.{joined}
+use Rattle.lis_csource.specs.Joints.{joint_len}
 
 pub joined_nil : joined [] ≡ []
 unfolding joined
 joined_nil = refl
 
--- bytes of a joint are passed over
-behind_is : (inside : ℕ) (bytes : List ℕ) → joined_behind inside bytes ≡ joined (drop inside bytes)
-unfolding joined
-behind_is zero [] = refl
-behind_is zero (b ∷ bytes) = refl
-behind_is (suc inside) [] = refl
-behind_is (suc inside) (b ∷ bytes) = behind_is inside bytes
-
 -- a byte with no joint before it
 pub joined_first : (b : ℕ) (bytes : List ℕ) → joint_len (b ∷ bytes) ≡ 0 → joined (b ∷ bytes) ≡ b ∷ joined bytes
 unfolding joined
-joined_first b bytes none =
-    ap (λ t. cond t (b ∷ joined_behind 0 bytes) (joined_behind (joint_len (b ∷ bytes) - 1) bytes)) (eq-eqb (joint_len (b ∷ bytes)) 0 none)
+joined_first a [] none = refl
+joined_first a (b ∷ []) none = by ((a == 92) && (b == 10)) none
+  where
+    by : (t : Bool) → cond {A = ℕ} t 2 0 ≡ 0 → cond t [] (a ∷ b ∷ []) ≡ a ∷ b ∷ []
+    by true h = absurd (omega (arith, h))
+    by false h = refl
+joined_first a (b ∷ c ∷ bytes) none = by ((a == 92) && (b == 10)) ((a == 92) && (b == 13) && (c == 10)) none
+  where
+    by : (t u : Bool) → cond {A = ℕ} t 2 (cond {A = ℕ} u 3 0) ≡ 0
+        → cond t (joined (c ∷ bytes)) (cond u (joined bytes) (a ∷ joined (b ∷ c ∷ bytes))) ≡ a ∷ joined (b ∷ c ∷ bytes)
+    by true u h = absurd (omega (arith, h))
+    by false true h = absurd (omega (arith, h))
+    by false false h = refl
 
 -- a joint before the bytes changes nothing
 pub joined_past : (bytes : List ℕ) (n : ℕ) → n ≡ joint_len bytes → (n ≢ 0) → joined bytes ≡ joined (drop n bytes)
 unfolding joined
 joined_past [] n is some = absurd (some is)
-joined_past (b ∷ bytes) zero is some = absurd (some refl)
-joined_past (b ∷ bytes) (suc n) is some = by (joint_len (b ∷ bytes)) is refl
+joined_past (a ∷ []) n is some = absurd (some is)
+joined_past (a ∷ b ∷ []) n is some = by ((a == 92) && (b == 10)) is
   where
-    by : (len : ℕ) → suc n ≡ len → joint_len (b ∷ bytes) ≡ len → joined (b ∷ bytes) ≡ joined (drop n bytes)
-    by zero h e = absurd (omega (arith, h))
-    by (suc len) h e =
-        ap (λ k. cond (eqb k 0) (b ∷ joined_behind 0 bytes) (joined_behind (k - 1) bytes)) e
-        ∙ ap (λ t. cond t (b ∷ joined_behind 0 bytes) (joined_behind (suc len - 1) bytes)) (eqb-suc-zero len)
-        ∙ behind_is (suc len - 1) bytes ∙ ap (λ k. joined (drop k bytes)) (omega (arith, h))
+    by : (t : Bool) → n ≡ cond {A = ℕ} t 2 0 → cond t [] (a ∷ b ∷ []) ≡ joined (drop n (a ∷ b ∷ []))
+    by true h = ap (λ k. joined (drop k (a ∷ b ∷ []))) (sym h)
+    by false h = absurd (some h)
+joined_past (a ∷ b ∷ c ∷ bytes) n is some = by ((a == 92) && (b == 10)) ((a == 92) && (b == 13) && (c == 10)) is
+  where
+    by : (t u : Bool) → n ≡ cond {A = ℕ} t 2 (cond {A = ℕ} u 3 0)
+        → cond t (joined (c ∷ bytes)) (cond u (joined bytes) (a ∷ joined (b ∷ c ∷ bytes))) ≡ joined (drop n (a ∷ b ∷ c ∷ bytes))
+    by true u h = ap (λ k. joined (drop k (a ∷ b ∷ c ∷ bytes))) (sym h)
+    by false true h = ap (λ k. joined (drop k (a ∷ b ∷ c ∷ bytes))) (sym h)
+    by false false h = absurd (some h)
 
 -- the first byte of bytes that begin with no joint
 pub joined_head : (bytes rest : List ℕ) → joined rest ≡ joined bytes → joint_len rest ≡ 0 → 1 ≤ length rest

@@ -1,11 +1,12 @@
 -- The pieces of some bytes: the first one, and those of what stands behind it.
 use Rattle.std.proofs.Common.{◌≡◌, ℕ, suc, zero, ◌≤◌, Bool, true, false, cond, ◌==◌, ◌&&◌, List, [], ◌∷◌, length, refl, sym, ap, ◌∙◌, arith}
 use Rattle.std.specs.Char.{is_ascii_digit}
-use Rattle.lis_transducers.specs.Bytes.{is_feed, is_backslash, is_slash, is_star, is_blank, is_white, is_name_start, is_name_byte, is_number_byte, is_no_feed, past, begins_with, but_first}
+use Rattle.lis_transducers.specs.Bytes.{is_slash, is_white, is_name_start, is_name_byte, is_number_byte, is_no_feed, past, begins_with, but_first}
 use Rattle.lis_transducers.specs.declared.piece.Kind.{Kind}
-use Rattle.lis_transducers.specs.declared.piece.Kind.TheVariants.{Blank, White, Feed, Comment, Literal, Identifier, Number, Mark}
+use Rattle.lis_transducers.specs.declared.piece.Kind.TheVariants.{Blank, White, Feed, Comment, Literal, Identifier, Number, Path, Mark}
 use Rattle.lis_transducers.specs.declared.piece.Context.{Context}
-use Rattle.lis_transducers.specs.Pieces.{Read, IsFirst, read, piece_of, pieces, pieces_within, after_block, after_literal, is_in_path, close_of, slash_piece, quote_piece, is_open, opens_path, path_piece, open_piece, first_piece, context_after}
+use Rattle.lis_transducers.specs.Pieces.{Read, IsFirst, read, piece_of, pieces, pieces_within, after_block, after_literal, is_in_path, close_of, slash_piece, quote_piece, is_open, opens_path, open_piece, first_piece, context_after}
+use Rattle.lis_words.specs.Bytes.{is_feed, is_blank}
 
 -- a piece takes no byte from before it
 past_shorter : (test : ℕ → Bool) (bytes : List ℕ) → length (past test bytes) ≤ length bytes
@@ -22,7 +23,7 @@ but_first_shorter (b ∷ bytes) = omega arith
 
 block_shorter : (bytes : List ℕ) → length (after_block bytes) ≤ length bytes
 block_shorter [] = omega arith
-block_shorter (b ∷ bytes) = by (is_star b && begins_with 47 bytes) (but_first_shorter bytes) (block_shorter bytes)
+block_shorter (b ∷ bytes) = by ((b == 42) && begins_with 47 bytes) (but_first_shorter bytes) (block_shorter bytes)
   where
     by : (t : Bool) → length (but_first bytes) ≤ length bytes → length (after_block bytes) ≤ length bytes
         → length (cond t (but_first bytes) (after_block bytes)) ≤ length (b ∷ bytes)
@@ -32,11 +33,11 @@ block_shorter (b ∷ bytes) = by (is_star b && begins_with 47 bytes) (but_first_
 literal_shorter : (close : ℕ) (escaped : Bool) (bytes : List ℕ) → length (after_literal close escaped bytes) ≤ length bytes
 literal_shorter close escaped [] = omega arith
 literal_shorter close escaped (b ∷ bytes) =
-    by (is_feed b) escaped (b == close) (literal_shorter close false bytes) (literal_shorter close (is_backslash b) bytes)
+    by (is_feed b) escaped (b == close) (literal_shorter close false bytes) (literal_shorter close (b == 92) bytes)
   where
     by : (feed esc same : Bool) → length (after_literal close false bytes) ≤ length bytes
-        → length (after_literal close (is_backslash b) bytes) ≤ length bytes
-        → length (cond feed (b ∷ bytes) (cond esc (after_literal close false bytes) (cond same bytes (after_literal close (is_backslash b) bytes)))) ≤ length (b ∷ bytes)
+        → length (after_literal close (b == 92) bytes) ≤ length bytes
+        → length (cond feed (b ∷ bytes) (cond esc (after_literal close false bytes) (cond same bytes (after_literal close (b == 92) bytes)))) ≤ length (b ∷ bytes)
     by true esc same h k = omega arith
     by false true same h k = omega arith
     by false false true h k = omega arith
@@ -49,12 +50,12 @@ either n false x y h k = k
 slash_shorter : (bytes : List ℕ) → length (slash_piece bytes).rest ≤ length bytes
 slash_shorter [] = omega arith
 slash_shorter (b ∷ bytes) =
-    either (suc (length bytes)) (is_star b) (read Comment [] (after_block bytes)) _ (omega (arith, block_shorter bytes))
+    either (suc (length bytes)) (b == 42) (read Comment [] (after_block bytes)) _ (omega (arith, block_shorter bytes))
     (either (suc (length bytes)) (is_slash b) (read Comment [] (past is_no_feed bytes)) (read (Mark 47) [] (b ∷ bytes)) (omega (arith, past_shorter is_no_feed bytes)) (omega arith))
 
 open_shorter : (context : Context) (first : ℕ) (bytes : List ℕ) → length (open_piece context first bytes).rest ≤ length bytes
 open_shorter context first bytes =
-    either (length bytes) (opens_path context first bytes) (path_piece (close_of first) bytes) (quote_piece first bytes)
+    either (length bytes) (opens_path context first bytes) (read (Path (close_of first)) bytes (but_first (past (is_in_path (close_of first)) bytes))) (quote_piece first bytes)
     (omega (arith, but_first_shorter (past (is_in_path (close_of first)) bytes), past_shorter (is_in_path (close_of first)) bytes))
     (either (length bytes) (first == 60) (read (Mark 60) [] bytes) (read Literal [] (after_literal first false bytes)) (omega arith) (literal_shorter first false bytes))
 

@@ -1,5 +1,5 @@
 -- An identifier that may be defined begins.
-use Rattle.std.proofs.Common.{◌≡◌, ℕ, Bool, true, false, not, cond, ◌==◌, ◌&&◌, Option, None, List, [], ◌∷◌, ◌++◌, filter, refl, sym, ap, subst, ◌∙◌, arith}
+use Rattle.std.proofs.Common.{◌≡◌, ℕ, Bool, true, false, not, cond, ◌==◌, ◌&&◌, Option, None, List, [], ◌∷◌, ◌++◌, filter, codes, refl, sym, ap, subst, ◌∙◌, arith}
 use Rattle.std.proofs.lemmas.Bool.{false≢true, and_parts, eqb-true}
 use Rattle.std.proofs.lemmas.List.Sums.{fold-append}
 use Rattle.std.proofs.lemmas.List.Elements.{filter-append}
@@ -12,8 +12,8 @@ use Rattle.lis_csource.specs.declared.source.Stage.{Stage}
 use Rattle.lis_csource.specs.declared.source.Stage.TheVariants.{Nothing, Named, Open, Closed}
 use Rattle.lis_transducers.specs.Pieces.{Piece, piece_of}
 use Rattle.lis_transducers.specs.Entries.{tokens}
-use Rattle.lis_transducers.specs.Source.{is_identifier, is_candidate, is_defined, keywords, defined_word, words_at, braces_after, parens_after}
-use Rattle.lis_csource.specs.Reading.{noted_words, stage_after, right_words, IsSound}
+use Rattle.lis_transducers.specs.Source.{is_identifier, is_candidate, is_defined, keywords, words_at, braces_after, parens_after}
+use Rattle.lis_csource.specs.Reading.{noted_words, stage_after, right_words, IsSoundStage}
 
 noted_in_parts : (out xs ys : List (List ℕ)) → noted_words (noted_words out xs) ys ≡ noted_words out (xs ++ ys)
 noted_in_parts out xs ys =
@@ -41,7 +41,7 @@ candidate_parts braces parens kind bytes h =
     (is_identifier_kind kind first.0, eqb-true braces 0 first.1, eqb-true parens 0 inner.1)
 
 -- where it stands, no other identifier waits for its parentheses to close
-stage_ends : (stage : Stage) → IsSound stage 0 → stage_after stage 0 Identifier ≡ Nothing
+stage_ends : (stage : Stage) → IsSoundStage stage 0 → stage_after stage 0 Identifier ≡ Nothing
 stage_ends Nothing sound = refl
 stage_ends Named sound = refl
 stage_ends Open sound = absurd (omega (arith, sound))
@@ -49,12 +49,12 @@ stage_ends Closed sound = refl
 
 -- the words in the end, for an identifier outside braces and parentheses
 begins_outside : (stage : Stage) (name name' bytes : List ℕ) (early early' : Option (List (List ℕ))) (out out' : List (List ℕ)) (es : List Piece)
-    → is_candidate 0 0 (piece_of Identifier bytes) ≡ true → IsSound stage 0
+    → is_candidate 0 0 (piece_of Identifier bytes) ≡ true → IsSoundStage stage 0
     → right_words (stage_after stage 0 Identifier) 0 name' early' out' (tokens es) ≡ right_words stage 0 name early out (Identifier ∷ tokens es)
     → noted_words (right_words Named 0 (front is_name_byte bytes) None out' (tokens es)) (words_at 0 0 es)
     ≡ noted_words (right_words stage 0 name early out (Identifier ∷ tokens es)) (words_at 0 0 (piece_of Identifier bytes ∷ es))
 begins_outside stage name name' bytes early early' out out' es candidate sound right =
-    let word = defined_word (front is_name_byte bytes) in
+    let word = codes "defines:" ++ front is_name_byte bytes in
     let kept : out' ≡ right_words stage 0 name early out (Identifier ∷ tokens es) =
     sym (ap (λ s. right_words s 0 name' early' out' (tokens es)) (stage_ends stage sound)) ∙ right in
     by (is_defined (tokens es)) word out' (words_at 0 0 es)
@@ -67,14 +67,14 @@ begins_outside stage name name' bytes early early' out out' es candidate sound r
     by false word out' more = refl
 
 pub begins : (stage : Stage) (braces parens : ℕ) (kind : Kind) (name name' bytes : List ℕ) (early early' : Option (List (List ℕ))) (out out' : List (List ℕ)) (es : List Piece)
-    → is_candidate braces parens (piece_of kind bytes) ≡ true → IsSound stage parens
+    → is_candidate braces parens (piece_of kind bytes) ≡ true → IsSoundStage stage parens
     → right_words (stage_after stage (parens_after parens kind) kind) (parens_after parens kind) name' early' out' (tokens es) ≡ right_words stage parens name early out (kind ∷ tokens es)
     → noted_words (right_words Named (parens_after parens kind) (front is_name_byte bytes) None out' (tokens es)) (words_at (braces_after braces kind) (parens_after parens kind) es)
     ≡ noted_words (right_words stage parens name early out (tokens (piece_of kind bytes ∷ es))) (words_at braces parens (piece_of kind bytes ∷ es))
 begins stage braces parens kind name name' bytes early early' out out' es candidate =
     let parts = candidate_parts braces parens kind bytes candidate in
     let C : Kind → ℕ → ℕ → Type 0 = λ kind braces parens.
-    is_candidate braces parens (piece_of kind bytes) ≡ true → IsSound stage parens
+    is_candidate braces parens (piece_of kind bytes) ≡ true → IsSoundStage stage parens
     → right_words (stage_after stage (parens_after parens kind) kind) (parens_after parens kind) name' early' out' (tokens es) ≡ right_words stage parens name early out (kind ∷ tokens es)
     → noted_words (right_words Named (parens_after parens kind) (front is_name_byte bytes) None out' (tokens es)) (words_at (braces_after braces kind) (parens_after parens kind) es)
     ≡ noted_words (right_words stage parens name early out (tokens (piece_of kind bytes ∷ es))) (words_at braces parens (piece_of kind bytes ∷ es)) in

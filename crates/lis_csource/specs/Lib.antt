@@ -1,3 +1,4 @@
+pub mod Joints
 pub mod Runs
 pub mod Reading
 pub mod Rights

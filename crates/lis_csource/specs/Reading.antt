@@ -1,8 +1,8 @@
 -- A source that is read up to some place: what has been noted, and what the entries behind the place still give.
-use Rattle.std.specs.Prelude.{◌≡◌, ℕ, ◌==◌, ◌<◌, Bool, false, ◌&&◌, if◌then◌else◌, Option, Some, None, List, [], ◌∷◌, filter}
+use Rattle.std.specs.Prelude.{◌≡◌, ℕ, ◌==◌, ◌<◌, Bool, false, ◌&&◌, if◌then◌else◌, Option, Some, None, List, [], ◌∷◌, ◌++◌, filter, codes}
 use Rattle.lis_words.specs.Words.{is_word}
 use Rattle.lis_model.specs.Noted.{noted_all}
-use Rattle.lis_transducers.specs.Source.{is_byte, begins_with_byte, behind_call, is_defined, defined_word}
+use Rattle.lis_transducers.specs.Source.{is_byte, begins_with_byte, behind_call, is_defined}
 use Rattle.lis_transducers.specs.declared.piece.Kind.{Kind}
 use Rattle.lis_csource.specs.declared.source.Stage.{Stage}
 use Rattle.lis_csource.specs.declared.source.Stage.TheVariants.{Nothing, Named, Open, Closed}
@@ -27,7 +27,7 @@ stage_after Closed parens kind = Nothing
 
 -- the words if the identifier of this name is defined; `early` has them once paths have come behind it
 abbrev pub with_name : List (List ℕ) → List ℕ → Option (List (List ℕ)) → List (List ℕ)
-with_name out name None = noted_words out (defined_word name ∷ [])
+with_name out name None = noted_words out ((codes "defines:" ++ name) ∷ [])
 with_name out name (Some words) = words
 
 -- the words that are right, by the tokens to come
@@ -36,8 +36,8 @@ right_words stage parens name early out kinds =
     if comes_true stage parens kinds then with_name out name early else out
 
 -- a name stands outside parentheses, and an open parenthesis counts
-abbrev pub IsSound : Stage → ℕ → Type 0
-IsSound Nothing parens = Unit {0}
-IsSound Named parens = parens ≡ 0
-IsSound Open parens = 0 < parens
-IsSound Closed parens = Unit {0}
+abbrev pub IsSoundStage : Stage → ℕ → Type 0
+IsSoundStage Nothing parens = Unit {0}
+IsSoundStage Named parens = parens ≡ 0
+IsSoundStage Open parens = 0 < parens
+IsSoundStage Closed parens = Unit {0}

@@ -1,7 +1,8 @@
 //! Reading through joined lines, byte by byte.
 
 ghost use Rattle.std.specs.Prelude.{◌≡◌, ℕ, ◌<◌, ◌≤◌, List, [], ◌∷◌, length, MatchOption, IfSome};
-ghost use Rattle.lis_transducers.specs.Joined.{joint_len, joined};
+ghost use Rattle.lis_transducers.specs.Joined.{joined};
+ghost use Rattle.lis_csource.specs.Joints.{joint_len};
 
 /// How many bytes the joint has that the bytes begin with; 0 where they begin with none.
 fn joint_len(bytes: &[u8]) -> usize

@@ -1,9 +1,10 @@
 //! The pieces of a source, one after another.
 
 ghost use Rattle.std.specs.Prelude.{◌≡◌, ℕ, ◌<◌, ◌≤◌, List, [], ◌∷◌, length, true, false, MatchOption, IfSome};
-ghost use Rattle.lis_transducers.specs.Bytes.{is_blank, is_white, is_name_start, is_name_byte, begins_with, front, past, but_first};
+ghost use Rattle.lis_transducers.specs.Bytes.{is_white, is_name_start, begins_with, past, but_first};
 ghost use Rattle.lis_transducers.specs.Joined.{joined};
-ghost use Rattle.lis_transducers.specs.Pieces.{IsFirst, read, piece_of, pieces, after_block, after_literal, is_in_path, has_close, close_of, slash_piece, quote_piece, is_open, open_piece, first_piece, other_after, white_after, hash_after, name_after, context_after};
+ghost use Rattle.lis_transducers.specs.Pieces.{IsFirst, read, piece_of, pieces, after_block, after_literal, is_in_path, has_close, close_of, slash_piece, quote_piece, is_open, open_piece, first_piece, context_after};
+ghost use Rattle.lis_words.specs.Bytes.{is_blank};
 
 use crate::joined::next_byte;
 use crate::runs::Run;
@@ -213,58 +214,16 @@ pub fn first_piece(context: Context, bytes: &[u8]) -> Option<Found<'_>>
     }
 }
 
-fn other_after(context: Context) -> Context
-    ensures { result ≡ other_after context }
-{
-    match context {
-        Context::LineStart | Context::Code => Context::Code,
-        _ => Context::Directive,
-    }
-}
-
-fn white_after(context: Context) -> Context
-    ensures { result ≡ white_after context }
-{
-    match context {
-        Context::LineStart => Context::LineStart,
-        _ => other_after(context),
-    }
-}
-
-fn hash_after(context: Context) -> Context
-    ensures { result ≡ hash_after context }
-{
-    match context {
-        Context::LineStart => Context::Hash,
-        _ => other_after(context),
-    }
-}
-
-fn name_after(context: Context, text: &[u8]) -> Context
-    ensures { result ≡ name_after context (front is_name_byte (joined text.now)) }
-{
-    match context {
-        Context::Hash => {
-            if is_include(text) {
-                Context::Include
-            } else {
-                Context::Directive
-            }
-        }
-        _ => other_after(context),
-    }
-}
-
 /// Where the piece behind this one stands.
 pub fn context_after(context: Context, kind: Kind, text: &[u8]) -> Context
     ensures { result ≡ context_after context (piece_of kind (joined text.now)) }
 {
-    match kind {
-        Kind::Feed => Context::LineStart,
-        Kind::Blank | Kind::Comment => context,
-        Kind::White => white_after(context),
-        Kind::Identifier => name_after(context, text),
-        Kind::Mark(b'#') => hash_after(context),
-        _ => other_after(context),
+    match (context, kind) {
+        (_, Kind::Feed) | (Context::LineStart, Kind::White) => Context::LineStart,
+        (_, Kind::Blank | Kind::Comment) => context,
+        (Context::LineStart, Kind::Mark(b'#')) => Context::Hash,
+        (Context::LineStart | Context::Code, _) => Context::Code,
+        (Context::Hash, Kind::Identifier) if is_include(text) => Context::Include,
+        _ => Context::Directive,
     }
 }

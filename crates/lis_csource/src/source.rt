@@ -5,9 +5,9 @@ ghost use Rattle.lis_model.specs.Noted.{noted_all};
 ghost use Rattle.lis_transducers.specs.Joined.{joined};
 ghost use Rattle.lis_transducers.specs.Bytes.{front, is_name_byte};
 ghost use Rattle.lis_transducers.specs.Pieces.{Piece, piece_of, context_after, is_in_path};
-ghost use Rattle.lis_transducers.specs.Entries.{counts, entries, is_code, is_token, tokens};
+ghost use Rattle.lis_transducers.specs.Entries.{counts, entries, is_token, tokens};
 ghost use Rattle.lis_transducers.specs.Source.{is_byte, depth_after, braces_after, parens_after, is_candidate, included_word, words_at, source_words};
-ghost use Rattle.lis_csource.specs.Reading.{noted_words, comes_true, stage_after, with_name, right_words, IsSound};
+ghost use Rattle.lis_csource.specs.Reading.{noted_words, comes_true, stage_after, with_name, right_words, IsSoundStage};
 
 use crate::pieces::{Found, context_after, first_piece};
 use crate::words::{is_keyword, note_defined, note_included};
@@ -40,15 +40,6 @@ struct Reading<'a> {
     early: Option<Derived>,
 }
 
-fn is_code(context: Context) -> bool
-    ensures { result ≡ is_code context }
-{
-    match context {
-        Context::LineStart | Context::Code => true,
-        _ => false,
-    }
-}
-
 /// Whether a piece counts: a path does, and each token outside directives.
 fn counts(context: Context, kind: Kind) -> bool
     ensures { result ≡ counts context kind }
@@ -57,7 +48,7 @@ fn counts(context: Context, kind: Kind) -> bool
         Kind::Blank | Kind::White | Kind::Feed | Kind::Comment => false,
         Kind::Path(_) => true,
         Kind::Mark(b'#') => context == Context::Code,
-        _ => is_code(context),
+        _ => matches!(context, Context::LineStart | Context::Code),
     }
 }
 
@@ -163,7 +154,7 @@ impl<'a> Reading<'a> {
 
     /// Goes past a token, but begins no candidate with it.
     fn settle(&mut self, kind: Kind, out: &mut Derived)
-        requires sound { IsSound self.old.stage self.old.parens }
+        requires sound { IsSoundStage self.old.stage self.old.parens }
         requires few { (self.old.braces + 1 < 2 ^ 64) × (self.old.parens + 1 < 2 ^ 64) }
         ensures right { (kinds : List Kind) → right_words_of self.new out.new kinds ≡ right_words_of self.old out.old (kind ∷ kinds) }
         ensures place { self.new ≡ record self.old {
@@ -183,11 +174,11 @@ impl<'a> Reading<'a> {
 
     fn take_token(&mut self, kind: Kind, text: &'a [u8], out: &mut Derived)
         requires token { is_token kind ≡ true }
-        requires sound { IsSound self.old.stage self.old.parens }
+        requires sound { IsSoundStage self.old.stage self.old.parens }
         requires few { (self.old.braces + 1 < 2 ^ 64) × (self.old.parens + 1 < 2 ^ 64) }
         ensures words { (es : List Piece) → words_to_come self.new out.new es
             ≡ words_to_come self.old out.old (piece_of kind (joined text.now) ∷ es) }
-        ensures sound { IsSound self.new.stage self.new.parens }
+        ensures sound { IsSoundStage self.new.stage self.new.parens }
         ensures near { (self.new.braces ≤ self.old.braces + 1) × (self.new.parens ≤ self.old.parens + 1) }
         ensures context { self.new.context ≡ self.old.context }
     {
@@ -202,11 +193,11 @@ impl<'a> Reading<'a> {
 
     /// Notes what a piece gives.
     fn take(&mut self, found: &Found<'a>, out: &mut Derived)
-        requires sound { IsSound self.old.stage self.old.parens }
+        requires sound { IsSoundStage self.old.stage self.old.parens }
         requires few { (self.old.braces + 1 < 2 ^ 64) × (self.old.parens + 1 < 2 ^ 64) }
         ensures words { (ps : List Piece) → words_to_come self.new out.new (entries self.new.context ps)
             ≡ words_to_come self.old out.old (entries self.old.context (piece_of found.now.kind (joined found.now.text.now) ∷ ps)) }
-        ensures sound { IsSound self.new.stage self.new.parens }
+        ensures sound { IsSoundStage self.new.stage self.new.parens }
         ensures near { (self.new.braces ≤ self.old.braces + 1) × (self.new.parens ≤ self.old.parens + 1) }
         ensures context { self.new.context ≡ context_after self.old.context (piece_of found.now.kind (joined found.now.text.now)) }
     {

@@ -6,7 +6,8 @@ use Rattle.std.proofs.lemmas.List.Sums.{position_or_len_is, take_while-cons}
 use Rattle.std.proofs.lemmas.List.Splits.{slice_split_first}
 use Rattle.std.proofs.Math.ListN.{drop_of_length-le}
 use Rattle.memchr.specs.Find.{IsFirstByte, Passes}
-use Rattle.lis_transducers.specs.Lines.{without_return, is_feed, is_some_bytes, lines, header}
+use Rattle.lis_transducers.specs.Lines.{header}
+use Rattle.lis_words.specs.Bytes.{is_feed, is_some_bytes, without_return}
 
 -- a line that ends with CR, without it
 pub return_dropped : (line : List ℕ) (end : ℕ) → length line ≡ end + 1 → get_or line end 0 ≡ 13 → take end line ≡ without_return line
@@ -62,7 +63,7 @@ module _ (test : ℕ → Bool) where
 pub header_cut : (bytes part rest : List ℕ) → slice_split is_feed bytes ≡ part ∷ slice_split is_feed rest
     → header bytes ≡ cond (is_some_bytes (without_return part)) (without_return part ∷ header rest) []
 header_cut bytes part rest e =
-    ap (λ parts. take_while is_some_bytes (map without_return parts)) e ∙ take_while-cons is_some_bytes (without_return part) (lines rest)
+    ap (λ parts. take_while is_some_bytes (map without_return parts)) e ∙ take_while-cons is_some_bytes (without_return part) (map without_return (slice_split is_feed rest))
 
 -- the same, where no line feed is left
 pub header_whole : (bytes : List ℕ) → IsFirstByte is_feed bytes None

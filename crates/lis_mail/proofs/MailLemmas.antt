@@ -9,10 +9,11 @@ use Rattle.lis_words.specs.Words.{is_word}
 use Rattle.lis_model.specs.Noted.{noted, noted_all}
 use Rattle.lis_transducers.specs.declared.field.FieldKind.{FieldKind}
 use Rattle.lis_transducers.specs.declared.field.FieldKind.TheVariants.{From, To, Subject, Other}
-use Rattle.lis_transducers.specs.Lines.{header, is_some_bytes, is_blank, is_colon, is_field, is_field_name, is_name_byte, is_folded, fields, field_of}
+use Rattle.lis_transducers.specs.Lines.{header, is_field, is_field_name, is_name_byte, is_folded, fields, field_of}
 use Rattle.lis_transducers.specs.Tokens.{tokens, is_between, has_at}
 use Rattle.lis_transducers.specs.Mail.{token_words, field_words, begun_kind, kind_of, with_head}
 use Rattle.lis_mail.proofs.TokenLemmas.{BeginsBetween, tokens_joined}
+use Rattle.lis_words.specs.Bytes.{is_blank, is_colon, is_some_bytes}
 
 -- what the lines still give, after a line of a field of this kind
 abbrev pub rest_words : FieldKind → List (List ℕ) → List (List ℕ)

@@ -4,8 +4,8 @@ use Rattle.std.proofs.lemmas.Bool.{false≢true}
 use Rattle.std.specs.List.{slice_split, onto_first, prefix_len}
 use Rattle.std.proofs.lemmas.List.Elements.{filter-append}
 use Rattle.lis_words.specs.Words.{is_plain_byte}
-use Rattle.lis_transducers.specs.Lines.{is_some_bytes}
 use Rattle.lis_transducers.specs.Tokens.{tokens, is_between}
+use Rattle.lis_words.specs.Bytes.{is_some_bytes}
 
 one_more : (n : ℕ) → 1 + n ≡ suc n
 one_more n = omega arith

@@ -2,8 +2,9 @@
 
 ghost use Rattle.std.specs.Prelude.{◌≡◌, ℕ, ◌<◌, ◌≤◌, List, [], ◌∷◌, length, if◌then◌else◌};
 ghost use Rattle.std.specs.List.{list_all, after_first};
-ghost use Rattle.lis_transducers.specs.Lines.{is_name_byte, is_field_name, is_colon};
+ghost use Rattle.lis_transducers.specs.Lines.{is_name_byte, is_field_name};
 ghost use Rattle.lis_transducers.specs.Mail.{small_kind, kind_of, begun_kind};
+ghost use Rattle.lis_words.specs.Bytes.{is_colon};
 
 use crate::words::with_head;
 use lis_transducers::field::FieldKind;

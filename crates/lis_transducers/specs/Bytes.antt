@@ -1,25 +1,10 @@
 -- Kinds of bytes, and fronts of bytes of one kind.
 use Rattle.std.specs.Prelude.{ℕ, ◌==◌, Bool, false, not, ◌||◌, if◌then◌else◌, List, [], ◌∷◌}
 use Rattle.std.specs.Char.{is_ascii_alphabetic, is_ascii_alphanumeric}
-
-abbrev pub is_feed : ℕ → Bool
-is_feed b = b == 10
-
-abbrev pub is_return : ℕ → Bool
-is_return b = b == 13
-
-abbrev pub is_backslash : ℕ → Bool
-is_backslash b = b == 92
+use Rattle.lis_words.specs.Bytes.{is_feed}
 
 abbrev pub is_slash : ℕ → Bool
 is_slash b = b == 47
-
-abbrev pub is_star : ℕ → Bool
-is_star b = b == 42
-
--- space or tab
-abbrev pub is_blank : ℕ → Bool
-is_blank b = (b == 32) || (b == 9)
 
 -- the other white space but LF: vertical tab, form feed, CR
 abbrev pub is_white : ℕ → Bool

@@ -1,5 +1,5 @@
 -- What counts in a source: the paths of its includes, and the tokens outside directives.
-use Rattle.std.specs.Prelude.{ℕ, ◌==◌, Bool, true, false, if◌then◌else◌, List, [], ◌∷◌}
+use Rattle.std.specs.Prelude.{ℕ, ◌==◌, Bool, true, false, not, if◌then◌else◌, List, [], ◌∷◌}
 use Rattle.std.specs.List.{list_any}
 use Rattle.lis_transducers.specs.Bytes.{is_slash}
 use Rattle.lis_transducers.specs.Pieces.{Piece, context_after}
@@ -8,33 +8,19 @@ use Rattle.lis_transducers.specs.declared.piece.Kind.TheVariants.{Blank, White, 
 use Rattle.lis_transducers.specs.declared.piece.Context.{Context}
 use Rattle.lis_transducers.specs.declared.piece.Context.TheVariants.{LineStart, Code, Hash, Include, Directive}
 
--- outside directives
-abbrev pub is_code : Context → Bool
-is_code LineStart = true
-is_code Code = true
-is_code Hash = false
-is_code Include = false
-is_code Directive = false
-
--- outside directives, where a # begins none
-abbrev pub is_code_behind : Context → Bool
-is_code_behind Code = true
-is_code_behind LineStart = false
-is_code_behind Hash = false
-is_code_behind Include = false
-is_code_behind Directive = false
-
--- whether a piece counts: a path does, and each token outside directives; white space and comments are no tokens
+-- whether a piece counts: a path does, and each token outside directives; white space, comments and a # that begins a directive are no tokens
 abbrev pub counts : Context → Kind → Bool
 counts context Blank = false
 counts context White = false
 counts context Feed = false
 counts context Comment = false
 counts context (Path close) = true
-counts context Identifier = is_code context
-counts context Literal = is_code context
-counts context Number = is_code context
-counts context (Mark b) = if b == 35 then is_code_behind context else is_code context
+counts LineStart (Mark b) = not (b == 35)
+counts LineStart _ = true
+counts Code _ = true
+counts Hash _ = false
+counts Include _ = false
+counts Directive _ = false
 
 -- the pieces that count, where the first piece stands in this context
 abbrev pub entries : Context → List Piece → List Piece

@@ -1,34 +1,12 @@
 -- The lines and the fields of a mail's header.
 use Rattle.std.specs.Prelude.{ℕ, ◌==◌, nat_le, Bool, true, false, not, ◌&&◌, ◌||◌, if◌then◌else◌, List, [], ◌∷◌, ◌++◌, map}
 use Rattle.std.specs.List.{slice_split, take_while, concat, list_any, list_all, before_first, after_first}
+use Rattle.lis_words.specs.Bytes.{is_feed, is_blank, is_colon, is_some_bytes, without_return}
 
-abbrev pub is_feed : ℕ → Bool
-is_feed b = b == 10
-
--- space or tab
-abbrev pub is_blank : ℕ → Bool
-is_blank b = (b == 32) || (b == 9)
-
-abbrev pub is_colon : ℕ → Bool
-is_colon b = b == 58
-
-abbrev pub is_some_bytes : List ℕ → Bool
-is_some_bytes [] = false
-is_some_bytes (b ∷ bytes) = true
-
--- A line ends with CR and LF (RFC 5322, section 2.1), or with LF alone (this project's own): one CR at its end is dropped.
-abbrev pub without_return : List ℕ → List ℕ
-without_return [] = []
-without_return (b ∷ []) = if b == 13 then [] else b ∷ []
-without_return (b ∷ c ∷ bytes) = b ∷ without_return (c ∷ bytes)
-
--- the lines of a mail; what stands behind the last line feed is one too
-abbrev pub lines : List ℕ → List (List ℕ)
-lines bytes = map without_return (slice_split is_feed bytes)
-
--- The header: the lines before the first empty one (RFC 5322, section 2.1), or all of them.
+-- The header: the lines before the first empty one (RFC 5322, section 2.1), or all of them. A line ends with CR and LF (the same section), or
+-- with LF alone (this project's own); what stands behind the last line feed is one too.
 abbrev pub header : List ℕ → List (List ℕ)
-header bytes = take_while is_some_bytes (lines bytes)
+header bytes = take_while is_some_bytes (map without_return (slice_split is_feed bytes))
 
 -- A field's name: printable US-ASCII, but no colon (RFC 5322, section 2.2).
 abbrev pub is_name_byte : ℕ → Bool

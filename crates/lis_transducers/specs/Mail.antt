@@ -3,10 +3,11 @@ use Rattle.std.specs.Prelude.{ℕ, if◌then◌else◌, List, [], ◌++◌, map,
 use Rattle.std.specs.List.{flat_map, before_first}
 use Rattle.std.specs.Str.{str_to_ascii_lowercase}
 use Rattle.lis_words.specs.Words.{is_word, same_word}
-use Rattle.lis_transducers.specs.Lines.{Field, fields, header, is_field, is_colon}
+use Rattle.lis_transducers.specs.Lines.{Field, fields, header, is_field}
 use Rattle.lis_transducers.specs.Tokens.{tokens, has_at}
 use Rattle.lis_transducers.specs.declared.field.FieldKind.{FieldKind}
 use Rattle.lis_transducers.specs.declared.field.FieldKind.TheVariants.{From, To, Subject, Other}
+use Rattle.lis_words.specs.Bytes.{is_colon}
 
 -- the kind of a field whose name is written in small letters
 abbrev pub small_kind : List ℕ → FieldKind

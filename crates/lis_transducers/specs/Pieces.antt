@@ -2,11 +2,12 @@
 use Rattle.std.specs.Prelude.{◌≡◌, ℕ, zero, suc, ◌==◌, Bool, true, false, not, ◌&&◌, ◌||◌, if◌then◌else◌, List, [], ◌∷◌, length, codes}
 use Rattle.std.specs.Char.{is_ascii_digit}
 use Rattle.lis_words.specs.Words.{same_word}
-use Rattle.lis_transducers.specs.Bytes.{is_feed, is_backslash, is_slash, is_star, is_blank, is_white, is_name_start, is_name_byte, is_number_byte, is_no_feed, front, past, begins_with, but_first}
+use Rattle.lis_transducers.specs.Bytes.{is_slash, is_white, is_name_start, is_name_byte, is_number_byte, is_no_feed, front, past, begins_with, but_first}
 use Rattle.lis_transducers.specs.declared.piece.Kind.{Kind}
 use Rattle.lis_transducers.specs.declared.piece.Kind.TheVariants.{Blank, White, Feed, Comment, Literal, Identifier, Number, Path, Mark}
 use Rattle.lis_transducers.specs.declared.piece.Context.{Context}
 use Rattle.lis_transducers.specs.declared.piece.Context.TheVariants.{LineStart, Code, Hash, Include, Directive}
+use Rattle.lis_words.specs.Bytes.{is_feed, is_blank}
 
 -- a piece, with its bytes where it is an identifier or a path
 pub record Piece : Type 0 where
@@ -36,7 +37,7 @@ read kind text rest = record { piece = piece_of kind text; rest = rest }
 -- what stands behind the next */, or nothing: block comments do not nest (C)
 abbrev pub after_block : List ℕ → List ℕ
 after_block [] = []
-after_block (b ∷ bytes) = if is_star b && begins_with 47 bytes then but_first bytes else after_block bytes
+after_block (b ∷ bytes) = if (b == 42) && begins_with 47 bytes then but_first bytes else after_block bytes
 
 -- What stands behind a literal: it ends with its closing byte, before the next LF, or at the end. A backslash escapes the
 -- byte after it (C), but not an LF (this project's own). `escaped` says whether a backslash stands before the bytes.
@@ -46,13 +47,13 @@ after_literal close escaped (b ∷ bytes) =
     if is_feed b then b ∷ bytes
     else if escaped then after_literal close false bytes
     else if b == close then bytes
-    else after_literal close (is_backslash b) bytes
+    else after_literal close (b == 92) bytes
 
 -- a comment, where the byte behind a / makes one: `//` runs to the end of its line (C)
 abbrev pub slash_piece : List ℕ → Read
 slash_piece [] = read (Mark 47) [] []
 slash_piece (b ∷ bytes) =
-    if is_star b then read Comment [] (after_block bytes)
+    if b == 42 then read Comment [] (after_block bytes)
     else if is_slash b then read Comment [] (past is_no_feed bytes)
     else read (Mark 47) [] (b ∷ bytes)
 
@@ -60,21 +61,14 @@ slash_piece (b ∷ bytes) =
 abbrev pub close_of : ℕ → ℕ
 close_of first = if first == 60 then 62 else first
 
-abbrev pub is_awaiting_path : Context → Bool
-is_awaiting_path Include = true
-is_awaiting_path _ = false
-
 -- whether a path ends before the next LF
 abbrev pub has_close : ℕ → List ℕ → Bool
 has_close close bytes = begins_with close (past (is_in_path close) bytes)
 
 -- whether a path stands here: only behind `include`, and only where its closing byte comes before the next LF
 abbrev pub opens_path : Context → ℕ → List ℕ → Bool
-opens_path context first bytes =
-    is_awaiting_path context && ((first == 60) || (first == 34)) && has_close (close_of first) bytes
-
-abbrev pub path_piece : ℕ → List ℕ → Read
-path_piece close bytes = read (Path close) bytes (but_first (past (is_in_path close) bytes))
+opens_path Include first bytes = ((first == 60) || (first == 34)) && has_close (close_of first) bytes
+opens_path _ first bytes = false
 
 -- < alone is a byte like others; " and ' begin literals (C)
 abbrev pub quote_piece : ℕ → List ℕ → Read
@@ -83,7 +77,8 @@ quote_piece first bytes =
 
 abbrev pub open_piece : Context → ℕ → List ℕ → Read
 open_piece context first bytes =
-    if opens_path context first bytes then path_piece (close_of first) bytes else quote_piece first bytes
+    if opens_path context first bytes then (let close = close_of first in read (Path close) bytes (but_first (past (is_in_path close) bytes)))
+    else quote_piece first bytes
 
 abbrev pub is_open : ℕ → Bool
 is_open b = (b == 34) || (b == 39) || (b == 60)
@@ -102,44 +97,18 @@ first_piece context b bytes =
 
 -- Where the pieces behind one stand. A # before which its line has only white space and comments begins a directive (C);
 -- it runs to the next LF outside comments. Only spaces, tabs and comments may stand round `include`.
-abbrev pub other_after : Context → Context
-other_after LineStart = Code
-other_after Code = Code
-other_after Hash = Directive
-other_after Include = Directive
-other_after Directive = Directive
-
-abbrev pub white_after : Context → Context
-white_after LineStart = LineStart
-white_after Code = Code
-white_after Hash = Directive
-white_after Include = Directive
-white_after Directive = Directive
-
-abbrev pub hash_after : Context → Context
-hash_after LineStart = Hash
-hash_after Code = Code
-hash_after Hash = Directive
-hash_after Include = Directive
-hash_after Directive = Directive
-
-abbrev pub name_after : Context → List ℕ → Context
-name_after Hash name = if same_word name (codes "include") then Include else Directive
-name_after LineStart name = Code
-name_after Code name = Code
-name_after Include name = Directive
-name_after Directive name = Directive
-
 abbrev pub kind_after : Context → Kind → List ℕ → Context
 kind_after context Feed text = LineStart
 kind_after context Blank text = context
 kind_after context Comment text = context
-kind_after context White text = white_after context
-kind_after context Identifier text = name_after context text
-kind_after context (Mark b) text = if b == 35 then hash_after context else other_after context
-kind_after context Literal text = other_after context
-kind_after context Number text = other_after context
-kind_after context (Path close) text = other_after context
+kind_after LineStart White text = LineStart
+kind_after LineStart (Mark b) text = if b == 35 then Hash else Code
+kind_after LineStart _ text = Code
+kind_after Code _ text = Code
+kind_after Hash Identifier text = if same_word text (codes "include") then Include else Directive
+kind_after Hash _ text = Directive
+kind_after Include _ text = Directive
+kind_after Directive _ text = Directive
 
 abbrev pub context_after : Context → Piece → Context
 context_after context piece = kind_after context piece.kind piece.text

@@ -30,15 +30,11 @@ abbrev pub begins_with_byte : ℕ → List Kind → Bool
 begins_with_byte c [] = false
 begins_with_byte c (kind ∷ kinds) = is_byte c kind
 
--- whether a ) brings the depth of parentheses back to 0
-abbrev pub ends_call : ℕ → Kind → Bool
-ends_call depth kind = is_byte 41 kind && (parens_after depth kind == 0)
-
 -- what stands behind the first ) that brings the depth of parentheses back to 0
 abbrev pub behind_call : ℕ → List Kind → List Kind
 behind_call depth [] = []
 behind_call depth (kind ∷ kinds) =
-    if ends_call depth kind then kinds else behind_call (parens_after depth kind) kinds
+    if is_byte 41 kind && (parens_after depth kind == 0) then kinds else behind_call (parens_after depth kind) kinds
 
 -- whether the tokens behind an identifier make it a definition: ( first, and { behind the ) that closes it
 abbrev pub is_defined : List Kind → Bool
@@ -58,9 +54,6 @@ abbrev pub is_candidate : ℕ → ℕ → Piece → Bool
 is_candidate braces parens piece =
     is_identifier piece.kind && (braces == 0) && (parens == 0) && not (has_word keywords piece.text)
 
-abbrev pub defined_word : List ℕ → List ℕ
-defined_word name = codes "defines:" ++ name
-
 abbrev pub included_word : List ℕ → List ℕ
 included_word path = codes "includes:" ++ last_part path
 
@@ -72,7 +65,7 @@ is_path _ = false
 abbrev pub entry_words : ℕ → ℕ → Piece → List Kind → List (List ℕ)
 entry_words braces parens piece behind =
     if is_path piece.kind then included_word piece.text ∷ []
-    else if is_candidate braces parens piece && is_defined behind then defined_word piece.text ∷ []
+    else if is_candidate braces parens piece && is_defined behind then (codes "defines:" ++ piece.text) ∷ []
     else []
 
 -- the words in the order of what gives them, with the depths before the first entry

@@ -2,8 +2,8 @@
 use Rattle.std.proofs.Common.{◌≡◌, ℕ, Bool, true, false, not, cond, ◌||◌, List, [], ◌∷◌, ◌++◌, refl, sym, ap, ◌∙◌, append_assoc, eqb-true}
 use Rattle.std.specs.List.{list_all}
 use Rattle.std.proofs.lemmas.Bool.{and_parts, and_from, not-true, not_from_false, or_right}
-use Rattle.lis_transducers.specs.Bytes.{is_feed}
-use Rattle.lis_views.specs.Lines.{Lines, joined, content_of, has_no_feed, ends_in_some, are_lines, byte_before, before, lines_of, IsCut}
+use Rattle.lis_views.specs.Lines.{Lines, joined_lines, content_of, has_no_feed, ends_in_some, are_lines, byte_before, before, lines_of, IsCut}
+use Rattle.lis_words.specs.Bytes.{is_feed}
 
 abbrev pub lines : List (List ℕ) → Bool → Lines
 lines texts is_open = record { texts = texts; is_open = is_open }
@@ -45,13 +45,13 @@ cut_formed [] = refl
 cut_formed (b ∷ bytes) = before_formed b (lines_of bytes) (cut_formed bytes)
 
 -- ---- their content is that content
-byte_content : (b : ℕ) (texts : List (List ℕ)) (is_open : Bool) → Formed texts is_open → content_of (byte_before b texts is_open) ≡ b ∷ joined is_open texts
+byte_content : (b : ℕ) (texts : List (List ℕ)) (is_open : Bool) → Formed texts is_open → content_of (byte_before b texts is_open) ≡ b ∷ joined_lines is_open texts
 byte_content b [] is_open f = refl
 byte_content b (text ∷ []) true f = refl
 byte_content b (text ∷ []) false f = refl
 byte_content b (text ∷ next ∷ texts) is_open f = refl
 
-feed_content : (texts : List (List ℕ)) (is_open : Bool) → Formed texts is_open → joined is_open ([] ∷ texts) ≡ 10 ∷ joined is_open texts
+feed_content : (texts : List (List ℕ)) (is_open : Bool) → Formed texts is_open → joined_lines is_open ([] ∷ texts) ≡ 10 ∷ joined_lines is_open texts
 feed_content [] true f = let e = f.end in absurd cc
 feed_content [] false f = refl
 feed_content (text ∷ texts) is_open f = refl
@@ -85,7 +85,7 @@ open_cut b (c ∷ text) h =
     let parts = and_parts _ _ h in
     ap (before b) (open_cut c text parts.1) ∙ before_byte b (lines ((c ∷ text) ∷ []) true) (not-true _ parts.0)
 
-pub joined_cut : (texts : List (List ℕ)) (is_open : Bool) → Formed texts is_open → lines_of (joined is_open texts) ≡ lines texts is_open
+pub joined_cut : (texts : List (List ℕ)) (is_open : Bool) → Formed texts is_open → lines_of (joined_lines is_open texts) ≡ lines texts is_open
 joined_cut [] true f = let e = f.end in absurd cc
 joined_cut [] false f = refl
 joined_cut ([] ∷ []) true f = let e = f.end in absurd cc
@@ -94,8 +94,8 @@ joined_cut (text ∷ []) false f = line_cut text [] (and_parts _ _ f.no_feeds).0
 joined_cut (text ∷ next ∷ texts) is_open f =
     let parts = and_parts _ _ f.no_feeds in
     let rest = joined_cut (next ∷ texts) is_open (record { no_feeds = parts.1; end = f.end }) in
-    ap lines_of (append_assoc text (10 ∷ []) (joined is_open (next ∷ texts)))
-    ∙ line_cut text (joined is_open (next ∷ texts)) parts.0
+    ap lines_of (append_assoc text (10 ∷ []) (joined_lines is_open (next ∷ texts)))
+    ∙ line_cut text (joined_lines is_open (next ∷ texts)) parts.0
     ∙ ap (λ (cut : Lines). lines (text ∷ cut.texts) cut.is_open) rest
 
 pub one_cut : (bytes : List ℕ) → IsCut bytes (lines_of bytes)

@@ -7,7 +7,7 @@ use Rattle.std.proofs.lemmas.List.Folds.{list_all-append}
 use Rattle.lis_words.specs.Words.{same_word}
 use Rattle.lis_grammar.specs.Formula.{Formula}
 use Rattle.lis_model.specs.Replies.{line}
-use Rattle.lis_views.specs.Lines.{Lines, joined, has_no_feed, ends_in_some, lines_of}
+use Rattle.lis_views.specs.Lines.{Lines, joined_lines, has_no_feed, ends_in_some, lines_of}
 use Rattle.lis_views.specs.Truth.{line_holds}
 use Rattle.lis_views.specs.Views.{Piece, pieces, texts_in, runs_of, piece_lines, view_lines, view_of}
 use Rattle.lis_views.specs.Edits.{Back, is_mark, is_edited, has_end, before_end, marked, new_texts, has_marks, is_in_form, back_by, view_marks, back_of}
@@ -50,10 +50,10 @@ abbrev chosen : Bool → Bool → List ℕ → Back
 chosen formed same new = cond (not formed) NotAView (cond (not same) WrongMarks (Content new))
 
 stands : (marks : List (List ℕ × List (List ℕ))) (texts : List (List ℕ)) (is_open : Bool) → is_in_form marks texts is_open ≡ true → has_marks marks texts ≡ true
-    → back_by marks texts is_open ≡ Content (joined is_open (new_texts marks texts))
+    → back_by marks texts is_open ≡ Content (joined_lines is_open (new_texts marks texts))
 stands marks texts is_open formed same =
-    ap (λ t. chosen t (has_marks marks texts) (joined is_open (new_texts marks texts))) formed
-    ∙ ap (λ t. chosen true t (joined is_open (new_texts marks texts))) same
+    ap (λ t. chosen t (has_marks marks texts) (joined_lines is_open (new_texts marks texts))) formed
+    ∙ ap (λ t. chosen true t (joined_lines is_open (new_texts marks texts))) same
 
 -- ---- pieces with the same runs
 module _ (bytes : List ℕ) (place : List Formula) (input : List ℕ) (kept : List Piece) (is_open : Bool)
@@ -74,20 +74,20 @@ module _ (bytes : List ℕ) (place : List Formula) (input : List ℕ) (kept : Li
       (lines_marks 1 kept (omega arith) kept_some ∙ ap (λ runs. map (λ (pair : List ℕ × List (List ℕ)). pair.0) (marked 1 runs)) same)
       ∙ (words_decide (map (λ pair. pair.0) (view_marks bytes place)) (map (λ pair. pair.0) (view_marks bytes place))).1 refl
 
-  edit_stands : back_of bytes place input ≡ Content (joined is_open (flat_map texts_in kept))
+  edit_stands : back_of bytes place input ≡ Content (joined_lines is_open (flat_map texts_in kept))
   edit_stands =
       ap (λ texts. back_by (view_marks bytes place) (before_end texts) (has_end texts)) given
       ∙ ap (λ texts. back_by (view_marks bytes place) texts (has_end (view_lines kept is_open))) (ending_dropped (piece_lines 1 kept) is_open kept_edited)
       ∙ ap (λ o. back_by (view_marks bytes place) (piece_lines 1 kept) o) (ending_seen (piece_lines 1 kept) is_open kept_edited)
       ∙ stands (view_marks bytes place) (piece_lines 1 kept) is_open
       (and_from _ _ kept_edited (ap (λ texts. not is_open || ends_in_some texts) kept_mean ∙ formed.end)) kept_marks
-      ∙ ap (λ texts. Content (joined is_open texts)) kept_mean
+      ∙ ap (λ texts. Content (joined_lines is_open texts)) kept_mean
 
 pub edits_stand : (bytes : List ℕ) (place : List Formula) (input new : List ℕ) → IsEdit bytes place input new → back_of bytes place input ≡ Content new
 edits_stand bytes place input new e =
     edit_stands bytes place input e.edited (lines_of new).is_open e.lines e.runs
     (subst (λ texts. Formed texts (lines_of new).is_open) e.texts (formed_parts (lines_of new).texts (lines_of new).is_open (cut_formed new)))
-    ∙ ap (λ texts. Content (joined (lines_of new).is_open texts)) (sym e.texts)
+    ∙ ap (λ texts. Content (joined_lines (lines_of new).is_open texts)) (sym e.texts)
     ∙ ap Content (cut_content new)
 
 -- ---- a view is an edit of itself
@@ -123,7 +123,7 @@ module _ (bytes : List ℕ) (place : List Formula) (input new : List ℕ) where
       (and_parts _ _ (sym apart ∙ all)).0
 
   edit_from : Edited 1 given (runs_of (pieces bytes place)) → (not ended || ends_in_some (new_texts (view_marks bytes place) given)) ≡ true
-      → joined ended (new_texts (view_marks bytes place) given) ≡ new → IsEdit bytes place input new
+      → joined_lines ended (new_texts (view_marks bytes place) given) ≡ new → IsEdit bytes place input new
   edit_from e end is = record {
     edited = e.pieces;
     lines = ending_back (lines_of input).texts ∙ ap (λ texts. texts ++ ending ended) (sym e.lines) ∙ ap (λ (cut : Lines). piece_lines 1 e.pieces ++ ending cut.is_open) (sym cut);
@@ -142,13 +142,13 @@ module _ (bytes : List ℕ) (place : List Formula) (input new : List ℕ) where
       }
 
       cut : lines_of new ≡ lines (flat_map texts_in e.pieces) ended
-      cut = ap lines_of (sym is ∙ ap (joined ended) mean) ∙ joined_cut (flat_map texts_in e.pieces) ended formed
+      cut = ap lines_of (sym is ∙ ap (joined_lines ended) mean) ∙ joined_cut (flat_map texts_in e.pieces) ended formed
 
   pub hidden_stay : back_of bytes place input ≡ Content new → IsEdit bytes place input new
   hidden_stay h = by (is_in_form (view_marks bytes place) given ended) (has_marks (view_marks bytes place) given) refl refl h
     where
       by : (f s : Bool) → is_in_form (view_marks bytes place) given ended ≡ f → has_marks (view_marks bytes place) given ≡ s
-          → chosen f s (joined ended (new_texts (view_marks bytes place) given)) ≡ Content new → IsEdit bytes place input new
+          → chosen f s (joined_lines ended (new_texts (view_marks bytes place) given)) ≡ Content new → IsEdit bytes place input new
       by false s formed same e = absurd cc
       by true false formed same e = absurd cc
       by true true formed same e =

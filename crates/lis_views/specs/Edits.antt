@@ -5,10 +5,10 @@ use Rattle.std.specs.Char.{is_ascii_digit}
 use Rattle.std.specs.Cmp.Lexicographic.{pointwise}
 use Rattle.lis_words.specs.Words.{same_word, begins_with_zero}
 use Rattle.lis_transducers.specs.Bytes.{front, past, begins_with, but_first}
-use Rattle.lis_transducers.specs.Lines.{is_some_bytes}
 use Rattle.lis_grammar.specs.Formula.{Formula}
-use Rattle.lis_views.specs.Lines.{lines_of, joined, ends_in_some}
+use Rattle.lis_views.specs.Lines.{lines_of, joined_lines, ends_in_some}
 use Rattle.lis_views.specs.Views.{runs_of, pieces, mark_of}
+use Rattle.lis_words.specs.Bytes.{is_some_bytes}
 
 -- the three kinds of lines of an edited view: `+` and any bytes, the mark of a run, and `!`
 abbrev pub is_kept : List ℕ → Bool
@@ -84,7 +84,7 @@ abbrev pub back_by : List (List ℕ × List (List ℕ)) → List (List ℕ) → 
 back_by marks texts is_open =
     if not (is_in_form marks texts is_open) then NotAView
     else if not (has_marks marks texts) then WrongMarks
-    else Content (joined is_open (new_texts marks texts))
+    else Content (joined_lines is_open (new_texts marks texts))
 
 abbrev pub view_marks : List ℕ → List Formula → List (List ℕ × List (List ℕ))
 view_marks bytes place = marked 1 (runs_of (pieces bytes place))

@@ -1,9 +1,9 @@
 -- The lines of a content: texts without line feeds, and whether a line feed stands behind the last one.
 use Rattle.std.specs.Prelude.{◌≡◌, ℕ, Bool, true, false, not, ◌&&◌, ◌||◌, if◌then◌else◌, List, [], ◌∷◌, ◌++◌, IsTrue}
 use Rattle.std.specs.List.{list_all}
-use Rattle.lis_transducers.specs.Bytes.{is_feed, is_no_feed}
-use Rattle.lis_transducers.specs.Lines.{is_some_bytes}
+use Rattle.lis_transducers.specs.Bytes.{is_no_feed}
 use Rattle.lis_model.specs.Replies.{line}
+use Rattle.lis_words.specs.Bytes.{is_feed, is_some_bytes}
 
 pub record Lines : Type 0 where
   pub texts : List (List ℕ)
@@ -11,13 +11,13 @@ pub record Lines : Type 0 where
   pub is_open : Bool
 
 -- the texts, each with a line feed behind it, but for the last one of an open list
-abbrev pub joined : Bool → List (List ℕ) → List ℕ
-joined is_open [] = []
-joined is_open (text ∷ []) = if is_open then text else line text
-joined is_open (text ∷ next ∷ texts) = line text ++ joined is_open (next ∷ texts)
+abbrev pub joined_lines : Bool → List (List ℕ) → List ℕ
+joined_lines is_open [] = []
+joined_lines is_open (text ∷ []) = if is_open then text else line text
+joined_lines is_open (text ∷ next ∷ texts) = line text ++ joined_lines is_open (next ∷ texts)
 
 abbrev pub content_of : Lines → List ℕ
-content_of lines = joined lines.is_open lines.texts
+content_of lines = joined_lines lines.is_open lines.texts
 
 abbrev pub has_no_feed : List ℕ → Bool
 has_no_feed text = list_all is_no_feed text

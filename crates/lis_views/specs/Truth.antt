@@ -1,15 +1,16 @@
 -- When a formula holds of a line. Which words a line has is this project's own.
-use Rattle.std.specs.Prelude.{ℕ, ◌||◌, nat_le, Bool, if◌then◌else◌, List, [], ◌∷◌, ◌++◌, length, map, filter, codes, IsTrue}
+use Rattle.std.specs.Prelude.{ℕ, ◌==◌, ◌||◌, nat_le, Bool, if◌then◌else◌, List, [], ◌∷◌, ◌++◌, length, map, filter, codes, IsTrue}
 use Rattle.std.specs.List.{list_all}
-use Rattle.lis_transducers.specs.Bytes.{is_blank, is_return, past, begins_with}
+use Rattle.lis_transducers.specs.Bytes.{past, begins_with}
 use Rattle.lis_transducers.specs.Tokens.{tokens}
 use Rattle.lis_grammar.specs.Formula.{Formula}
 use Rattle.lis_model.specs.Table.{Entry}
 use Rattle.lis_model.specs.Listing.{holds_all}
+use Rattle.lis_words.specs.Bytes.{is_blank}
 
 -- space, tab or CR
 abbrev pub is_bare : ℕ → Bool
-is_bare b = is_blank b || is_return b
+is_bare b = is_blank b || (b == 13)
 
 -- `empty` or `text`
 abbrev pub kind_of : List ℕ → List ℕ

@@ -1,9 +1,10 @@
 use Rattle.std.proofs.Common.{◌≡◌, cond, ◌&&◌, ap, sym, ◌∙◌}
 use Rattle.std.specs.List.{before_first}
 use Rattle.lis_transducers.specs.declared.field.FieldKind.TheVariants.{Other}
-use Rattle.lis_transducers.specs.Lines.{is_colon, is_field_name}
+use Rattle.lis_transducers.specs.Lines.{is_field_name}
 use Rattle.lis_transducers.specs.Mail.{kind_of}
 use Rattle.lis_mail.proofs.LineLemmas.{found_any, found_none, found_before, found_after, nothing_after}
+use Rattle.lis_words.specs.Bytes.{is_colon}
 use Rattle.lis_mail.proofs.fields.begun_field.Goals as goal
 
 pub returns-in-None-clause-kind : goal.returns-in-None-clause-kind

@@ -1,6 +1,7 @@
 use Rattle.std.proofs.Common.{◌≡◌, ◌+◌, [], ◌∷◌, cond, ◌∙◌, ap, sym, take, drop}
-use Rattle.lis_transducers.specs.Lines.{without_return, header, is_some_bytes}
+use Rattle.lis_transducers.specs.Lines.{header}
 use Rattle.lis_mail.proofs.LineLemmas.{header_whole, header_at}
+use Rattle.lis_words.specs.Bytes.{is_some_bytes, without_return}
 use Rattle.lis_mail.proofs.lines.first_line.Goals as goal
 
 pub returns-in-None-clause-header : goal.returns-in-None-clause-header

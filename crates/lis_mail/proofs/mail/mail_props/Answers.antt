@@ -1,10 +1,11 @@
 use Rattle.std.proofs.Common.{◌++◌, ap, sym, ◌∙◌, arith, rules, refl}
 use Rattle.std.proofs.lemmas.Grind.{common_steps}
-use Rattle.lis_transducers.specs.Lines.{header, is_colon}
+use Rattle.lis_transducers.specs.Lines.{header}
 use Rattle.lis_transducers.specs.Tokens.{tokens}
 use Rattle.std.specs.List.{after_first}
 use Rattle.lis_transducers.specs.Mail.{mail_words, token_words}
 use Rattle.lis_mail.proofs.MailLemmas.{rest_words, line_first, folded_line, other_line, part_noted}
+use Rattle.lis_words.specs.Bytes.{is_colon}
 use Rattle.lis_mail.proofs.mail.mail_props.Goals as goal
 
 pub loop-line-init : goal.loop-line-init
