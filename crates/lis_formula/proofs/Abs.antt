@@ -6,10 +6,10 @@ use Rattle.std.proofs.lemmas.List.{take-append-le, take_all, length-take-le}
 use Rattle.lis_words.specs.Words.{is_word, is_count, count_of}
 use Rattle.lis_grammar.specs.Formula.{Formula}
 use Rattle.lis_grammar.specs.Formula.Formula.{Has, SizeAtLeast, SizeBelow, Negation}
-use Rattle.lis_grammar.specs.Machine.{Pending, Done, State, and_then, or_else, after_sign, counted, operand, is_operand_front, is_joint, complete, completed, settled, close_bar, close_slash, after_bar, after_slash, after_paren, joint, within, step, closed, ended}
+use Rattle.lis_grammar.specs.Machine.{Pending, Done, Machine, and_then, after_sign, counted, operand, is_operand_front, is_joint, complete, completed, settled, close_bar, close_slash, after_bar, after_slash, after_paren, joint, within, step, closed, ended}
 use Rattle.lis_grammar.specs.Machine.Pending.{Bang, Open, BarAfter, SlashAfter}
 use Rattle.lis_grammar.specs.Machine.Done.{done}
-use Rattle.lis_grammar.specs.Machine.State.{Wants, Within, Complete}
+use Rattle.lis_grammar.specs.Machine.Machine.{Wants, Within, Complete}
 use Rattle.lis_place.specs.declared.node.Node.{Node}
 use Rattle.lis_place.specs.declared.node.Node.TheVariants.{Word, AtLeast, Below, Not, And, Or}
 use Rattle.lis_place.specs.Nodes.{tree_node_list, nodes_of}
@@ -21,6 +21,7 @@ use Rattle.lis_formula.specs.declared.reader.Held.{Held}
 use Rattle.lis_formula.specs.Operands.{counted_number, test_node, operand_node}
 use Rattle.lis_formula.specs.Walk.{first_64, noted, noted_in, with_sign, marked_on, marked, closed_bar, closed_slash, slashed, unwrapped, Walk, walk_joint, settled_in, walk_settled, walk_within, walk_step, all_kept, walk_end}
 use Rattle.lis_formula.specs.Walk.Walk.{Begins, Inside, Ended}
+use Rattle.std.specs.Option.{option_or}
 
 abbrev pub kinds : List Pending → List Sign
 kinds [] = []
@@ -46,7 +47,7 @@ held_at ops nodes = record { signs = kinds ops; kept = first_64 nodes }
 abbrev pub abs_done : Done → Held
 abs_done (done ops steps f) = held_at ops (base ops steps ++ tree_node_list f)
 
-abbrev pub abs : State → Walk
+abbrev pub abs : Machine → Walk
 abs (Wants ops steps) = Begins (held_at ops (base ops steps))
 abs (Within ops steps text) = Inside (held_at ops (base ops steps)) text
 abs (Complete d) = Ended (abs_done d)
@@ -178,7 +179,7 @@ Leaf None (Some f) = ⊥
 Leaf (Some node) None = ⊥
 Leaf (Some node) (Some f) = tree_node_list f ≡ node ∷ []
 
-leaf_or_else : (a c : Option Node) (b d : Option Formula) → Leaf a b → Leaf c d → Leaf (or_else a c) (or_else b d)
+leaf_or_else : (a c : Option Node) (b d : Option Formula) → Leaf a b → Leaf c d → Leaf (option_or a c) (option_or b d)
 leaf_or_else None c None d h k = k
 leaf_or_else None c (Some f) d h k = absurd h
 leaf_or_else (Some node) c None d h k = absurd h
@@ -196,14 +197,14 @@ leaf_counted test tree spells (Some digits) = by (is_count digits)
 leaf : (text : List ℕ) → Leaf (operand_node text) (operand text)
 leaf text = by (is_word text)
   where
-    tests : Leaf (test_node text) (or_else (counted SizeAtLeast (after_sign (codes "size>=") text)) (counted SizeBelow (after_sign (codes "size<") text)))
+    tests : Leaf (test_node text) (option_or (counted SizeAtLeast (after_sign (codes "size>=") text)) (counted SizeBelow (after_sign (codes "size<") text)))
     tests = leaf_or_else
         (option_map AtLeast (counted_number (after_sign (codes "size>=") text))) (option_map Below (counted_number (after_sign (codes "size<") text)))
         (counted SizeAtLeast (after_sign (codes "size>=") text)) (counted SizeBelow (after_sign (codes "size<") text))
         (leaf_counted AtLeast SizeAtLeast (λ n. refl) (after_sign (codes "size>=") text)) (leaf_counted Below SizeBelow (λ n. refl) (after_sign (codes "size<") text))
 
     by : (t : Bool)
-        → Leaf (cond t (Some (Word text)) (test_node text)) (cond t (Some (Has text)) (or_else (counted SizeAtLeast (after_sign (codes "size>=") text)) (counted SizeBelow (after_sign (codes "size<") text))))
+        → Leaf (cond t (Some (Word text)) (test_node text)) (cond t (Some (Has text)) (option_or (counted SizeAtLeast (after_sign (codes "size>=") text)) (counted SizeBelow (after_sign (codes "size<") text))))
     by true = refl
     by false = tests
 
@@ -228,7 +229,7 @@ abs_within ops steps text = by (is_operand_front text)
 
 -- one byte
 
-pub abs_step : (s : State) (b : ℕ) → walk_step (abs s) b ≡ option_map abs (step s b)
+pub abs_step : (s : Machine) (b : ℕ) → walk_step (abs s) b ≡ option_map abs (step s b)
 abs_step (Wants ops steps) b = at_mark (b == 33)
   where
     at_open : (t : Bool) → cond t (Some (Begins (with_sign Paren (held_at ops (base ops steps))))) (walk_within (held_at ops (base ops steps)) (b ∷ []))
@@ -266,12 +267,12 @@ abs_ended (done (Open ∷ ops) steps f) = refl
 abs_ended (done (BarAfter g ∷ ops) steps f) = refl
 abs_ended (done (SlashAfter g ∷ ops) steps f) = refl
 
-abs_settled : (s : State) → walk_settled (abs s) ≡ option_map abs_done (settled s)
+abs_settled : (s : Machine) → walk_settled (abs s) ≡ option_map abs_done (settled s)
 abs_settled (Wants ops steps) = refl
 abs_settled (Within ops steps text) = abs_settled_in ops steps text
 abs_settled (Complete d) = refl
 
-pub abs_end : (s : State) → walk_end (abs s) ≡ kept_steps (and_then (closed s) ended)
+pub abs_end : (s : Machine) → walk_end (abs s) ≡ kept_steps (and_then (closed s) ended)
 abs_end s = ap (option_and_then (λ held. all_kept (closed_slash (closed_bar held)))) (abs_settled s) ∙ by (settled s)
   where
     by : (o : Option Done) → option_and_then (λ held. all_kept (closed_slash (closed_bar held))) (option_map abs_done o)

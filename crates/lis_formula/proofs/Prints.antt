@@ -12,7 +12,7 @@ use Rattle.lis_place.specs.declared.node.Node.TheVariants.{Not, And, Or}
 use Rattle.lis_place.specs.Nodes.{tree_node_list, nodes_of}
 use Rattle.lis_place.proofs.Trees.{IsMeaning, steps_values}
 use Rattle.lis_place.proofs.Tallies.{joint_bytes, tree_bytes, within_bytes}
-use Rattle.lis_formula.specs.Pieces.{joined}
+use Rattle.lis_formula.specs.Pieces.{stacked_text}
 use Rattle.lis_formula.specs.Printer.{node_bytes, all_bytes, with_text, chained, slashed}
 
 -- the printer's stack has the printed trees
@@ -52,22 +52,22 @@ steps_all_bytes (f ∷ steps) =
 pub bytes_fit : (steps : List Formula) → IsPlace steps → all_bytes (nodes_of steps) ≤ 1024
 bytes_fit steps p = let bytes = within_bytes steps p.bytes in omega (arith, bytes, steps_all_bytes steps)
 
-stack_bytes : (fs : List Formula) → length (joined (reverse (map printed_tree fs))) ≡ tree_bytes fs
+stack_bytes : (fs : List Formula) → length (stacked_text (reverse (map printed_tree fs))) ≡ tree_bytes fs
 stack_bytes [] = refl
 stack_bytes (f ∷ fs) =
     let first = reverse-append (printed_tree f ∷ []) (map printed_tree fs) in
-    let whole = ap (λ stack. length (joined stack)) first in
+    let whole = ap (λ stack. length (stacked_text stack)) first in
     let parts = ap length (joined-append (reverse (map printed_tree fs)) (printed_tree f ∷ [])) in
-    omega (arith, stack_bytes fs, whole, parts, length-append (printed_tree f) (joined (reverse (map printed_tree fs))), sum_by-cons (λ g. length (printed_tree g)) f fs)
+    omega (arith, stack_bytes fs, whole, parts, length-append (printed_tree f) (stacked_text (reverse (map printed_tree fs))), sum_by-cons (λ g. length (printed_tree g)) f fs)
   where
-    joined-append : (xs ys : List (List ℕ)) → joined (xs ++ ys) ≡ joined ys ++ joined xs
-    joined-append [] ys = sym (append-nil (joined ys))
-    joined-append (x ∷ xs) ys = ap (λ zs. zs ++ x) (joined-append xs ys) ∙ append_assoc (joined ys) (joined xs) x
+    joined-append : (xs ys : List (List ℕ)) → stacked_text (xs ++ ys) ≡ stacked_text ys ++ stacked_text xs
+    joined-append [] ys = sym (append-nil (stacked_text ys))
+    joined-append (x ∷ xs) ys = ap (λ zs. zs ++ x) (joined-append xs ys) ∙ append_assoc (stacked_text ys) (stacked_text xs) x
 
-pub slashes_fit : (stack : List (List ℕ)) (steps : List Formula) → stack ≡ reverse (map printed_tree steps) → IsPlace steps → length (joined stack) + (length stack - 1) ≤ 1024
+pub slashes_fit : (stack : List (List ℕ)) (steps : List Formula) → stack ≡ reverse (map printed_tree steps) → IsPlace steps → length (stacked_text stack) + (length stack - 1) ≤ 1024
 slashes_fit stack steps e p =
     let bytes = within_bytes steps p.bytes in
-    let whole = ap (λ xs. length (joined xs)) e in
+    let whole = ap (λ xs. length (stacked_text xs)) e in
     let count = ap length e in
     omega (arith, bytes, whole, count, stack_bytes steps, length-reverse (map printed_tree steps), length-map steps printed_tree)
 
@@ -95,12 +95,12 @@ chained_steps f (g ∷ fs) =
     ap chained_text (reverse-append (printed_tree f ∷ []) (map printed_tree (g ∷ fs)))
     ∙ (chained_more stack (printed_tree f) some ∙ ap (λ xs. printed_tree f ++ 47 ∷ xs) (chained_steps g fs))
 
-slashed_text : (stack : List (List ℕ)) → joined (slashed stack) ≡ chained_text stack
+slashed_text : (stack : List (List ℕ)) → stacked_text (slashed stack) ≡ chained_text stack
 unfolding chained_text
 slashed_text [] = refl
 slashed_text (text ∷ stack) = refl
 
-pub place_printed : (stack : List (List ℕ)) (steps : List Formula) → 0 < length steps → stack ≡ reverse (map printed_tree steps) → joined (slashed stack) ≡ printed steps
+pub place_printed : (stack : List (List ℕ)) (steps : List Formula) → 0 < length steps → stack ≡ reverse (map printed_tree steps) → stacked_text (slashed stack) ≡ printed steps
 place_printed stack [] some e = absurd (omega arith)
 place_printed stack (f ∷ fs) some e = slashed_text stack ∙ (ap chained_text e ∙ chained_steps f fs)
 

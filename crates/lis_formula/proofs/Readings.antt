@@ -6,7 +6,7 @@ use Rattle.std.proofs.lemmas.List.{take_all}
 use Rattle.lis_grammar.specs.Formula.{Formula}
 use Rattle.lis_grammar.specs.Grammar.{Reads, IsBrokenAt}
 use Rattle.lis_grammar.specs.Machine.{path_steps, with_root, text_steps, lived, broken_at}
-use Rattle.lis_grammar.specs.Machine.State.{Wants}
+use Rattle.lis_grammar.specs.Machine.Machine.{Wants}
 use Rattle.lis_grammar.specs.Places.{IsPlace}
 use Rattle.lis_grammar.proofs.Forth.{reads_complete}
 use Rattle.lis_grammar.proofs.Back.{reads_sound}
@@ -21,7 +21,7 @@ use Rattle.lis_formula.specs.declared.fault.FormulaFault.TheVariants.{TooLarge, 
 use Rattle.lis_formula.specs.declared.reader.Kept.{Kept}
 use Rattle.lis_formula.specs.Walk.{first_64}
 use Rattle.lis_formula.specs.Paths.{IsPath, IsNoPath, IsWhole, begins_here}
-use Rattle.lis_formula.specs.Answers.{Answers, Computes}
+use Rattle.lis_formula.specs.Answers.{ReadsTo, Computes}
 
 -- what was kept
 
@@ -112,7 +112,7 @@ no_formula text h rooted steps r = none (sym h ∙ reads_complete text rooted st
     none : None ≡ with_root rooted (Some steps) → ⊥
     none e = cc
 
-pub answers : (text : List ℕ) (result : Result Path FormulaFault) → length text ≤ 1024 → Computes text result → IfOk result (λ path. IsPlace path.place) → Answers text result
+pub answers : (text : List ℕ) (result : Result Path FormulaFault) → length text ≤ 1024 → Computes text result → IfOk result (λ path. IsPlace path.place) → ReadsTo text result
 answers text (Ok path) short h p = (short, reads_sound text path.rooted path.place h, p)
 answers text (Err TooLarge) short h p = elim h [
   | inl long ↦ inl long

@@ -21,10 +21,10 @@ pub record ReadsBeyond (text : List ℕ) : Type 0 where
   pub beyond : IsPlace steps → ⊥
 
 -- by the grammar. Each text has one answer: it reads to one path at most.
-abbrev pub Answers : List ℕ → Result Path FormulaFault → Type 0
-Answers text (Ok path) = (length text ≤ 1024) × Reads text path.rooted path.place × IsPlace path.place
-Answers text (Err TooLarge) = (1024 < length text) ⊎ ReadsBeyond text
-Answers text (Err (Syntax k)) = (length text ≤ 1024) × IsNoFormula text × IsBrokenAt text k
+abbrev pub ReadsTo : List ℕ → Result Path FormulaFault → Type 0
+ReadsTo text (Ok path) = (length text ≤ 1024) × Reads text path.rooted path.place × IsPlace path.place
+ReadsTo text (Err TooLarge) = (1024 < length text) ⊎ ReadsBeyond text
+ReadsTo text (Err (Syntax k)) = (length text ≤ 1024) × IsNoFormula text × IsBrokenAt text k
 
 -- the same by what computes it
 abbrev pub Computes : List ℕ → Result Path FormulaFault → Type 0
@@ -36,4 +36,4 @@ Computes text (Err (Syntax k)) = (text_steps text ≡ None) × (k ≡ broken_at 
 abbrev pub IsResolution : Resolution → Result (List Formula) FormulaFault → Type 0
 IsResolution resolution (Ok place) = resolution ≡ NewPlace place
 IsResolution resolution (Err TooLarge) = resolution ≡ BeyondLimits
-IsResolution resolution (Err (Syntax k)) = resolution ≡ Unreadable k
+IsResolution resolution (Err (Syntax k)) = resolution ≡ Unreadable

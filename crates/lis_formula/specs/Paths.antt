@@ -2,7 +2,7 @@
 use Rattle.std.specs.Prelude.{◌≡◌, ℕ, ◌==◌, Bool, false, not, Some, None, Result, Ok, Err, List, [], ◌∷◌}
 use Rattle.lis_grammar.specs.Formula.{Formula}
 use Rattle.lis_grammar.specs.Machine.{lived, path_steps}
-use Rattle.lis_grammar.specs.Machine.State.{Wants}
+use Rattle.lis_grammar.specs.Machine.Machine.{Wants}
 use Rattle.lis_grammar.specs.Places.{IsPlace}
 use Rattle.lis_place.specs.declared.place.Path.{Path}
 use Rattle.lis_place.specs.Nodes.{nodes_of}

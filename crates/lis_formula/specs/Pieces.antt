@@ -3,13 +3,13 @@ use Rattle.std.specs.Prelude.{◌≡◌, ℕ, List, [], ◌∷◌, ◌++◌, len
 
 -- all texts in order, and where each of them begins, the last first
 
-abbrev pub joined : List (List ℕ) → List ℕ
-joined [] = []
-joined (text ∷ stack) = joined stack ++ text
+abbrev pub stacked_text : List (List ℕ) → List ℕ
+stacked_text [] = []
+stacked_text (text ∷ stack) = stacked_text stack ++ text
 
 abbrev pub starts_of : List (List ℕ) → List ℕ
 starts_of [] = []
-starts_of (text ∷ stack) = length (joined stack) ∷ starts_of stack
+starts_of (text ∷ stack) = length (stacked_text stack) ∷ starts_of stack
 
 abbrev pub cut_at : List ℕ → List ℕ → List (List ℕ)
 cut_at [] text = []
@@ -17,7 +17,7 @@ cut_at (start ∷ starts) text = drop start text ∷ cut_at starts (take start t
 
 -- what the array and the starts keep
 pub record IsCut (text starts : List ℕ) : Type 0 where
-  pub whole : joined (cut_at starts text) ≡ text
+  pub whole : stacked_text (cut_at starts text) ≡ text
   pub places : starts_of (cut_at starts text) ≡ starts
 
 -- changes of the last text, or of the last two

@@ -1,7 +1,7 @@
 //! Texts that are put together in place: a printed place is made of them without memory taken.
 
 ghost use Rattle.std.specs.Prelude.{◌≡◌, ◌+◌, ◌<◌, ◌≤◌, [], ◌∷◌, length};
-ghost use Rattle.lis_formula.specs.Pieces.{joined, with_front, with_end, with_joint};
+ghost use Rattle.lis_formula.specs.Pieces.{stacked_text, with_front, with_end, with_joint};
 
 use arrayvec::ArrayVec;
 use lis_place::Text;
@@ -44,10 +44,10 @@ impl Pieces {
 
     /// Puts a text on the stack.
     pub fn push(&mut self, bytes: &[u8])
-        requires room { length (joined self.old) + length bytes.now ≤ 1024 }
+        requires room { length (stacked_text self.old) + length bytes.now ≤ 1024 }
         requires place { length self.old < 64 }
         ensures text { self.new ≡ bytes.now ∷ self.old }
-        ensures bytes { length (joined self.new) ≡ length (joined self.old) + length bytes.now }
+        ensures bytes { length (stacked_text self.new) ≡ length (stacked_text self.old) + length bytes.now }
     {
         self.starts.push(self.text.len());
         self.text.try_extend_from_slice(bytes).unwrap();
@@ -55,9 +55,9 @@ impl Pieces {
 
     /// Puts a byte in front of the last text.
     pub fn put_front(&mut self, byte: u8)
-        requires { length (joined self.old) < 1024 }
+        requires { length (stacked_text self.old) < 1024 }
         ensures text { self.new ≡ with_front byte self.old }
-        ensures bytes { length (joined self.new) ≤ length (joined self.old) + 1 }
+        ensures bytes { length (stacked_text self.new) ≤ length (stacked_text self.old) + 1 }
         ensures count { length self.new ≡ length self.old }
     {
         if let Some(start) = self.starts.as_slice().last() {
@@ -67,9 +67,9 @@ impl Pieces {
 
     /// Puts bytes at the end of the last text.
     pub fn put_end(&mut self, bytes: &[u8])
-        requires { length (joined self.old) + length bytes.now ≤ 1024 }
+        requires { length (stacked_text self.old) + length bytes.now ≤ 1024 }
         ensures text { self.new ≡ with_end bytes.now self.old }
-        ensures bytes { length (joined self.new) ≤ length (joined self.old) + length bytes.now }
+        ensures bytes { length (stacked_text self.new) ≤ length (stacked_text self.old) + length bytes.now }
         ensures count { length self.new ≡ length self.old }
     {
         if !self.starts.is_empty() {
@@ -79,9 +79,9 @@ impl Pieces {
 
     /// Makes one text of the last two, with a byte between them.
     pub fn join(&mut self, byte: u8)
-        requires { length (joined self.old) < 1024 }
+        requires { length (stacked_text self.old) < 1024 }
         ensures text { self.new ≡ with_joint byte self.old }
-        ensures bytes { length (joined self.new) ≤ length (joined self.old) + 1 }
+        ensures bytes { length (stacked_text self.new) ≤ length (stacked_text self.old) + 1 }
         ensures count { length self.new ≤ length self.old }
         ensures fewer { 1 < length self.old → length self.new + 1 ≡ length self.old }
     {
@@ -95,7 +95,7 @@ impl Pieces {
 
     /// All texts in order, as one.
     pub fn into_text(self) -> Text
-        ensures { result ≡ joined self }
+        ensures { result ≡ stacked_text self }
     {
         let Pieces { text, starts: _ } = self;
         Text::from(text)

@@ -3,7 +3,7 @@
 ghost use Rattle.std.specs.Prelude.{◌≡◌, ◌+◌, ◌-◌, ◌<◌, ◌≤◌, [], ◌∷◌, ◌++◌, length, fold};
 ghost use Rattle.std.specs.Fmt.{decimal};
 ghost use Rattle.lis_grammar.specs.Printing.{printed};
-ghost use Rattle.lis_formula.specs.Pieces.{joined};
+ghost use Rattle.lis_formula.specs.Pieces.{stacked_text};
 ghost use Rattle.lis_formula.specs.Printer.{node_bytes, all_bytes, wrapped, with_text, slashed};
 
 use crate::pieces::Pieces;
@@ -11,12 +11,12 @@ use itoa::Buffer;
 use lis_place::{Node, Place, Text};
 
 fn put_test(pieces: &mut Pieces, sign: &[u8], number: u64)
-    requires room { length (joined pieces.old) + length sign.now + length (decimal number)
+    requires room { length (stacked_text pieces.old) + length sign.now + length (decimal number)
         ≤ 1024 }
     requires place { length pieces.old < 64 }
     ensures text { pieces.new ≡ (sign.now ++ decimal number) ∷ pieces.old }
-    ensures bytes { length (joined pieces.new)
-        ≤ length (joined pieces.old) + length sign.now + length (decimal number) }
+    ensures bytes { length (stacked_text pieces.new)
+        ≤ length (stacked_text pieces.old) + length sign.now + length (decimal number) }
     ensures count { length pieces.new ≡ length pieces.old + 1 }
 {
     let mut buffer = Buffer::new();
@@ -26,9 +26,9 @@ fn put_test(pieces: &mut Pieces, sign: &[u8], number: u64)
 
 /// Puts the last two texts in parentheses, with a sign between them.
 fn wrap(pieces: &mut Pieces, sign: u8)
-    requires { length (joined pieces.old) + 3 ≤ 1024 }
+    requires { length (stacked_text pieces.old) + 3 ≤ 1024 }
     ensures text { pieces.new ≡ wrapped sign pieces.old }
-    ensures bytes { length (joined pieces.new) ≤ length (joined pieces.old) + 3 }
+    ensures bytes { length (stacked_text pieces.new) ≤ length (stacked_text pieces.old) + 3 }
     ensures count { length pieces.new ≤ length pieces.old }
 {
     pieces.join(sign);
@@ -37,10 +37,10 @@ fn wrap(pieces: &mut Pieces, sign: u8)
 }
 
 fn put(pieces: &mut Pieces, node: &Node)
-    requires room { length (joined pieces.old) + node_bytes node.now ≤ 1024 }
+    requires room { length (stacked_text pieces.old) + node_bytes node.now ≤ 1024 }
     requires place { length pieces.old < 64 }
     ensures text { pieces.new ≡ with_text pieces.old node.now }
-    ensures bytes { length (joined pieces.new) ≤ length (joined pieces.old) + node_bytes node.now }
+    ensures bytes { length (stacked_text pieces.new) ≤ length (stacked_text pieces.old) + node_bytes node.now }
     ensures count { length pieces.new ≤ length pieces.old + 1 }
 {
     match node {
@@ -68,7 +68,7 @@ fn put_all(nodes: &[Node]) -> Pieces
 
 /// Joins all texts by slashes.
 fn join_all(pieces: &mut Pieces)
-    requires { length (joined pieces.old) + (length pieces.old - 1) ≤ 1024 }
+    requires { length (stacked_text pieces.old) + (length pieces.old - 1) ≤ 1024 }
     ensures { pieces.new ≡ slashed pieces.old }
 {
     while pieces.len() > 1 {

@@ -3,7 +3,7 @@
 ghost use Rattle.std.specs.Prelude.{◌<◌, ◌≤◌, ◌∷◌, length, IsTrue, MatchResult, IfErr, IfOk};
 ghost use Rattle.lis_grammar.specs.Places.{IsPlace};
 ghost use Rattle.lis_formula.specs.Paths.{IsPath, IsNoPath, IsWhole, begins_here};
-ghost use Rattle.lis_formula.specs.Answers.{Answers, Computes};
+ghost use Rattle.lis_formula.specs.Answers.{ReadsTo, Computes};
 
 use crate::fault::FormulaFault;
 use crate::reader::{Held, Kept, Reader};
@@ -103,7 +103,7 @@ fn read_short(text: &[u8]) -> Result<Path, FormulaFault>
 /// A text that is too long is too large whatever it holds, and one outside the grammar is a fault of syntax before it
 /// could be too large a place.
 pub fn read_formula(text: &[u8]) -> Result<Path, FormulaFault>
-    ensures answers { Answers text.now result }
+    ensures answers { ReadsTo text.now result }
     ensures computes { Computes text.now result }
 {
     if text.len() > MAX_TEXT {

@@ -1,9 +1,11 @@
 //! What a text makes of a place.
 
-ghost use Rattle.std.specs.Prelude.{◌≡◌, codes};
+ghost use Rattle.std.specs.Prelude.{◌≡◌, ℕ, Err, codes};
 ghost use Rattle.lis_words.specs.Words.{same_word};
+ghost use Rattle.lis_grammar.specs.Machine.{broken_at};
 ghost use Rattle.lis_grammar.specs.Places.{IsPlace, within_limits, steps_from, resolved};
 ghost use Rattle.lis_formula.specs.Answers.{IsResolution};
+ghost use Rattle.lis_formula.specs.declared.fault.FormulaFault.TheVariants.{Syntax};
 
 use crate::fault::FormulaFault;
 use crate::read::read_formula;
@@ -32,7 +34,8 @@ fn follow(place: &Place, path: Path) -> Result<Place, FormulaFault>
 /// Leads from a place to a new one. The text `..` leads to the place without its last step; any other text is read as a
 /// formula, and leads from the root where it is rooted and else from the place.
 pub fn resolve(place: &Place, text: &[u8]) -> Result<Place, FormulaFault>
-    ensures { IsResolution (resolved place.now text.now) result }
+    ensures place { IsResolution (resolved place.now text.now) result }
+    ensures broken { (k : ℕ) → result ≡ Err (Syntax k) → k ≡ broken_at text.now }
 {
     if is_step_up(text) {
         return Ok(place.without_last());

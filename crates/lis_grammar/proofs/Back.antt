@@ -8,10 +8,10 @@ use Rattle.lis_grammar.specs.Grammar.Path.{alt, slash}
 use Rattle.lis_grammar.specs.Grammar.Alt.{neg, bar}
 use Rattle.lis_grammar.specs.Grammar.Neg.{bang, parens}
 use Rattle.lis_grammar.specs.Grammar.Reads.{root, from_here, from_root}
-use Rattle.lis_grammar.specs.Machine.{Pending, Done, State, and_then, operand, is_operand_front, complete, completed, settled, close_bar, close_slash, after_bar, after_slash, after_paren, joint, is_joint, within, step, run, closed, ended, path_steps, with_root, root_steps, text_steps}
+use Rattle.lis_grammar.specs.Machine.{Pending, Done, Machine, and_then, operand, is_operand_front, complete, completed, settled, close_bar, close_slash, after_bar, after_slash, after_paren, joint, is_joint, within, step, run, closed, ended, path_steps, with_root, root_steps, text_steps}
 use Rattle.lis_grammar.specs.Machine.Pending.{Bang, Open, BarAfter, SlashAfter}
 use Rattle.lis_grammar.specs.Machine.Done.{done}
-use Rattle.lis_grammar.specs.Machine.State.{Wants, Within, Complete}
+use Rattle.lis_grammar.specs.Machine.Machine.{Wants, Within, Complete}
 use Rattle.lis_grammar.proofs.Operands.{operand_neg}
 use Rattle.lis_grammar.proofs.Forth.{conjunction-append}
 
@@ -89,7 +89,7 @@ PathCompleted (done (Open ∷ ops) steps f) text = Paths (Open ∷ ops) steps f 
 PathCompleted (done (BarAfter g ∷ ops) steps f) text = ⊥
 PathCompleted (done (SlashAfter g ∷ ops) steps f) text = ⊥
 
-abbrev pub Stands : State → List ℕ → Type 0
+abbrev pub Stands : Machine → List ℕ → Type 0
 Stands (Wants ops steps) text = Wanted ops steps text
 Stands (Within ops steps inside) text =
     (front : List ℕ) × (text ≡ front ++ inside) × Wanted ops steps front × (is_operand_front inside ≡ true)
@@ -179,7 +179,7 @@ some_same a b h = cc
 in_parens : (front last : List ℕ) → ((front ++ 40 ∷ []) ++ last) ++ 41 ∷ [] ≡ front ++ (40 ∷ (last ++ 41 ∷ []))
 in_parens front last = simp append_assoc
 
-after_paren_back : (d : Done) (text : List ℕ) (s : State) → PathCompleted d text → after_paren d ≡ Some s → Stands s (text ++ 41 ∷ [])
+after_paren_back : (d : Done) (text : List ℕ) (s : Machine) → PathCompleted d text → after_paren d ≡ Some s → Stands s (text ++ 41 ∷ [])
 after_paren_back (done [] steps f) text s p e = absurd (cc)
 after_paren_back (done (Bang ∷ ops) steps f) text s p e = absurd p
 after_paren_back (done (Open ∷ ops) steps f) text s p e =
@@ -189,7 +189,7 @@ after_paren_back (done (Open ∷ ops) steps f) text s p e =
 after_paren_back (done (BarAfter g ∷ ops) steps f) text s p e = absurd p
 after_paren_back (done (SlashAfter g ∷ ops) steps f) text s p e = absurd p
 
-joint_back : (b : ℕ) (d : Done) (text : List ℕ) (s : State) → Completed d text → joint b d ≡ Some s → Stands s (text ++ b ∷ [])
+joint_back : (b : ℕ) (d : Done) (text : List ℕ) (s : Machine) → Completed d text → joint b d ≡ Some s → Stands s (text ++ b ∷ [])
 joint_back b d text s c e = at_bar (b == 124) refl e
   where
     alts : AltCompleted (close_bar d) text
@@ -213,7 +213,7 @@ joint_back b d text s c e = at_bar (b == 124) refl e
     at_bar true h e = rw (eqb-true b 124 h, sym (some_same _ s e)) (after_bar_back (close_bar d) text alts)
     at_bar false h e = at_slash (b == 47) refl e
 
-within_back : (ops : List Pending) (steps : List Formula) (front inside text : List ℕ) (s : State)
+within_back : (ops : List Pending) (steps : List Formula) (front inside text : List ℕ) (s : Machine)
     → text ≡ front ++ inside → Wanted ops steps front → within ops steps inside ≡ Some s → Stands s text
 within_back ops steps front inside text s e w h = by (is_operand_front inside) refl h
   where
@@ -229,12 +229,12 @@ operand_back ops steps front inside text d e w h = by (operand inside) refl h
     by None f h = absurd (cc)
     by (Some g) f h = rw (sym (some_same _ d h)) (completes ops steps g front inside text e (operand_neg inside g f) w)
 
-pub settled_back : (s : State) (text : List ℕ) (d : Done) → Stands s text → settled s ≡ Some d → Completed d text
+pub settled_back : (s : Machine) (text : List ℕ) (d : Done) → Stands s text → settled s ≡ Some d → Completed d text
 settled_back (Wants ops steps) text d st h = absurd (cc)
 settled_back (Within ops steps inside) text d st h = operand_back ops steps st.0 inside text d st.1 st.2 h
 settled_back (Complete c) text d st h = rw (sym (some_same c d h)) st
 
-step_back : (s : State) (text : List ℕ) (b : ℕ) (t : State) → Stands s text → step s b ≡ Some t → Stands t (text ++ b ∷ [])
+step_back : (s : Machine) (text : List ℕ) (b : ℕ) (t : Machine) → Stands s text → step s b ≡ Some t → Stands t (text ++ b ∷ [])
 step_back (Wants ops steps) text b t st h = at_bang (b == 33) refl h
   where
     at_open : (q : Bool) → (b == 40) ≡ q → cond q (Some (Wants (Open ∷ ops) steps)) (within ops steps (b ∷ [])) ≡ Some t → Stands t (text ++ b ∷ [])
@@ -257,12 +257,12 @@ step_back (Within ops steps inside) text b t st h = by (is_joint b) h
         within_back ops steps st.0 (inside ++ b ∷ []) (text ++ b ∷ []) t (ap (λ xs. xs ++ b ∷ []) st.1 ∙ append_assoc st.0 inside (b ∷ [])) st.2 h
 step_back (Complete d) text b t st h = joint_back b d text t st h
 
-pub run_back : (s : State) (text more : List ℕ) (t : State) → Stands s text → run s more ≡ Some t → Stands t (text ++ more)
+pub run_back : (s : Machine) (text more : List ℕ) (t : Machine) → Stands s text → run s more ≡ Some t → Stands t (text ++ more)
 run_back s text [] t st h = rw (append-nil text, sym (some_same s t h)) st
 run_back s text (b ∷ more) t st h = by (step s b) refl h (λ u text st h. run_back u text more t st h)
   where
-    by : (o : Option State) → step s b ≡ o → and_then o (λ u. run u more) ≡ Some t
-        → ((u : State) (text : List ℕ) → Stands u text → run u more ≡ Some t → Stands t (text ++ more))
+    by : (o : Option Machine) → step s b ≡ o → and_then o (λ u. run u more) ≡ Some t
+        → ((u : Machine) (text : List ℕ) → Stands u text → run u more ≡ Some t → Stands t (text ++ more))
         → Stands t (text ++ b ∷ more)
     by None e h again = absurd (cc)
     by (Some u) e h again = rw (sym (append_assoc text (b ∷ []) more)) (again u (text ++ b ∷ []) (step_back s text b u st e) h)
@@ -276,7 +276,7 @@ ended_back : (d : Done) (text : List ℕ) (fs : List Formula) → PathCompleted 
 ended_back (done [] steps f) text fs p h = rw (sym (some_same _ fs h)) p
 ended_back (done (op ∷ ops) steps f) text fs p h = absurd (cc)
 
-closed_back : (s : State) (text : List ℕ) (d : Done) → Stands s text → closed s ≡ Some d → PathCompleted d text
+closed_back : (s : Machine) (text : List ℕ) (d : Done) → Stands s text → closed s ≡ Some d → PathCompleted d text
 closed_back s text d st h = by (settled s) refl h
   where
     by : (o : Option Done) → settled s ≡ o → and_then o (λ e. Some (close_slash (close_bar e))) ≡ Some d → PathCompleted d text
@@ -286,11 +286,11 @@ closed_back s text d st h = by (settled s) refl h
 pub path_sound : (text : List ℕ) (fs : List Formula) → path_steps text ≡ Some fs → Path text fs
 path_sound text fs h = at_run (run (Wants [] []) text) refl h
   where
-    at_closed : (s : State) → Stands s text → (o : Option Done) → closed s ≡ o → and_then o ended ≡ Some fs → Path text fs
+    at_closed : (s : Machine) → Stands s text → (o : Option Done) → closed s ≡ o → and_then o ended ≡ Some fs → Path text fs
     at_closed s st None e h = absurd (cc)
     at_closed s st (Some d) e h = ended_back d text fs (closed_back s text d st e) h
 
-    at_run : (o : Option State) → run (Wants [] []) text ≡ o → and_then (and_then o closed) ended ≡ Some fs → Path text fs
+    at_run : (o : Option Machine) → run (Wants [] []) text ≡ o → and_then (and_then o closed) ended ≡ Some fs → Path text fs
     at_run None e h = absurd (cc)
     at_run (Some s) e h = at_closed s (run_back (Wants [] []) [] text s start_stands e) (closed s) refl h
 

@@ -137,8 +137,8 @@ rooted_steps : resolved (a ∷ []) (codes "/b") ≡ NewPlace (b ∷ [])
 unfolding resolved text_steps is_place printed
 rooted_steps = refl
 
-no_formula : resolved (a ∷ []) (codes "b//c") ≡ Unreadable 2
-unfolding resolved text_steps broken_at
+no_formula : resolved (a ∷ []) (codes "b//c") ≡ Unreadable
+unfolding resolved text_steps
 no_formula = refl
 
 -- a broken text that is too long is too long

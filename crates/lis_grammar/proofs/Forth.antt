@@ -10,24 +10,24 @@ use Rattle.lis_grammar.specs.Grammar.Path.{alt, slash}
 use Rattle.lis_grammar.specs.Grammar.Alt.{neg, bar}
 use Rattle.lis_grammar.specs.Grammar.Neg.{bang, parens, word, at_least, below}
 use Rattle.lis_grammar.specs.Grammar.Reads.{root, from_here, from_root}
-use Rattle.lis_grammar.specs.Machine.{Pending, Done, State, and_then, operand, is_operand_front, complete, completed, settled, close_bar, close_slash, after_bar, after_slash, after_paren, joint, is_joint, step, run, closed, ended, path_steps, with_root, text_steps}
+use Rattle.lis_grammar.specs.Machine.{Pending, Done, Machine, and_then, operand, is_operand_front, complete, completed, settled, close_bar, close_slash, after_bar, after_slash, after_paren, joint, is_joint, step, run, closed, ended, path_steps, with_root, text_steps}
 use Rattle.lis_grammar.specs.Machine.Pending.{Bang, Open, BarAfter, SlashAfter}
 use Rattle.lis_grammar.specs.Machine.Done.{done}
-use Rattle.lis_grammar.specs.Machine.State.{Wants, Within, Complete}
+use Rattle.lis_grammar.specs.Machine.Machine.{Wants, Within, Complete}
 use Rattle.lis_grammar.proofs.Operands.{front_runs, operand_word, operand_at_least, operand_below, word_front, at_least_front, below_front}
 
-pub run-append : (s : State) (a b : List ℕ) → run s (a ++ b) ≡ and_then (run s a) (λ t. run t b)
+pub run-append : (s : Machine) (a b : List ℕ) → run s (a ++ b) ≡ and_then (run s a) (λ t. run t b)
 run-append s [] b = refl
 run-append s (c ∷ a) b = by (step s c) (λ t. run-append t a b)
   where
-    by : (o : Option State) → ((t : State) → run t (a ++ b) ≡ and_then (run t a) (λ u. run u b))
+    by : (o : Option Machine) → ((t : Machine) → run t (a ++ b) ≡ and_then (run t a) (λ u. run u b))
         → and_then o (λ t. run t (a ++ b)) ≡ and_then (and_then o (λ t. run t a)) (λ t. run t b)
     by None more = refl
     by (Some t) more = more t
 
 -- behind an operand that has ended, a sign leads where `joint` says
 
-step_joint : (s : State) (b : ℕ) (d : Done) → is_joint b ≡ true → settled s ≡ Some d → step s b ≡ joint b d
+step_joint : (s : Machine) (b : ℕ) (d : Done) → is_joint b ≡ true → settled s ≡ Some d → step s b ≡ joint b d
 step_joint (Wants ops steps) b d j h = absurd (cc)
 step_joint (Within ops steps text) b d j h = cond-true (is_joint b) _ _ j ∙ ap (λ o. and_then o (joint b)) h
 step_joint (Complete e) b d j h = ap (joint b) (same e d h)
@@ -35,11 +35,11 @@ step_joint (Complete e) b d j h = ap (joint b) (same e d h)
     same : (e d : Done) → Some e ≡ Some d → e ≡ d
     same e d h = cc
 
-pub joined : (s : State) (text : List ℕ) (b : ℕ) (more : List ℕ) (d : Done) → is_joint b ≡ true → and_then (run s text) settled ≡ Some d
+pub joined : (s : Machine) (text : List ℕ) (b : ℕ) (more : List ℕ) (d : Done) → is_joint b ≡ true → and_then (run s text) settled ≡ Some d
     → run s (text ++ b ∷ more) ≡ and_then (joint b d) (λ t. run t more)
 joined s text b more d j h = run-append s text (b ∷ more) ∙ by (run s text) h
   where
-    by : (o : Option State) → and_then o settled ≡ Some d → and_then o (λ t. run t (b ∷ more)) ≡ and_then (joint b d) (λ t. run t more)
+    by : (o : Option Machine) → and_then o settled ≡ Some d → and_then o (λ t. run t (b ∷ more)) ≡ and_then (joint b d) (λ t. run t more)
     by None h = absurd (cc)
     by (Some t) h = ap (λ o. and_then o (λ u. run u more)) (step_joint t b d j h)
 
@@ -66,12 +66,12 @@ conjunction-append _ _ g (slash text more fs f p a) = some fs f g
 
 -- the texts of the grammar, for whatever waits before them
 
-pub record Ends (s : State) (text : List ℕ) (close : Done → Done) (end : Done) : Type 0 where
+pub record Ends (s : Machine) (text : List ℕ) (close : Done → Done) (end : Done) : Type 0 where
   pub d : Done
   pub runs : and_then (run s text) settled ≡ Some d
   pub closes : close d ≡ end
 
-after_joint : (s : State) (text : List ℕ) (b : ℕ) (more : List ℕ) (t : State) (d : Done) → is_joint b ≡ true → and_then (run s text) settled ≡ Some d → joint b d ≡ Some t
+after_joint : (s : Machine) (text : List ℕ) (b : ℕ) (more : List ℕ) (t : Machine) (d : Done) → is_joint b ≡ true → and_then (run s text) settled ≡ Some d → joint b d ≡ Some t
     → run s (text ++ b ∷ more) ≡ run t more
 after_joint s text b more t d j h e = joined s text b more d j h ∙ ap (λ o. and_then o (λ u. run u more)) e
 
@@ -143,7 +143,7 @@ steps_run _ _ (slash text more fs f p a) =
       };
     }
 
-closed_at : (o : Option State) (d : Done) → and_then o settled ≡ Some d → and_then o closed ≡ Some (close_slash (close_bar d))
+closed_at : (o : Option Machine) (d : Done) → and_then o settled ≡ Some d → and_then o closed ≡ Some (close_slash (close_bar d))
 closed_at None d h = absurd (cc)
 closed_at (Some s) d h = ap (λ o. and_then o (λ e. Some (close_slash (close_bar e)))) h
 

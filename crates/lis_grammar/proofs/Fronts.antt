@@ -12,10 +12,10 @@ use Rattle.lis_grammar.specs.Grammar.Path.{alt, slash}
 use Rattle.lis_grammar.specs.Grammar.Alt.{neg, bar}
 use Rattle.lis_grammar.specs.Grammar.Neg.{bang, parens, word, at_least, below}
 use Rattle.lis_grammar.specs.Grammar.Reads.{root, from_here, from_root}
-use Rattle.lis_grammar.specs.Machine.{Pending, State, and_then, is_test_front, is_operand_front, step, run, closed, ended, path_steps, lived, lived_on, broken_at}
+use Rattle.lis_grammar.specs.Machine.{Pending, Machine, and_then, is_test_front, is_operand_front, step, run, closed, ended, path_steps, lived, lived_on, broken_at}
 use Rattle.lis_grammar.specs.Machine.Pending.{Bang, Open, BarAfter, SlashAfter}
 use Rattle.lis_grammar.specs.Machine.Done.{done}
-use Rattle.lis_grammar.specs.Machine.State.{Wants, Within, Complete}
+use Rattle.lis_grammar.specs.Machine.Machine.{Wants, Within, Complete}
 use Rattle.lis_grammar.proofs.Forth.{run-append, path_complete}
 use Rattle.lis_grammar.proofs.Back.{takes_alt, takes_path, Wanted, Stands, regroup, run_back, start_stands}
 
@@ -146,7 +146,7 @@ longer : (text more : List ℕ) → BeginsPath (text ++ more) → BeginsPath tex
 longer text more p = record { rest = more ++ p.rest; fs = p.fs; path = rw (sym (append_assoc text more p.rest)) p.path }
 
 -- wherever the machine stands, the text can be ended
-stands_ends : (s : State) (text : List ℕ) → Stands s text → BeginsPath text
+stands_ends : (s : Machine) (text : List ℕ) → Stands s text → BeginsPath text
 stands_ends (Wants ops steps) text st =
     longer text (codes "a") ((can_close ops steps text st).behind_neg (codes "a") (Has (codes "a")) (word (codes "a") refl))
 stands_ends (Within ops steps inside) text st =
@@ -159,49 +159,49 @@ stands_ends (Complete (done ops steps f)) text st =
 
 -- what the machine takes begins some path, and it takes what begins a path
 
-run_begins : (text : List ℕ) (s : State) → run (Wants [] []) text ≡ Some s → BeginsPath text
+run_begins : (text : List ℕ) (s : Machine) → run (Wants [] []) text ≡ Some s → BeginsPath text
 run_begins text s h = stands_ends s text (run_back (Wants [] []) [] text s start_stands h)
 
-record Runs (s : State) (text : List ℕ) : Type 0 where
-  t : State
+record Runs (s : Machine) (text : List ℕ) : Type 0 where
+  t : Machine
   runs : run s text ≡ Some t
 
 begins_runs : (text rest : List ℕ) (fs : List Formula) → Path (text ++ rest) fs → Runs (Wants [] []) text
 begins_runs text rest fs p = by (run (Wants [] []) text) refl (run-append (Wants [] []) text rest) (path_complete (text ++ rest) fs p)
   where
-    none : (o : Option State) → o ≡ None → and_then (and_then o closed) ended ≡ Some fs → ⊥
+    none : (o : Option Machine) → o ≡ None → and_then (and_then o closed) ended ≡ Some fs → ⊥
     none None e h = cc
     none (Some s) e h = cc
 
-    by : (o : Option State) → run (Wants [] []) text ≡ o → run (Wants [] []) (text ++ rest) ≡ and_then o (λ t. run t rest) → path_steps (text ++ rest) ≡ Some fs
+    by : (o : Option Machine) → run (Wants [] []) text ≡ o → run (Wants [] []) (text ++ rest) ≡ and_then o (λ t. run t rest) → path_steps (text ++ rest) ≡ Some fs
         → Runs (Wants [] []) text
     by None e whole h = absurd (none _ whole h)
     by (Some t) e whole h = record { t = t; runs = e }
 
 -- the number of bytes that the machine takes
 
-lived_short : (s : State) (text : List ℕ) → lived s text ≤ length text
+lived_short : (s : Machine) (text : List ℕ) → lived s text ≤ length text
 lived_short s [] = omega arith
 lived_short s (b ∷ text) = by (step s b) (λ t. lived_short t text)
   where
-    by : (o : Option State) → ((t : State) → lived t text ≤ length text) → lived_on o (λ t. lived t text) ≤ length (b ∷ text)
+    by : (o : Option Machine) → ((t : Machine) → lived t text ≤ length text) → lived_on o (λ t. lived t text) ≤ length (b ∷ text)
     by None more = omega arith
     by (Some t) more = omega (arith, more t)
 
-lives : (s : State) (text : List ℕ) → Runs s (take (lived s text) text)
+lives : (s : Machine) (text : List ℕ) → Runs s (take (lived s text) text)
 lives s [] = record { t = s; runs = refl }
 lives s (b ∷ text) = by (step s b) refl (λ t. lives t text)
   where
-    by : (o : Option State) → step s b ≡ o → ((t : State) → Runs t (take (lived t text) text)) → Runs s (take (lived_on o (λ t. lived t text)) (b ∷ text))
+    by : (o : Option Machine) → step s b ≡ o → ((t : Machine) → Runs t (take (lived t text) text)) → Runs s (take (lived_on o (λ t. lived t text)) (b ∷ text))
     by None e more = record { t = s; runs = refl }
     by (Some t) e more = let r = more t in record { t = r.t; runs = rw e r.runs }
 
-dies : (s : State) (text : List ℕ) (j : ℕ) → j ≤ length text → Runs s (take j text) → j ≤ lived s text
+dies : (s : Machine) (text : List ℕ) (j : ℕ) → j ≤ length text → Runs s (take j text) → j ≤ lived s text
 dies s text zero short r = omega arith
 dies s [] (suc j) short r = absurd (omega arith)
 dies s (b ∷ text) (suc j) short r = by (step s b) r.runs (λ t. dies t text j (omega arith))
   where
-    by : (o : Option State) → and_then o (λ t. run t (take j text)) ≡ Some r.t → ((t : State) → Runs t (take j text) → j ≤ lived t text)
+    by : (o : Option Machine) → and_then o (λ t. run t (take j text)) ≡ Some r.t → ((t : Machine) → Runs t (take j text) → j ≤ lived t text)
         → suc j ≤ lived_on o (λ t. lived t text)
     by None h more = absurd (cc)
     by (Some t) h more = omega (arith, more t (record { t = r.t; runs = h }))

@@ -4,13 +4,15 @@ use Rattle.std.specs.Char.{is_ascii_digit}
 use Rattle.std.specs.List.{list_all, list_any}
 use Rattle.std.proofs.lemmas.Bool.{or_left, or_right, or_cases, and_from, and_parts, eqb-true, leb-true, le-leb, lt-ltb, false≢true, cond-true}
 use Rattle.std.proofs.lemmas.List.Folds.{list_all-append}
-use Rattle.lis_words.specs.Words.{is_plain_byte, is_colon, begins_with_stop, is_plain_word, stem, value, has_stem, is_head, is_valued, is_word, is_count, count_of}
+use Rattle.lis_words.specs.Words.{is_plain_byte, begins_with_stop, is_plain_word, stem, value, has_stem, is_head, is_valued, is_word, is_count, count_of}
 use Rattle.lis_grammar.specs.Formula.{Formula}
 use Rattle.lis_grammar.specs.Formula.Formula.{Has, SizeAtLeast, SizeBelow}
-use Rattle.lis_grammar.specs.Machine.{Pending, or_else, after_sign, counted, operand, is_test_front, is_operand_front, is_joint, run}
-use Rattle.lis_grammar.specs.Machine.State.{Wants, Within}
+use Rattle.lis_grammar.specs.Machine.{Pending, after_sign, counted, operand, is_test_front, is_operand_front, is_joint, run}
+use Rattle.lis_grammar.specs.Machine.Machine.{Wants, Within}
 use Rattle.lis_grammar.specs.Grammar.{Neg}
 use Rattle.lis_grammar.specs.Grammar.Neg.{word, at_least, below}
+use Rattle.lis_words.specs.Bytes.{is_colon}
+use Rattle.std.specs.Option.{option_or}
 
 -- the two sides of the first colon
 
@@ -291,7 +293,7 @@ counted_is test sign text (Some digits) f e h = by (is_count digits) refl h
     by true c h = record { digits = digits; whole = sign_split sign text digits e; count = c; tree = cc }
     by false c h = absurd (cc)
 
-or_else_cases : (a b : Option Formula) (f : Formula) → or_else a b ≡ Some f → (a ≡ Some f) ⊎ (b ≡ Some f)
+or_else_cases : (a b : Option Formula) (f : Formula) → option_or a b ≡ Some f → (a ≡ Some f) ⊎ (b ≡ Some f)
 or_else_cases None b f h = inr h
 or_else_cases (Some x) b f h = inl h
 
@@ -307,14 +309,14 @@ neg_word text f h e = rw (sym e) (word text h)
 pub operand_neg : (text : List ℕ) (f : Formula) → operand text ≡ Some f → Neg text f
 operand_neg text f h = by (is_word text) refl h
   where
-    tests : or_else (counted SizeAtLeast (after_sign (codes "size>=") text)) (counted SizeBelow (after_sign (codes "size<") text)) ≡ Some f → Neg text f
+    tests : option_or (counted SizeAtLeast (after_sign (codes "size>=") text)) (counted SizeBelow (after_sign (codes "size<") text)) ≡ Some f → Neg text f
     tests h = elim (or_else_cases _ _ f h) [
       | inl a ↦ neg_at_least text f (counted_is SizeAtLeast (codes "size>=") text _ f refl a)
       | inr b ↦ neg_below text f (counted_is SizeBelow (codes "size<") text _ f refl b)
     ]
 
     by : (t : Bool) → is_word text ≡ t
-        → cond t (Some (Has text)) (or_else (counted SizeAtLeast (after_sign (codes "size>=") text)) (counted SizeBelow (after_sign (codes "size<") text))) ≡ Some f
+        → cond t (Some (Has text)) (option_or (counted SizeAtLeast (after_sign (codes "size>=") text)) (counted SizeBelow (after_sign (codes "size<") text))) ≡ Some f
         → Neg text f
     by true e h = neg_word text f e (cc)
     by false e h = tests h

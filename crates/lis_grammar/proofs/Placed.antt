@@ -117,9 +117,9 @@ new_within steps new h = by (is_place steps) refl h
     by true e h = let same : steps ≡ new = cc in subst (λ fs. IsPlace fs) same (place_from_test steps e)
     by false e h = absurd (cc)
 
-new_path : (place : List Formula) (text : List ℕ) (found : Option (Bool × List Formula)) (new : List Formula) → resolved_path place text found ≡ NewPlace new → IsPlace new
-new_path place text None new h = absurd (cc)
-new_path place text (Some path) new h = by (is_place path.1) h
+new_path : (place : List Formula) (found : Option (Bool × List Formula)) (new : List Formula) → resolved_path place found ≡ NewPlace new → IsPlace new
+new_path place None new h = absurd (cc)
+new_path place (Some path) new h = by (is_place path.1) h
   where
     by : (t : Bool) → cond t (within_limits (steps_from place path.0 path.1)) BeyondLimits ≡ NewPlace new → IsPlace new
     by true h = new_within (steps_from place path.0 path.1) new h
@@ -129,11 +129,11 @@ pub resolved_is_place : (place : List Formula) (text : List ℕ) (new : List For
 unfolding resolved
 resolved_is_place place text new p h = at_stops (same_word text (codes "..")) h
   where
-    at_length : (t : Bool) → cond t BeyondLimits (resolved_path place text (text_steps text)) ≡ NewPlace new → IsPlace new
+    at_length : (t : Bool) → cond t BeyondLimits (resolved_path place (text_steps text)) ≡ NewPlace new → IsPlace new
     at_length true h = absurd (cc)
-    at_length false h = new_path place text (text_steps text) new h
+    at_length false h = new_path place (text_steps text) new h
 
-    at_stops : (t : Bool) → cond t (NewPlace (without_last place)) (cond (nat_lt 1024 (length text)) BeyondLimits (resolved_path place text (text_steps text))) ≡ NewPlace new
+    at_stops : (t : Bool) → cond t (NewPlace (without_last place)) (cond (nat_lt 1024 (length text)) BeyondLimits (resolved_path place (text_steps text))) ≡ NewPlace new
         → IsPlace new
     at_stops true h = let same : without_last place ≡ new = cc in subst (λ fs. IsPlace fs) same (without_last_is_place place p)
     at_stops false h = at_length (nat_lt 1024 (length text)) h

@@ -1,12 +1,12 @@
 -- A printed place reads back to its steps.
-use Rattle.std.proofs.Common.{◌≡◌, ℕ, ◌<◌, ◌^◌, true, ◌&&◌, List, [], ◌∷◌, ◌++◌, length, sym, subst, arith, rules, append_assoc, append-nil, codes, nat_lt, nat_le}
+use Rattle.std.proofs.Common.{◌≡◌, ℕ, ◌+◌, ◌-◌, ◌*◌, ◌<◌, ◌^◌, true, ◌&&◌, List, [], ◌∷◌, ◌++◌, length, sym, subst, arith, rules, append_assoc, append-nil, codes, nat_lt, nat_le}
 use Rattle.std.specs.Char.{is_ascii_digit}
 use Rattle.std.specs.List.{list_all, fold}
 use Rattle.std.specs.Fmt.{decimal}
 use Rattle.std.proofs.lemmas.Bool.{le-leb, lt-ltb, and_from}
 use Rattle.std.proofs.lemmas.Str.Parse.{IsNumeralModel, numerals_by_fold}
 use Rattle.std.proofs.lemmas.Fmt.{digits_decimal, digits_value-decimal, decimal_nonempty, length-decimal-le}
-use Rattle.lis_words.specs.Words.{is_count, count_of, with_digit}
+use Rattle.lis_words.specs.Words.{is_count, count_of}
 use Rattle.lis_grammar.specs.Formula.{Formula}
 use Rattle.lis_grammar.specs.Formula.Formula.{Has, SizeAtLeast, SizeBelow, Negation, Both, Either}
 use Rattle.lis_grammar.specs.Grammar.{Path, Neg, Reads}
@@ -19,7 +19,7 @@ use Rattle.lis_grammar.specs.Places.{IsFit, AreFit}
 
 -- the digits of a count are std's digits, and spell the number that std gives them
 pub numerals : IsNumeralModel (λ ds. list_all is_ascii_digit ds ≡ true) count_of
-numerals = numerals_by_fold _ (search rules) (fold with_digit) (search (rules, arith))
+numerals = numerals_by_fold _ (search rules) (fold (λ n digit. 10 * n + (digit - 48))) (search (rules, arith))
 
 pub decimal_count : (n : ℕ) → n < 10 ^ 12 → is_count (decimal n) ≡ true
 decimal_count n small =

@@ -25,18 +25,18 @@ abbrev pub negated : List Formula → List Formula
 negated [] = []
 negated (f ∷ stack) = Negation f ∷ stack
 
-abbrev pub joined : (Formula → Formula → Formula) → List Formula → List Formula
-joined join [] = []
-joined join (g ∷ []) = []
-joined join (g ∷ f ∷ stack) = join f g ∷ stack
+abbrev pub combined : (Formula → Formula → Formula) → List Formula → List Formula
+combined join [] = []
+combined join (g ∷ []) = []
+combined join (g ∷ f ∷ stack) = join f g ∷ stack
 
 abbrev pub pushed : Token → List Formula → List Formula
 pushed (inl (inl word)) stack = Has word ∷ stack
 pushed (inl (inr n)) stack = SizeAtLeast n ∷ stack
 pushed (inr (inl n)) stack = SizeBelow n ∷ stack
 pushed (inr (inr None)) stack = negated stack
-pushed (inr (inr (Some true))) stack = joined Both stack
-pushed (inr (inr (Some false))) stack = joined Either stack
+pushed (inr (inr (Some true))) stack = combined Both stack
+pushed (inr (inr (Some false))) stack = combined Either stack
 
 abbrev pub read_on : List Formula → List Token → Formula
 read_on stack [] = top stack

@@ -2,6 +2,7 @@
 use Rattle.std.specs.Prelude.{ℕ, ◌==◌, nat_le, Bool, true, false, ◌&&◌, ◌||◌, if◌then◌else◌, Option, Some, None, List, [], ◌∷◌, ◌++◌, length, codes, suc}
 use Rattle.std.specs.Char.{is_ascii_digit}
 use Rattle.std.specs.List.{list_all}
+use Rattle.std.specs.Option.{option_or}
 use Rattle.lis_words.specs.Words.{is_word, is_count, count_of}
 use Rattle.lis_grammar.specs.Formula.{Formula}
 use Rattle.lis_grammar.specs.Formula.Formula.{Has, SizeAtLeast, SizeBelow, Negation, Both, Either}
@@ -18,18 +19,14 @@ pub data Done : Type 0 where
   done : List Pending → List Formula → Formula → Done
 
 -- an operand is to begin; the bytes of a word or a test so far; an operand has ended
-pub data State : Type 0 where
-  Wants : List Pending → List Formula → State
-  Within : List Pending → List Formula → List ℕ → State
-  Complete : Done → State
+pub data Machine : Type 0 where
+  Wants : List Pending → List Formula → Machine
+  Within : List Pending → List Formula → List ℕ → Machine
+  Complete : Done → Machine
 
 abbrev pub and_then : {A B : Type 0} → Option A → (A → Option B) → Option B
 and_then None next = None
 and_then (Some x) next = next x
-
-abbrev pub or_else : {A : Type 0} → Option A → Option A → Option A
-or_else None other = other
-or_else (Some x) other = Some x
 
 -- a word or a test
 
@@ -45,7 +42,7 @@ counted test (Some digits) = if is_count digits then Some (test (count_of digits
 abbrev pub operand : List ℕ → Option Formula
 operand text =
     if is_word text then Some (Has text)
-    else or_else (counted SizeAtLeast (after_sign (codes "size>=") text)) (counted SizeBelow (after_sign (codes "size<") text))
+    else option_or (counted SizeAtLeast (after_sign (codes "size>=") text)) (counted SizeBelow (after_sign (codes "size<") text))
 
 -- a prefix of the sign, or the sign and at most 12 digits
 abbrev pub is_test_front : List ℕ → List ℕ → Bool
@@ -70,7 +67,7 @@ abbrev pub completed : List Pending → List Formula → Option Formula → Opti
 completed ops steps None = None
 completed ops steps (Some f) = Some (complete ops steps f)
 
-abbrev pub settled : State → Option Done
+abbrev pub settled : Machine → Option Done
 settled (Wants ops steps) = None
 settled (Within ops steps text) = completed ops steps (operand text)
 settled (Complete d) = Some d
@@ -91,15 +88,15 @@ close_slash (done (Open ∷ ops) steps f) = done (Open ∷ ops) steps f
 close_slash (done (BarAfter g ∷ ops) steps f) = done (BarAfter g ∷ ops) steps f
 close_slash (done (SlashAfter g ∷ ops) steps f) = done ops steps (Both g f)
 
-abbrev pub after_bar : Done → State
+abbrev pub after_bar : Done → Machine
 after_bar (done ops steps f) = Wants (BarAfter f ∷ ops) steps
 
 -- outside of parentheses a step is complete
-abbrev pub after_slash : Done → State
+abbrev pub after_slash : Done → Machine
 after_slash (done [] steps f) = Wants [] (steps ++ f ∷ [])
 after_slash (done (op ∷ ops) steps f) = Wants (SlashAfter f ∷ op ∷ ops) steps
 
-abbrev pub after_paren : Done → Option State
+abbrev pub after_paren : Done → Option Machine
 after_paren (done [] steps f) = None
 after_paren (done (Bang ∷ ops) steps f) = None
 after_paren (done (Open ∷ ops) steps f) = Some (Complete (complete ops steps f))
@@ -107,7 +104,7 @@ after_paren (done (BarAfter g ∷ ops) steps f) = None
 after_paren (done (SlashAfter g ∷ ops) steps f) = None
 
 -- a bar, a slash or a closing parenthesis behind an operand
-abbrev pub joint : ℕ → Done → Option State
+abbrev pub joint : ℕ → Done → Option Machine
 joint b d =
     if b == 124 then Some (after_bar (close_bar d))
     else if b == 47 then Some (after_slash (close_slash (close_bar d)))
@@ -117,10 +114,10 @@ joint b d =
 abbrev pub is_joint : ℕ → Bool
 is_joint b = (b == 124) || (b == 47) || (b == 41)
 
-abbrev pub within : List Pending → List Formula → List ℕ → Option State
+abbrev pub within : List Pending → List Formula → List ℕ → Option Machine
 within ops steps text = if is_operand_front text then Some (Within ops steps text) else None
 
-abbrev pub step : State → ℕ → Option State
+abbrev pub step : Machine → ℕ → Option Machine
 step (Wants ops steps) b =
     if b == 33 then Some (Wants (Bang ∷ ops) steps)
     else if b == 40 then Some (Wants (Open ∷ ops) steps)
@@ -130,13 +127,13 @@ step (Within ops steps text) b =
     else within ops steps (text ++ b ∷ [])
 step (Complete d) b = joint b d
 
-abbrev pub run : State → List ℕ → Option State
+abbrev pub run : Machine → List ℕ → Option Machine
 run s [] = Some s
 run s (b ∷ bytes) = and_then (step s b) (λ t. run t bytes)
 
 -- the end of the text
 
-abbrev pub closed : State → Option Done
+abbrev pub closed : Machine → Option Done
 closed s = and_then (settled s) (λ d. Some (close_slash (close_bar d)))
 
 abbrev pub ended : Done → Option (List Formula)
@@ -160,12 +157,12 @@ text_steps [] = None
 text_steps (b ∷ text) =
     if b == 47 then with_root true (root_steps text) else with_root false (path_steps (b ∷ text))
 
-abbrev pub lived_on : Option State → (State → ℕ) → ℕ
+abbrev pub lived_on : Option Machine → (Machine → ℕ) → ℕ
 lived_on None more = 0
 lived_on (Some s) more = suc (more s)
 
 -- how many bytes the machine takes
-abbrev pub lived : State → List ℕ → ℕ
+abbrev pub lived : Machine → List ℕ → ℕ
 lived s [] = 0
 lived s (b ∷ bytes) = lived_on (step s b) (λ t. lived t bytes)
 

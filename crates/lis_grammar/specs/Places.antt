@@ -4,7 +4,7 @@ use Rattle.std.specs.List.{list_all}
 use Rattle.lis_words.specs.Words.{is_word, same_word}
 use Rattle.lis_grammar.specs.Formula.{Formula, steps_words}
 use Rattle.lis_grammar.specs.Formula.Formula.{Has, SizeAtLeast, SizeBelow, Negation, Both, Either}
-use Rattle.lis_grammar.specs.Machine.{text_steps, broken_at}
+use Rattle.lis_grammar.specs.Machine.{text_steps}
 use Rattle.lis_grammar.specs.Printing.{printed}
 
 -- how many nodes a tree has
@@ -57,8 +57,8 @@ is_place steps =
 pub data Resolution : Type 0 where
   NewPlace : List Formula → Resolution
   BeyondLimits : Resolution
-  -- the text is no formula; the longest prefix of it that begins some formula has so many bytes
-  Unreadable : ℕ → Resolution
+  -- the text is no formula
+  Unreadable : Resolution
 
 abbrev pub without_last : List Formula → List Formula
 without_last [] = []
@@ -72,9 +72,9 @@ within_limits steps = if is_place steps then NewPlace steps else BeyondLimits
 abbrev pub steps_from : List Formula → Bool → List Formula → List Formula
 steps_from place rooted steps = if rooted then steps else place ++ steps
 
-abbrev pub resolved_path : List Formula → List ℕ → Option (Bool × List Formula) → Resolution
-resolved_path place text None = Unreadable (broken_at text)
-resolved_path place text (Some path) =
+abbrev pub resolved_path : List Formula → Option (Bool × List Formula) → Resolution
+resolved_path place None = Unreadable
+resolved_path place (Some path) =
     if is_place path.1 then within_limits (steps_from place path.0 path.1) else BeyondLimits
 
 -- the text `..` leads to the place without its last step; any other text is read as a formula, and leads from the root or from the place
@@ -82,7 +82,7 @@ unfoldable pub resolved : List Formula → List ℕ → Resolution
 resolved place text =
     if same_word text (codes "..") then NewPlace (without_last place)
     else if nat_lt 1024 (length text) then BeyondLimits
-    else resolved_path place text (text_steps text)
+    else resolved_path place (text_steps text)
 
 abbrev pub path_words : Option (Bool × List Formula) → List (List ℕ)
 path_words None = []

@@ -35,14 +35,11 @@ has eq xs x = list_any (λ y. eq y x) xs
 abbrev pub with_more : {K : Type 0} → (K → K → Ordering) → List K → List K → List K
 with_more cmp xs more = fold (insert_key cmp) xs more
 
--- with what the right side entails, where the left side is there
-abbrev pub widened : {K : Type 0} → (K → K → Bool) → (K → K → Ordering) → List K → K → List K → List K
-widened eq cmp xs left more = if has eq xs left then with_more cmp xs more else xs
-
--- what a point entails, itself included
+-- What a point entails, itself included: with each edge whose left side it entails all that the right side does.
 abbrev pub up : {K : Type 0} → (K → K → Bool) → (K → K → Ordering) → (K → List K) → List (K × K) → K → List K
 up eq cmp own [] p = with_more cmp [] (p ∷ own p)
-up eq cmp own (edge ∷ edges) p = widened eq cmp (up eq cmp own edges p) edge.0 (up eq cmp own edges edge.1)
+up eq cmp own (edge ∷ edges) p =
+    let xs = up eq cmp own edges p in if has eq xs edge.0 then with_more cmp xs (up eq cmp own edges edge.1) else xs
 
 -- no edge leads back to its own left side, by the edges behind it
 abbrev pub is_acyclic : {K : Type 0} → (K → K → Bool) → (K → K → Ordering) → (K → List K) → List (K × K) → Bool

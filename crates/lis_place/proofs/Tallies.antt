@@ -14,9 +14,10 @@ use Rattle.lis_grammar.proofs.Fits.{AreFit-append}
 use Rattle.lis_place.specs.declared.node.Node.{Node}
 use Rattle.lis_place.specs.declared.node.Node.TheVariants.{Word, AtLeast, Below, Not, And, Or}
 use Rattle.lis_place.specs.declared.limits.Tally.{Tally}
-use Rattle.lis_place.specs.Nodes.{tree_node_list, nodes_of, negated, joined, with_node, steps_of}
+use Rattle.lis_place.specs.Nodes.{tree_node_list, nodes_of, combined, with_node, steps_of}
 use Rattle.lis_place.specs.Limits.{with_operand, with_test, with_mark, with_joint, tally_with, tally_after, no_tally, is_within, are_place}
 use Rattle.lis_place.proofs.Trees.{nodes_of-append}
+use Rattle.lis_grammar.specs.Codes.{negated}
 
 -- from steps to the tally of their nodes
 
@@ -147,10 +148,10 @@ regroup stack left right node = simp append_assoc
 
 joint_makes : (front : List Node) (stack : List Formula) (t u : Tally) (join : Formula → Formula → Formula) (node : Node)
     → ((f g : Formula) → tree_node_list (join f g) ≡ (tree_node_list f ++ tree_node_list g) ++ node ∷ []) → ((f g : Formula) → IsFit f → IsFit g → IsFit (join f g))
-    → Makes front stack t → with_joint t ≡ Some u → Makes (front ++ node ∷ []) (joined join stack) u
+    → Makes front stack t → with_joint t ≡ Some u → Makes (front ++ node ∷ []) (combined join stack) u
 joint_makes front stack t u join node spells fits m h = by (nat_le 2 t.trees) refl h
   where
-    joins : (stack : List Formula) → Makes front stack t → 2 ≤ t.trees → (u : Tally) → t.trees - 1 ≡ u.trees → Makes (front ++ node ∷ []) (joined join stack) u
+    joins : (stack : List Formula) → Makes front stack t → 2 ≤ t.trees → (u : Tally) → t.trees - 1 ≡ u.trees → Makes (front ++ node ∷ []) (combined join stack) u
     joins [] m some u e = absurd (omega (arith, m.trees))
     joins (g ∷ []) m some u e = absurd (omega (arith, m.trees))
     joins (g ∷ f ∷ stack) m some u e = record {
@@ -159,7 +160,7 @@ joint_makes front stack t u join node spells fits m h = by (nat_le 2 t.trees) re
       all_fit = (fits f g m.all_fit.1.0 m.all_fit.0, m.all_fit.1.1);
     }
 
-    by : (q : Bool) → nat_le 2 t.trees ≡ q → cond q (Some (record { trees = t.trees - 1; bytes = t.bytes + 3 })) None ≡ Some u → Makes (front ++ node ∷ []) (joined join stack) u
+    by : (q : Bool) → nat_le 2 t.trees ≡ q → cond q (Some (record { trees = t.trees - 1; bytes = t.bytes + 3 })) None ≡ Some u → Makes (front ++ node ∷ []) (combined join stack) u
     by true some h = joins stack m (leb-true _ _ some) u (ap (λ (s : Tally). s.trees) (some_same _ u h))
     by false some h = absurd (cc)
 

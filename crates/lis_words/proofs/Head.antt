@@ -4,7 +4,8 @@ use Rattle.std.specs.List.{list_any}
 use Rattle.std.proofs.lemmas.List.Folds.{list_any-append}
 use Rattle.std.proofs.lemmas.Bool.{or_right, or_left, and_from, and_parts, leb-true, le-leb}
 use Rattle.std.proofs.Common.{length-append, ◌==◌, ◌∙◌}
-use Rattle.lis_words.specs.Words.{is_colon, stem, value, is_head, is_valued, is_word, is_property, is_plain_word, head_bytes}
+use Rattle.lis_words.specs.Words.{stem, value, is_head, is_valued, is_word, is_property, is_plain_word, head_bytes}
+use Rattle.lis_words.specs.Bytes.{is_colon}
 
 pub stem_joined : (bytes : List ℕ) → stem (head_bytes bytes) ≡ stem bytes
 stem_joined [] = refl

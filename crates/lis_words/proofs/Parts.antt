@@ -3,7 +3,8 @@ use Rattle.std.proofs.Common.{◌≡◌, ℕ, ◌+◌, ◌<◌, ◌≤◌, ◌^�
 use Rattle.std.specs.List.{prefix_len}
 use Rattle.std.proofs.Math.Nat.{pow-le-pow_right}
 use Rattle.std.proofs.lemmas.List.Sums.{prefix_len-le-length}
-use Rattle.lis_words.specs.Words.{is_colon, stem, value}
+use Rattle.lis_words.specs.Words.{stem, value}
+use Rattle.lis_words.specs.Bytes.{is_colon}
 
 abbrev pub colon_place : List ℕ → ℕ
 colon_place bytes = prefix_len (λ b. not (is_colon b)) bytes

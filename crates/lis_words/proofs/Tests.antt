@@ -6,7 +6,8 @@ use Rattle.std.specs.List.{list_any, list_all}
 use Rattle.std.proofs.lemmas.Bool.{and_parts, or_left, or_right, or_cases, leb-true, ne_eqb, both_ways}
 use Rattle.std.proofs.Math.Bool.{and-false}
 use Rattle.std.proofs.lemmas.List.{take-append-drop}
-use Rattle.lis_words.specs.Words.{is_colon, is_plain_word, is_head, is_valued, is_word, has_stem, same_word, is_count, is_number, count_of, number_behind, test_by, is_test, is_property}
+use Rattle.lis_words.specs.Words.{is_plain_word, is_head, is_valued, is_word, has_stem, same_word, is_count, is_number, count_of, number_behind, test_by, is_test, is_property}
+use Rattle.lis_words.specs.Bytes.{is_colon}
 
 -- the word is the sign and a number
 record IsSigned (sign word : List ℕ) : Type 0 where

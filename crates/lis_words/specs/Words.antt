@@ -5,6 +5,7 @@ use Rattle.std.specs.Cmp.Lexicographic.{pointwise, slice_cmp}
 use Rattle.std.specs.Ordering.{nat_cmp}
 use Rattle.std.specs.declared.cmp.Ordering.{Ordering}
 use Rattle.std.specs.List.{list_any, list_all, fold}
+use Rattle.lis_words.specs.Bytes.{is_colon}
 
 -- an ASCII letter, a digit, or one of _ - . + @
 abbrev pub is_plain_byte : ℕ → Bool
@@ -17,9 +18,6 @@ word_cmp a b = slice_cmp nat_cmp a b
 
 abbrev pub same_word : List ℕ → List ℕ → Bool
 same_word a b = pointwise nat_eq a b
-
-abbrev pub is_colon : ℕ → Bool
-is_colon b = b == 58
 
 abbrev pub begins_with_stop : List ℕ → Bool
 begins_with_stop [] = false
@@ -59,13 +57,9 @@ is_word bytes = is_plain_word bytes || is_head bytes || is_valued bytes
 abbrev pub is_count : List ℕ → Bool
 is_count digits = nat_lt 0 (length digits) && nat_le (length digits) 12 && list_all is_ascii_digit digits
 
--- a number with one more digit behind it
-abbrev pub with_digit : ℕ → ℕ → ℕ
-with_digit n digit = 10 * n + (digit - 48)
-
 -- the number that the digits spell
 abbrev pub count_of : List ℕ → ℕ
-count_of digits = fold with_digit 0 digits
+count_of digits = fold (λ n digit. 10 * n + (digit - 48)) 0 digits
 
 abbrev pub begins_with_zero : List ℕ → Bool
 begins_with_zero [] = false

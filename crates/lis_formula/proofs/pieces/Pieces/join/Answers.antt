@@ -1,5 +1,5 @@
 use Rattle.std.proofs.Common.{◌≡◌, ◌≤◌, ◌+◌, length, reverse, arith, ap, sym, subst, ◌∙◌}
-use Rattle.lis_formula.specs.Pieces.{joined, cut_at, with_joint}
+use Rattle.lis_formula.specs.Pieces.{stacked_text, cut_at, with_joint}
 use Rattle.lis_formula.proofs.Cuts.{IsStack, stack_from, stack_join, stack_count, kept_cut, kept_stack, joint_bytes, joint_count, joint_fewer}
 use Rattle.lis_formula.proofs.pieces.Pieces.join.Goals as goal
 
@@ -26,9 +26,9 @@ returns-then-len-lt2-clause-fewer c =
 
 pub returns-in-Some-clause-bytes : goal.returns-in-Some-clause-bytes
 returns-in-Some-clause-bytes c =
-    let same = ap (λ stack. length (joined stack)) (seen c) in
+    let same = ap (λ stack. length (stacked_text stack)) (seen c) in
     let bytes = joint_bytes c.args.byte c.args.self.now in
-    subst (λ n. n ≤ length (joined c.args.self.now) + 1) (sym same) bytes
+    subst (λ n. n ≤ length (stacked_text c.args.self.now) + 1) (sym same) bytes
 
 pub returns-in-Some-clause-count : goal.returns-in-Some-clause-count
 returns-in-Some-clause-count c = subst (λ n. n ≤ length c.args.self.now) (sym (ap length (seen c))) (joint_count c.args.byte c.args.self.now)

@@ -1,6 +1,6 @@
 use Rattle.std.proofs.Common.{◌≡◌, ◌<◌, ◌≤◌, ◌+◌, ◌++◌, length, reverse, ap, sym, subst, ◌∙◌}
 use Rattle.std.specs.Prelude.{OnOk}
-use Rattle.lis_formula.specs.Pieces.{joined, cut_at, with_end}
+use Rattle.lis_formula.specs.Pieces.{stacked_text, cut_at, with_end}
 use Rattle.lis_formula.proofs.Cuts.{IsStack, stack_from, stack_end, kept_cut, kept_stack, end_bytes, end_count}
 use Rattle.lis_formula.proofs.Readings.{some_bytes}
 use Rattle.lis_formula.proofs.pieces.Pieces.put_end.Goals as goal
@@ -24,9 +24,9 @@ invariant_of-self c =
 
 pub returns-then-not-is_empty-clause-bytes : goal.returns-then-not-is_empty-clause-bytes
 returns-then-not-is_empty-clause-bytes c =
-    let same = ap (λ stack. length (joined stack)) (seen c) in
+    let same = ap (λ stack. length (stacked_text stack)) (seen c) in
     let bytes = end_bytes c.args.bytes.now c.args.self.now in
-    subst (λ n. n ≤ length (joined c.args.self.now) + length c.args.bytes.now) (sym same) bytes
+    subst (λ n. n ≤ length (stacked_text c.args.self.now) + length c.args.bytes.now) (sym same) bytes
 
 pub returns-then-not-is_empty-clause-count : goal.returns-then-not-is_empty-clause-count
 returns-then-not-is_empty-clause-count c = ap length (seen c) ∙ end_count c.args.bytes.now c.args.self.now

@@ -1,0 +1,22 @@
+-- Kinds of bytes, and the bytes of a line.
+use Rattle.std.specs.Prelude.{ℕ, ◌==◌, Bool, true, false, ◌||◌, if◌then◌else◌, List, [], ◌∷◌}
+
+abbrev pub is_feed : ℕ → Bool
+is_feed b = b == 10
+
+-- space or tab
+abbrev pub is_blank : ℕ → Bool
+is_blank b = (b == 32) || (b == 9)
+
+abbrev pub is_colon : ℕ → Bool
+is_colon b = b == 58
+
+abbrev pub is_some_bytes : List ℕ → Bool
+is_some_bytes [] = false
+is_some_bytes (b ∷ bytes) = true
+
+-- A line ends with LF alone, or with CR and LF: one CR at its end is dropped.
+abbrev pub without_return : List ℕ → List ℕ
+without_return [] = []
+without_return (b ∷ []) = if b == 13 then [] else b ∷ []
+without_return (b ∷ c ∷ bytes) = b ∷ without_return (c ∷ bytes)
