@@ -1,7 +1,10 @@
 -- The last full stop of a name.
-use Rattle.std.proofs.Common.{◌≡◌, ℕ, ◌<◌, ◌||◌, Bool, true, false, cond, zero, suc, List, [], ◌∷◌, length, drop, get_or, Option, Some, None, ap, refl, arith}
+use Rattle.std.proofs.Common.{◌≡◌, ℕ, ◌<◌, ◌||◌, ◌==◌, Bool, true, false, cond, zero, suc, List, [], ◌∷◌, length, drop, get_or, Option, Some, None, ap, refl, arith}
 use Rattle.std.specs.List.{list_any}
-use Rattle.lis_model.specs.Derived.{is_stop, behind_stop}
+use Rattle.lis_model.specs.Derived.{behind_stop}
+
+abbrev is_stop : ℕ → Bool
+is_stop b = b == 46
 
 no_stop : (bytes : List ℕ) → ((k : ℕ) → k < length bytes → is_stop (get_or bytes k 0) ≡ true → ⊥) → list_any is_stop bytes ≡ false
 no_stop [] none = refl

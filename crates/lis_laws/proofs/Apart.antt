@@ -3,12 +3,13 @@ use Rattle.std.proofs.Common.{◌≡◌, ◌⊎◌, ℕ, ◌<◌, true, false, n
 use Rattle.std.specs.List.{list_all, list_any}
 use Rattle.std.proofs.lemmas.Bool.{and_parts, and_from, or_cases, or_left, or_right, not-true, not_from_false, both_ways, false_from_ne_true, ltb-true}
 use Rattle.lis_graph.proofs.Members.{among_from_any}
-use Rattle.lis_words.specs.Words.{has_word, head_bytes, is_colon, value, has_stem, is_plain_byte, is_plain_word, is_head, is_valued, is_test, is_property, is_word, is_built_in, built_in_heads}
+use Rattle.lis_words.specs.Words.{has_word, head_bytes, value, has_stem, is_plain_byte, is_plain_word, is_head, is_valued, is_test, is_property, is_word, is_built_in, built_in_heads}
 use Rattle.lis_words.proofs.Head.{stem_of_valued}
 use Rattle.lis_words.proofs.Tests.{test_no_colon, valued_not_test}
 use Rattle.lis_model.specs.State.{is_declarable}
 use Rattle.lis_laws.proofs.Members.{among_from_has_word}
 use Rattle.lis_laws.proofs.Counts.{all_among}
+use Rattle.lis_words.specs.Bytes.{is_colon}
 
 plain_bytes : (word : List ℕ) → is_plain_word word ≡ true → list_all is_plain_byte word ≡ true
 plain_bytes word plain = (and_parts _ _ plain).1

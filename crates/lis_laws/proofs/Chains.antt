@@ -8,12 +8,13 @@ use Rattle.lis_graph.specs.Graph.{IsOrdered}
 use Rattle.lis_graph.proofs.Graph as graph
 use Rattle.lis_graph.proofs.Graph.{IsLinkedWithin}
 use Rattle.lis_graph.proofs.Members.{Among, among_filter, filter_among, among_append, among_left, among_right, among_from_contains, contains_from_among}
-use Rattle.lis_words.specs.Words.{word_cmp, same_word, has_word, has_stem, stem, is_colon, is_plain_byte, is_valued, head_bytes, is_test, test_of}
+use Rattle.lis_words.specs.Words.{word_cmp, same_word, has_word, has_stem, stem, is_plain_byte, is_valued, head_bytes, is_test, test_of}
 use Rattle.lis_words.proofs.Head.{value_joined}
 use Rattle.lis_words.proofs.Tests.{test_no_colon, valued_not_test}
 use Rattle.lis_model.specs.Tests.{are_weaker, weaker_tests}
 use Rattle.lis_model.specs.State.{heads, links, Entails, Acyclic, up, is_acyclic}
 use Rattle.lis_laws.proofs.Members.{same_word_decides, word_exact, word_order, among_from_has_word, has_word_from_among}
+use Rattle.lis_words.specs.Bytes.{is_colon}
 
 -- ---- heads
 pub head_not_valued : (word : List ℕ) → is_valued (head_bytes word) ≡ false

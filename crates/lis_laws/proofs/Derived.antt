@@ -16,9 +16,9 @@ use Rattle.lis_transducers.specs.Joined.{joined}
 use Rattle.lis_transducers.specs.Pieces.{Piece, pieces}
 use Rattle.lis_transducers.specs.Entries as entries
 use Rattle.lis_transducers.specs.Entries.{last_part}
-use Rattle.lis_transducers.specs.Source.{is_path, is_candidate, is_defined, included_word, defined_word, entry_words, braces_after, parens_after, words_at, source_words}
+use Rattle.lis_transducers.specs.Source.{is_path, is_candidate, is_defined, included_word, entry_words, braces_after, parens_after, words_at, source_words}
 use Rattle.lis_model.specs.Noted.{noted, noted_all}
-use Rattle.lis_model.specs.Derived.{suffix_of, suffix_words, name_words, size_word, is_suffix, content_words, derived_words}
+use Rattle.lis_model.specs.Derived.{suffix_of, suffix_words, size_word, is_suffix, content_words, derived_words}
 
 -- ---- a word that begins with a built-in head is built in
 pub begun : (head rest : List ℕ) → list_all is_plain_byte (head ++ rest) ≡ false → value (head ++ rest) ≡ rest → head_bytes (head ++ rest) ≡ head → has_word built_in_heads head ≡ true
@@ -98,7 +98,7 @@ data SourceWord (word : List ℕ) : Type 0 where
 entry_own : (braces parens : ℕ) (piece : Piece) (behind : List Kind) (word : List ℕ) → Among (entry_words braces parens piece behind) word → SourceWord word
 entry_own braces parens piece behind word m = by (is_path piece.kind) (is_candidate braces parens piece && is_defined behind) m
   where
-    by : (a b : Bool) → Among (cond a (included_word piece.text ∷ []) (cond b (defined_word piece.text ∷ []) [])) word → SourceWord word
+    by : (a b : Bool) → Among (cond a (included_word piece.text ∷ []) (cond b ((codes "defines:" ++ piece.text) ∷ []) [])) word → SourceWord word
     by true b (inl same) = Included (last_part piece.text) same
     by true b (inr none) = absurd none
     by false true (inl same) = Defined piece.text same
@@ -180,16 +180,16 @@ noted_all_few words [] few = few
 noted_all_few words (word ∷ more) few = noted_all_few (noted words word) more (noted_few words word few)
 
 pub derived_built_in : (name bytes word : List ℕ) → Among (derived_words name bytes) word → is_built_in word ≡ true
-derived_built_in name bytes word m = by (among_noted_all [] (name_words name ++ size_word (length bytes) ∷ content_words (suffix_of name) bytes) word m)
+derived_built_in name bytes word m = by (among_noted_all [] (suffix_words (suffix_of name) ++ size_word (length bytes) ∷ content_words (suffix_of name) bytes) word m)
   where
-    at : Among (name_words name) word ⊎ Among (size_word (length bytes) ∷ content_words (suffix_of name) bytes) word → is_built_in word ≡ true
+    at : Among (suffix_words (suffix_of name)) word ⊎ Among (size_word (length bytes) ∷ content_words (suffix_of name) bytes) word → is_built_in word ≡ true
     at (inl named) = suffix_built_in (suffix_of name) word named
     at (inr (inl same)) = subst (λ (w : List ℕ). is_built_in w ≡ true) same (size_built_in (length bytes))
     at (inr (inr content)) = content_built_in (suffix_of name) bytes word content
 
-    by : Among {K = List ℕ} [] word ⊎ Among (name_words name ++ size_word (length bytes) ∷ content_words (suffix_of name) bytes) word → is_built_in word ≡ true
+    by : Among {K = List ℕ} [] word ⊎ Among (suffix_words (suffix_of name) ++ size_word (length bytes) ∷ content_words (suffix_of name) bytes) word → is_built_in word ≡ true
     by (inl none) = absurd none
-    by (inr found) = at (among_append (name_words name) (size_word (length bytes) ∷ content_words (suffix_of name) bytes) word found)
+    by (inr found) = at (among_append (suffix_words (suffix_of name)) (size_word (length bytes) ∷ content_words (suffix_of name) bytes) word found)
 
 pub derived_few : (name bytes : List ℕ) → length (derived_words name bytes) ≤ 48
-derived_few name bytes = noted_all_few [] (name_words name ++ size_word (length bytes) ∷ content_words (suffix_of name) bytes) (omega arith)
+derived_few name bytes = noted_all_few [] (suffix_words (suffix_of name) ++ size_word (length bytes) ∷ content_words (suffix_of name) bytes) (omega arith)

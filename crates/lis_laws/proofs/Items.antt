@@ -7,11 +7,12 @@ use Rattle.std.proofs.lemmas.List.{length-take}
 use Rattle.std.proofs.lemmas.List.Folds.{list_all-append}
 use Rattle.lis_words.specs.Words.{same_word, is_property, is_file_name, is_count}
 use Rattle.lis_model.specs.declared.refusal.Refusal.TheVariants.{BadLine, LongLine, CutPayload, PayloadEnd, TooManyAssigned}
-use Rattle.lis_model.specs.declared.command.Command.TheVariants.{Mkdir, Rmdir, Axiom, Unaxiom, Write, Cat, Mv, Rename, Rm, Pwd, Ls, Props, Way, Stat}
+use Rattle.lis_model.specs.declared.command.Command.TheVariants.{Mkdir, Rmdir, Axiom, Unaxiom, Create, Add, Write, Cat, Mv, Rename, Rm, Pwd, Ls, Props, Way, Stat}
 use Rattle.lis_model.specs.Step.{Item, Payload, no_payload}
 use Rattle.lis_model.specs.Step.Item.{Do, Bad}
-use Rattle.lis_model.specs.Script.{bad_line, word_form, pair_form, tags_form, create_named, create_form, add_named, add_form, write_form, file_form, cd_form, mv_form, rename_form, alone_form, form_of, item_of_words, item_of, line_words, is_long, payload_limit, payload_of, payload_size, before_feed, after_feed, First, first_ended, first_with, first_by, first_of, items_within, all_items, whole_within, whole_items, script, is_feed}
+use Rattle.lis_model.specs.Script.{bad_line, word_form, pair_form, tags_form, with_tags, create_form, add_form, write_form, file_form, cd_form, mv_form, rename_form, alone_form, form_of, item_of_words, item_of, line_words, is_long, payload_limit, payload_of, payload_size, before_feed, after_feed, First, first_ended, first_with, first_by, first_of, items_within, all_items, whole_within, whole_items, script}
 use Rattle.lis_laws.specs.Steps.{is_payload, is_formed}
+use Rattle.lis_words.specs.Bytes.{is_feed}
 
 -- a choice of two items in form is one
 chosen : (b : Bool) (x y : Item) → is_formed x ≡ true → is_formed y ≡ true → is_formed (cond b x y) ≡ true
@@ -46,22 +47,22 @@ pair_formed item formed (left ∷ right ∷ []) = tested (is_property left && is
     both e = let parts = and_parts (is_property left) (is_property right) e in formed left right parts.0 parts.1
 pair_formed item formed (left ∷ right ∷ more ∷ words) = refl
 
-create_named_formed : (name : List ℕ) (words : List (List ℕ)) → is_file_name name ≡ true → is_formed (create_named name (tags_form words)) ≡ true
+create_named_formed : (name : List ℕ) (words : List (List ℕ)) → is_file_name name ≡ true → is_formed (with_tags (λ tags. Do (Create name tags) no_payload) (tags_form words)) ≡ true
 create_named_formed name words named = by (list_all is_property words) refl (nat_lt 16 (length words))
   where
-    by : (b : Bool) → list_all is_property words ≡ b → (many : Bool) → is_formed (create_named name (cond b (cond many (Err TooManyAssigned) (Ok words)) (Err BadLine))) ≡ true
+    by : (b : Bool) → list_all is_property words ≡ b → (many : Bool) → is_formed (with_tags (λ tags. Do (Create name tags) no_payload) (cond b (cond many (Err TooManyAssigned) (Ok words)) (Err BadLine))) ≡ true
     by true e true = refl
     by true e false = and_from _ _ (and_from _ _ named e) refl
     by false e many = refl
 
 create_formed : (words : List (List ℕ)) → is_formed (create_form words) ≡ true
 create_formed [] = refl
-create_formed (name ∷ words) = tested (is_file_name name) (create_named name (tags_form words)) (create_named_formed name words)
+create_formed (name ∷ words) = tested (is_file_name name) (with_tags (λ tags. Do (Create name tags) no_payload) (tags_form words)) (create_named_formed name words)
 
-add_named_formed : (name : List ℕ) (words : List (List ℕ)) (payload : Payload) → is_payload payload ≡ true → is_file_name name ≡ true → is_formed (add_named name payload (tags_form words)) ≡ true
+add_named_formed : (name : List ℕ) (words : List (List ℕ)) (payload : Payload) → is_payload payload ≡ true → is_file_name name ≡ true → is_formed (with_tags (λ tags. Do (Add name tags) payload) (tags_form words)) ≡ true
 add_named_formed name words payload sized named = by (list_all is_property words) refl (nat_lt 16 (length words))
   where
-    by : (b : Bool) → list_all is_property words ≡ b → (many : Bool) → is_formed (add_named name payload (cond b (cond many (Err TooManyAssigned) (Ok words)) (Err BadLine))) ≡ true
+    by : (b : Bool) → list_all is_property words ≡ b → (many : Bool) → is_formed (with_tags (λ tags. Do (Add name tags) payload) (cond b (cond many (Err TooManyAssigned) (Ok words)) (Err BadLine))) ≡ true
     by true e true = refl
     by true e false = and_from _ _ (and_from _ _ named e) sized
     by false e many = refl
@@ -70,7 +71,7 @@ add_formed : (words : List (List ℕ)) (payload : Payload) → is_payload payloa
 add_formed [] payload sized = refl
 add_formed (name ∷ []) payload sized = refl
 add_formed (name ∷ size ∷ words) payload sized =
-    tested (is_file_name name && is_count size) (add_named name payload (tags_form words)) (λ e. add_named_formed name words payload sized (and_parts _ _ e).0)
+    tested (is_file_name name && is_count size) (with_tags (λ tags. Do (Add name tags) payload) (tags_form words)) (λ e. add_named_formed name words payload sized (and_parts _ _ e).0)
 
 write_formed : (words : List (List ℕ)) (payload : Payload) → is_payload payload ≡ true → is_formed (write_form words payload) ≡ true
 write_formed [] payload sized = refl

@@ -51,7 +51,7 @@ judged_regular now (check ∷ checks) outcome is = by check.0 (judged_regular no
     by false rest = rest
 
 cd_regular : (now : Situation) (text : List ℕ) (to : Resolution) → Regular now (cd_to now text to)
-cd_regular now text (Unreadable k) = refused_regular now BadFormula
+cd_regular now text Unreadable = refused_regular now BadFormula
 cd_regular now text BeyondLimits = refused_regular now LargeFormula
 cd_regular now text (NewPlace place) = by (list_all (has_word (known now.state)) (text_words text))
   where
@@ -63,7 +63,7 @@ shown_here_regular : (now : Situation) (name body : List ℕ) → Regular now (s
 shown_here_regular now name body = judged_regular now (here_checks now name) (shown now body) (shown_regular now body)
 
 mv_regular : (now : Situation) (old : File) (text : List ℕ) (to : Resolution) → Regular now (mv_to now old text to)
-mv_regular now old text (Unreadable k) = refused_regular now BadFormula
+mv_regular now old text Unreadable = refused_regular now BadFormula
 mv_regular now old text BeyondLimits = refused_regular now LargeFormula
 mv_regular now old text (NewPlace place) =
     let new = new_file old.name (retagged old.assigned (tags_at now.place) (tags_at place)) old.bytes in
@@ -171,7 +171,7 @@ rename_stays now name other =
     judged_stays now (rename_checks now old.name new made) (changed now made) refl
 
 mv_to_stays : (now : Situation) (old : File) (text : List ℕ) (to : Resolution) → (mv_to now old text to).next.place ≡ now.place
-mv_to_stays now old text (Unreadable k) = refl
+mv_to_stays now old text Unreadable = refl
 mv_to_stays now old text BeyondLimits = refl
 mv_to_stays now old text (NewPlace place) =
     let new = new_file old.name (retagged old.assigned (tags_at now.place) (tags_at place)) old.bytes in

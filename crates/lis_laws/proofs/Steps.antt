@@ -351,7 +351,7 @@ mv_replaces now place words old before here none =
     at held w (inr m) = all_among (is_assignable now.state.declared) (tags_at place) w (not-false _ none.1.1.1.1.0) m
 
 mv_keeps : (now : Situation) (name text : List ℕ) (r : Resolution) → IsInForm now → IsInForm (mv_to now (file_of now.state.files name) text r).next
-mv_keeps now name text (Unreadable k) before = before
+mv_keeps now name text Unreadable before = before
 mv_keeps now name text BeyondLimits before = before
 mv_keeps now name text (NewPlace place) before =
     judged_keeps IsInForm now (here_checks now old.name ++ mv_checks now place (text_words text) new (file_replaced now.state old.name new)) (changed now (file_replaced now.state old.name new)) before
@@ -410,7 +410,7 @@ shown_keeps : (now : Situation) (name body : List ℕ) → IsInForm now → IsIn
 shown_keeps now name body before = judged_keeps IsInForm now (here_checks now name) (shown now body) before (λ none. before)
 
 cd_keeps : (now : Situation) (text : List ℕ) (r : Resolution) → resolved now.place text ≡ r → IsInForm now → IsInForm (cd_to now text r).next
-cd_keeps now text (Unreadable k) e before = before
+cd_keeps now text Unreadable e before = before
 cd_keeps now text BeyondLimits e before = before
 cd_keeps now text (NewPlace place) e before = by (list_all (has_word (known now.state)) (text_words text))
   where

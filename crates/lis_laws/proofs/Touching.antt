@@ -116,7 +116,7 @@ write_told now name payload before sized =
     new = new_file old.name old.assigned payload.bytes
 
 mv_told : (now : Situation) (name text : List ℕ) (r : Resolution) → IsInForm now → Told now (Mv name text) (mv_to now (file_of now.state.files name) text r)
-mv_told now name text (Unreadable k) before = refused_told now (Mv name text) BadFormula
+mv_told now name text Unreadable before = refused_told now (Mv name text) BadFormula
 mv_told now name text BeyondLimits before = refused_told now (Mv name text) LargeFormula
 mv_told now name text (NewPlace place) before =
     judged_told now (Mv name text) (here_checks now old.name ++ mv_checks now place (text_words text) new (file_replaced now.state old.name new)) (changed now (file_replaced now.state old.name new))
@@ -155,7 +155,7 @@ here_told : (now : Situation) (command : Command) (name body : List ℕ) → tou
 here_told now command name body idle = judged_told now command (here_checks now name) (shown now body) (λ none. shown_told now command body idle)
 
 cd_told : (now : Situation) (text : List ℕ) (r : Resolution) → Told now (Cd text) (cd_to now text r)
-cd_told now text (Unreadable k) = refused_told now (Cd text) BadFormula
+cd_told now text Unreadable = refused_told now (Cd text) BadFormula
 cd_told now text BeyondLimits = refused_told now (Cd text) LargeFormula
 cd_told now text (NewPlace place) = by (list_all (has_word (known now.state)) (text_words text))
   where

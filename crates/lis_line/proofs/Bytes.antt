@@ -5,9 +5,9 @@ use Rattle.std.specs.Io.KnownBytes.{prepend_known, Consumes, Keeps}
 use Rattle.std.proofs.lemmas.List.Folds.{list_any-append}
 use Rattle.std.proofs.lemmas.List.{take-append-le, take_all, length-take, drop-take, drop-drop}
 use Rattle.std.proofs.lemmas.Bool.Decides.{eqb_tells}
-use Rattle.lis_model.specs.Script.{is_feed}
 use Rattle.lis_line.specs.Stock.{Stocked, stream_of, LineTaken}
 use Rattle.lis_line.specs.Reading.{Gave}
+use Rattle.lis_words.specs.Bytes.{is_feed}
 
 pub consumes_none : (known : Option (List ℕ)) → Consumes known known []
 consumes_none None = tt

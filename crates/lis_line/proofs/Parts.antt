@@ -8,7 +8,7 @@ use Rattle.lis_model.specs.declared.refusal.Refusal.{Refusal}
 use Rattle.lis_model.specs.declared.refusal.Refusal.TheVariants.{PayloadEnd, CutPayload}
 use Rattle.lis_model.specs.Step.{Payload, no_payload}
 use Rattle.lis_model.specs.Step.Item.{Bad}
-use Rattle.lis_model.specs.Script.{First, FirstOf, is_feed, item_of, payload_size, payload_of, first_of, first_with, first_ended}
+use Rattle.lis_model.specs.Script.{First, FirstOf, item_of, payload_size, payload_of, first_of, first_with, first_ended}
 use Rattle.lis_model.proofs.Lines.{IsOneLine, after_feed_at, after_feed_all, has_feed, line_alone, line_with, last_alone, last_with, with_cut, with_payload}
 use Rattle.lis_line.specs.declared.input.Part.{Part}
 use Rattle.lis_line.specs.declared.input.Part.TheVariants.{Whole, Last, PastLimit}
@@ -18,6 +18,7 @@ use Rattle.lis_line.specs.Reading.{Gave, item_with}
 use Rattle.lis_line.specs.Parts.{WholePart, LastPart, TakesPart, first_dropped}
 use Rattle.lis_line.proofs.Bytes.{gave_none, gave_then, gave_line}
 use Rattle.lis_line.proofs.Sized.{asks_with, asks_alone}
+use Rattle.lis_words.specs.Bytes.{is_feed}
 
 -- a part that begins with these bytes, where what follows them is told by `after`
 pub part_behind : {I R E : Type 0} (first after : List ℕ → FirstOf I) (asks : R → I) (old now next : Stocked) (left_before left left_after : Option (List ℕ)) (start : List ℕ)

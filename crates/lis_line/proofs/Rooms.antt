@@ -5,11 +5,12 @@ use Rattle.std.proofs.lemmas.Grind.{common_steps}
 use Rattle.lis_model.specs.declared.refusal.Refusal.TheVariants.{LongLine}
 use Rattle.lis_model.specs.Step.{Item}
 use Rattle.lis_model.specs.Step.Item.{Bad}
-use Rattle.lis_model.specs.Script.{is_feed, before_feed, after_feed, is_long, without_return, words_of, line_words, FirstOf, item_of, payload_size, payload_of, first_ended, first_with, first_by, first_of}
+use Rattle.lis_model.specs.Script.{before_feed, after_feed, is_long, words_of, line_words, FirstOf, item_of, payload_size, payload_of, first_ended, first_with, first_by, first_of}
 use Rattle.lis_model.proofs.Lines.{IsOneLine, TakesSome, CutsBy, cuts_by, after_feed_at, after_feed_all, has_feed}
 use Rattle.lis_line.specs.Tagged.{Tagged, after_blanks, room_of, room_of_words, spoken_in, no_room, in_room, first_spoken, first_tagged, all_tagged, whole_tagged, tagged_cut}
 use Rattle.lis_line.proofs.Words.{word_len, word_within, one_word, word_fits}
 use Rattle.lis_line.proofs.Kept.{ByLines, by_lines, by_itself, session_lines}
+use Rattle.lis_words.specs.Bytes.{is_feed, without_return}
 
 before_feed_at : (text more : List ℕ) → IsOneLine text → before_feed (text ++ 10 ∷ more) ≡ text
 before_feed_at [] more h = refl

@@ -9,13 +9,13 @@ use Rattle.lis_model.specs.declared.command.Command.{Command}
 use Rattle.lis_model.specs.declared.command.Command.TheVariants.{Add, Write, Stat}
 use Rattle.lis_model.specs.Step.{Item, Payload, no_payload}
 use Rattle.lis_model.specs.Step.Item.{Do, Bad}
-use Rattle.lis_model.specs.Script.{bad_line, tags_form, add_named, add_form, write_form, form_of, item_of, item_of_words, is_long, line_words, size_of_words, payload_size}
+use Rattle.lis_model.specs.Script.{bad_line, tags_form, with_tags, add_form, write_form, form_of, item_of, item_of_words, is_long, line_words, size_of_words, payload_size}
 use Rattle.lis_line.specs.Forms.{command_with, line_asks}
 use Rattle.lis_line.specs.Reading.{item_with}
 
 -- the command of a line that a payload follows has that payload
 named_with : (name : List ℕ) (payload other : Payload) (words : Result (List (List ℕ)) Refusal) (command : Command)
-    → add_named name payload words ≡ Do command other → other ≡ payload
+    → with_tags (λ tags. Do (Add name tags) payload) words ≡ Do command other → other ≡ payload
 named_with name payload other (Ok words) command is = cc
 named_with name payload other (Err refusal) command is = absurd (cc)
 
@@ -23,7 +23,7 @@ add_with : (name size : List ℕ) (words : List (List ℕ)) (payload other : Pay
     → add_form (name ∷ size ∷ words) payload ≡ Do command other → other ≡ payload
 add_with name size words payload other command = by (is_file_name name && is_count size)
   where
-    by : (t : Bool) → cond t (add_named name payload (tags_form words)) bad_line ≡ Do command other → other ≡ payload
+    by : (t : Bool) → cond t (with_tags (λ tags. Do (Add name tags) payload) (tags_form words)) bad_line ≡ Do command other → other ≡ payload
     by true is = named_with name payload other (tags_form words) command is
     by false is = absurd (cc)
 

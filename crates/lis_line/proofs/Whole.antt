@@ -7,11 +7,12 @@ use Rattle.std.proofs.lemmas.Bool.{eqb-true, cases_lt}
 use Rattle.lis_model.specs.declared.refusal.Refusal.TheVariants.{PayloadEnd, LongLine}
 use Rattle.lis_model.specs.Step.{Item, Payload, no_payload}
 use Rattle.lis_model.specs.Step.Item.{Bad}
-use Rattle.lis_model.specs.Script.{First, is_feed, after_feed, item_of, item_of_words, is_long, line_words, size_of_words, payload_size, payload_of, first_of, first_with, first_ended, session_cut}
+use Rattle.lis_model.specs.Script.{First, after_feed, item_of, item_of_words, is_long, line_words, size_of_words, payload_size, payload_of, first_of, first_with, first_ended, session_cut}
 use Rattle.lis_model.proofs.Lines.{IsOneLine, session_cuts, line_alone, line_with, after_feed_at, has_feed, with_payload, with_cut}
 use Rattle.lis_line.specs.Reading.{IsWhole, LiesWhole}
 use Rattle.lis_line.proofs.Kept.{session_lines}
 use Rattle.lis_line.proofs.Asking.{not_whole_items, whole_is, whole_then}
+use Rattle.lis_words.specs.Bytes.{is_feed}
 
 -- ---- the first line
 abbrev pub line_len : List ℕ → ℕ

@@ -6,7 +6,8 @@ use Rattle.std.proofs.lemmas.List.Sums.{prefix_len-le-length}
 use Rattle.std.proofs.lemmas.Bool.{cond-true, cond-false, le-leb, cases_lt}
 use Rattle.lis_line.specs.Tagged.{after_blanks}
 use Rattle.lis_line.proofs.Bytes.{differs, same}
-use Rattle.lis_model.specs.Script.{is_blank, is_some_bytes, pieces_on, words_of, without_return}
+use Rattle.lis_model.specs.Script.{pieces_on, words_of}
+use Rattle.lis_words.specs.Bytes.{is_blank, is_some_bytes, without_return}
 
 one_more : (n : ℕ) → 1 + n ≡ suc n
 one_more n = omega arith
@@ -41,7 +42,8 @@ pieces_front piece [] some = rw (append-nil piece, some) refl
 pieces_front piece (b ∷ text) some = by (is_blank b) refl (pieces_front (piece ++ b ∷ []) text (grown piece b))
   where
     grown : (piece : List ℕ) (b : ℕ) → is_some_bytes (piece ++ b ∷ []) ≡ true
-    grown piece b = le-leb _ _ (omega (arith, length-append piece (b ∷ [])))
+    grown [] b = refl
+    grown (c ∷ piece) b = refl
 
     by : (t : Bool) → is_blank b ≡ t
         → filter is_some_bytes (pieces_on (piece ++ b ∷ []) text) ≡ ((piece ++ b ∷ []) ++ take (word_len text) text) ∷ words_of (drop (word_len text) text)

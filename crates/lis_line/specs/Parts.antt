@@ -6,13 +6,14 @@ use Rattle.std.specs.Io.KnownBytes.{Keeps, IsAtEnd}
 use Rattle.lis_model.specs.declared.refusal.Refusal.TheVariants.{PayloadEnd}
 use Rattle.lis_model.specs.Step.{Payload}
 use Rattle.lis_model.specs.Step.Item.{Bad}
-use Rattle.lis_model.specs.Script.{is_feed, after_feed, First, FirstOf, payload_of}
+use Rattle.lis_model.specs.Script.{after_feed, First, FirstOf, payload_of}
 use Rattle.lis_line.specs.Stock.{Stocked}
 use Rattle.lis_line.specs.Reading.{Gave}
 use Rattle.lis_line.specs.declared.payload.Filled.{Filled}
 use Rattle.lis_line.specs.declared.payload.Filled.TheVariants.{All, Cut, Spent}
 use Rattle.lis_line.specs.declared.input.Part.{Part}
 use Rattle.lis_line.specs.declared.input.Part.TheVariants.{Whole, Last, PastLimit}
+use Rattle.lis_words.specs.Bytes.{is_feed}
 
 -- a payload with these bytes behind it
 abbrev pub with_bytes : Payload → List ℕ → Payload

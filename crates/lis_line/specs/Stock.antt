@@ -2,9 +2,9 @@
 use Rattle.std.specs.Prelude.{◌≡◌, ℕ, ◌+◌, ◌<◌, Bool, true, false, List, [], ◌∷◌, ◌++◌, length, take, Option, Some, None, Result, Ok, Err}
 use Rattle.std.specs.Io.KnownBytes.{prepend_known, Consumes, Keeps, IsAtEnd}
 use Rattle.std.specs.List.{list_any}
-use Rattle.lis_model.specs.Script.{is_feed}
 use Rattle.lis_line.specs.declared.stock.LineEnd.{LineEnd}
 use Rattle.lis_line.specs.declared.stock.LineEnd.TheVariants.{Feed, Last, Spent}
+use Rattle.lis_words.specs.Bytes.{is_feed}
 
 pub record Stocked : Type 0 where
   -- taken and not given

@@ -5,7 +5,8 @@ use Rattle.std.specs.List.{list_any}
 use Rattle.lis_model.specs.declared.refusal.Refusal.TheVariants.{LongLine}
 use Rattle.lis_model.specs.Step.{Item}
 use Rattle.lis_model.specs.Step.Item.{Bad}
-use Rattle.lis_model.specs.Script.{is_blank, is_feed, before_feed, after_feed, bad_line, is_long, line_words, First, FirstOf, first_of, items_within, whole_within, Cut, script_by}
+use Rattle.lis_model.specs.Script.{before_feed, after_feed, bad_line, is_long, line_words, First, FirstOf, first_of, items_within, whole_within, Cut, script_by}
+use Rattle.lis_words.specs.Bytes.{is_feed, is_blank}
 
 -- an item, and the room in which it is said, if it is said in one
 pub record Tagged : Type 0 where

@@ -3,8 +3,9 @@
 ghost use Rattle.std.specs.Prelude.{◌≡◌, ℕ, ◌∷◌, ◌++◌, List, [], not, false, None, Some, IsTrue, MatchOption, ◌↔◌};
 ghost use Rattle.std.specs.List.{list_any, prefix_len};
 ghost use Rattle.lis_model.specs.Step.{no_payload};
-ghost use Rattle.lis_model.specs.Script.{is_feed, item_of, first_with, session_cut};
+ghost use Rattle.lis_model.specs.Script.{item_of, first_with, session_cut};
 ghost use Rattle.lis_line.specs.Reading.{LiesWhole};
+ghost use Rattle.lis_words.specs.Bytes.{is_feed};
 
 use crate::asked::payload_size;
 use crate::line::{is_long, no_words, without_return};

@@ -2,8 +2,9 @@
 
 ghost use Rattle.std.specs.Prelude.{◌≡◌, ◌≢◌, ◌↔◌, ℕ, ◌+◌, ◌<◌, ◌≤◌, List, [], ◌∷◌, not, length, MatchOption, IfSome, IsTrue};
 ghost use Rattle.std.specs.List.{prefix_len};
-ghost use Rattle.lis_model.specs.Script.{is_blank, without_return, words_of, is_long};
+ghost use Rattle.lis_model.specs.Script.{words_of, is_long};
 ghost use Rattle.lis_line.specs.Tagged.{after_blanks};
+ghost use Rattle.lis_words.specs.Bytes.{is_blank, without_return};
 
 /// The most bytes of a line before its line feed.
 const MAX_LINE: usize = 1_024;

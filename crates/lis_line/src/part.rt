@@ -5,9 +5,10 @@ ghost use Rattle.std.specs.Option.{option_map};
 ghost use Rattle.std.specs.List.{list_any};
 ghost use Rattle.lis_ports.specs.Calls.{HasCause, FaultEnds};
 ghost use Rattle.lis_model.specs.Step.{Payload as Told, no_payload};
-ghost use Rattle.lis_model.specs.Script.{is_feed, item_of, payload_size, first_of, first_with, first_ended, session_cut};
+ghost use Rattle.lis_model.specs.Script.{item_of, payload_size, first_of, first_with, first_ended, session_cut};
 ghost use Rattle.lis_line.specs.Reading.{item_with, asked_by};
 ghost use Rattle.lis_line.specs.Parts.{TakesPart, first_dropped};
+ghost use Rattle.lis_words.specs.Bytes.{is_feed};
 
 use crate::asked::{Request, asked, payload_size};
 use crate::input::{InputItem, Part};

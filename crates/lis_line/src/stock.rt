@@ -2,8 +2,8 @@
 
 ghost use Rattle.std.specs.Prelude.{◌≡◌, ℕ, ◌+◌, ◌-◌, ◌<◌, ◌≤◌, ◌^◌, List, [], ◌∷◌, ◌↔◌, length, take, drop, IsTrue};
 ghost use Rattle.lis_ports.specs.Calls.{HasCause, FaultEnds};
-ghost use Rattle.lis_model.specs.Script.{is_feed};
 ghost use Rattle.lis_line.specs.Stock.{Stocked, GivesByte, Refills, Meets, ReadsLine};
+ghost use Rattle.lis_words.specs.Bytes.{is_feed};
 
 use arrayvec::ArrayVec;
 use lis_ports::{Failed, Source};

@@ -5,12 +5,13 @@ ghost use Rattle.std.specs.Option.{option_map};
 ghost use Rattle.std.specs.List.{list_any};
 ghost use Rattle.lis_ports.specs.Calls.{HasCause, FaultEnds};
 ghost use Rattle.lis_model.specs.Step.{Payload as Told, no_payload};
-ghost use Rattle.lis_model.specs.Script.{is_feed, line_words, First};
+ghost use Rattle.lis_model.specs.Script.{line_words, First};
 ghost use Rattle.lis_line.specs.Stock.{Stocked};
 ghost use Rattle.lis_line.specs.Reading.{item_with};
 ghost use Rattle.lis_line.specs.Parts.{TookPart, TakesPart};
 ghost use Rattle.lis_line.specs.Tagged.{after_blanks, spoken_in, no_room, in_room, first_tagged, tagged_cut};
 ghost use Rattle.lis_line.specs.Spoken.{tagged_with, tagged_by, IsTagged};
+ghost use Rattle.lis_words.specs.Bytes.{is_feed};
 
 use crate::asked::Request;
 use crate::input::{InputItem, Part};

@@ -10,7 +10,8 @@ use Rattle.std.specs.List.{list_any}
 use Rattle.lis_model.specs.declared.refusal.Refusal.TheVariants.{CutPayload, PayloadEnd}
 use Rattle.lis_model.specs.Step.{Item, no_payload}
 use Rattle.lis_model.specs.Step.Item.{Bad}
-use Rattle.lis_model.specs.Script.{is_feed, before_feed, after_feed, item_of, payload_size, payload_of, FirstOf, First, Cut, session_cut, first_ended, first_with, first_by, first_of, items_within, all_items, whole_within, whole_items}
+use Rattle.lis_model.specs.Script.{before_feed, after_feed, item_of, payload_size, payload_of, FirstOf, First, Cut, session_cut, first_ended, first_with, first_by, first_of, items_within, all_items, whole_within, whole_items}
+use Rattle.lis_words.specs.Bytes.{is_feed}
 
 -- a text with no line feed in it
 abbrev pub IsOneLine : List ℕ → Type 0

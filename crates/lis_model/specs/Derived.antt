@@ -6,13 +6,10 @@ use Rattle.lis_transducers.specs.Mail.{mail_words}
 use Rattle.lis_transducers.specs.Source.{source_words}
 use Rattle.lis_model.specs.Noted.{noted_all}
 
-abbrev pub is_stop : ℕ → Bool
-is_stop b = b == 46
-
 -- what stands behind the last full stop
 abbrev pub behind_stop : List ℕ → Option (List ℕ)
 behind_stop [] = None
-behind_stop (b ∷ bytes) = if list_any is_stop bytes then behind_stop bytes else if is_stop b then Some bytes else None
+behind_stop (b ∷ bytes) = if list_any (λ c. c == 46) bytes then behind_stop bytes else if b == 46 then Some bytes else None
 
 abbrev pub some_bytes : Option (List ℕ) → Option (List ℕ)
 some_bytes None = None
@@ -26,9 +23,6 @@ suffix_of (b ∷ bytes) = some_bytes (behind_stop bytes)
 abbrev pub suffix_words : Option (List ℕ) → List (List ℕ)
 suffix_words None = []
 suffix_words (Some suffix) = filter is_word ((codes "ext:" ++ suffix) ∷ [])
-
-abbrev pub name_words : List ℕ → List (List ℕ)
-name_words name = suffix_words (suffix_of name)
 
 abbrev pub size_word : ℕ → List ℕ
 size_word size =
@@ -50,4 +44,4 @@ content_words suffix bytes =
 
 -- the first 48 distinct words of the name, the size and the content
 abbrev pub derived_words : List ℕ → List ℕ → List (List ℕ)
-derived_words name bytes = noted_all [] (name_words name ++ size_word (length bytes) ∷ content_words (suffix_of name) bytes)
+derived_words name bytes = noted_all [] (suffix_words (suffix_of name) ++ size_word (length bytes) ∷ content_words (suffix_of name) bytes)

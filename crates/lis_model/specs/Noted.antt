@@ -13,6 +13,6 @@ abbrev pub noted_all : List (List ℕ) → List (List ℕ) → List (List ℕ)
 noted_all words more = fold noted words more
 
 -- no word stands twice
-abbrev pub are_distinct : List (List ℕ) → Bool
-are_distinct [] = true
-are_distinct (word ∷ words) = not (has_word words word) && are_distinct words
+abbrev pub are_distinct_words : List (List ℕ) → Bool
+are_distinct_words [] = true
+are_distinct_words (word ∷ words) = not (has_word words word) && are_distinct_words words

@@ -1,5 +1,5 @@
 -- The words of a place, by which a new file is described.
-use Rattle.std.specs.Prelude.{ℕ, Bool, true, false, not, ◌&&◌, Option, Some, None, option_map, List, [], ◌∷◌, ◌++◌, filter}
+use Rattle.std.specs.Prelude.{ℕ, Bool, true, false, not, ◌&&◌, Option, Some, None, option_map, List, [], ◌∷◌, ◌++◌}
 use Rattle.lis_words.specs.Words.{is_head, is_built_in}
 use Rattle.lis_grammar.specs.Formula.{Formula}
 use Rattle.lis_grammar.specs.Formula.Formula.{Has, SizeAtLeast, SizeBelow, Negation, Both, Either}
@@ -34,7 +34,3 @@ place_words place = option_map set_of (all_conjuncts place)
 -- no head, and not built in
 abbrev pub is_tag : List ℕ → Bool
 is_tag word = not (is_head word) && not (is_built_in word)
-
--- the words of the place that a file in it can be given
-abbrev pub place_tags : List Formula → Option (List (List ℕ))
-place_tags place = option_map (filter is_tag) (place_words place)

@@ -2,19 +2,13 @@
 use Rattle.std.specs.Prelude.{ℕ, ◌==◌, nat_lt, nat_le, zero, suc, Bool, false, true, ◌&&◌, ◌||◌, if◌then◌else◌, Option, Some, None, Result, Ok, Err, List, [], ◌∷◌, ◌++◌, length, take, drop, filter, codes}
 use Rattle.std.specs.Option.{option_to_list}
 use Rattle.std.specs.List.{list_any, list_all}
+use Rattle.lis_words.specs.Bytes.{is_feed, is_blank, is_some_bytes, without_return}
 use Rattle.lis_words.specs.Words.{same_word, is_property, is_file_name, is_count, count_of}
 use Rattle.lis_model.specs.declared.refusal.Refusal.{Refusal}
 use Rattle.lis_model.specs.declared.refusal.Refusal.TheVariants.{BadLine, LongLine, CutPayload, PayloadEnd, TooManyAssigned}
 use Rattle.lis_model.specs.declared.command.Command.TheVariants.{Mkdir, Rmdir, Axiom, Unaxiom, Create, Add, Write, Cat, Mv, Rename, Rm, Cd, Pwd, Ls, Props, Way, Stat}
 use Rattle.lis_model.specs.Step.{Item, Payload, no_payload}
 use Rattle.lis_model.specs.Step.Item.{Do, Bad}
-
-abbrev pub is_feed : ℕ → Bool
-is_feed b = b == 10
-
--- space or tab
-abbrev pub is_blank : ℕ → Bool
-is_blank b = (b == 32) || (b == 9)
 
 -- what stands before the first line feed, and what stands behind it
 abbrev pub before_feed : List ℕ → List ℕ
@@ -25,19 +19,10 @@ abbrev pub after_feed : List ℕ → List ℕ
 after_feed [] = []
 after_feed (b ∷ bytes) = if is_feed b then bytes else after_feed bytes
 
--- one CR at the end of a line is dropped
-abbrev pub without_return : List ℕ → List ℕ
-without_return [] = []
-without_return (b ∷ []) = if b == 13 then [] else b ∷ []
-without_return (b ∷ c ∷ bytes) = b ∷ without_return (c ∷ bytes)
-
 -- the pieces between blanks; some may be empty
 abbrev pub pieces_on : List ℕ → List ℕ → List (List ℕ)
 pieces_on piece [] = piece ∷ []
 pieces_on piece (b ∷ bytes) = if is_blank b then piece ∷ pieces_on [] bytes else pieces_on (piece ++ b ∷ []) bytes
-
-abbrev pub is_some_bytes : List ℕ → Bool
-is_some_bytes bytes = nat_lt 0 (length bytes)
 
 -- the longest runs of bytes other than space and tab
 abbrev pub words_of : List ℕ → List (List ℕ)
@@ -64,25 +49,22 @@ abbrev pub tags_form : List (List ℕ) → Result (List (List ℕ)) Refusal
 tags_form words =
     if list_all is_property words then (if nat_lt 16 (length words) then Err TooManyAssigned else Ok words) else Err BadLine
 
-abbrev pub create_named : List ℕ → Result (List (List ℕ)) Refusal → Item
-create_named name (Ok words) = Do (Create name words) no_payload
-create_named name (Err refusal) = Bad refusal
+abbrev pub with_tags : (List (List ℕ) → Item) → Result (List (List ℕ)) Refusal → Item
+with_tags item (Ok words) = item words
+with_tags item (Err refusal) = Bad refusal
 
 -- a file's name, and words
 abbrev pub create_form : List (List ℕ) → Item
 create_form [] = bad_line
-create_form (name ∷ words) = if is_file_name name then create_named name (tags_form words) else bad_line
-
-abbrev pub add_named : List ℕ → Payload → Result (List (List ℕ)) Refusal → Item
-add_named name payload (Ok words) = Do (Add name words) payload
-add_named name payload (Err refusal) = Bad refusal
+create_form (name ∷ words) =
+    if is_file_name name then with_tags (λ tags. Do (Create name tags) no_payload) (tags_form words) else bad_line
 
 -- a file's name, how many bytes it is to have, and words
 abbrev pub add_form : List (List ℕ) → Payload → Item
 add_form [] payload = bad_line
 add_form (name ∷ []) payload = bad_line
 add_form (name ∷ size ∷ words) payload =
-    if is_file_name name && is_count size then add_named name payload (tags_form words) else bad_line
+    if is_file_name name && is_count size then with_tags (λ tags. Do (Add name tags) payload) (tags_form words) else bad_line
 
 -- a file's name, and how many bytes it is to have
 abbrev pub write_form : List (List ℕ) → Payload → Item

@@ -1,6 +1,7 @@
--- Sets of words: lists in byte order, without repeats.
-use Rattle.std.specs.Prelude.{ℕ, List, []}
+-- Sets of words: lists in byte order, without repeats; and lists of numbers of which none stands twice.
+use Rattle.std.specs.Prelude.{ℕ, ◌==◌, Bool, true, not, ◌&&◌, List, [], ◌∷◌}
 use Rattle.std.specs.BTreeSet.{insert_key}
+use Rattle.std.specs.List.{list_any}
 use Rattle.lis_graph.specs.Graph.{with_more}
 use Rattle.lis_words.specs.Words.{word_cmp}
 
@@ -15,3 +16,10 @@ with_words words more = with_more word_cmp words more
 -- the set of these words
 abbrev pub set_of : List (List ℕ) → List (List ℕ)
 set_of words = with_words [] words
+
+abbrev pub has_number : List ℕ → ℕ → Bool
+has_number ns n = list_any (λ m. m == n) ns
+
+abbrev pub are_distinct : List ℕ → Bool
+are_distinct [] = true
+are_distinct (n ∷ ns) = not (has_number ns n) && are_distinct ns

@@ -1,6 +1,6 @@
 -- What a command does: the new state and place, and the reply. Each command has a row of conditions under which it is refused, in their order; those on
 -- the state that it would give are told of `made`.
-use Rattle.std.specs.Prelude.{ℕ, ◌+◌, ◌-◌, ◌==◌, nat_lt, nat_le, Bool, false, not, ◌&&◌, ◌||◌, if◌then◌else◌, is_some, unwrap_or, Option, Some, None, List, [], ◌∷◌, ◌++◌, length, map, filter, codes}
+use Rattle.std.specs.Prelude.{ℕ, ◌+◌, ◌-◌, ◌==◌, nat_lt, nat_le, Bool, false, not, ◌&&◌, ◌||◌, if◌then◌else◌, is_some, unwrap_or, option_map, Option, Some, None, List, [], ◌∷◌, ◌++◌, length, map, filter, codes}
 use Rattle.std.specs.List.{list_any, list_all, flat_map}
 use Rattle.lis_words.specs.Words.{same_word, has_word, is_plain_word, is_head, is_valued, is_test, is_built_in}
 use Rattle.lis_grammar.specs.Formula.{Formula}
@@ -15,7 +15,7 @@ use Rattle.lis_model.specs.declared.command.Command.TheVariants.{Mkdir, Rmdir, A
 use Rattle.lis_model.specs.Sets.{with_words}
 use Rattle.lis_model.specs.State.{State, File, empty_state, heads, up, description, known, is_assignable, is_nameable, file_limit, blocks_taken, used_blocks}
 use Rattle.lis_model.specs.Changes.{has_axiom, declared_under, undeclared, axiom_added, axiom_removed, new_file, has_name, file_of, file_added, file_removed, file_replaced}
-use Rattle.lis_model.specs.Places.{place_words, place_tags}
+use Rattle.lis_model.specs.Places.{place_words, is_tag}
 use Rattle.lis_model.specs.Table.{Entry, table, entry_of}
 use Rattle.lis_model.specs.Listing.{extension, increments, locals}
 use Rattle.lis_model.specs.Route.{route}
@@ -70,6 +70,10 @@ abbrev pub judged : Situation → List (Bool × Refusal) → Outcome → Outcome
 judged now [] done = done
 judged now (check ∷ checks) done = if check.0 then refused now check.1 else judged now checks done
 
+abbrev pub first_refusal : List (Bool × Refusal) → Option Refusal
+first_refusal [] = None
+first_refusal (check ∷ checks) = if check.0 then Some check.1 else first_refusal checks
+
 -- ---- what rows ask
 -- there would be more than there is room for
 abbrev pub exceeds_axioms : State → Bool
@@ -81,19 +85,19 @@ exceeds_known s = nat_lt s.limits.props (length (known s))
 abbrev pub exceeds_words : State → Bool
 exceeds_words s = list_any (λ (file : File). nat_lt 128 (length (description s file))) s.files
 
--- the words and the tags of a place; none where it has none
+-- the words of a place, and those that a file in it can be given; none where it has none
 abbrev pub words_at : List Formula → List (List ℕ)
 words_at place = unwrap_or (place_words place) []
 
 abbrev pub tags_at : List Formula → List (List ℕ)
-tags_at place = unwrap_or (place_tags place) []
+tags_at place = unwrap_or (option_map (filter is_tag) (place_words place)) []
 
 -- the blocks that no file takes
 abbrev pub free_blocks : State → ℕ
 free_blocks s = s.limits.blocks - used_blocks s
 
-abbrev pub is_large : State → ℕ → Bool
-is_large s size = nat_lt (file_limit s.limits.version) size
+abbrev pub exceeds_file : State → ℕ → Bool
+exceeds_file s size = nat_lt (file_limit s.limits.version) size
 
 -- a file of that name is in the extension of the place
 abbrev pub is_here : Situation → List ℕ → Bool
@@ -122,12 +126,10 @@ mkdir_checks now word made =
     ∷ (exceeds_words made, LargeDescription)
     ∷ []
 
-abbrev pub mkdir_to : Situation → List ℕ → State → Outcome
-mkdir_to now word made = judged now (mkdir_checks now word made) (changed now made)
-
 -- declares a word, with an axiom to each word of the place
 abbrev pub mkdir : Situation → List ℕ → Outcome
-mkdir now word = mkdir_to now word (declared_under now.state word (words_at now.place))
+mkdir now word =
+    let made = declared_under now.state word (words_at now.place) in judged now (mkdir_checks now word made) (changed now made)
 
 -- a side of an axiom
 abbrev pub is_side : State → List ℕ → Bool
@@ -164,12 +166,9 @@ axiom_checks s pair made =
     ∷ (exceeds_words made, LargeDescription)
     ∷ []
 
-abbrev pub axiom_to : Situation → List ℕ × List ℕ → State → Outcome
-axiom_to now pair made = judged now (axiom_checks now.state pair made) (changed now made)
-
 -- the left word entails the right one from now on
 abbrev pub add_axiom : Situation → List ℕ × List ℕ → Outcome
-add_axiom now pair = axiom_to now pair (axiom_added now.state pair)
+add_axiom now pair = let made = axiom_added now.state pair in judged now (axiom_checks now.state pair made) (changed now made)
 
 abbrev pub unaxiom_checks : State → List ℕ × List ℕ → List (Bool × Refusal)
 unaxiom_checks s pair = (not (has_axiom s.axioms pair), NoAxiom) ∷ []
@@ -199,11 +198,9 @@ create_checks now words file made =
     ∷ (exceeds_known made, NoPropertyRoom)
     ∷ []
 
-abbrev pub create_to : Situation → List (List ℕ) → File → State → Outcome
-create_to now words file made = judged now (create_checks now words file made) (changed now made)
-
 abbrev pub create_with : Situation → List (List ℕ) → File → Outcome
-create_with now words file = create_to now words file (file_added now.state file)
+create_with now words file =
+    let made = file_added now.state file in judged now (create_checks now words file made) (changed now made)
 
 -- makes an empty file
 abbrev pub create : Situation → List ℕ → List (List ℕ) → Outcome
@@ -211,15 +208,13 @@ create now name words = create_with now words (new_file name (assigned_at now.pl
 
 abbrev pub add_checks : Situation → List (List ℕ) → File → State → ℕ → List (Bool × Refusal)
 add_checks now words file made size =
-    (is_large now.state size, LargeFile)
+    (exceeds_file now.state size, LargeFile)
     ∷ create_checks now words file made
     ++ (nat_lt (free_blocks now.state) (blocks_taken now.state.limits.version size), NoSpace) ∷ []
 
-abbrev pub add_to : Situation → List (List ℕ) → File → State → ℕ → Outcome
-add_to now words file made size = judged now (add_checks now words file made size) (changed now made)
-
 abbrev pub add_with : Situation → List (List ℕ) → File → ℕ → Outcome
-add_with now words file size = add_to now words file (file_added now.state file) size
+add_with now words file size =
+    let made = file_added now.state file in judged now (add_checks now words file made size) (changed now made)
 
 -- makes a file of the payload's bytes
 abbrev pub add : Situation → List ℕ → List (List ℕ) → Payload → Outcome
@@ -231,20 +226,18 @@ blocks_for s old = if s.limits.version == 2 then free_blocks s else free_blocks 
 
 abbrev pub write_checks : Situation → File → State → ℕ → List (Bool × Refusal)
 write_checks now old made size =
-    (is_large now.state size, LargeFile)
+    (exceeds_file now.state size, LargeFile)
     ∷ here_checks now old.name ++ room_checks made
     ++ (nat_lt (blocks_for now.state old) (blocks_taken now.state.limits.version size), NoSpace) ∷ []
 
-abbrev pub write_to : Situation → File → State → ℕ → Outcome
-write_to now old made size = judged now (write_checks now old made size) (changed now made)
-
-abbrev pub write_with : Situation → File → Payload → Outcome
-write_with now old payload =
-    write_to now old (file_replaced now.state old.name (new_file old.name old.assigned payload.bytes)) payload.size
+abbrev pub write_with : Situation → File → File → ℕ → Outcome
+write_with now old new size =
+    let made = file_replaced now.state old.name new in judged now (write_checks now old made size) (changed now made)
 
 -- the file's bytes become the payload's
 abbrev pub write : Situation → List ℕ → Payload → Outcome
-write now name payload = write_with now (file_of now.state.files name) payload
+write now name payload =
+    let old = file_of now.state.files name in write_with now old (new_file old.name old.assigned payload.bytes) payload.size
 
 -- without the words of one place, and with those of another
 abbrev pub retagged : List (List ℕ) → List (List ℕ) → List (List ℕ) → List (List ℕ)
@@ -259,15 +252,13 @@ mv_checks now place words new made =
     ∷ (nat_lt 16 (length new.assigned), TooManyAssigned)
     ∷ room_checks made
 
-abbrev pub mv_made : Situation → List Formula → List (List ℕ) → File → File → State → Outcome
-mv_made now place words old new made =
+abbrev pub mv_with : Situation → List Formula → List (List ℕ) → File → File → Outcome
+mv_with now place words old new =
+    let made = file_replaced now.state old.name new in
     judged now (here_checks now old.name ++ mv_checks now place words new made) (changed now made)
 
-abbrev pub mv_with : Situation → List Formula → List (List ℕ) → File → File → Outcome
-mv_with now place words old new = mv_made now place words old new (file_replaced now.state old.name new)
-
 abbrev pub mv_to : Situation → File → List ℕ → Resolution → Outcome
-mv_to now old text (Unreadable k) = refused now BadFormula
+mv_to now old text Unreadable = refused now BadFormula
 mv_to now old text BeyondLimits = refused now LargeFormula
 mv_to now old text (NewPlace place) =
     mv_with now place (text_words text) old (new_file old.name (retagged old.assigned (tags_at now.place) (tags_at place)) old.bytes)
@@ -279,17 +270,13 @@ mv now name text = mv_to now (file_of now.state.files name) text (resolved now.p
 abbrev pub rename_checks : Situation → List ℕ → File → State → List (Bool × Refusal)
 rename_checks now name new made = here_checks now name ++ (has_name now.state.files new.name, NameTaken) ∷ room_checks made
 
-abbrev pub rename_to : Situation → List ℕ → File → State → Outcome
-rename_to now name new made = judged now (rename_checks now name new made) (changed now made)
-
 abbrev pub rename_with : Situation → File → File → Outcome
-rename_with now old new = rename_to now old.name new (file_replaced now.state old.name new)
-
-abbrev pub rename_as : Situation → File → List ℕ → Outcome
-rename_as now old name = rename_with now old (new_file name old.assigned old.bytes)
+rename_with now old new =
+    let made = file_replaced now.state old.name new in judged now (rename_checks now old.name new made) (changed now made)
 
 abbrev pub rename : Situation → List ℕ → List ℕ → Outcome
-rename now name other = rename_as now (file_of now.state.files name) other
+rename now name other =
+    let old = file_of now.state.files name in rename_with now old (new_file other old.assigned old.bytes)
 
 abbrev pub rm : Situation → List ℕ → Outcome
 rm now name = judged now (here_checks now name) (changed now (file_removed now.state name))
@@ -317,7 +304,7 @@ moved now place = record { next = record { state = now.state; place = place }; r
 
 -- to the place that a text makes of the place, where each word of the text is known
 abbrev pub cd_to : Situation → List ℕ → Resolution → Outcome
-cd_to now text (Unreadable k) = refused now BadFormula
+cd_to now text Unreadable = refused now BadFormula
 cd_to now text BeyondLimits = refused now LargeFormula
 cd_to now text (NewPlace place) =
     if list_all (has_word (known now.state)) (text_words text) then moved now place else refused now UnknownProperty

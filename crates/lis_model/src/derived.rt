@@ -2,7 +2,7 @@
 
 ghost use Rattle.std.specs.Prelude.{◌≡◌, ◌==◌, ℕ, ◌<◌, ◌≤◌, List, [], length, IsTrue, slice_get};
 ghost use Rattle.lis_words.specs.Words.{has_word};
-ghost use Rattle.lis_model.specs.Noted.{noted, are_distinct};
+ghost use Rattle.lis_model.specs.Noted.{noted, are_distinct_words};
 
 use arrayvec::ArrayVec;
 use lis_words::Word;
@@ -19,13 +19,13 @@ pub struct Derived {
 
 impl Model for Derived {
     ghost use Rattle.std.specs.Prelude.{ℕ, List, IsTrue};
-    ghost use Rattle.lis_model.specs.Noted.{are_distinct};
+    ghost use Rattle.lis_model.specs.Noted.{are_distinct_words};
 
     ghost Value = { List (List ℕ) };
 
     ghost view = { λ d. d.words.items };
 
-    ghost invariant = { λ d. IsTrue (are_distinct d.words.items) };
+    ghost invariant = { λ d. IsTrue (are_distinct_words d.words.items) };
 }
 
 impl Derived {
@@ -41,7 +41,7 @@ impl Derived {
     pub fn len(&self) -> usize
         ensures value { result ≡ length self.now }
         ensures few { result ≤ 48 }
-        ensures distinct { IsTrue (are_distinct self.now) }
+        ensures distinct { IsTrue (are_distinct_words self.now) }
     {
         self.words.len()
     }
@@ -86,7 +86,7 @@ impl Derived {
     pub fn as_slice(&self) -> &[Word]
         ensures words { result.now ≡ self.now }
         ensures few { length result.now ≤ 48 }
-        ensures distinct { IsTrue (are_distinct result.now) }
+        ensures distinct { IsTrue (are_distinct_words result.now) }
     {
         self.words.as_slice()
     }

@@ -3,8 +3,7 @@ use Rattle.std.proofs.Common.{◌≡◌, Bool, true, false, cond, Some, None, Li
 use Rattle.std.proofs.lemmas.Option.{none-some, same_Some}
 use Rattle.lis_model.specs.declared.refusal.Refusal.{Refusal}
 use Rattle.lis_model.specs.Replies.{ok_line, refusal_line}
-use Rattle.lis_model.specs.Step.{Situation, Outcome, judged, refused}
-use Rattle.lis_plain.specs.Carries.{first_refusal}
+use Rattle.lis_model.specs.Step.{Situation, Outcome, judged, refused, first_refusal}
 
 -- an outcome that is a refusal changes nothing
 pub as_refused : (now : Situation) (outcome : Outcome) (refusal : Refusal) → outcome ≡ refused now refusal → (now ≡ outcome.next) × (outcome.reply ≡ refusal_line refusal)

@@ -4,7 +4,7 @@ use Rattle.std.specs.Io.KnownBytes.{append_known}
 use Rattle.lis_ports.specs.Calls.{Rose}
 use Rattle.lis_ports.specs.Shown.{AppendsFront}
 use Rattle.lis_model.specs.State.{State}
-use Rattle.lis_model.specs.Step.{Situation, Outcome, exceeds_axioms, exceeds_known, exceeds_words}
+use Rattle.lis_model.specs.Step.{Situation, Outcome, first_refusal, exceeds_axioms, exceeds_known, exceeds_words}
 use Rattle.lis_model.specs.declared.refusal.Refusal.{Refusal}
 use Rattle.lis_model.specs.declared.refusal.Refusal.TheVariants.{LargeDescription, NoPropertyRoom, NoAxiomRoom}
 use Rattle.lis_model.specs.Replies.{ok_line, refusal_line}
@@ -30,14 +30,9 @@ answer_line (Ok done) = ok_line
 answer_line (Err refusal) = refusal_line refusal
 
 -- such a command, before its answer is shown
-abbrev pub Answers : {E : Type 0} → Outcome → Situation → Situation → Result (Result (Unit {0}) Refusal) E → Type 0
-Answers outcome old new (Ok answer) = (new ≡ outcome.next) × (outcome.reply ≡ answer_line answer)
-Answers outcome old new (Err error) = new ≡ old
-
--- the first refusal of a row whose condition holds
-abbrev pub first_refusal : List (Bool × Refusal) → Option Refusal
-first_refusal [] = None
-first_refusal (check ∷ checks) = if check.0 then Some check.1 else first_refusal checks
+abbrev pub IsAnswered : {E : Type 0} → Outcome → Situation → Situation → Result (Result (Unit {0}) Refusal) E → Type 0
+IsAnswered outcome old new (Ok answer) = (new ≡ outcome.next) × (outcome.reply ≡ answer_line answer)
+IsAnswered outcome old new (Err error) = new ≡ old
 
 -- a row, as the code answers it
 abbrev pub Says : List (Bool × Refusal) → Result (Unit {0}) Refusal → Type 0

@@ -3,9 +3,9 @@
 ghost use Rattle.std.specs.Prelude.{◌≡◌, ◌++◌, ◌&&◌, is_some, IfOk};
 ghost use Rattle.lis_model.specs.State.{blocks_taken};
 ghost use Rattle.lis_model.specs.Places.{place_words};
-ghost use Rattle.lis_model.specs.Changes.{new_file, file_of, file_replaced};
-ghost use Rattle.lis_model.specs.Step.{is_here, free_blocks, is_large, blocks_for, here_checks, create_checks, create_with, create, add_checks, add_with, add, write_checks, write_to, write, mv_checks, mv_with, mv, rename_checks, rename_with, rename, rm, assigned_at, retagged, tags_at};
-ghost use Rattle.lis_plain.specs.Carries.{Answers, Judges};
+ghost use Rattle.lis_model.specs.Changes.{new_file, file_of};
+ghost use Rattle.lis_model.specs.Step.{is_here, free_blocks, exceeds_file, blocks_for, here_checks, create_checks, create_with, create, add_checks, add_with, add, write_checks, write_with, write, mv_checks, mv_with, mv, rename_checks, rename_with, rename, rm, assigned_at, retagged, tags_at};
+ghost use Rattle.lis_plain.specs.Carries.{IsAnswered, Judges};
 
 use crate::content::{blocks_taken, file_limit, free_blocks};
 use crate::file::{File, file_of, new_file};
@@ -50,7 +50,7 @@ impl Plain {
     }
 
     fn is_large(&self, size: u64) -> bool
-        ensures { result ≡ is_large self.now.state size }
+        ensures { result ≡ exceeds_file self.now.state size }
     {
         size > file_limit(self.state().limits.version)
     }
@@ -113,7 +113,7 @@ impl Plain {
     }
 
     fn create_with(&mut self, words: &[Word], file: &File) -> Result<Answer, AllocError>
-        ensures { Answers (create_with self.old words.now file.now) self.old self.new result }
+        ensures { IsAnswered (create_with self.old words.now file.now) self.old self.new result }
     {
         let made = file_added(self.alloc, self.state(), file)?;
         let answer = self.create_row(words, file, &made)?;
@@ -121,7 +121,7 @@ impl Plain {
     }
 
     pub(crate) fn create(&mut self, name: &Name, tags: &Tags) -> Result<Answer, AllocError>
-        ensures { Answers (create self.old name.now tags.now) self.old self.new result }
+        ensures { IsAnswered (create self.old name.now tags.now) self.old self.new result }
     {
         let file = self.new_here(name, tags.as_slice(), &[])?;
         self.create_with(tags.as_slice(), &file)
@@ -149,7 +149,7 @@ impl Plain {
     }
 
     fn add_with(&mut self, words: &[Word], file: &File, size: u64) -> Result<Answer, AllocError>
-        ensures { Answers (add_with self.old words.now file.now size) self.old self.new result }
+        ensures { IsAnswered (add_with self.old words.now file.now size) self.old self.new result }
     {
         let made = file_added(self.alloc, self.state(), file)?;
         let answer = self.add_row(words, file, &made, size)?;
@@ -162,7 +162,7 @@ impl Plain {
         tags: &Tags,
         payload: &Payload,
     ) -> Result<Answer, AllocError>
-        ensures { Answers (add self.old name.now tags.now payload.now) self.old self.new result }
+        ensures { IsAnswered (add self.old name.now tags.now payload.now) self.old self.new result }
     {
         let file = self.new_here(name, tags.as_slice(), payload.bytes())?;
         self.add_with(tags.as_slice(), &file, payload.size())
@@ -197,7 +197,7 @@ impl Plain {
     }
 
     fn write_over(&mut self, old: &File, new: &File, size: u64) -> Result<Answer, AllocError>
-        ensures { Answers (write_to self.old old.now (file_replaced self.old.state old.now.name new.now) size) self.old self.new result }
+        ensures { IsAnswered (write_with self.old old.now new.now size) self.old self.new result }
     {
         let made = file_replaced(self.alloc, self.state(), &old.name, new)?;
         let answer = self.write_row(old, &made, size)?;
@@ -205,7 +205,7 @@ impl Plain {
     }
 
     pub(crate) fn write(&mut self, name: &Name, payload: &Payload) -> Result<Answer, AllocError>
-        ensures { Answers (write self.old name.now payload.now) self.old self.new result }
+        ensures { IsAnswered (write self.old name.now payload.now) self.old self.new result }
     {
         let old = self.file(name)?;
         let assigned = copies(self.alloc, &old.assigned)?;
@@ -226,7 +226,7 @@ impl Plain {
     }
 
     fn rename_with(&mut self, old: &File, new: &File) -> Result<Answer, AllocError>
-        ensures { Answers (rename_with self.old old.now new.now) self.old self.new result }
+        ensures { IsAnswered (rename_with self.old old.now new.now) self.old self.new result }
     {
         let made = file_replaced(self.alloc, self.state(), &old.name, new)?;
         let answer = self.rename_row(&old.name, new, &made)?;
@@ -234,7 +234,7 @@ impl Plain {
     }
 
     pub(crate) fn rename(&mut self, name: &Name, other: &Name) -> Result<Answer, AllocError>
-        ensures { Answers (rename self.old name.now other.now) self.old self.new result }
+        ensures { IsAnswered (rename self.old name.now other.now) self.old self.new result }
     {
         let old = self.file(name)?;
         let assigned = copies(self.alloc, &old.assigned)?;
@@ -252,7 +252,7 @@ impl Plain {
     }
 
     pub(crate) fn rm(&mut self, name: &Name) -> Result<Answer, AllocError>
-        ensures { Answers (rm self.old name.now) self.old self.new result }
+        ensures { IsAnswered (rm self.old name.now) self.old self.new result }
     {
         let made = file_removed(self.alloc, self.state(), name)?;
         let answer = self.rm_row(name)?;
@@ -323,7 +323,7 @@ impl Plain {
         old: &File,
         new: &File,
     ) -> Result<Answer, AllocError>
-        ensures { Answers (mv_with self.old place.now words.now old.now new.now) self.old self.new result }
+        ensures { IsAnswered (mv_with self.old place.now words.now old.now new.now) self.old self.new result }
     {
         let made = file_replaced(self.alloc, self.state(), &old.name, new)?;
         let answer = self.mv_row(place, words, old, new, &made)?;
@@ -331,7 +331,7 @@ impl Plain {
     }
 
     pub(crate) fn mv(&mut self, name: &Name, text: &Text) -> Result<Answer, AllocError>
-        ensures { Answers (mv self.old name.now text.now) self.old self.new result }
+        ensures { IsAnswered (mv self.old name.now text.now) self.old self.new result }
     {
         let place = match resolve(self.place(), text.bytes()) {
             Ok(place) => place,

@@ -9,7 +9,7 @@ ghost use Rattle.lis_model.specs.Table.{table};
 ghost use Rattle.lis_model.specs.Route.{route};
 ghost use Rattle.lis_model.specs.Replies.{body_line, number_line, ok_line};
 ghost use Rattle.lis_model.specs.Step.{refused, entry_at, cat, props, way, stat, cd, pwd, ls, count_lines};
-ghost use Rattle.lis_plain.specs.Carries.{Answers};
+ghost use Rattle.lis_plain.specs.Carries.{IsAnswered};
 
 use crate::content::{bytes_of, content_reply, push_number};
 use crate::file::file_of;
@@ -107,7 +107,7 @@ impl Plain {
 
 impl Plain {
     pub(crate) fn cd(&mut self, text: &Text) -> Result<Answer, AllocError>
-        ensures { Answers (cd self.old text.now) self.old self.new result }
+        ensures { IsAnswered (cd self.old text.now) self.old self.new result }
     {
         let place = match resolve(self.place(), text.bytes()) {
             Ok(place) => place,

@@ -7,7 +7,7 @@ ghost use Rattle.lis_model.specs.declared.refusal.Refusal.{Refusal};
 ghost use Rattle.lis_model.specs.declared.refusal.Refusal.TheVariants.{NoFileHere};
 ghost use Rattle.lis_model.specs.Step.{Situation, Outcome, start_of, step, done, judged, changed, refused};
 ghost use Rattle.lis_line.specs.Reading.{asked_by};
-ghost use Rattle.lis_plain.specs.Carries.{Carries, HasPlainCause, Answers, Says, answer_line};
+ghost use Rattle.lis_plain.specs.Carries.{Carries, HasPlainCause, IsAnswered, Says, answer_line};
 
 use crate::end::PlainEnd;
 use crate::state::{State, empty_state};
@@ -78,7 +78,7 @@ impl Plain {
 
     // Keeps the state that a command made, unless the command's row refuses it.
     pub(crate) fn settle(&mut self, made: State, answer: Answer) -> Result<Answer, AllocError>
-        ensures { (checks : List (Bool × Refusal)) → Says checks answer → Answers (judged self.old checks (changed self.old made)) self.old self.new result }
+        ensures { (checks : List (Bool × Refusal)) → Says checks answer → IsAnswered (judged self.old checks (changed self.old made)) self.old self.new result }
     {
         match answer {
             Err(refusal) => Ok(Err(refusal)),
@@ -104,7 +104,7 @@ fn end_answer<T: Station>(
     answer: Result<Answer, AllocError>,
     station: &mut T,
 ) -> Result<(), PlainEnd>
-    ensures step { (outcome : Outcome) (before after : Situation) → Answers outcome before after answer →
+    ensures step { (outcome : Outcome) (before after : Situation) → IsAnswered outcome before after answer →
         Carries outcome before after (T.meaning station.old).shown (T.meaning station.new).shown result }
     ensures cause { HasPlainCause (T.meaning station.old).show_faults (T.meaning station.new).show_faults result }
     ensures first_fault { StationFaultEnds (T.meaning station.old) (T.meaning station.new) }

@@ -5,7 +5,7 @@ ghost use Rattle.lis_words.specs.Words.{has_word};
 ghost use Rattle.lis_model.specs.State.{up, is_nameable};
 ghost use Rattle.lis_model.specs.Places.{place_words};
 ghost use Rattle.lis_model.specs.Step.{is_plain_place, mkdir_checks, mkdir, rmdir_checks, rmdir, axiom_checks, add_axiom, unaxiom_checks, unaxiom};
-ghost use Rattle.lis_plain.specs.Carries.{Answers, Judges, Says};
+ghost use Rattle.lis_plain.specs.Carries.{IsAnswered, Judges, Says};
 
 use crate::axioms::has_axiom;
 use crate::made::{axiom_added, axiom_removed, declared_under, undeclared};
@@ -53,7 +53,7 @@ impl Plain {
     }
 
     pub(crate) fn mkdir(&mut self, word: &Word) -> Result<Answer, AllocError>
-        ensures { Answers (mkdir self.old word.now) self.old self.new result }
+        ensures { IsAnswered (mkdir self.old word.now) self.old self.new result }
     {
         let words = words_at(self.alloc, self.place())?;
         let made = declared_under(self.alloc, self.state(), word, &words)?;
@@ -80,7 +80,7 @@ impl Plain {
     }
 
     pub(crate) fn rmdir(&mut self, word: &Word) -> Result<Answer, AllocError>
-        ensures { Answers (rmdir self.old word.now) self.old self.new result }
+        ensures { IsAnswered (rmdir self.old word.now) self.old self.new result }
     {
         let made = undeclared(self.alloc, self.state(), word)?;
         let answer = self.rmdir_row(word)?;
@@ -129,7 +129,7 @@ impl Plain {
     }
 
     pub(crate) fn add_axiom(&mut self, pair: &Axiom) -> Result<Answer, AllocError>
-        ensures { Answers (add_axiom self.old pair.now) self.old self.new result }
+        ensures { IsAnswered (add_axiom self.old pair.now) self.old self.new result }
     {
         let made = axiom_added(self.alloc, self.state(), pair)?;
         let answer = self.axiom_row(pair, &made)?;
@@ -146,7 +146,7 @@ impl Plain {
     }
 
     pub(crate) fn unaxiom(&mut self, pair: &Axiom) -> Result<Answer, AllocError>
-        ensures { Answers (unaxiom self.old pair.now) self.old self.new result }
+        ensures { IsAnswered (unaxiom self.old pair.now) self.old self.new result }
     {
         let made = axiom_removed(self.alloc, self.state(), pair)?;
         let answer = self.unaxiom_row(pair);

@@ -12,7 +12,7 @@ use Rattle.lis_words.specs.Words.{word_cmp, same_word, is_built_in}
 use Rattle.lis_model.specs.declared.command.Command.TheVariants.{Add}
 use Rattle.lis_model.specs.State.{State, File, WellFormed, is_assignable, file_cmp, file_limit, blocks_taken, used_blocks}
 use Rattle.lis_model.specs.Changes.{new_file, has_name}
-use Rattle.lis_model.specs.Step.{Situation, Item, Payload, step, changed, exceeds_known, exceeds_words, is_head_or_test, is_large, free_blocks, add_checks, add_with}
+use Rattle.lis_model.specs.Step.{Situation, Item, Payload, step, changed, exceeds_known, exceeds_words, is_head_or_test, exceeds_file, free_blocks, add_checks, add_with}
 use Rattle.lis_model.specs.Step.Item.{Do}
 use Rattle.lis_laws.proofs.Members.{word_order, same_word_decides}
 use Rattle.lis_laws.proofs.Counts.{all_among, all_from}
@@ -109,8 +109,8 @@ module _ (t : State) (formed : WellFormed t) where
       new : has_name front file.name ≡ false
       new = name_new front file next
 
-      small : is_large (by_files front) (length file.bytes) ≡ false
-      small = false_from_ne_true (is_large (by_files front) (length file.bytes))
+      small : exceeds_file (by_files front) (length file.bytes) ≡ false
+      small = false_from_ne_true (exceeds_file (by_files front) (length file.bytes))
           (λ h. omega (arith, ltb-true _ _ h, leb-true _ _ (all_among (λ (f : File). nat_le (length f.bytes) (file_limit t.limits.version)) t.files file formed.files.short member)))
 
       own : list_any is_built_in (first_words file) ≡ false

@@ -12,12 +12,12 @@ use Rattle.lis_model.specs.declared.command.Command.TheVariants.{Add}
 use Rattle.lis_model.specs.State.{State, File, WellFormed, is_declarable, is_known_head, is_nameable, file_limit}
 use Rattle.lis_model.specs.Step.{Payload}
 use Rattle.lis_model.specs.Step.Item.{Do}
-use Rattle.lis_model.specs.Script.{tags_form, add_named, item_of_words, payload_limit, payload_of}
+use Rattle.lis_model.specs.Script.{tags_form, with_tags, item_of_words, payload_limit, payload_of}
 use Rattle.lis_laws.proofs.Counts.{all_among, all_from}
 use Rattle.lis_laws.proofs.Apart.{Declarable, declarable_cases}
 use Rattle.lis_laws.proofs.Apart.Declarable.{Plain, Test, Head}
 use Rattle.lis_laws.proofs.Sources.{rights_are, right_plain}
-use Rattle.lis_replay.specs.Dump.{joined, mkdir_line, axiom_line, first_words, other_words, add_lines, mv_lines, file_lines}
+use Rattle.lis_replay.specs.Dump.{joined_with, mkdir_line, axiom_line, first_words, other_words, add_lines, mv_lines, file_lines}
 use Rattle.lis_replay.proofs.Lists.{among_take, among_drop}
 use Rattle.lis_replay.proofs.Joined.{behind, joined_short}
 use Rattle.lis_replay.proofs.Given.{given_words}
@@ -160,7 +160,7 @@ module _ (file : File) (formed : IsFileInForm file) where
   add_item_is : item_of_words (codes "add" ∷ add_words) (payload_of (length file.bytes) file.bytes) ≡ Some (add_item file)
   add_item_is =
       rw (formed.name, decimal_count (length file.bytes) small)
-      (ap (λ words. Some (add_named file.name (payload_of (length file.bytes) file.bytes) words)) tags_are
+      (ap (λ words. Some (with_tags (λ tags. Do (Add file.name tags) (payload_of (length file.bytes) file.bytes)) words)) tags_are
       ∙ ap (λ (payload : Payload). Some (Do (Add file.name (first_words file)) payload)) (payload_kept file.bytes formed.short))
 
   add_spells : Spells (add_lines file) (add_item file ∷ [])
@@ -170,11 +170,11 @@ module _ (file : File) (formed : IsFileInForm file) where
 
   -- the line of the other words
   pub mv_are : (word : List ℕ) (words : List (List ℕ)) → length (word ∷ words) ≤ 8 → ((w : List ℕ) → Among (word ∷ words) w → is_word w ≡ true)
-      → AreWords (codes "mv") (file.name ∷ joined 47 (word ∷ words) ∷ [])
+      → AreWords (codes "mv") (file.name ∷ joined_with 47 (word ∷ words) ∷ [])
   mv_are word words few each = record { visible = visible; short = short }
     where
       path : List ℕ
-      path = joined 47 (word ∷ words)
+      path = joined_with 47 (word ∷ words)
 
       visible : (w : List ℕ) → Among (codes "mv" ∷ file.name ∷ path ∷ []) w → IsVisible w
       visible w (inl same) = subst IsVisible same (record { some = omega arith; bytes = refl })
@@ -182,7 +182,7 @@ module _ (file : File) (formed : IsFileInForm file) where
       visible w (inr (inr (inl same))) = subst IsVisible same (path_visible word words each)
       visible w (inr (inr (inr none))) = absurd none
 
-      short : length (joined 32 (codes "mv" ∷ file.name ∷ path ∷ [])) ≤ 1024
+      short : length (joined_with 32 (codes "mv" ∷ file.name ∷ path ∷ [])) ≤ 1024
       short =
           omega (
             arith,
@@ -197,7 +197,7 @@ module _ (file : File) (formed : IsFileInForm file) where
   mv_spells : (words : List (List ℕ)) → length words ≤ 8 → ((w : List ℕ) → Among words w → is_word w ≡ true) → Spells (mv_lines file.name words) (mv_items file.name words)
   mv_spells [] few each = spells_nothing
   mv_spells (word ∷ words) few each =
-      spells_line (codes "mv") (file.name ∷ joined 47 (word ∷ words) ∷ []) (mv_are word words few each) (mv_item file.name (word ∷ words)) refl (rw formed.name refl)
+      spells_line (codes "mv") (file.name ∷ joined_with 47 (word ∷ words) ∷ []) (mv_are word words few each) (mv_item file.name (word ∷ words)) refl (rw formed.name refl)
 
   pub file_spells : Spells (file_lines file) (file_items file)
   file_spells =

@@ -16,14 +16,14 @@ use Rattle.lis_model.specs.Changes.{new_file, has_name, file_of, file_replaced}
 use Rattle.lis_model.specs.Places.{place_words}
 use Rattle.lis_model.specs.Table.{Entry, entry_of, table}
 use Rattle.lis_model.specs.Listing.{extension, holds_all}
-use Rattle.lis_model.specs.Step.{Situation, Item, no_payload, step, changed, exceeds_known, exceeds_words, is_here, here_checks, tags_at, retagged, mv_checks, mv_made, mv_with, mv_to}
+use Rattle.lis_model.specs.Step.{Situation, Item, no_payload, step, changed, exceeds_known, exceeds_words, is_here, here_checks, tags_at, retagged, mv_checks, mv_with, mv_to, judged}
 use Rattle.lis_model.specs.Step.Item.{Do}
 use Rattle.lis_laws.proofs.Members.{word_order, same_word_decides}
 use Rattle.lis_laws.proofs.Counts.{all_among, all_from}
 use Rattle.lis_laws.proofs.Forms.{file_order}
 use Rattle.lis_laws.proofs.Sources.{assigned_are}
 use Rattle.lis_laws.proofs.Steps.{NoneStands}
-use Rattle.lis_replay.specs.Dump.{joined, first_words, other_words}
+use Rattle.lis_replay.specs.Dump.{joined_with, first_words, other_words}
 use Rattle.lis_replay.proofs.Rising.{rising_back, insert_behind, insert_all_next}
 use Rattle.lis_replay.proofs.Led.{said_ok, not_refused}
 use Rattle.lis_replay.proofs.Lower.{barer_itself, IsLower, room_known, room_words}
@@ -63,7 +63,7 @@ at_root_here s file m =
     ((same_word_decides file.name file.name).1 refl)
 
 abbrev pub mv_item : List ℕ → List (List ℕ) → Item
-mv_item name words = Do (Mv name (joined 47 words)) no_payload
+mv_item name words = Do (Mv name (joined_with 47 words)) no_payload
 
 module _ (t : State) (formed : WellFormed t) (front : List File) (file : File) (next : IsNext t formed front file)
     (word : List ℕ) (words : List (List ℕ)) (others : other_words file ≡ word ∷ words) where
@@ -159,8 +159,8 @@ module _ (t : State) (formed : WellFormed t) (front : List File) (file : File) (
       ∙ ap (λ r. mv_to now (begun file) text r) (path_leads word words path)
       ∙ ap (λ names. mv_with now place names (begun file) (new_file file.name (retagged (first_words file) [] (tags_at place)) file.bytes)) (path_names word words path)
       ∙ ap (λ assigned. mv_with now place (word ∷ words) (begun file) (new_file file.name assigned file.bytes)) all_words
-      ∙ ap (λ s. mv_made now place (word ∷ words) (begun file) file s) replaced
+      ∙ ap (λ s. judged now (here_checks now (begun file).name ++ mv_checks now place (word ∷ words) file s) (changed now s)) replaced
       ∙ not_refused now (here_checks now file.name ++ mv_checks now place (word ∷ words) file made) (changed now made) none_stands
     where
       text : List ℕ
-      text = joined 47 (word ∷ words)
+      text = joined_with 47 (word ∷ words)

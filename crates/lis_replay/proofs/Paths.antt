@@ -22,7 +22,7 @@ use Rattle.lis_model.specs.Sets.{set_of}
 use Rattle.lis_model.specs.Places.{both_lists, all_conjuncts, place_words, is_tag}
 use Rattle.lis_model.specs.Step.{tags_at}
 use Rattle.lis_laws.proofs.Members.{word_order, same_word_decides}
-use Rattle.lis_replay.specs.Dump.{joined}
+use Rattle.lis_replay.specs.Dump.{joined_with}
 use Rattle.lis_replay.proofs.Rising.{insert_all_next}
 use Rattle.lis_replay.proofs.Joined.{joined_short}
 use Rattle.lis_replay.proofs.Lists.{filter_all}
@@ -36,7 +36,7 @@ behind_is : (words : List (List ℕ)) → printed_behind (steps_for words) ≡ f
 behind_is [] = refl
 behind_is (word ∷ words) = ap (λ bytes. (47 ∷ word) ++ bytes) (behind_is words)
 
-pub printed_is : (word : List ℕ) (words : List (List ℕ)) → printed (steps_for (word ∷ words)) ≡ joined 47 (word ∷ words)
+pub printed_is : (word : List ℕ) (words : List (List ℕ)) → printed (steps_for (word ∷ words)) ≡ joined_with 47 (word ∷ words)
 unfolding printed
 printed_is word words = ap (λ bytes. word ++ bytes) (behind_is words)
 
@@ -52,7 +52,7 @@ words_fit : (words : List (List ℕ)) → ((w : List ℕ) → Among words w → 
 words_fit [] given = tt
 words_fit (word ∷ words) given = ((given word (inl refl)).form, words_fit words (λ w m. given w (inr m)))
 
-pub path_short : (words : List (List ℕ)) → ((w : List ℕ) → Among words w → IsGiven w) → length (joined 47 words) ≤ 61 * length words
+pub path_short : (words : List (List ℕ)) → ((w : List ℕ) → Among words w → IsGiven w) → length (joined_with 47 words) ≤ 61 * length words
 path_short words given = joined_short 47 words (λ w m. property_short w (word_is_property w (given w m).form))
 
 -- the words as a path: at most eight, in order
@@ -63,7 +63,7 @@ pub record IsPath (word : List ℕ) (words : List (List ℕ)) : Type 0 where
 
 module _ (word : List ℕ) (words : List (List ℕ)) (path : IsPath word words) where
   abbrev text : List ℕ
-  text = joined 47 (word ∷ words)
+  text = joined_with 47 (word ∷ words)
 
   abbrev steps : List Formula
   steps = steps_for (word ∷ words)

@@ -14,7 +14,7 @@ use Rattle.lis_model.specs.State.{State, File, WellFormed, is_declarable, descri
 use Rattle.lis_laws.proofs.Members.{word_order, with_words_old}
 use Rattle.lis_laws.proofs.Counts.{all_among}
 use Rattle.lis_laws.proofs.Known.{sorted_known}
-use Rattle.lis_replay.specs.Dump.{joined, words_line, mkdir_line, axiom_line, other_words, first_words, add_lines, mv_lines, file_lines, dump_of}
+use Rattle.lis_replay.specs.Dump.{joined_with, words_line, mkdir_line, axiom_line, other_words, first_words, add_lines, mv_lines, file_lines, dump_of}
 use Rattle.lis_replay.proofs.Lists.{among_drop}
 use Rattle.lis_replay.proofs.Spelled.{AreWords}
 use Rattle.lis_replay.proofs.Lines.{declarable_property, axiom_in_form, IsFileInForm, file_in_form, mkdir_words, axiom_words, add_are, mv_are}
@@ -53,7 +53,7 @@ all_short most text (x ∷ xs) each =
     omega (arith, mul-suc most (length xs), each x (inl refl), all_short most text xs (λ y m. each y (inr m)), length-append (text x) (flat_map text xs))
 
 line_short : (word : List ℕ) (words : List (List ℕ)) → AreWords word words → length (words_line (word ∷ words)) ≤ 1025
-line_short word words are = omega (arith, are.short, length-append (joined 32 (word ∷ words)) (10 ∷ []))
+line_short word words are = omega (arith, are.short, length-append (joined_with 32 (word ∷ words)) (10 ∷ []))
 
 file_short : (file : File) → IsFileInForm file → length (file_lines file) ≤ 1050627
 file_short file formed =
@@ -76,7 +76,7 @@ file_short file formed =
 
     mv_short : (words : List (List ℕ)) → length words ≤ 8 → ((w : List ℕ) → Among words w → is_word w ≡ true) → length (mv_lines file.name words) ≤ 1025
     mv_short [] few each = omega arith
-    mv_short (word ∷ words) few each = line_short (codes "mv") (file.name ∷ joined 47 (word ∷ words) ∷ []) (mv_are file formed word words few each)
+    mv_short (word ∷ words) few each = line_short (codes "mv") (file.name ∷ joined_with 47 (word ∷ words) ∷ []) (mv_are file formed word words few each)
 
 pub dump_short : (s : State) → WellFormed s → length (dump_of s) ≤ 2 ^ 40
 unfolding dump_of

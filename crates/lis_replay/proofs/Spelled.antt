@@ -1,19 +1,20 @@
 -- Which items a text spells, and that a line of words is read back to its words.
-use Rattle.std.proofs.Common.{◌≡◌, ℕ, ◌≤◌, ◌==◌, nat_le, Bool, true, false, ◌||◌, Option, Some, None, List, [], ◌∷◌, ◌++◌, length, filter, refl, sym, ap, ◌∙◌, inl, inr, append_assoc, append-nil, length-append, arith}
+use Rattle.std.proofs.Common.{◌≡◌, ℕ, ◌<◌, ◌≤◌, ◌==◌, nat_le, Bool, true, false, ◌||◌, Option, Some, None, List, [], ◌∷◌, ◌++◌, length, filter, refl, sym, ap, ◌∙◌, inl, inr, append_assoc, append-nil, length-append, arith}
 use Rattle.std.specs.Option.{option_to_list}
 use Rattle.std.specs.List.{list_all, flat_map}
-use Rattle.std.proofs.lemmas.Bool.{and_parts, false_from_ne_true, lt-ltb, ltb-true}
+use Rattle.std.proofs.lemmas.Bool.{and_parts, false_from_ne_true, ltb-true}
 use Rattle.std.proofs.lemmas.Bool.Decides.{nat_tests}
 use Rattle.lis_graph.proofs.Members.{Among}
 use Rattle.lis_model.specs.Replies.{line}
 use Rattle.lis_model.specs.Step.{Item, no_payload}
-use Rattle.lis_model.specs.Script.{is_feed, is_blank, is_some_bytes, without_return, pieces_on, line_words, is_long, item_of_words, item_of, size_of_words, payload_size, payload_of, all_items}
+use Rattle.lis_model.specs.Script.{pieces_on, line_words, is_long, item_of_words, item_of, size_of_words, payload_size, payload_of, all_items}
 use Rattle.lis_model.proofs.Lines.{IsOneLine, all_items_of, line_alone, line_with, with_payload}
 use Rattle.lis_laws.proofs.Counts.{all_among, all_weaker}
-use Rattle.lis_replay.specs.Dump.{joined, words_line}
+use Rattle.lis_replay.specs.Dump.{joined_with, words_line}
 use Rattle.lis_replay.proofs.Lists.{filter_all, none_any}
 use Rattle.lis_replay.proofs.Joined.{behind, joined_all}
 use Rattle.lis_replay.proofs.Visible.{is_visible, IsVisible}
+use Rattle.lis_words.specs.Bytes.{is_feed, is_blank, is_some_bytes, without_return}
 
 -- in front of any other text it gives these items
 abbrev pub Spells : List ℕ → List Item → Type 0
@@ -31,6 +32,10 @@ spells_all text items [] each = spells_nothing
 spells_all text items (x ∷ xs) each =
     spells_both (text x) (flat_map text xs) (items x) (flat_map items xs) (each x (inl refl)) (spells_all text items xs (λ y m. each y (inr m)))
 
+some_bytes : (text : List ℕ) → 0 < length text → is_some_bytes text ≡ true
+some_bytes [] some = absurd (omega arith)
+some_bytes (b ∷ text) some = refl
+
 -- ---- the words of a line
 visible_no_blank : (b : ℕ) → is_visible b ≡ true → is_blank b ≡ false
 visible_no_blank b h = false_from_ne_true (is_blank b) (λ e. blank e)
@@ -44,7 +49,7 @@ pieces_behind piece (b ∷ text) more h =
     let parts = and_parts (is_visible b) (list_all is_visible text) h in
     rw (visible_no_blank b parts.0) (pieces_behind (piece ++ b ∷ []) text more parts.1 ∙ ap (λ p. pieces_on p more) (append_assoc piece (b ∷ []) text))
 
-pieces_joined : (piece word : List ℕ) (words : List (List ℕ)) → ((w : List ℕ) → Among (word ∷ words) w → IsVisible w) → pieces_on piece (joined 32 (word ∷ words)) ≡ (piece ++ word) ∷ words
+pieces_joined : (piece word : List ℕ) (words : List (List ℕ)) → ((w : List ℕ) → Among (word ∷ words) w → IsVisible w) → pieces_on piece (joined_with 32 (word ∷ words)) ≡ (piece ++ word) ∷ words
 pieces_joined piece word [] each = pieces_behind piece word [] (each word (inl refl)).bytes
 pieces_joined piece word (other ∷ words) each =
     pieces_behind piece word (behind 32 (other ∷ words)) (each word (inl refl)).bytes ∙ ap (λ ws. (piece ++ word) ∷ ws) (pieces_joined [] other words (λ w m. each w (inr m)))
@@ -69,11 +74,11 @@ return_kept (b ∷ c ∷ text) h = ap (λ xs. b ∷ xs) (return_kept (c ∷ text
 -- the words of a line, which is not too long
 pub record AreWords (word : List ℕ) (words : List (List ℕ)) : Type 0 where
   pub visible : (w : List ℕ) → Among (word ∷ words) w → IsVisible w
-  pub short : length (joined 32 (word ∷ words)) ≤ 1024
+  pub short : length (joined_with 32 (word ∷ words)) ≤ 1024
 
 module _ (word : List ℕ) (words : List (List ℕ)) (are : AreWords word words) where
   abbrev text : List ℕ
-  text = joined 32 (word ∷ words)
+  text = joined_with 32 (word ∷ words)
 
   in_line : list_all is_in_line text ≡ true
   in_line = joined_all is_in_line 32 (word ∷ words) refl (λ w m. all_weaker is_visible is_in_line w (λ b n e. visible_in_line b e) (are.visible w m).bytes)
@@ -88,7 +93,7 @@ module _ (word : List ℕ) (words : List (List ℕ)) (are : AreWords word words)
   words_are =
       ap (λ bytes. filter is_some_bytes (pieces_on [] bytes)) (return_kept text in_line)
       ∙ ap (λ ws. filter is_some_bytes ws) (pieces_joined [] word words are.visible)
-      ∙ filter_all is_some_bytes (word ∷ words) (λ w m. lt-ltb 0 (length w) (are.visible w m).some)
+      ∙ filter_all is_some_bytes (word ∷ words) (λ w m. some_bytes w (are.visible w m).some)
 
   size_is : payload_size text ≡ size_of_words (word ∷ words)
   size_is = rw not_long (ap (λ ws. size_of_words ws) words_are)

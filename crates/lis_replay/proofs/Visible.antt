@@ -10,11 +10,12 @@ use Rattle.std.proofs.lemmas.List.{take-append-drop}
 use Rattle.std.proofs.lemmas.List.Folds.{list_all-append}
 use Rattle.lis_graph.proofs.Members.{Among}
 use Rattle.lis_grammar.proofs.Operands.{split_at_colon}
-use Rattle.lis_words.specs.Words.{is_plain_byte, is_plain_word, is_colon, stem, value, has_stem, is_head, is_valued, is_word, is_test, is_property, is_file_name, same_word, is_number, number_behind, test_by, count_of}
+use Rattle.lis_words.specs.Words.{is_plain_byte, is_plain_word, stem, value, has_stem, is_head, is_valued, is_word, is_test, is_property, is_file_name, same_word, is_number, number_behind, test_by, count_of}
 use Rattle.lis_grammar.proofs.Printed.{numerals}
 use Rattle.lis_laws.proofs.Counts.{all_weaker}
-use Rattle.lis_replay.specs.Dump.{joined}
+use Rattle.lis_replay.specs.Dump.{joined_with}
 use Rattle.lis_replay.proofs.Joined.{behind, joined_all}
+use Rattle.lis_words.specs.Bytes.{is_colon}
 
 abbrev pub is_visible : ℕ → Bool
 is_visible b = nat_lt 32 b
@@ -119,7 +120,7 @@ name_short name h =
 pub decimal_visible : (n : ℕ) → n < 10 ^ 12 → IsVisible (decimal n)
 decimal_visible n small = record { some = decimal_nonempty n (omega arith); bytes = digit_bytes (decimal n) (digits_decimal numerals n (omega arith)) }
 
-pub path_visible : (word : List ℕ) (words : List (List ℕ)) → ((w : List ℕ) → Among (word ∷ words) w → is_word w ≡ true) → IsVisible (joined 47 (word ∷ words))
+pub path_visible : (word : List ℕ) (words : List (List ℕ)) → ((w : List ℕ) → Among (word ∷ words) w → is_word w ≡ true) → IsVisible (joined_with 47 (word ∷ words))
 path_visible word words each = record {
   some = omega (arith, (word_visible word (each word (inl refl))).some, length-append word (behind 47 words));
   bytes = joined_all is_visible 47 (word ∷ words) refl (λ w m. (word_visible w (each w m)).bytes);

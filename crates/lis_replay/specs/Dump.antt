@@ -5,13 +5,13 @@ use Rattle.lis_model.specs.State.{State, File}
 use Rattle.lis_model.specs.Replies.{line}
 
 -- texts with a byte between each and the next
-abbrev pub joined : ℕ → List (List ℕ) → List ℕ
-joined byte [] = []
-joined byte (text ∷ texts) = text ++ flat_map (λ other. byte ∷ other) texts
+abbrev pub joined_with : ℕ → List (List ℕ) → List ℕ
+joined_with byte [] = []
+joined_with byte (text ∷ texts) = text ++ flat_map (λ other. byte ∷ other) texts
 
 -- a line of words, with a blank between each and the next
 abbrev pub words_line : List (List ℕ) → List ℕ
-words_line words = line (joined 32 words)
+words_line words = line (joined_with 32 words)
 
 -- the words of a file that its `add` gives it, and the others
 abbrev pub first_words : File → List (List ℕ)
@@ -30,7 +30,7 @@ add_lines file = words_line (codes "add" ∷ file.name ∷ decimal (length file.
 -- the file's name, and the words as a path; no line where there are none
 abbrev pub mv_lines : List ℕ → List (List ℕ) → List ℕ
 mv_lines name [] = []
-mv_lines name (word ∷ words) = words_line (codes "mv" ∷ name ∷ joined 47 (word ∷ words) ∷ [])
+mv_lines name (word ∷ words) = words_line (codes "mv" ∷ name ∷ joined_with 47 (word ∷ words) ∷ [])
 
 abbrev pub file_lines : File → List ℕ
 file_lines file = add_lines file ++ mv_lines file.name (other_words file)

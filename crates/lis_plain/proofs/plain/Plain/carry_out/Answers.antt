@@ -1,6 +1,6 @@
 use Rattle.std.proofs.Common.{subst}
 use Rattle.lis_model.specs.Step.{mkdir, rmdir, add_axiom, unaxiom, create, add, write, mv, rename, rm, cd}
-use Rattle.lis_plain.specs.Carries.{Answers}
+use Rattle.lis_plain.specs.Carries.{IsAnswered}
 use Rattle.lis_plain.proofs.plain.Plain.carry_out.Goals as goal
 
 pub returns-in-Mkdir-clause-step : goal.returns-in-Mkdir-clause-step
@@ -13,13 +13,13 @@ pub returns-in-Axiom-clause-step : goal.returns-in-Axiom-clause-step
 returns-in-Axiom-clause-step g c =
     let now = c.args.self.now in
     rw c.in-Axiom.is (c.end_answer-in-Axiom.ensures.step (add_axiom now (c.in-Axiom.l, c.in-Axiom.r)) now c.add_axiom.new.self
-    (subst (λ pair. Answers (add_axiom now pair) now c.add_axiom.new.self c.add_axiom.result) c.pair_of.ensures c.add_axiom.ensures))
+    (subst (λ pair. IsAnswered (add_axiom now pair) now c.add_axiom.new.self c.add_axiom.result) c.pair_of.ensures c.add_axiom.ensures))
 
 pub returns-in-Unaxiom-clause-step : goal.returns-in-Unaxiom-clause-step
 returns-in-Unaxiom-clause-step g c =
     let now = c.args.self.now in
     rw c.in-Unaxiom.is (c.end_answer-in-Unaxiom.ensures.step (unaxiom now (c.in-Unaxiom.l, c.in-Unaxiom.r)) now c.unaxiom.new.self
-    (subst (λ pair. Answers (unaxiom now pair) now c.unaxiom.new.self c.unaxiom.result) c.pair_of-in-Unaxiom.ensures c.unaxiom.ensures))
+    (subst (λ pair. IsAnswered (unaxiom now pair) now c.unaxiom.new.self c.unaxiom.result) c.pair_of-in-Unaxiom.ensures c.unaxiom.ensures))
 
 pub returns-in-Create-clause-step : goal.returns-in-Create-clause-step
 returns-in-Create-clause-step g c = rw c.in-Create.is (c.end_answer-in-Create.ensures.step (create c.args.self.now c.in-Create.name c.in-Create.tags) c.args.self.now c.create.new.self c.create.ensures)
