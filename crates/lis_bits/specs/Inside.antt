@@ -22,7 +22,7 @@ abbrev pub seen : region.Region ℕ → ℕ → ℕ → ℕ → ℕ → Rows
 seen r frame rows width edits = record { bits = 64 * width; rows = rows_of (words_of r frame) rows width; edits = edits }
 
 -- the frame has the words of so many rows
-pub record IsSound (r : region.Region ℕ) (frame rows width : ℕ) : Type 0 where
+pub record AreSoundRows (r : region.Region ℕ) (frame rows width : ℕ) : Type 0 where
   pub there : region.HasFrame r frame
   pub wide : r.width ≡ rows * width
   pub small : rows * (64 * width) ≤ 2 ^ 27

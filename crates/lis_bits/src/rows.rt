@@ -22,11 +22,11 @@ impl Model for Rows {
 
     ghost Value = { Table };
 
-    ghost use Rattle.lis_bits.specs.Inside.{seen, IsSound};
+    ghost use Rattle.lis_bits.specs.Inside.{seen, AreSoundRows};
 
     ghost view = { λ r. seen r.region r.frame r.rows r.width r.edits };
 
-    ghost invariant = { λ r. IsSound r.region r.frame r.rows r.width };
+    ghost invariant = { λ r. AreSoundRows r.region r.frame r.rows r.width };
 }
 
 impl Rows {

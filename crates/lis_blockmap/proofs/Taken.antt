@@ -9,7 +9,7 @@ use Rattle.std.proofs.lemmas.List.Sums.{sum_by-set, count_by-le-length}
 use Rattle.lis_bits.specs.Rows.{Rows, get, with_row, empty_rows, NoneTrue}
 use Rattle.lis_bits.proofs.Laws.{get-with_row_same, get-empty_rows, length-with_row, length-empty_rows}
 use Rattle.lis_blockmap.specs.Bitmap.{free_count}
-use Rattle.lis_blockmap.specs.Inside.{taken_of, HasFree, IsSound}
+use Rattle.lis_blockmap.specs.Inside.{taken_of, HasFree, IsSoundMap}
 
 -- ---- counts
 pub one_fewer : (taken : List Bool) (n : ℕ) → n < length taken → get_or taken n false ≡ false → free_count (set taken n true) + 1 ≡ free_count taken
@@ -70,7 +70,7 @@ module _ (rows : Rows) (blocks n : ℕ) (free : Bool) (tall : length rows.rows �
       at k in_blocks (inl same) = rw same (get_or-set_same (taken_of rows blocks) n (not free) false (omega (arith, length-taken_of rows blocks)) ∙ ap not (sym (bit_after n (omega arith) ∙ rw (eq-eqb n n refl))))
       at k in_blocks (inr differ) = get_or-set_other (taken_of rows blocks) n k (not free) false differ ∙ (get-taken_of rows blocks k in_blocks ∙ ap not (sym (other_bit k (omega arith) differ)))
 
-  pub sound_put : (count left : ℕ) → IsSound rows blocks count → left ≡ free_count (set (taken_of rows blocks) n (not free)) → IsSound (after_put rows n free) blocks left
+  pub sound_put : (count left : ℕ) → IsSoundMap rows blocks count → left ≡ free_count (set (taken_of rows blocks) n (not free)) → IsSoundMap (after_put rows n free) blocks left
   sound_put count left sound same = record {
     tall = length-with_row rows 0 (λ k. if k == n then free else get rows 0 k) ∙ tall;
     wide = wide;
@@ -80,7 +80,7 @@ module _ (rows : Rows) (blocks n : ℕ) (free : Bool) (tall : length rows.rows �
   }
 
 -- a block is given or taken
-module _ (rows : Rows) (blocks free n : ℕ) (sound : IsSound rows blocks free) where
+module _ (rows : Rows) (blocks free n : ℕ) (sound : IsSoundMap rows blocks free) where
   pub held_within : get_or (taken_of rows blocks) n false ≡ true → n < blocks
   held_within held = go (cases_lt n blocks)
     where
@@ -91,7 +91,7 @@ module _ (rows : Rows) (blocks free n : ℕ) (sound : IsSound rows blocks free) 
   pub given_more : get_or (taken_of rows blocks) n false ≡ true → free_count (set (taken_of rows blocks) n false) ≡ free_count (taken_of rows blocks) + 1
   given_more held = one_more (taken_of rows blocks) n (omega (arith, length-taken_of rows blocks, held_within held)) held
 
-  pub given_sound : get_or (taken_of rows blocks) n false ≡ true → IsSound (after_put rows n true) blocks (free + 1)
+  pub given_sound : get_or (taken_of rows blocks) n false ≡ true → IsSoundMap (after_put rows n true) blocks (free + 1)
   given_sound held = sound_put rows blocks n true sound.tall sound.wide (held_within held) free (free + 1) sound (omega (arith, given_more held, sound.counted))
 
   module _ (lt : n < blocks) (is_free : get_or (taken_of rows blocks) n false ≡ false) where
@@ -101,7 +101,7 @@ module _ (rows : Rows) (blocks free n : ℕ) (sound : IsSound rows blocks free) 
     pub some_free : 1 ≤ free
     some_free = omega (arith, marked_fewer, sound.counted)
 
-    pub marked_sound : IsSound (after_put rows n false) blocks (free - 1)
+    pub marked_sound : IsSoundMap (after_put rows n false) blocks (free - 1)
     marked_sound = sound_put rows blocks n false sound.tall sound.wide lt free (free - 1) sound (omega (arith, marked_fewer, sound.counted))
 
 -- ---- a row of free blocks
@@ -135,7 +135,7 @@ module _ (rows : Rows) (blocks : ℕ) (h : HasFree rows blocks blocks) where
           let lt : k < blocks = omega (arith, length-taken_of rows blocks) in
           get_or_default (taken_of rows blocks) k d false in_list ∙ (get-taken_of rows blocks k lt ∙ (ap not (h.bits k (omega (arith, h.wide)) ∙ lt-ltb k blocks lt) ∙ sym (get_or-replicate blocks k false d lt)))
 
-  pub sound_at_first : blocks ≤ 32768 → IsSound rows blocks blocks
+  pub sound_at_first : blocks ≤ 32768 → IsSoundMap rows blocks blocks
   sound_at_first few = record {
     tall = h.tall;
     wide = h.wide;
@@ -145,7 +145,7 @@ module _ (rows : Rows) (blocks : ℕ) (h : HasFree rows blocks blocks) where
   }
 
 -- ---- a search for a free block
-module _ (rows : Rows) (blocks free : ℕ) (sound : IsSound rows blocks free) where
+module _ (rows : Rows) (blocks free : ℕ) (sound : IsSoundMap rows blocks free) where
   pub none_found : NoneTrue rows 0 0 rows.bits → free_count (taken_of rows blocks) ≡ 0
   none_found none = none_free (taken_of rows blocks) (λ k in_list.
       let lt : k < blocks = omega (arith, length-taken_of rows blocks) in

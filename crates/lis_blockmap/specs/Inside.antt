@@ -15,7 +15,7 @@ pub record HasFree (rows : Rows) (blocks free : ℕ) : Type 0 where
   pub bits : (n : ℕ) → n < rows.bits → get rows 0 n ≡ nat_lt n free
 
 -- what the row keeps
-pub record IsSound (rows : Rows) (blocks free : ℕ) : Type 0 where
+pub record IsSoundMap (rows : Rows) (blocks free : ℕ) : Type 0 where
   pub tall : length rows.rows ≡ 1
   pub wide : blocks ≤ rows.bits
   pub few : blocks ≤ 32768

@@ -26,11 +26,11 @@ impl Model for BlockMap {
 
     ghost Value = { List Bool };
 
-    ghost use Rattle.lis_blockmap.specs.Inside.{taken_of, IsSound};
+    ghost use Rattle.lis_blockmap.specs.Inside.{taken_of, IsSoundMap};
 
     ghost view = { λ m. taken_of m.rows m.blocks };
 
-    ghost invariant = { λ m. IsSound m.rows m.blocks m.free };
+    ghost invariant = { λ m. IsSoundMap m.rows m.blocks m.free };
 }
 
 // A bit of a block, the lowest of its first byte being the first.

@@ -14,12 +14,12 @@ use Rattle.std.proofs.lemmas.Slice.Eq.{bytes_eq-Decides}
 use Rattle.lis_graph.proofs.Sets.{below_tail, sorted_tail}
 use Rattle.lis_words.specs.Words.{word_cmp}
 use Rattle.lis_fields.specs.Records.{FileRecord}
-use Rattle.lis_fields.specs.Layouts.{are_distinct}
 use Rattle.lis_catalog.specs.Catalog.{Filed, Catalog, slot_of, rec_at, filed_cmp, with_filed, without_slot, IsCatalog}
 use Rattle.lis_catalog.proofs.Order.{filed_order, sorted_from, is_same}
 use Rattle.lis_catalog.proofs.Places.{is_named, none_above}
 use Rattle.lis_catalog.specs.Inside.{slot_list}
 use Rattle.lis_catalog.proofs.Slots.{none_any, any_none, map_none, any_filter, apart_parts, is_other, slot_gone}
+use Rattle.lis_model.specs.Sets.{are_distinct}
 
 -- ---- one file more
 module _ (test : Filed → Bool) (f : Filed) where

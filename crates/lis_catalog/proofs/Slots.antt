@@ -6,9 +6,9 @@ use Rattle.std.proofs.lemmas.Bool.{and_parts, and_from, or_parts, or_from, not-t
 use Rattle.std.proofs.lemmas.List.Folds.{find_at, list_any_at}
 use Rattle.std.proofs.lemmas.Option.{slice_get_past, slice_get_within, get_or_from_slice_get}
 use Rattle.std.proofs.lemmas.Map.Views.{any-filter_same}
-use Rattle.lis_fields.specs.Layouts.{are_distinct}
 use Rattle.lis_catalog.specs.Catalog.{Filed}
 use Rattle.lis_catalog.specs.Inside.{slot_list, has_slot}
+use Rattle.lis_model.specs.Sets.{are_distinct}
 
 pub map_none : {A B : Type 0} (v : A → B) (o : Option A) → option_map v o ≡ None → o ≡ None
 map_none v None e = refl

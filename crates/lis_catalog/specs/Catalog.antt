@@ -7,7 +7,7 @@ use Rattle.std.specs.Option.{option_map}
 use Rattle.lis_graph.specs.Graph.{is_rising}
 use Rattle.lis_words.specs.Words.{word_cmp, same_word, is_file_name}
 use Rattle.lis_fields.specs.Records.{FileRecord}
-use Rattle.lis_fields.specs.Layouts.{are_distinct}
+use Rattle.lis_model.specs.Sets.{are_distinct}
 
 -- a file's slot, and its record
 pub record Filed : Type 0 where

@@ -20,12 +20,13 @@ use Rattle.lis_journal.specs.Staging.{has_entry}
 use Rattle.lis_journal.proofs.Entries.{neither}
 use Rattle.lis_journal.proofs.Runs.{among_head, among_parts, among_swapped, run_other}
 use Rattle.lis_blockmap.specs.Bitmap.{free_count, is_taken}
-use Rattle.lis_content.specs.Content.{content, padded, marked, has_number, has_home}
+use Rattle.lis_content.specs.Content.{content, padded, marked, has_home}
 use Rattle.lis_content.specs.Large.{is_large, index_bytes, numbers_in}
 use Rattle.lis_content.specs.Placing.{AreUnstaged, homes_of, Places, Lays, IsLaid, HasFile, IsPlaced, IsTornOff, WritesRow, RowPlaced, RowOf, RowTorn, OnePlaced}
 use Rattle.lis_content.proofs.Numbers.{are_below, below_from_free, free_after, length-marked, number_past, row_new}
 use Rattle.lis_content.proofs.Taking.{length-padded, part_more, same_others}
 use Rattle.lis_content.proofs.Indexes.{index_reads_back, large_numbers, large_blocks, small_numbers, small_blocks}
+use Rattle.lis_model.specs.Sets.{has_number}
 
 -- ---- homes of blocks
 pub among_homes : (base : ℕ) (blocks : List ℕ) (n : ℕ) → is_among (homes_of base blocks) n ≡ has_home base blocks n

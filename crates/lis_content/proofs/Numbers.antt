@@ -7,7 +7,8 @@ use Rattle.std.proofs.lemmas.List.Sums.{fold-append}
 use Rattle.std.proofs.lemmas.List.Folds.{list_all-append, list_any-append}
 pub use Rattle.lis_journal.proofs.Entries.{neither}
 use Rattle.lis_blockmap.specs.Bitmap.{is_taken}
-use Rattle.lis_content.specs.Content.{given, marked, are_taken, are_free, has_number, are_distinct, are_within}
+use Rattle.lis_content.specs.Content.{given, marked, are_taken, are_free, are_within}
+use Rattle.lis_model.specs.Sets.{are_distinct, has_number}
 
 pub length-given : (taken : List Bool) (ns : List ℕ) → length (given taken ns) ≡ length taken
 length-given taken [] = refl

@@ -2,7 +2,7 @@
 use Rattle.std.proofs.Common.{◌≡◌, ◌⊎◌, ℕ, ◌+◌, ◌-◌, ◌<◌, ◌≤◌, Bool, true, false, List, [], ◌∷◌, ◌++◌, length, set, refl, sym, ◌∙◌, ap, subst, inl, inr, arith}
 use Rattle.std.specs.List.{range_with_len}
 use Rattle.std.proofs.lemmas.Bool.{cases_lt}
-use Rattle.lis_journal.specs.Record.{Entry}
+use Rattle.lis_journal.specs.Record.{HomeBlock}
 use Rattle.lis_journal.specs.Staging.{has_entry, HasNone}
 use Rattle.lis_journal.proofs.Runs.{row_more, row_within}
 use Rattle.lis_blockmap.specs.Bitmap.{free_count, is_taken}
@@ -36,7 +36,7 @@ takes_next taken now next n count was lt free is fewer = record {
     new = (free_after (length taken) taken (range_with_len n count) (n + count) refl (row_within n count (length taken) was.within) (ap (λ t. is_taken t (n + count)) (sym was.marks) ∙ free)).1
 
 -- no block of the row is staged
-pub row_unstaged : (base : ℕ) (taken now : List Bool) (staged : List Entry) (n count home : ℕ) → home ≡ base + n → TakesRow taken now n count → AreUnstaged base taken staged → HasNone staged home count
+pub row_unstaged : (base : ℕ) (taken now : List Bool) (staged : List HomeBlock) (n count home : ℕ) → home ≡ base + n → TakesRow taken now n count → AreUnstaged base taken staged → HasNone staged home count
 row_unstaged base taken now staged n count home at row unstaged m le lt =
     let same : base + (m - base) ≡ m = omega (arith, le, at) in
     ap (has_entry staged) (sym same) ∙ unstaged (m - base) (omega (arith, le, lt, at, row.within)) (row.were_free (m - base) (omega (arith, le, at)) (omega (arith, le, lt, at)))

@@ -12,9 +12,10 @@ use Rattle.lis_journal.specs.Phases.{looked}
 use Rattle.lis_journal.specs.Staging.{with_entry}
 use Rattle.lis_journal.proofs.Entries.{length-with_entry, neither}
 use Rattle.lis_blockmap.specs.Bitmap.{free_count, is_taken}
-use Rattle.lis_content.specs.Content.{content, padded, given, marked, are_taken, are_free, has_number, are_distinct, has_home}
+use Rattle.lis_content.specs.Content.{content, padded, given, marked, are_taken, are_free, has_home}
 use Rattle.lis_content.specs.Putting.{IsPut}
 use Rattle.lis_content.proofs.Numbers.{length-marked, not_true, below_from_free, free_after, distinct_more, free_more, marked_more, marked_are_taken, taken_still}
+use Rattle.lis_model.specs.Sets.{are_distinct, has_number}
 
 -- ---- blocks that are given back: those of `left` are still to be given
 pub record Giving (start now : List Bool) (all left : List ℕ) : Type 0 where

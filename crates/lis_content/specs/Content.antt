@@ -26,14 +26,6 @@ are_taken taken blocks = list_all (is_taken taken) blocks
 abbrev pub are_free : List Bool → List ℕ → Bool
 are_free taken blocks = list_all (λ n. nat_lt n (length taken) && not (is_taken taken n)) blocks
 
-abbrev pub has_number : List ℕ → ℕ → Bool
-has_number ns n = list_any (λ m. m == n) ns
-
--- no number stands twice
-abbrev pub are_distinct : List ℕ → Bool
-are_distinct [] = true
-are_distinct (n ∷ ns) = not (has_number ns n) && are_distinct ns
-
 -- n is the home of one of the data blocks
 abbrev pub has_home : ℕ → List ℕ → ℕ → Bool
 has_home base blocks n = list_any (λ b. base + b == n) blocks

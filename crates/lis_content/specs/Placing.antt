@@ -5,18 +5,19 @@ use Rattle.lis_ports.specs.Meaning.{Meaning}
 use Rattle.lis_ports.specs.Runs.{IsDiskRun, Leaves}
 use Rattle.lis_ports.specs.Calls.{Rose, IsUnchanged}
 use Rattle.lis_model.specs.State.{blocks_needed, blocks_taken}
-use Rattle.lis_journal.specs.Record.{Entry}
+use Rattle.lis_journal.specs.Record.{HomeBlock}
 use Rattle.lis_journal.specs.Journal.{Held}
 use Rattle.lis_journal.specs.Images.{StandsBut, Fits, KeepsPast, with_kept, with_run}
 use Rattle.lis_journal.specs.Staging.{has_entry}
 use Rattle.lis_blockmap.specs.Bitmap.{free_count, is_taken}
-use Rattle.lis_content.specs.Content.{content, padded, marked, are_free, are_distinct, has_home}
+use Rattle.lis_content.specs.Content.{content, padded, marked, are_free, has_home}
 use Rattle.lis_content.specs.Large.{is_large, slot_count, file_content, file_blocks, IsIndexed}
 use Rattle.lis_content.specs.declared.fault.PutFault.{PutFault}
 use Rattle.lis_content.specs.declared.fault.PutFault.TheVariants.{NoSpace, Disk}
+use Rattle.lis_model.specs.Sets.{are_distinct}
 
 -- no free block is staged
-abbrev pub AreUnstaged : ℕ → List Bool → List Entry → Type 0
+abbrev pub AreUnstaged : ℕ → List Bool → List HomeBlock → Type 0
 AreUnstaged base taken staged = (n : ℕ) → n < length taken → is_taken taken n ≡ false → has_entry staged (base + n) ≡ false
 
 -- the homes of data blocks

@@ -5,9 +5,10 @@ use Rattle.lis_journal.specs.Journal.{Held}
 use Rattle.lis_journal.specs.Images.{look}
 use Rattle.lis_journal.specs.Phases.{looked}
 use Rattle.lis_blockmap.specs.Bitmap.{free_count}
-use Rattle.lis_content.specs.Content.{content, given, marked, are_taken, are_free, are_distinct, has_home}
+use Rattle.lis_content.specs.Content.{content, given, marked, are_taken, are_free, has_home}
 use Rattle.lis_content.specs.declared.fault.PutFault.{PutFault}
 use Rattle.lis_content.specs.declared.fault.PutFault.TheVariants.{NoSpace, Disk}
+use Rattle.lis_model.specs.Sets.{are_distinct}
 
 -- The old blocks are given back, and the bytes stand in blocks that were free then. Every other block stays, staged or not.
 pub record IsPut (base : ℕ) (old bytes : List ℕ) (taken now_taken : List Bool) (before now : Held) (blocks : List ℕ) : Type 0 where

@@ -7,8 +7,9 @@ ghost use Rattle.lis_model.specs.State.{blocks_needed};
 ghost use Rattle.lis_journal.specs.Images.{Fits};
 ghost use Rattle.lis_journal.specs.Phases.{looked};
 ghost use Rattle.lis_blockmap.specs.Bitmap.{free_count};
-ghost use Rattle.lis_content.specs.Content.{content, given, are_taken, are_distinct, are_within};
+ghost use Rattle.lis_content.specs.Content.{content, given, are_taken, are_within};
 ghost use Rattle.lis_content.specs.Putting.{IsPut, IsRefused};
+ghost use Rattle.lis_model.specs.Sets.{are_distinct};
 
 use crate::blocks::{home, read_front, stage_front};
 use crate::fault::PutFault;

@@ -4,7 +4,7 @@ use Rattle.lis_ports.specs.Meaning.{Meaning}
 use Rattle.lis_journal.specs.Journal.{Held}
 
 -- a journal of so many blocks, with nothing staged and nothing placed
-pub record IsIdle (blocks : ℕ) (journal : Held) : Type 0 where
+pub record IsAtRest (blocks : ℕ) (journal : Held) : Type 0 where
   pub blocks_are : journal.blocks ≡ blocks
   pub staged : journal.staged ≡ []
   pub placed : journal.placed ≡ []

@@ -2,7 +2,7 @@
 
 ghost use Rattle.std.specs.Prelude.{[], ◌≡◌, ◌*◌, ◌+◌, ◌<◌, ◌≤◌, length, false, IfOk, OnOk, IsTrue};
 ghost use Rattle.lis_memdisk.specs.MemStation.{meaning_of};
-ghost use Rattle.lis_crashes.specs.Idle.{IsIdle, HasStaged, IsSameDisk};
+ghost use Rattle.lis_crashes.specs.Idle.{IsAtRest, HasStaged, IsSameDisk};
 
 use lis_journal::{BLOCK_LEN, Journal};
 use lis_memdisk::MemStation;
@@ -27,7 +27,7 @@ pub fn zeros(alloc: Global) -> Result<Vec<u8>, AllocError>
 
 fn opened(alloc: Global, disk: &mut MemStation) -> Result<Journal, Fail>
     requires long { 2433024 ≤ (meaning_of disk.old).len }
-    ensures idle { IfOk result (λ journal. IsIdle 594 journal) }
+    ensures idle { IfOk result (λ journal. IsAtRest 594 journal) }
     ensures same { IsSameDisk (meaning_of disk.old) (meaning_of disk.new) }
 {
     Ok(Journal::mount(alloc, disk, BLOCKS)?)
@@ -36,7 +36,7 @@ fn opened(alloc: Global, disk: &mut MemStation) -> Result<Journal, Fail>
 /// The journal of a disk of these bytes.
 pub fn mounted(alloc: Global, image: &[u8]) -> Result<(MemStation, Journal), Fail>
     requires { length image.now ≡ 2433024 }
-    ensures idle { IfOk result (λ made. IsIdle 594 made.1) }
+    ensures idle { IfOk result (λ made. IsAtRest 594 made.1) }
     ensures long { IfOk result (λ made. (meaning_of made.0).len ≡ 2433024) }
     ensures recorded { IfOk result (λ made. IsTrue (meaning_of made.0).is_recorded) }
 {
@@ -65,9 +65,9 @@ pub fn commit(
     journal: &mut Journal,
     fills: [Option<u8>; 2],
 ) -> Result<bool, AllocError>
-    requires idle { IsIdle 594 journal.old }
+    requires idle { IsAtRest 594 journal.old }
     requires long { 2433024 ≤ (meaning_of disk.old).len }
-    ensures idle { IfOk result (λ has_failed. has_failed ≡ false → IsIdle 594 journal.new) }
+    ensures idle { IfOk result (λ has_failed. has_failed ≡ false → IsAtRest 594 journal.new) }
     ensures same { IsSameDisk (meaning_of disk.old) (meaning_of disk.new) }
 {
     stage(alloc, journal, FIRST, fills[0])?;
@@ -82,9 +82,9 @@ pub fn keep(
     journal: &mut Journal,
     fills: [Option<u8>; 2],
 ) -> Result<(), Fail>
-    requires idle { IsIdle 594 journal.old }
+    requires idle { IsAtRest 594 journal.old }
     requires long { 2433024 ≤ (meaning_of disk.old).len }
-    ensures idle { OnOk result (IsIdle 594 journal.new) }
+    ensures idle { OnOk result (IsAtRest 594 journal.new) }
     ensures same { IsSameDisk (meaning_of disk.old) (meaning_of disk.new) }
 {
     if commit(alloc, disk, journal, fills)? {
@@ -95,7 +95,7 @@ pub fn keep(
 
 /// Places a block of nines over the first home block.
 pub fn place_nines(alloc: Global, disk: &mut MemStation, journal: &mut Journal) -> Result<(), Fail>
-    requires idle { IsIdle 594 journal.old }
+    requires idle { IsAtRest 594 journal.old }
     requires long { 2433024 ≤ (meaning_of disk.old).len }
     ensures same { IsSameDisk (meaning_of disk.old) (meaning_of disk.new) }
 {
@@ -107,7 +107,7 @@ pub fn place_nines(alloc: Global, disk: &mut MemStation, journal: &mut Journal) 
 fn fill_of(alloc: Global, disk: &mut MemStation, journal: &Journal, n: u32) -> Result<u8, Fail>
     requires home { 578 ≤ n }
     requires within { n < 594 }
-    requires idle { IsIdle 594 journal.now }
+    requires idle { IsAtRest 594 journal.now }
     requires long { 2433024 ≤ (meaning_of disk.old).len }
     ensures same { IsSameDisk (meaning_of disk.old) (meaning_of disk.new) }
 {
@@ -123,7 +123,7 @@ fn fill_of(alloc: Global, disk: &mut MemStation, journal: &Journal, n: u32) -> R
 
 /// The bytes that fill the first and the last home block.
 pub fn fills_of(alloc: Global, disk: &mut MemStation, journal: &Journal) -> Result<[u8; 2], Fail>
-    requires idle { IsIdle 594 journal.now }
+    requires idle { IsAtRest 594 journal.now }
     requires long { 2433024 ≤ (meaning_of disk.old).len }
     ensures same { IsSameDisk (meaning_of disk.old) (meaning_of disk.new) }
 {

@@ -2,7 +2,7 @@
 
 ghost use Rattle.std.specs.Prelude.{[], ◌≡◌, ◌≤◌, false, OnOk, IsTrue};
 ghost use Rattle.lis_memdisk.specs.MemStation.{meaning_of};
-ghost use Rattle.lis_crashes.specs.Idle.{IsIdle, IsSameDisk};
+ghost use Rattle.lis_crashes.specs.Idle.{IsAtRest, IsSameDisk};
 
 use crate::disk::{commit, fills_after, fills_left, keep, mounted, place_nines, zeros};
 use lis_journal::Journal;
@@ -52,10 +52,10 @@ fn keep_all(
     journal: &mut Journal,
     count: u8,
 ) -> Result<(), Fail>
-    requires idle { IsIdle 594 journal.old }
+    requires idle { IsAtRest 594 journal.old }
     requires long { 2433024 ≤ (meaning_of disk.old).len }
     requires recorded { IsTrue (meaning_of disk.old).is_recorded }
-    ensures idle { OnOk result (IsIdle 594 journal.new) }
+    ensures idle { OnOk result (IsAtRest 594 journal.new) }
     ensures same { IsSameDisk (meaning_of disk.old) (meaning_of disk.new) }
 {
     for number in 0..count {

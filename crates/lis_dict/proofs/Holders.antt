@@ -6,8 +6,8 @@ use Rattle.std.proofs.lemmas.Bool.{cases_eq, ne_eqb, ltb-false}
 use Rattle.std.proofs.lemmas.List.Sums.{sum_by-cons, sum_by-set, count_by-le-length}
 use Rattle.lis_words.specs.Words.{is_property}
 use Rattle.lis_dict.specs.Dict.{Dict, IsDict, number_of, word_of, entry_cmp}
-use Rattle.lis_dict.specs.Inside.{dict_of, IsSound}
-use Rattle.lis_dict.proofs.Entries.{Entry}
+use Rattle.lis_dict.specs.Inside.{dict_of, IsSoundDict}
+use Rattle.lis_dict.proofs.Entries.{DictEntry}
 use Rattle.lis_dict.proofs.Places.{is_other}
 use Rattle.lis_dict.proofs.Laws.{word_from_number, number_below, word_of-with_entry, kept_with_entry, word_of-without_word, kept_without_word}
 
@@ -27,7 +27,7 @@ count_after : (holders : Holders) (number : ℕ) (now : Option (List ℕ)) → n
     → count_by is_some (set holders number now) + cond (is_some (get_or holders number None)) 1 0 ≡ count_by is_some holders + cond (is_some now) 1 0
 count_after holders number now lt = sum_by-set (λ (h : Option (List ℕ)). cond (is_some h) 1 0) holders number now None lt
 
-module _ (entries : List Entry) (holders : Holders) (props room : ℕ) (sound : IsSound entries holders props room) (number : ℕ) (below : number < props) where
+module _ (entries : List DictEntry) (holders : Holders) (props room : ℕ) (sound : IsSoundDict entries holders props room) (number : ℕ) (below : number < props) where
   pub within : number < length holders
   within = omega (arith, below, sound.table)
 
@@ -41,14 +41,14 @@ module _ (entries : List Entry) (holders : Holders) (props room : ℕ) (sound : 
     pub some_room : length entries + 1 ≤ props
     some_room = omega (arith, counted_more, count_by-le-length is_some (set holders number (Some word)), length-set holders number (Some word), sound.table)
 
-module _ (entries new : List Entry) (holders : Holders) (props room more : ℕ) (sound : IsSound entries holders props room)
+module _ (entries new : List DictEntry) (holders : Holders) (props room more : ℕ) (sound : IsSoundDict entries holders props room)
     (word : List ℕ) (number : ℕ) (wide : room ≤ more) where
   abbrev d : Dict
   d = dict_of entries props
 
   module _ (below : number < props) (free : word_of d number ≡ None) (absent : number_of d word ≡ None) (form : IsTrue (is_property word))
       (same : new ≡ insert_key entry_cmp entries (word, number)) (longer : length new ≡ length entries + 1) where
-    pub sound_with_entry : IsSound new (set holders number (Some word)) props more
+    pub sound_with_entry : IsSoundDict new (set holders number (Some word)) props more
     sound_with_entry = record {
       dict = subst (λ es. IsDict (dict_of es props)) (sym same) (kept_with_entry d word number absent sound.dict form below free (omega (arith, some_room entries holders props room sound number below word free, longer, ap length same)));
       limit = sound.limit;
@@ -62,7 +62,7 @@ module _ (entries new : List Entry) (holders : Holders) (props room more : ℕ) 
     pub held_within : number < length holders
     held_within = omega (arith, number_below d sound.dict word number there, sound.table)
 
-    pub sound_without_word : IsSound new (set holders number None) props more
+    pub sound_without_word : IsSoundDict new (set holders number None) props more
     sound_without_word = record {
       dict = subst (λ es. IsDict (dict_of es props)) (sym same) (kept_without_word d word sound.dict (omega (arith, shorter, ap length same, sound.dict.few)));
       limit = sound.limit;

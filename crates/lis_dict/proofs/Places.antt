@@ -13,7 +13,7 @@ use Rattle.std.proofs.lemmas.Map.Lookups.{exact_bytes}
 use Rattle.lis_graph.proofs.Members.{Among, contains_from_among}
 use Rattle.lis_words.specs.Words.{word_cmp, same_word}
 use Rattle.lis_dict.specs.Dict.{entry_cmp}
-use Rattle.lis_dict.proofs.Entries.{Entry, Ordered, word_order, below_none, turned}
+use Rattle.lis_dict.proofs.Entries.{DictEntry, Ordered, word_order, below_none, turned}
 
 pub same_true : (a b : List ℕ) → a ≡ b → same_word a b ≡ true
 same_true a b e = (bytes_eq-Decides a b).1 e
@@ -44,7 +44,7 @@ rank_le Greater Equal a b = absurd (let e = b refl in cc)
 rank_le Greater Greater a b = omega arith
 
 -- the comparisons with a word rise
-pub comparisons_rise : (es : List Entry) → Ordered es → (word : List ℕ) → IsNonDecreasingBy (λ (e : Entry). ordering_index (word_cmp e.0 word)) es
+pub comparisons_rise : (es : List DictEntry) → Ordered es → (word : List ℕ) → IsNonDecreasingBy (λ (e : DictEntry). ordering_index (word_cmp e.0 word)) es
 comparisons_rise [] h word i j d le lt = absurd (omega arith)
 comparisons_rise (e ∷ es) h word zero zero d le lt = omega arith
 comparisons_rise (e ∷ es) h word zero (suc j) d le lt =
@@ -54,12 +54,12 @@ comparisons_rise (e ∷ es) h word zero (suc j) d le lt =
 comparisons_rise (e ∷ es) h word (suc i) zero d le lt = absurd (omega (arith, le))
 comparisons_rise (e ∷ es) h word (suc i) (suc j) d le lt = comparisons_rise es h.1 word i j d (omega (arith, le)) (omega (arith, lt))
 
-module _ (es : List Entry) (ordered : Ordered es) (word : List ℕ) where
-  pub searched_found : (r : Result ℕ ℕ) → IsBinarySearchResult (λ (e : Entry). word_cmp e.0 word) es r → IfOk r (HoldsAt (λ e. e.0 ≡ word) es)
+module _ (es : List DictEntry) (ordered : Ordered es) (word : List ℕ) where
+  pub searched_found : (r : Result ℕ ℕ) → IsBinarySearchResult (λ (e : DictEntry). word_cmp e.0 word) es r → IfOk r (HoldsAt (λ e. e.0 ≡ word) es)
   searched_found (Ok k) at = λ d. exact_bytes (get_or es k d).0 word (at d)
   searched_found (Err k) at = tt
 
-  pub searched_absent : (r : Result ℕ ℕ) → IsBinarySearchResult (λ (e : Entry). word_cmp e.0 word) es r → IfErr r (IsPartitionPoint (λ e. word_cmp e.0 word ≡ Less) (λ e. word_cmp e.0 word ≡ Greater) es)
+  pub searched_absent : (r : Result ℕ ℕ) → IsBinarySearchResult (λ (e : DictEntry). word_cmp e.0 word) es r → IfErr r (IsPartitionPoint (λ e. word_cmp e.0 word ≡ Less) (λ e. word_cmp e.0 word ≡ Greater) es)
   searched_absent (Ok k) at = tt
   searched_absent (Err k) at = at (comparisons_rise es ordered word)
 
@@ -72,17 +72,17 @@ filter_all keep (x ∷ xs) each = by (keep x) (each x (inl refl)) (filter_all ke
     by true e rest = ap (λ ys. x ∷ ys) rest
     by false e rest = absurd cc
 
-abbrev pub is_other : List ℕ → Entry → Bool
+abbrev pub is_other : List ℕ → DictEntry → Bool
 is_other word e = not (same_word e.0 word)
 
-pub other_true : (word : List ℕ) (e : Entry) → (e.0 ≡ word → ⊥) → is_other word e ≡ true
+pub other_true : (word : List ℕ) (e : DictEntry) → (e.0 ≡ word → ⊥) → is_other word e ≡ true
 other_true word e differ = ap not (same_false e.0 word differ)
 
 -- to take the entry out is to filter by its word
-pub remove_found : (es : List Entry) → Ordered es → (word : List ℕ) (k : ℕ) → k < length es → HoldsAt (λ (e : Entry). e.0 ≡ word) es k → remove es k ≡ filter (is_other word) es
+pub remove_found : (es : List DictEntry) → Ordered es → (word : List ℕ) (k : ℕ) → k < length es → HoldsAt (λ (e : DictEntry). e.0 ≡ word) es k → remove es k ≡ filter (is_other word) es
 remove_found [] h word k lt at = absurd (omega arith)
 remove_found (e ∷ es) h word zero lt at =
-    let above : (x : Entry) → Among es x → x.0 ≡ word → ⊥ = λ x m same. below_none word (subst (λ w. word_cmp word w ≡ Less) same (subst (λ w. word_cmp w x.0 ≡ Less) (at e) (h.0 x m))) in
+    let above : (x : DictEntry) → Among es x → x.0 ≡ word → ⊥ = λ x m same. below_none word (subst (λ w. word_cmp word w ≡ Less) same (subst (λ w. word_cmp w x.0 ≡ Less) (at e) (h.0 x m))) in
     sym (filter_all (is_other word) es (λ x m. other_true word x (above x m))) ∙ sym (ap (λ b. cond (not b) (e ∷ filter (is_other word) es) (filter (is_other word) es)) (same_true e.0 word (at e)))
 remove_found (e ∷ es) h word (suc k) lt at =
     let less : k < length es = omega (arith, lt) in
@@ -90,11 +90,11 @@ remove_found (e ∷ es) h word (suc k) lt at =
     let differ : e.0 ≡ word → ⊥ = λ same. below_none word (subst (λ w. word_cmp word w ≡ Less) (at e) (subst (λ w. word_cmp w (get_or es k e).0 ≡ Less) same lower)) in
     ap (λ ys. e ∷ ys) (remove_found es h.1 word k less (λ d. at d)) ∙ sym (ap (λ b. cond b (e ∷ filter (is_other word) es) (filter (is_other word) es)) (other_true word e differ))
 
-pub one_filtered : (es : List Entry) → Ordered es → (word : List ℕ) (number : ℕ) → Among es (word, number) → length (filter (is_other word) es) + 1 ≡ length es
+pub one_filtered : (es : List DictEntry) → Ordered es → (word : List ℕ) (number : ℕ) → Among es (word, number) → length (filter (is_other word) es) + 1 ≡ length es
 one_filtered [] h word number m = absurd m
 one_filtered (e ∷ es) h word number (inl at) =
-    let same : e.0 ≡ word = ap (λ (x : Entry). x.0) at in
-    let above : (x : Entry) → Among es x → x.0 ≡ word → ⊥ = λ x m there. below_none word (subst (λ w. word_cmp word w ≡ Less) there (subst (λ w. word_cmp w x.0 ≡ Less) same (h.0 x m))) in
+    let same : e.0 ≡ word = ap (λ (x : DictEntry). x.0) at in
+    let above : (x : DictEntry) → Among es x → x.0 ≡ word → ⊥ = λ x m there. below_none word (subst (λ w. word_cmp word w ≡ Less) there (subst (λ w. word_cmp w x.0 ≡ Less) same (h.0 x m))) in
     let gone = ap (λ b. cond (not b) (e ∷ filter (is_other word) es) (filter (is_other word) es)) (same_true e.0 word same) ∙ filter_all (is_other word) es (λ x m. other_true word x (above x m)) in
     omega (arith, ap length gone)
 one_filtered (e ∷ es) h word number (inr m) =
@@ -103,10 +103,10 @@ one_filtered (e ∷ es) h word number (inr m) =
     omega (arith, ap length kept, one_filtered es h.1 word number m)
 
 -- ---- the gap for the word
-abbrev pub IsGap : List Entry → List ℕ → ℕ → Type 0
-IsGap es word k = IsPartitionPoint (λ (e : Entry). word_cmp e.0 word ≡ Less) (λ (e : Entry). word_cmp e.0 word ≡ Greater) es k
+abbrev pub IsGap : List DictEntry → List ℕ → ℕ → Type 0
+IsGap es word k = IsPartitionPoint (λ (e : DictEntry). word_cmp e.0 word ≡ Less) (λ (e : DictEntry). word_cmp e.0 word ≡ Greater) es k
 
-pub gap_absent : (es : List Entry) (word : List ℕ) (k : ℕ) → IsGap es word k → (x : Entry) → Among es x → x.0 ≡ word → ⊥
+pub gap_absent : (es : List DictEntry) (word : List ℕ) (k : ℕ) → IsGap es word k → (x : DictEntry) → Among es x → x.0 ≡ word → ⊥
 gap_absent es word k gap x m same = by (contains_from_among es x m)
   where
     level : word_cmp x.0 word ≡ Equal
@@ -116,10 +116,10 @@ gap_absent es word k gap x m same = by (contains_from_among es x m)
     by found = go (cases_lt found.0 k)
       where
         go : (found.0 < k) ⊎ (k ≤ found.0) → ⊥
-        go (inl lt) = let less = subst (λ (e : Entry). word_cmp e.0 word ≡ Less) found.2 (gap.0 found.0 x (omega arith) lt) in absurd (let l = level in cc)
-        go (inr ge) = let more = subst (λ (e : Entry). word_cmp e.0 word ≡ Greater) found.2 (gap.1 found.0 x ge found.1) in absurd (let l = level in cc)
+        go (inl lt) = let less = subst (λ (e : DictEntry). word_cmp e.0 word ≡ Less) found.2 (gap.0 found.0 x (omega arith) lt) in absurd (let l = level in cc)
+        go (inr ge) = let more = subst (λ (e : DictEntry). word_cmp e.0 word ≡ Greater) found.2 (gap.1 found.0 x ge found.1) in absurd (let l = level in cc)
 
-pub insert_gap : (es : List Entry) (word : List ℕ) (number k : ℕ) → k ≤ length es → IsGap es word k → insert es k (word, number) ≡ insert_key entry_cmp es (word, number)
+pub insert_gap : (es : List DictEntry) (word : List ℕ) (number k : ℕ) → k ≤ length es → IsGap es word k → insert es k (word, number) ≡ insert_key entry_cmp es (word, number)
 insert_gap [] word number zero le gap = refl
 insert_gap [] word number (suc k) le gap = absurd (omega (arith, le))
 insert_gap (e ∷ es) word number zero le gap =

@@ -7,7 +7,7 @@ use Rattle.std.specs.List.{slice_get}
 use Rattle.std.proofs.lemmas.List.{take-append-drop}
 use Rattle.std.proofs.lemmas.Option.{slice_get_within, get_or_from_slice_get}
 use Rattle.lis_words.specs.Words.{word_cmp, same_word, is_number, count_of, number_behind, test_by, test_of}
-use Rattle.lis_dict.proofs.Entries.{Entry}
+use Rattle.lis_dict.proofs.Entries.{DictEntry}
 use Rattle.lis_dict.proofs.Places.{IsGap}
 
 -- a word that compares otherwise than all that begin with the sign
@@ -39,12 +39,12 @@ none_before word = no_test word (codes "size<") Less (λ rest e. cc) below
 none_behind : (word : List ℕ) → word_cmp word (codes "size?") ≡ Greater → test_of word ≡ None
 none_behind word = no_test word (codes "size?") Greater (λ rest e. cc) (λ rest e. cc)
 
-module _ (es : List Entry) (k : ℕ) (e : Entry) (at : slice_get es k ≡ Some e) where
+module _ (es : List DictEntry) (k : ℕ) (e : DictEntry) (at : slice_get es k ≡ Some e) where
   there : get_or es k e ≡ e
   there = get_or_from_slice_get es k e e at
 
   pub untested_before : (place : ℕ) → IsGap es (codes "size<") place → k < place → test_of e.0 ≡ None
-  untested_before place gap lt = none_before e.0 (subst (λ (x : Entry). word_cmp x.0 (codes "size<") ≡ Less) there (gap.0 k e (omega arith) lt))
+  untested_before place gap lt = none_before e.0 (subst (λ (x : DictEntry). word_cmp x.0 (codes "size<") ≡ Less) there (gap.0 k e (omega arith) lt))
 
   pub untested_behind : (place : ℕ) → IsGap es (codes "size?") place → place ≤ k → test_of e.0 ≡ None
-  untested_behind place gap le = none_behind e.0 (subst (λ (x : Entry). word_cmp x.0 (codes "size?") ≡ Greater) there (gap.1 k e le (slice_get_within es k e at)))
+  untested_behind place gap le = none_behind e.0 (subst (λ (x : DictEntry). word_cmp x.0 (codes "size?") ≡ Greater) there (gap.1 k e le (slice_get_within es k e at)))

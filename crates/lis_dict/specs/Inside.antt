@@ -6,7 +6,7 @@ abbrev pub dict_of : List (List ℕ × ℕ) → ℕ → Dict
 dict_of entries props = record { props = props; entries = entries }
 
 -- what the tables keep
-pub record IsSound (entries : List (List ℕ × ℕ)) (holders : List (Option (List ℕ))) (props room : ℕ) : Type 0 where
+pub record IsSoundDict (entries : List (List ℕ × ℕ)) (holders : List (Option (List ℕ))) (props room : ℕ) : Type 0 where
   pub dict : IsDict (dict_of entries props)
   pub limit : props ≤ 8192
   pub table : length holders ≡ props

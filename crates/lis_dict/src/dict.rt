@@ -46,11 +46,11 @@ impl Model for Dict {
 
     ghost Value = { Table };
 
-    ghost use Rattle.lis_dict.specs.Inside.{dict_of, IsSound};
+    ghost use Rattle.lis_dict.specs.Inside.{dict_of, IsSoundDict};
 
     ghost view = { λ d. dict_of d.entries.items d.props };
 
-    ghost invariant = { λ d. IsSound d.entries.items d.holders.items d.props (vec_capacity d.entries) };
+    ghost invariant = { λ d. IsSoundDict d.entries.items d.holders.items d.props (vec_capacity d.entries) };
 }
 
 // The place of the word, or else the place that it would have.

@@ -23,7 +23,7 @@ use Rattle.lis_store.specs.Seen.{placed}
 use Rattle.lis_store.specs.Stored.{Stored, IsSound, StoreFits}
 use Rattle.lis_store.proofs.ToldBy.{told_fits}
 use Rattle.lis_store.proofs.Described.{tags_told}
-use Rattle.lis_store.proofs.Facts.{limits_told, files_told, file_in_slot}
+use Rattle.lis_store.proofs.StoreSays.{limits_told, files_told, file_in_slot}
 use Rattle.lis_session.specs.Item.{FitsAt}
 use Rattle.lis_session.proofs.Blocks.{size_is}
 

@@ -12,7 +12,7 @@ use Rattle.lis_model.specs.Table.{Entry}
 use Rattle.lis_model.specs.Listing.{holds, holds_all}
 use Rattle.lis_place.specs.declared.node.Node.{Node}
 use Rattle.lis_place.specs.declared.node.Node.TheVariants.{Not}
-use Rattle.lis_place.specs.Nodes.{with_node, joined}
+use Rattle.lis_place.specs.Nodes.{with_node, combined}
 use Rattle.lis_eval.specs.View.{Placed, Seen, IsView}
 use Rattle.lis_eval.specs.Stack.{Stacks, IsStack, Pushes, PutsNode, in_all}
 
@@ -67,7 +67,7 @@ pub few_negated : (stack : List Formula) → length stack < 1 → with_node stac
 few_negated [] few = refl
 few_negated (f ∷ stack) few = absurd (omega arith)
 
-pub few_joined : (make : Formula → Formula → Formula) (stack : List Formula) → length stack < 2 → joined make stack ≡ stack
+pub few_joined : (make : Formula → Formula → Formula) (stack : List Formula) → length stack < 2 → combined make stack ≡ stack
 few_joined make [] few = refl
 few_joined make (g ∷ []) few = refl
 few_joined make (g ∷ f ∷ stack) few = absurd (omega arith)
@@ -99,7 +99,7 @@ pub negates : (v : Seen) (old : Rows) (depth : ℕ) → 1 ≤ depth → (stack :
 negates v old depth some [] is = absurd (let deep = is.deep in omega arith)
 negates v old depth some (g ∷ rest) is = (Negation g, rest, refl, is.deep, is.told.1, λ p there. ap not (ap (λ row. get old row p.slot) (sym is.deep) ∙ is.told.0 p there))
 
--- the last two formulas of a stack joined
+-- the last two formulas of a stack combined
 pub joins : (v : Seen) (old : Rows) (depth : ℕ) (node : Node) (make : Formula → Formula → Formula) (join : Bool → Bool → Bool) → 2 ≤ depth
     → ((f g : Formula) (stack : List Formula) → with_node (g ∷ f ∷ stack) node ≡ make f g ∷ stack) → ((f g : Formula) (e : Entry) → join (holds f e) (holds g e) ≡ holds (make f g) e)
     → (stack : List Formula) → IsStack v old depth stack

@@ -41,7 +41,7 @@ abbrev pub seen : Rows → Rows → ℕ → ℕ → Ext
 seen rows marks props files = record { props = props; sets = sets_of rows props files; marks = numbers_where props (get marks 0); edits = rows.edits }
 
 -- what the rows keep
-pub record IsSound (rows sets marks : Rows) (props files : ℕ) : Type 0 where
+pub record IsSoundExt (rows sets marks : Rows) (props files : ℕ) : Type 0 where
   pub few_props : props ≤ 8192
   pub few_files : files ≤ 4096
   pub rows_shape : HasShape rows props files

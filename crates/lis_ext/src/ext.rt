@@ -28,11 +28,11 @@ impl Model for Ext {
 
     ghost Value = { Sets };
 
-    ghost use Rattle.lis_ext.specs.Inside.{seen, IsSound};
+    ghost use Rattle.lis_ext.specs.Inside.{seen, IsSoundExt};
 
     ghost view = { λ e. seen e.rows e.marks e.props e.files };
 
-    ghost invariant = { λ e. IsSound e.rows e.sets e.marks e.props e.files };
+    ghost invariant = { λ e. IsSoundExt e.rows e.sets e.marks e.props e.files };
 }
 
 impl Ext {

@@ -6,6 +6,7 @@ use Rattle.byteorder.specs.Endian.{little_bytes}
 use Rattle.lis_graph.specs.Graph.{is_rising}
 use Rattle.lis_words.specs.Words.{is_head, is_valued, is_built_in, is_file_name}
 use Rattle.lis_model.specs.declared.limits.Limits.{Limits}
+use Rattle.lis_model.specs.Sets.{are_distinct}
 use Rattle.lis_model.specs.State.{is_declarable, file_limit, blocks_needed}
 use Rattle.lis_fields.specs.Records.{FileRecord}
 use Rattle.lis_fields.specs.declared.slots.PropSlot.{PropSlot}
@@ -109,11 +110,6 @@ file_bytes (Used rec) = record_bytes rec
 -- each number is one of two bytes
 abbrev pub are_short : List ℕ → Bool
 are_short ns = list_all (λ n. nat_lt n (2 ^ 16)) ns
-
--- no number stands twice
-abbrev pub are_distinct : List ℕ → Bool
-are_distinct [] = true
-are_distinct (n ∷ ns) = not (list_any (λ m. m == n) ns) && are_distinct ns
 
 -- at most 16 slot numbers, strictly rising
 abbrev pub are_tags : List ℕ → Bool

@@ -7,8 +7,9 @@ ghost use Rattle.lis_graph.specs.Graph.{is_rising};
 ghost use Rattle.lis_words.specs.Words.{is_file_name};
 ghost use Rattle.lis_model.specs.State.{file_limit};
 ghost use Rattle.lis_fields.specs.Records.{FileRecord};
-ghost use Rattle.lis_fields.specs.Layouts.{file_start, numbers, record_bytes, file_bytes, are_distinct, are_tags, slot_blocks, are_blocks, is_record, is_file};
+ghost use Rattle.lis_fields.specs.Layouts.{file_start, numbers, record_bytes, file_bytes, are_tags, slot_blocks, are_blocks, is_record, is_file};
 ghost use Rattle.lis_fields.specs.declared.slots.FileSlot.{FileSlot};
+ghost use Rattle.lis_model.specs.Sets.{are_distinct};
 
 use crate::fields::{
     NUMBERS_FIELD, TEXT_FIELD, are_zeros, read_number, read_numbers, read_text, write_number,

@@ -4,7 +4,7 @@ use Rattle.std.proofs.lemmas.Bool.{cond-false, ne_eqb, and_from, le-leb}
 use Rattle.std.proofs.lemmas.List.{take-take, drop-drop, take_all, length-map}
 use Rattle.lis_ports.specs.Bytes.{part, put, Torn}
 use Rattle.lis_ports.proofs.Parts.{part-put, length-put, torn-put}
-use Rattle.lis_journal.specs.Record.{block, Entry, homes, homes_of, count_of, is_header, record_end, is_record, recorded, entries_from, apply}
+use Rattle.lis_journal.specs.Record.{block, HomeBlock, homes, homes_of, count_of, is_header, record_end, is_record, recorded, entries_from, apply}
 use Rattle.lis_journal.specs.Images.{look}
 use Rattle.lis_journal.specs.Spreads.{IsClear, Touched}
 use Rattle.lis_journal.specs.Phases.{Spelled, renumbered}
@@ -25,11 +25,11 @@ torn_within at n from m low high old new torn =
           ∙ (drop-drop (from + m - (at + n)) (at + n) old ∙ ap (λ k. drop k old) rest)));
     }
 
-clear_before : (m n : ℕ) (es : List Entry) → n ≤ 4096 * m → IsClear (renumbered m es) 0 n
+clear_before : (m n : ℕ) (es : List HomeBlock) → n ≤ 4096 * m → IsClear (renumbered m es) 0 n
 clear_before m n [] le = tt
 clear_before m n (e ∷ es) le = (inl (omega (arith, le)), clear_before (m + 1) n es (omega (arith, le)))
 
-clear_after : (m at n : ℕ) (es : List Entry) → 4096 * (m + length es) ≤ at → IsClear (renumbered m es) at n
+clear_after : (m at n : ℕ) (es : List HomeBlock) → 4096 * (m + length es) ≤ at → IsClear (renumbered m es) at n
 clear_after m at n [] le = tt
 clear_after m at n (e ∷ es) le =
     let here : 4096 * m + 4096 ≤ at = omega (arith, le) in
@@ -37,7 +37,7 @@ clear_after m at n (e ∷ es) le =
     (inr here, clear_after (m + 1) at n es more)
 
 -- the blocks of a record, and its header's before them
-touched_area : (m : ℕ) (es : List Entry) (from image : List ℕ) → Touched (renumbered m es) from image → Torn (4096 * m) (4096 * length es) from image
+touched_area : (m : ℕ) (es : List HomeBlock) (from image : List ℕ) → Touched (renumbered m es) from image → Torn (4096 * m) (4096 * length es) from image
 touched_area m es from image touched =
     let end : 4096 * (m + length es) ≡ 4096 * m + 4096 * length es = omega arith in
     let rest = touched.clear (4096 * m + 4096 * length es) (length from) (clear_after m (4096 * m + 4096 * length es) (length from) es (omega arith)) in
@@ -48,16 +48,16 @@ touched_area m es from image touched =
           ∙ (rest ∙ take_all (length from) (drop (4096 * m + 4096 * length es) from) (omega (arith, length-drop (4096 * m + 4096 * length es) from)));
     }
 
-pub touched_record : (b : ℕ) (es : List Entry) (from image : List ℕ) → Touched (renumbered (b + 1) es) from image → Torn (4096 * b) (4096 * (length es + 1)) from image
+pub touched_record : (b : ℕ) (es : List HomeBlock) (from image : List ℕ) → Touched (renumbered (b + 1) es) from image → Torn (4096 * b) (4096 * (length es + 1)) from image
 touched_record b es from image touched =
     torn_within (4096 * (b + 1)) (4096 * length es) (4096 * b) (4096 * (length es + 1)) (omega arith) (omega arith) from image (touched_area (b + 1) es from image touched)
 
-pub header_torn : (b : ℕ) (es : List Entry) (n : ℕ) → n ≡ 4096 → (from image : List ℕ) → Torn (4096 * b) n from image → Torn (4096 * b) (4096 * (length es + 1)) from image
+pub header_torn : (b : ℕ) (es : List HomeBlock) (n : ℕ) → n ≡ 4096 → (from image : List ℕ) → Torn (4096 * b) n from image → Torn (4096 * b) (4096 * (length es + 1)) from image
 header_torn b es n is from image torn =
     torn_within (4096 * b) n (4096 * b) (4096 * (length es + 1)) (omega arith) (omega (arith, is)) from image torn
 
 -- a record that is written is torn, and no more
-pub torn_record : (b : ℕ) (es : List Entry) (old head : List ℕ) → b + length es + 1 ≤ 578 → Within 578 (renumbered (b + 1) es) → length head ≡ 4096 → 2367488 ≤ length old → Torn (4096 * b) (4096 * (length es + 1)) old (apply (renumbered (b + 1) es) (put old (4096 * b) head))
+pub torn_record : (b : ℕ) (es : List HomeBlock) (old head : List ℕ) → b + length es + 1 ≤ 578 → Within 578 (renumbered (b + 1) es) → length head ≡ 4096 → 2367488 ≤ length old → Torn (4096 * b) (4096 * (length es + 1)) old (apply (renumbered (b + 1) es) (put old (4096 * b) head))
 torn_record b es old head room within len long =
     let fits : 4096 * b + length head ≤ length old = omega (arith, room, len, long) in
     let top = header_torn b es (length head) len old (put old (4096 * b) head) (torn-put old (4096 * b) head fits) in
@@ -65,21 +65,21 @@ torn_record b es old head room within len long =
     torn_trans (4096 * b) (4096 * (length es + 1)) old (put old (4096 * b) head) _ top
     (touched_record b es (put old (4096 * b) head) _ (touched_apply 578 (renumbered (b + 1) es) (put old (4096 * b) head) within longer))
 
-pub within_record : (blocks m : ℕ) (es : List Entry) → m + length es ≤ 578 → Within blocks es → Within 578 (renumbered m es)
+pub within_record : (blocks m : ℕ) (es : List HomeBlock) → m + length es ≤ 578 → Within blocks es → Within 578 (renumbered m es)
 within_record blocks m [] le within = tt
 within_record blocks m (e ∷ es) le within =
     let here : m < 578 = omega (arith, le) in
     let more : m + 1 + length es ≤ 578 = omega (arith, le) in
     (here, within.1, within_record blocks (m + 1) es more within.2)
 
-look-below : (m n : ℕ) (es : List Entry) (old : List ℕ) → n < m → look (renumbered m es) n old ≡ old
+look-below : (m n : ℕ) (es : List HomeBlock) (old : List ℕ) → n < m → look (renumbered m es) n old ≡ old
 look-below m n [] old lt = refl
 look-below m n (e ∷ es) old lt =
     let ne : n ≡ m → ⊥ = λ same. absurd (omega (arith, same, lt)) in
     ap (look (renumbered (m + 1) es) n) (cond-false (n == m) e.bytes old (ne_eqb n m ne)) ∙ look-below (m + 1) n es old (omega (arith, lt))
 
 -- the contents that were written behind the header are those of the entries
-entries-written : (k : ℕ) (es : List Entry) (x : List ℕ) → k + length es ≤ 578 → Within 578 (renumbered k es) → 2367488 ≤ length x → entries_from k (homes es) (apply (renumbered k es) x) ≡ es
+entries-written : (k : ℕ) (es : List HomeBlock) (x : List ℕ) → k + length es ≤ 578 → Within 578 (renumbered k es) → 2367488 ≤ length x → entries_from k (homes es) (apply (renumbered k es) x) ≡ es
 entries-written k [] x le within long = refl
 entries-written k (e ∷ es) x le within long =
     let here : k < 578 = omega (arith, le) in
@@ -96,7 +96,7 @@ entries-written k (e ∷ es) x le within long =
     ∙ ap (λ es. e ∷ es) (entries-written (k + 1) es y more within.2 longer)
 
 -- What was written is a record in form, of these entries.
-pub spelled_written : (blocks b : ℕ) (es : List Entry) (old head : List ℕ) → b + length es + 1 ≤ 578 → Within 578 (renumbered (b + 1) es) → length head ≡ 4096 → 2367488 ≤ length old → IsTrue (is_header blocks head) → homes_of head ≡ homes es → Spelled blocks b es (apply (renumbered (b + 1) es) (put old (4096 * b) head))
+pub spelled_written : (blocks b : ℕ) (es : List HomeBlock) (old head : List ℕ) → b + length es + 1 ≤ 578 → Within 578 (renumbered (b + 1) es) → length head ≡ 4096 → 2367488 ≤ length old → IsTrue (is_header blocks head) → homes_of head ≡ homes es → Spelled blocks b es (apply (renumbered (b + 1) es) (put old (4096 * b) head))
 unfolding record_end is_record recorded
 spelled_written blocks b es old head room within len long form homes_are =
     let fits : 4096 * b + length head ≤ length old = omega (arith, room, len, long) in
@@ -107,7 +107,7 @@ spelled_written blocks b es old head room within len long form homes_are =
     ∙ (look-below (b + 1) b es (block b (put old (4096 * b) head)) (omega arith)
     ∙ (ap (λ m. part (4096 * b) m (put old (4096 * b) head)) (sym len) ∙ part-put old (4096 * b) head fits)) in
     let count : count_of head ≡ length es =
-    sym (length-words 1 (count_of head) head) ∙ (ap length homes_are ∙ length-map es (λ (e : Entry). e.home)) in
+    sym (length-words 1 (count_of head) head) ∙ (ap length homes_are ∙ length-map es (λ (e : HomeBlock). e.home)) in
     let ends : b + count_of (block b all) + 1 ≡ b + length es + 1 = ap (λ header. b + count_of header + 1) top ∙ ap (λ c. b + c + 1) count in
     let fit : IsTrue (nat_le (b + count_of (block b all) + 1) 578) = le-leb (b + count_of (block b all) + 1) 578 (omega (arith, ends, room)) in
     record {

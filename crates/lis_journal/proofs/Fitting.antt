@@ -8,7 +8,7 @@ use Rattle.lis_ports.specs.Runs.{IsDiskRun, Always, IsSettled}
 use Rattle.lis_ports.specs.Calls.{IsUnchanged}
 use Rattle.lis_ports.proofs.Always.{always_settled}
 use Rattle.lis_ports.proofs.Parts.{length-part}
-use Rattle.lis_journal.specs.Record.{block, has_open, Entry, first_bad, all_recorded, apply, bad_record, replayed, open_count}
+use Rattle.lis_journal.specs.Record.{block, has_open, HomeBlock, first_bad, all_recorded, apply, bad_record, replayed, open_count}
 use Rattle.lis_journal.specs.Journal.{Held, OpenRecords, no_records}
 use Rattle.lis_journal.specs.Images.{IsOutside, StandsFor, StandsBut, is_among, look, held_in, IsAtRest, FitsAt, Fits, KeepsPast, with_placed}
 use Rattle.lis_journal.specs.Spreads.{Spreads, SamePast}
@@ -73,7 +73,7 @@ replayed_parts blocks image replay is = by (first_bad blocks 2 (open_count image
     by None e = (refl, cc)
     by (Some b) e = cc
 
-look-front : (es : List Entry) (old : List ℕ) → AtHome es → look es 0 old ≡ old
+look-front : (es : List HomeBlock) (old : List ℕ) → AtHome es → look es 0 old ≡ old
 look-front [] old home = refl
 look-front (e ∷ es) old home =
     let ne : 0 ≡ e.home → ⊥ = λ same. absurd (omega (arith, same, home.0)) in
@@ -136,7 +136,7 @@ fits_told {now = now} {records = records} {now_records = now_records} {placed = 
     (subst (λ b. FitsAt b records placed m kept) blocks_are fits))
 
 -- what is staged for a block over its latest content
-pub content_some : {T : Type 0} (o : Option T) (bytes_of : T → List ℕ) (staged latest : List Entry) (n : ℕ) → has_entry staged n ≡ false → IfSome o (λ x. (old : List ℕ) → look latest n old ≡ bytes_of x) → IfSome o (λ x. (old : List ℕ) → look staged n (look latest n old) ≡ bytes_of x)
+pub content_some : {T : Type 0} (o : Option T) (bytes_of : T → List ℕ) (staged latest : List HomeBlock) (n : ℕ) → has_entry staged n ≡ false → IfSome o (λ x. (old : List ℕ) → look latest n old ≡ bytes_of x) → IfSome o (λ x. (old : List ℕ) → look staged n (look latest n old) ≡ bytes_of x)
 content_some None bytes_of staged latest n absent some = tt
 content_some (Some x) bytes_of staged latest n absent some = λ old. look-absent staged n (look latest n old) absent ∙ some old
 
@@ -144,6 +144,6 @@ content_some (Some x) bytes_of staged latest n absent some = λ old. look-absent
 pub none_placed : (old new : Held) {A B : Type 0} → old.placed ≡ [] → (old.staged ≡ [] → A × B × (new ≡ old)) → (0 < length old.staged → new.placed ≡ []) → new.placed ≡ []
 none_placed old new none idle some = by old.staged refl
   where
-    by : (es : List Entry) → old.staged ≡ es → new.placed ≡ []
+    by : (es : List HomeBlock) → old.staged ≡ es → new.placed ≡ []
     by [] is = ap (λ (h : Held). h.placed) (idle is).2 ∙ none
     by (e ∷ es) is = some (omega (arith, ap length is))

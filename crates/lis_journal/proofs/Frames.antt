@@ -11,13 +11,13 @@ use Rattle.std.proofs.lemmas.List.Sums.{sum_by-set}
 use Rattle.lis_region.specs.Region as region
 use Rattle.lis_region.proofs.Frames.{get-with_frame_same, get-with_frame_other, frame_in_range}
 use Rattle.lis_journal.specs.declared.stage.Staged.{Staged}
-use Rattle.lis_journal.specs.Record.{Entry, homes, rises}
+use Rattle.lis_journal.specs.Record.{HomeBlock, homes, rises}
 use Rattle.lis_journal.specs.Staging.{Staging, with_entry, has_entry}
 use Rattle.lis_journal.specs.Images.{look}
 use Rattle.lis_journal.specs.Inside.{bytes_at, entry_of, entries_of, home_list, IsFresh, AreApart, FoundAt, PlaceFor, IsStage}
 use Rattle.lis_journal.proofs.Places.{rise_parts, rise_from, rises-with_entry, whole-with_entry, absent}
 
-abbrev pub AllWhole : List Entry → Type 0
+abbrev pub AllWhole : List HomeBlock → Type 0
 AllWhole es = IsTrue (list_all (λ e. length e.bytes == 4096) es)
 
 some_whole : (o : Option (List ℕ)) → (length (unwrap_or o []) == 4096) ≡ true → IsSome o
@@ -55,15 +55,15 @@ frame_fresh x [] k d fresh_ lt = absurd (omega arith)
 frame_fresh x (y ∷ ys) zero d fresh_ lt = λ same. fresh_.0 (sym same)
 frame_fresh x (y ∷ ys) (suc k) d fresh_ lt = let less : k < length ys = omega (arith, lt) in frame_fresh x ys k d fresh_.1 less
 
-head-with : (e : Entry) (es : List Entry) (n : ℕ) (bytes : List ℕ) → e.home < n → with_entry (e ∷ es) n bytes ≡ e ∷ with_entry es n bytes
+head-with : (e : HomeBlock) (es : List HomeBlock) (n : ℕ) (bytes : List ℕ) → e.home < n → with_entry (e ∷ es) n bytes ≡ e ∷ with_entry es n bytes
 head-with e es n bytes lower = cond-true (nat_lt e.home n) (e ∷ with_entry es n bytes) (cond (e.home == n) (record { home = n; bytes = bytes } ∷ es) (record { home = n; bytes = bytes } ∷ e ∷ es)) (lt-ltb e.home n lower)
 
-head-same : (e : Entry) (es : List Entry) (n : ℕ) (bytes : List ℕ) → e.home ≡ n → with_entry (e ∷ es) n bytes ≡ record { home = n; bytes = bytes } ∷ es
+head-same : (e : HomeBlock) (es : List HomeBlock) (n : ℕ) (bytes : List ℕ) → e.home ≡ n → with_entry (e ∷ es) n bytes ≡ record { home = n; bytes = bytes } ∷ es
 head-same e es n bytes same =
     cond-false (nat_lt e.home n) (e ∷ with_entry es n bytes) (cond (e.home == n) (record { home = n; bytes = bytes } ∷ es) (record { home = n; bytes = bytes } ∷ e ∷ es)) (le-ltb e.home n (omega (arith, same)))
     ∙ cond-true (e.home == n) (record { home = n; bytes = bytes } ∷ es) (record { home = n; bytes = bytes } ∷ e ∷ es) (eq-eqb e.home n same)
 
-head-above : (e : Entry) (es : List Entry) (n : ℕ) (bytes : List ℕ) → n < e.home → with_entry (e ∷ es) n bytes ≡ record { home = n; bytes = bytes } ∷ e ∷ es
+head-above : (e : HomeBlock) (es : List HomeBlock) (n : ℕ) (bytes : List ℕ) → n < e.home → with_entry (e ∷ es) n bytes ≡ record { home = n; bytes = bytes } ∷ e ∷ es
 head-above e es n bytes above =
     let ne : e.home ≡ n → ⊥ = λ same. absurd (omega (arith, same, above)) in
     cond-false (nat_lt e.home n) (e ∷ with_entry es n bytes) (cond (e.home == n) (record { home = n; bytes = bytes } ∷ es) (record { home = n; bytes = bytes } ∷ e ∷ es)) (le-ltb e.home n (omega (arith, above)))
@@ -149,13 +149,13 @@ pub cleared : (r r' : region.Region ℕ) (xs ys : List Staged) (s : Staged) → 
 cleared r r' xs ys s is given whole apart =
     let parts = apart-front ys s (subst AreApart is apart) in
     let all : AllWhole (entries_of r ys ++ entry_of r s ∷ []) = subst AllWhole (ap (entries_of r) is ∙ map-append (entry_of r) ys (s ∷ [])) whole in
-    let front = and_parts (list_all (λ e. length e.bytes == 4096) (entries_of r ys)) ((length (bytes_at r s.frame) == 4096) && true) (sym (list_all-append (λ (e : Entry). length e.bytes == 4096) (entries_of r ys) (entry_of r s ∷ [])) ∙ all) in
+    let front = and_parts (list_all (λ e. length e.bytes == 4096) (entries_of r ys)) ((length (bytes_at r s.frame) == 4096) && true) (sym (list_all-append (λ (e : HomeBlock). length e.bytes == 4096) (entries_of r ys) (entry_of r s ∷ [])) ∙ all) in
     (subst AllWhole (sym (ap (λ r. entries_of r ys) given ∙ entries-fresh r ys s.frame None parts.1)) front.0, parts.0)
 
 pub has_last : (r : region.Region ℕ) (xs ys : List Staged) (s : Staged) → xs ≡ ys ++ s ∷ [] → AllWhole (entries_of r xs) → region.HasFrame r s.frame
 has_last r xs ys s is whole =
     let all : AllWhole (entries_of r ys ++ entry_of r s ∷ []) = subst AllWhole (ap (entries_of r) is ∙ map-append (entry_of r) ys (s ∷ [])) whole in
-    let front = and_parts (list_all (λ e. length e.bytes == 4096) (entries_of r ys)) ((length (bytes_at r s.frame) == 4096) && true) (sym (list_all-append (λ (e : Entry). length e.bytes == 4096) (entries_of r ys) (entry_of r s ∷ [])) ∙ all) in
+    let front = and_parts (list_all (λ e. length e.bytes == 4096) (entries_of r ys)) ((length (bytes_at r s.frame) == 4096) && true) (sym (list_all-append (λ (e : HomeBlock). length e.bytes == 4096) (entries_of r ys) (entry_of r s ∷ [])) ∙ all) in
     some_whole (region.get r s.frame) (and_parts (length (bytes_at r s.frame) == 4096) true front.1).0
 
 pub some_of : (o : Option (List ℕ)) → IsSome o → (a : List ℕ) × (o ≡ Some a)
@@ -219,14 +219,14 @@ put_new r r1 r2 xs xs' n k room room' blocks frame fill bytes stage place free i
 
 -- What a block that is staged is to hold.
 
-look-above : (es : List Entry) (blocks last n : ℕ) (old : List ℕ) → IsTrue (rises blocks last (homes es)) → n ≤ last → look es n old ≡ old
+look-above : (es : List HomeBlock) (blocks last n : ℕ) (old : List ℕ) → IsTrue (rises blocks last (homes es)) → n ≤ last → look es n old ≡ old
 look-above [] blocks last n old rise le = refl
 look-above (e ∷ es) blocks last n old rise le =
     let parts = rise_parts blocks last e.home (homes es) rise in
     let ne : n ≡ e.home → ⊥ = λ same. absurd (omega (arith, same, parts.0, le)) in
     ap (look es n) (cond-false (n == e.home) e.bytes old (ne_eqb n e.home ne)) ∙ look-above es blocks e.home n old parts.2 (omega (arith, parts.0, le))
 
-pub look-found : (r : region.Region ℕ) (xs : List Staged) (blocks last n k : ℕ) (d : Entry) (old : List ℕ) → IsTrue (rises blocks last (homes (entries_of r xs))) → FoundAt n k xs → look (entries_of r xs) n old ≡ (get_or (entries_of r xs) k d).bytes
+pub look-found : (r : region.Region ℕ) (xs : List Staged) (blocks last n k : ℕ) (d : HomeBlock) (old : List ℕ) → IsTrue (rises blocks last (homes (entries_of r xs))) → FoundAt n k xs → look (entries_of r xs) n old ≡ (get_or (entries_of r xs) k d).bytes
 look-found r [] blocks last n k d old rise found = absurd found
 look-found r (x ∷ xs) blocks last n zero d old rise found =
     let parts = rise_parts blocks last x.home (homes (entries_of r xs)) rise in
@@ -243,7 +243,7 @@ pub may_stage : {s t : Staging} (n : ℕ) → s ≡ t → IsTrue (has_entry t.en
 may_stage n same may = subst (λ (s : Staging). IsTrue (has_entry s.entries n) ⊎ (length s.entries < 575)) (sym same) may
 
 -- What a block is to hold after one is staged.
-pub look-with_entry : (blocks last n : ℕ) (bytes : List ℕ) (es : List Entry) (m : ℕ) (old : List ℕ) → IsTrue (rises blocks last (homes es)) → look (with_entry es n bytes) m old ≡ cond (m == n) bytes (look es m old)
+pub look-with_entry : (blocks last n : ℕ) (bytes : List ℕ) (es : List HomeBlock) (m : ℕ) (old : List ℕ) → IsTrue (rises blocks last (homes es)) → look (with_entry es n bytes) m old ≡ cond (m == n) bytes (look es m old)
 look-with_entry blocks last n bytes [] m old rise = refl
 look-with_entry blocks last n bytes (e ∷ es) m old rise =
     let parts = rise_parts blocks last e.home (homes es) rise in
@@ -271,7 +271,7 @@ look-with_entry blocks last n bytes (e ∷ es) m old rise =
         ∙ look-above es blocks e.home m bytes rise (omega (arith, at, le)))
     by false false false is_lower is_same is_here rise whole more = ap (λ b. rest (cond b bytes old)) is_here
 
-pub looked_put : (blocks n : ℕ) (bytes : List ℕ) (es es' : List Entry) (s : Staging) → record { blocks = blocks; entries = es } ≡ s → IsTrue (rises blocks 577 (homes es)) → es' ≡ with_entry es n bytes → (m : ℕ) (old : List ℕ) → look es' m old ≡ cond (m == n) bytes (look s.entries m old)
+pub looked_put : (blocks n : ℕ) (bytes : List ℕ) (es es' : List HomeBlock) (s : Staging) → record { blocks = blocks; entries = es } ≡ s → IsTrue (rises blocks 577 (homes es)) → es' ≡ with_entry es n bytes → (m : ℕ) (old : List ℕ) → look es' m old ≡ cond (m == n) bytes (look s.entries m old)
 looked_put blocks n bytes es es' s same rise is m old =
     ap (λ es. look es m old) is
     ∙ (look-with_entry blocks 577 n bytes es m old rise ∙ ap (λ (s : Staging). cond (m == n) bytes (look s.entries m old)) same)

@@ -7,7 +7,7 @@ use Rattle.std.proofs.lemmas.List.{drop-drop, take_more, map-append}
 use Rattle.std.proofs.lemmas.Nat.{from_le_bytes-to_le_bytes_4}
 use Rattle.lis_ports.specs.Bytes.{put}
 use Rattle.lis_ports.proofs.Parts.{part-put, part-put_other, torn-put, length-put}
-use Rattle.lis_journal.specs.Record.{Entry, homes, word, words, count_of, homes_of, rises, is_header}
+use Rattle.lis_journal.specs.Record.{HomeBlock, homes, word, words, count_of, homes_of, rises, is_header}
 
 pub word-put : (h : List ℕ) (k v : ℕ) → v < 2 ^ 32 → 4 * k + 4 ≤ length h → word k (put h (4 * k) (to_le_bytes w32 v)) ≡ v
 word-put h k v fits le = ap (from_le_bytes w32) (part-put h (4 * k) (to_le_bytes w32 v) le) ∙ from_le_bytes-to_le_bytes_4 v fits
@@ -100,10 +100,10 @@ one_home_more h h' c k hs home begun is fits few =
       zeros = subst (λ xs. IsTrue (list_all (λ b. b == 0) (drop (4 * (k + 1 + 1)) xs))) (sym is) (zeros_behind h bytes (k + 1) refl le begun.zeros);
     }
 
-pub homes-take : (es : List Entry) (k : ℕ) (d : Entry) (home : ℕ) → k < length es → home ≡ (get_or es k d).home → homes (take k es) ++ home ∷ [] ≡ homes (take (k + 1) es)
+pub homes-take : (es : List HomeBlock) (k : ℕ) (d : HomeBlock) (home : ℕ) → k < length es → home ≡ (get_or es k d).home → homes (take k es) ++ home ∷ [] ≡ homes (take (k + 1) es)
 homes-take es k d home lt is =
     ap (λ h. homes (take k es) ++ h ∷ []) is
-    ∙ (sym (map-append (λ (e : Entry). e.home) (take k es) (get_or es k d ∷ [])) ∙ ap homes (sym (take_more es k d lt)))
+    ∙ (sym (map-append (λ (e : HomeBlock). e.home) (take k es) (get_or es k d ∷ [])) ∙ ap homes (sym (take_more es k d lt)))
 
 pub record IsForm (blocks : ℕ) (h : List ℕ) : Type 0 where
   pub some : 0 < count_of h

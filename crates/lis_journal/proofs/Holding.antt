@@ -9,7 +9,7 @@ use Rattle.lis_ports.specs.Runs.{IsDiskRun, Leaves}
 use Rattle.lis_ports.specs.Calls.{Elapses, IsTorn, IsWritten}
 use Rattle.lis_ports.proofs.Moments.{leaves_call, leaves_then, leaves_weaken}
 use Rattle.lis_ports.proofs.Parts.{Apart, part-torn, torn-put}
-use Rattle.lis_journal.specs.Record.{block, Entry}
+use Rattle.lis_journal.specs.Record.{block, HomeBlock}
 use Rattle.lis_journal.specs.Journal.{OpenRecords}
 use Rattle.lis_journal.specs.Images.{IsOutside, StandsBut, StandsForAllOrNone, is_among, look, IsAtRest, FitsAt, with_kept, with_run}
 use Rattle.lis_journal.specs.Staging.{has_entry, HasNone}
@@ -37,10 +37,10 @@ fits_placed placed fits = record {
 }
 
 -- ---- two calls in a row
-pub save_moments : {a b c : Meaning} (blocks : ℕ) (placed : List ℕ) (kept : ℕ → List ℕ) (es : List Entry) → Leaves a b (StandsBut blocks placed kept) → Leaves b c (StandsForAllOrNone blocks placed kept es) → Leaves a c (StandsForAllOrNone blocks placed kept es)
+pub save_moments : {a b c : Meaning} (blocks : ℕ) (placed : List ℕ) (kept : ℕ → List ℕ) (es : List HomeBlock) → Leaves a b (StandsBut blocks placed kept) → Leaves b c (StandsForAllOrNone blocks placed kept es) → Leaves a c (StandsForAllOrNone blocks placed kept es)
 save_moments blocks placed kept es one two = leaves_then (leaves_weaken _ one (λ image stands. inl stands)) two
 
-pub saving_moments : {a b : Meaning} (blocks : ℕ) (placed : List ℕ) (kept : ℕ → List ℕ) (es : List Entry) → Leaves a b (StandsBut blocks placed kept) → Leaves a b (StandsForAllOrNone blocks placed kept es)
+pub saving_moments : {a b : Meaning} (blocks : ℕ) (placed : List ℕ) (kept : ℕ → List ℕ) (es : List HomeBlock) → Leaves a b (StandsBut blocks placed kept) → Leaves a b (StandsForAllOrNone blocks placed kept es)
 saving_moments blocks placed kept es one = leaves_weaken _ one (λ image stands. inl stands)
 
 pub more_stands : {a b : Meaning} (blocks : ℕ) (placed : List ℕ) (kept : ℕ → List ℕ) (run : List ℕ) → Leaves a b (StandsBut blocks placed kept) → Leaves a b (StandsBut blocks (run ++ placed) kept)
@@ -204,12 +204,12 @@ fits_among {blocks} {records} {m} {kept} placed others less fits = record {
 }
 
 -- ---- a record more, told by the log
-pub append_moments : {a b : Meaning} {blocks now : ℕ} {records now_records : OpenRecords} (es : List Entry) → blocks ≡ now → records ≡ now_records → ((placed : List ℕ) (kept : ℕ → List ℕ) → FitsAt blocks records placed a kept → Leaves a b (StandsForAllOrNone blocks placed kept es)) → (placed : List ℕ) (kept : ℕ → List ℕ) → FitsAt now now_records placed a kept → Leaves a b (StandsForAllOrNone now placed kept es)
+pub append_moments : {a b : Meaning} {blocks now : ℕ} {records now_records : OpenRecords} (es : List HomeBlock) → blocks ≡ now → records ≡ now_records → ((placed : List ℕ) (kept : ℕ → List ℕ) → FitsAt blocks records placed a kept → Leaves a b (StandsForAllOrNone blocks placed kept es)) → (placed : List ℕ) (kept : ℕ → List ℕ) → FitsAt now now_records placed a kept → Leaves a b (StandsForAllOrNone now placed kept es)
 append_moments {a} {b} {now = now} {records = records} es blocks_are records_are moments =
     subst (λ (r : OpenRecords). (placed : List ℕ) (kept : ℕ → List ℕ) → FitsAt now r placed a kept → Leaves a b (StandsForAllOrNone now placed kept es)) records_are
     (subst (λ n. (placed : List ℕ) (kept : ℕ → List ℕ) → FitsAt n records placed a kept → Leaves a b (StandsForAllOrNone n placed kept es)) blocks_are moments)
 
-pub append_kept : {a b : Meaning} {blocks now then : ℕ} {records now_records last then_records : OpenRecords} (es : List Entry) → blocks ≡ now → blocks ≡ then → records ≡ now_records → last ≡ then_records → ((placed : List ℕ) (kept : ℕ → List ℕ) → FitsAt blocks records placed a kept → FitsAt blocks last [] b (looked es kept)) → (placed : List ℕ) (kept : ℕ → List ℕ) → FitsAt now now_records placed a kept → FitsAt then then_records [] b (looked es kept)
+pub append_kept : {a b : Meaning} {blocks now then : ℕ} {records now_records last then_records : OpenRecords} (es : List HomeBlock) → blocks ≡ now → blocks ≡ then → records ≡ now_records → last ≡ then_records → ((placed : List ℕ) (kept : ℕ → List ℕ) → FitsAt blocks records placed a kept → FitsAt blocks last [] b (looked es kept)) → (placed : List ℕ) (kept : ℕ → List ℕ) → FitsAt now now_records placed a kept → FitsAt then then_records [] b (looked es kept)
 append_kept {a} {b} {blocks} {then = then} {now_records = now_records} {last = last} es blocks_are blocks_then records_are last_is keeps = λ placed kept fits.
     let back = subst (λ n. FitsAt n now_records placed a kept) (sym blocks_are) fits in
     subst (λ (r : OpenRecords). FitsAt then r [] b (looked es kept)) last_is

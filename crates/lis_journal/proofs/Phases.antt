@@ -3,7 +3,7 @@ use Rattle.std.proofs.Common.{◌≡◌, ◌≢◌, ◌⊎◌, inl, inr, ℕ, ze
 use Rattle.std.proofs.lemmas.Bool.{lt-ltb, le-ltb, cases_eq, cases_order}
 use Rattle.lis_ports.specs.Bytes.{put, Torn}
 use Rattle.lis_ports.proofs.Parts.{Apart, part-torn, torn-put}
-use Rattle.lis_journal.specs.Record.{block, is_open, open_count, Entry, record_end, is_record, recorded, first_bad, all_recorded, behind, apply, bad_record, replayed}
+use Rattle.lis_journal.specs.Record.{block, is_open, open_count, HomeBlock, record_end, is_record, recorded, first_bad, all_recorded, behind, apply, bad_record, replayed}
 use Rattle.lis_journal.specs.Journal.{OpenRecords, records_of, no_records}
 use Rattle.lis_journal.specs.Images.{IsOutside, Keeps, KeepsBut, StandsFor, StandsBut, StandsForAllOrNone, look, is_among, Holds, IsAtRest}
 use Rattle.lis_journal.specs.Spreads.{Touched}
@@ -251,7 +251,7 @@ others_shut blocks kept bytes shut =
 
 -- ---- a record more
 -- the gate of a whole record may be torn
-pub torn_gate : (blocks : ℕ) (records : OpenRecords) (kept : ℕ → List ℕ) (es : List Entry) (from image : List ℕ) → Unsure blocks records kept es from → Torn (4096 + records.count) 1 from image → Unsure blocks records kept es image
+pub torn_gate : (blocks : ℕ) (records : OpenRecords) (kept : ℕ → List ℕ) (es : List HomeBlock) (from image : List ℕ) → Unsure blocks records kept es from → Torn (4096 + records.count) 1 from image → Unsure blocks records kept es image
 torn_gate blocks records kept es from image unsure torn =
     let apart : (j : ℕ) → 2 ≤ j → Apart (4096 + records.count) 1 (4096 * j) 4096 = λ j le. inr (omega (arith, le, unsure.few)) in
     let stays : (j : ℕ) → records.next ≤ j → block j image ≡ block j from = λ j le. part-torn (4096 + records.count) 1 from image torn (4096 * j) 4096 (apart j (omega (arith, le, next_low unsure.holds))) in
@@ -262,7 +262,7 @@ torn_gate blocks records kept es from image unsure torn =
       gates = λ k lt ne. other_gate-torn records.count from image torn k lt ne ∙ unsure.gates k lt ne;
     }
 
-pub holds_more : (blocks : ℕ) (records : OpenRecords) (kept : ℕ → List ℕ) (es later : List Entry) (image : List ℕ) → Absorbs records.latest es later → Holds blocks records [] kept image → Spelled blocks records.next es image → Holds blocks (records_of (records.count + 1) (records.next + length es + 1) later) [] (looked es kept) image
+pub holds_more : (blocks : ℕ) (records : OpenRecords) (kept : ℕ → List ℕ) (es later : List HomeBlock) (image : List ℕ) → Absorbs records.latest es later → Holds blocks records [] kept image → Spelled blocks records.next es image → Holds blocks (records_of (records.count + 1) (records.next + length es + 1) later) [] (looked es kept) image
 holds_more blocks records kept es later image absorbs holds spelled =
     let one : suc records.count ≡ records.count + 1 = omega arith in
     let there = holds.ends in
@@ -282,7 +282,7 @@ holds_more blocks records kept es later image absorbs holds spelled =
       same = λ n out not_in. absorbs n (block n image) ∙ ap (look es n) (holds.same n out not_in);
     }
 
-more_gates : (blocks : ℕ) (records : OpenRecords) (kept : ℕ → List ℕ) (es : List Entry) (image : List ℕ) → Unsure blocks records kept es image → is_open records.count image ≡ true → (k : ℕ) → k < 64 → is_open k image ≡ nat_lt k (records.count + 1)
+more_gates : (blocks : ℕ) (records : OpenRecords) (kept : ℕ → List ℕ) (es : List HomeBlock) (image : List ℕ) → Unsure blocks records kept es image → is_open records.count image ≡ true → (k : ℕ) → k < 64 → is_open k image ≡ nat_lt k (records.count + 1)
 more_gates blocks records kept es image unsure opened k lt = by (cases_order k records.count)
   where
     by : (k ≡ records.count) ⊎ ((k < records.count) ⊎ (records.count < k)) → is_open k image ≡ nat_lt k (records.count + 1)
@@ -295,20 +295,20 @@ more_gates blocks records kept es image unsure opened k lt = by (cases_order k r
         unsure.gates k lt (λ e. absurd (omega (arith, e, high)))
         ∙ (le-ltb k records.count (omega (arith, high)) ∙ sym (le-ltb k (records.count + 1) (omega (arith, high))))
 
-gates_as_before : (blocks : ℕ) (records : OpenRecords) (kept : ℕ → List ℕ) (es : List Entry) (image : List ℕ) → Unsure blocks records kept es image → is_open records.count image ≡ false → (k : ℕ) → k < 64 → is_open k image ≡ nat_lt k records.count
+gates_as_before : (blocks : ℕ) (records : OpenRecords) (kept : ℕ → List ℕ) (es : List HomeBlock) (image : List ℕ) → Unsure blocks records kept es image → is_open records.count image ≡ false → (k : ℕ) → k < 64 → is_open k image ≡ nat_lt k records.count
 gates_as_before blocks records kept es image unsure closed k lt = elim (cases_eq k records.count) as (λ _. is_open k image ≡ nat_lt k records.count) [
   | inl here ↦ subst (λ k. is_open k image ≡ nat_lt k records.count) (sym here) (closed ∙ sym (le-ltb records.count records.count (omega arith)))
   | inr other ↦ unsure.gates k lt other
 ]
 
-pub rest_more : (blocks : ℕ) (records : OpenRecords) (kept : ℕ → List ℕ) (es later : List Entry) (image : List ℕ) → Absorbs records.latest es later → Unsure blocks records kept es image → is_open records.count image ≡ true → IsAtRest blocks (records_of (records.count + 1) (records.next + length es + 1) later) [] (looked es kept) image
+pub rest_more : (blocks : ℕ) (records : OpenRecords) (kept : ℕ → List ℕ) (es later : List HomeBlock) (image : List ℕ) → Absorbs records.latest es later → Unsure blocks records kept es image → is_open records.count image ≡ true → IsAtRest blocks (records_of (records.count + 1) (records.next + length es + 1) later) [] (looked es kept) image
 rest_more blocks records kept es later image absorbs unsure opened = record {
   few = omega (arith, unsure.few);
   holds = holds_more blocks records kept es later image absorbs unsure.holds unsure.spelled;
   gates = more_gates blocks records kept es image unsure opened;
 }
 
-pub unsure_stands : (blocks : ℕ) (records : OpenRecords) (placed : List ℕ) (kept : ℕ → List ℕ) (es : List Entry) (image : List ℕ) → Unsure blocks records kept es image → StandsForAllOrNone blocks placed kept es image
+pub unsure_stands : (blocks : ℕ) (records : OpenRecords) (placed : List ℕ) (kept : ℕ → List ℕ) (es : List HomeBlock) (image : List ℕ) → Unsure blocks records kept es image → StandsForAllOrNone blocks placed kept es image
 unsure_stands blocks records placed kept es image unsure = by (is_open records.count image) refl
   where
     by : (b : Bool) → is_open records.count image ≡ b → StandsForAllOrNone blocks placed kept es image
@@ -321,7 +321,7 @@ unsure_stands blocks records placed kept es image unsure = by (is_open records.c
     }))))
 
 -- the gate is written open
-pub gate_opened : (blocks : ℕ) (records : OpenRecords) (kept : ℕ → List ℕ) (es later : List Entry) (bytes : List ℕ) → Absorbs records.latest es later → Unsure blocks records kept es bytes → IsAtRest blocks (records_of (records.count + 1) (records.next + length es + 1) later) [] (looked es kept) (put bytes (4096 + records.count) (1 ∷ []))
+pub gate_opened : (blocks : ℕ) (records : OpenRecords) (kept : ℕ → List ℕ) (es later : List HomeBlock) (bytes : List ℕ) → Absorbs records.latest es later → Unsure blocks records kept es bytes → IsAtRest blocks (records_of (records.count + 1) (records.next + length es + 1) later) [] (looked es kept) (put bytes (4096 + records.count) (1 ∷ []))
 gate_opened blocks records kept es later bytes absorbs unsure =
     let long = gates_long unsure.holds in
     let fits : 4096 + records.count + 1 ≤ length bytes = omega (arith, long, unsure.few) in
@@ -331,7 +331,7 @@ gate_opened blocks records kept es later bytes absorbs unsure =
     (gate-put records.count 1 bytes unsure.few long)
 
 -- the record is written
-pub record_unsure : (blocks : ℕ) (records : OpenRecords) (kept : ℕ → List ℕ) (es : List Entry) (image : List ℕ) → records.count < 64 → IsAtRest blocks records [] kept image → Spelled blocks records.next es image → Unsure blocks records kept es image
+pub record_unsure : (blocks : ℕ) (records : OpenRecords) (kept : ℕ → List ℕ) (es : List HomeBlock) (image : List ℕ) → records.count < 64 → IsAtRest blocks records [] kept image → Spelled blocks records.next es image → Unsure blocks records kept es image
 record_unsure blocks records kept es image few rest spelled = record {
   few = few;
   holds = rest.holds;

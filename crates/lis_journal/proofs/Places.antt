@@ -4,7 +4,7 @@ use Rattle.std.specs.List.{list_all, list_any}
 use Rattle.std.proofs.lemmas.List.{get_or_default}
 use Rattle.std.proofs.lemmas.Bool.{and_parts, and_from, ltb-true, lt-ltb, eqb-true, eqb-false, eq-eqb, ltb-false, ne_eqb}
 use Rattle.lis_journal.specs.declared.stage.Staged.{Staged}
-use Rattle.lis_journal.specs.Record.{Entry, homes, rises}
+use Rattle.lis_journal.specs.Record.{HomeBlock, homes, rises}
 use Rattle.lis_journal.specs.Staging.{with_entry}
 use Rattle.lis_journal.specs.Inside.{home_list, FoundAt, PlaceFor}
 
@@ -68,7 +68,7 @@ homes_rise blocks last (x ∷ xs) (suc i) (suc j) d rise le lt =
     homes_rise blocks x.home xs i j d parts.2 same less
 
 -- The homes still rise with one more.
-pub rises-with_entry : (blocks last n : ℕ) (bytes : List ℕ) (es : List Entry) → last < n → n < blocks → IsTrue (rises blocks last (homes es)) → IsTrue (rises blocks last (homes (with_entry es n bytes)))
+pub rises-with_entry : (blocks last n : ℕ) (bytes : List ℕ) (es : List HomeBlock) → last < n → n < blocks → IsTrue (rises blocks last (homes es)) → IsTrue (rises blocks last (homes (with_entry es n bytes)))
 rises-with_entry blocks last n bytes [] above within rise = rise_from blocks last n [] above within refl
 rises-with_entry blocks last n bytes (e ∷ es) above within rise =
     let parts = rise_parts blocks last e.home (homes es) rise in
@@ -87,7 +87,7 @@ rises-with_entry blocks last n bytes (e ∷ es) above within rise =
     by false is above_e inside rest more = by_eq (e.home == n) refl is inside rest
 
 -- And each content is a block.
-pub whole-with_entry : (n : ℕ) (bytes : List ℕ) (es : List Entry) → length bytes ≡ 4096 → IsTrue (list_all (λ e. length e.bytes == 4096) es) → IsTrue (list_all (λ e. length e.bytes == 4096) (with_entry es n bytes))
+pub whole-with_entry : (n : ℕ) (bytes : List ℕ) (es : List HomeBlock) → length bytes ≡ 4096 → IsTrue (list_all (λ e. length e.bytes == 4096) es) → IsTrue (list_all (λ e. length e.bytes == 4096) (with_entry es n bytes))
 whole-with_entry n bytes [] len whole = and_from (length bytes == 4096) true (eq-eqb (length bytes) 4096 len) refl
 whole-with_entry n bytes (e ∷ es) len whole =
     let parts = and_parts (length e.bytes == 4096) (list_all (λ e. length e.bytes == 4096) es) whole in

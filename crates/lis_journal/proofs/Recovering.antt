@@ -8,7 +8,7 @@ use Rattle.lis_ports.specs.Runs.{IsDiskRun, Leaves, Always, IsSettled}
 use Rattle.lis_ports.specs.Calls.{Elapses, IsSynced}
 use Rattle.lis_ports.proofs.Always.{always_settled}
 use Rattle.lis_ports.proofs.Moments.{leaves_call, leaves_then, leaves_weaken}
-use Rattle.lis_journal.specs.Record.{block, gates, is_open, has_open, open_count, behind_gates, gates_closed, Entry, first_bad, all_recorded, behind, apply, bad_record, replayed, recovered_as, recovered}
+use Rattle.lis_journal.specs.Record.{block, gates, is_open, has_open, open_count, behind_gates, gates_closed, HomeBlock, first_bad, all_recorded, behind, apply, bad_record, replayed, recovered_as, recovered}
 use Rattle.lis_journal.specs.Journal.{records_of, no_records}
 use Rattle.lis_journal.specs.Images.{look, StandsFor, StandsBut, IsAtRest, FitsAt, KeepsPast}
 use Rattle.lis_journal.specs.Spreads.{Spreads, OnlyReads, SameAround}
@@ -107,7 +107,7 @@ failed_recovers blocks (Err e) failed reading = record {
 }
 
 -- ---- closing the gates
-module _ {blocks count : ℕ} {latest : List Entry} {m : Meaning} (loaded : IsLoaded blocks count latest m) where
+module _ {blocks count : ℕ} {latest : List HomeBlock} {m : Meaning} (loaded : IsLoaded blocks count latest m) where
   loaded_full : 2367488 ≤ length m.bytes
   loaded_full = omega (arith, loaded.enough, loaded.long)
 
@@ -251,7 +251,7 @@ module _ {blocks count : ℕ} {latest : List Entry} {m : Meaning} (loaded : IsLo
 
 -- ---- what was read
 -- after all records are read
-pub loaded_from : {blocks count : ℕ} {latest : List Entry} {old m : Meaning} (bytes : List ℕ) → Reading old m → 578 < blocks → 4096 * blocks ≤ length old.bytes → has_open old.bytes ≡ true → open_count old.bytes ≡ count → bytes ≡ old.bytes → None ≡ first_bad blocks 2 count bytes → ((n : ℕ) (was : List ℕ) → look (all_recorded 2 count bytes) n was ≡ look latest n was) → IsLoaded blocks count latest m
+pub loaded_from : {blocks count : ℕ} {latest : List HomeBlock} {old m : Meaning} (bytes : List ℕ) → Reading old m → 578 < blocks → 4096 * blocks ≤ length old.bytes → has_open old.bytes ≡ true → open_count old.bytes ≡ count → bytes ≡ old.bytes → None ≡ first_bad blocks 2 count bytes → ((n : ℕ) (was : List ℕ) → look (all_recorded 2 count bytes) n was ≡ look latest n was) → IsLoaded blocks count latest m
 loaded_from {blocks} {count} {latest} {old} {m} bytes reading enough long opened counted is form latest_is =
     let same : bytes ≡ m.bytes = is ∙ sym reading.reads in
     record {

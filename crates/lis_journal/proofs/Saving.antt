@@ -6,7 +6,7 @@ use Rattle.lis_ports.specs.Runs.{Leaves, Always, IsSettled}
 use Rattle.lis_ports.proofs.Always.{always_settled}
 use Rattle.lis_ports.proofs.Moments.{leaves_weaken}
 use Rattle.lis_ports.proofs.Parts.{part-torn}
-use Rattle.lis_journal.specs.Record.{gates_closed, Entry, homes, homes_of, is_header, apply}
+use Rattle.lis_journal.specs.Record.{gates_closed, HomeBlock, homes, homes_of, is_header, apply}
 use Rattle.lis_journal.specs.Journal.{records_of, no_records}
 use Rattle.lis_journal.specs.Images.{StandsFor, StandsBut, StandsForAllOrNone, IsAtRest, FitsAt}
 use Rattle.lis_journal.specs.Staging.{Staging, IsStaging}
@@ -27,7 +27,7 @@ on_both (Ok x) step p q = step p q
 on_both (Err e) step p q = p
 
 -- what is known of the staged blocks
-pub record Plan (blocks : ℕ) (es : List Entry) : Type 0 where
+pub record Plan (blocks : ℕ) (es : List HomeBlock) : Type 0 where
   pub enough : 578 < blocks
   pub within : Within blocks es
   pub home : AtHome es
@@ -40,13 +40,13 @@ plan_of s enough staging = record {
 }
 
 -- ---- a record more
-pub record_moments : {blocks count next : ℕ} {latest : List Entry} {placed : List ℕ} {kept : ℕ → List ℕ} {a b : Meaning} (es : List Entry) → next + length es + 1 ≤ 578 → FitsAt blocks (records_of count next latest) placed a kept → Spreads a b (Torn (4096 * next) (4096 * (length es + 1))) → Leaves a b (StandsForAllOrNone blocks placed kept es)
+pub record_moments : {blocks count next : ℕ} {latest : List HomeBlock} {placed : List ℕ} {kept : ℕ → List ℕ} {a b : Meaning} (es : List HomeBlock) → next + length es + 1 ≤ 578 → FitsAt blocks (records_of count next latest) placed a kept → Spreads a b (Torn (4096 * next) (4096 * (length es + 1))) → Leaves a b (StandsForAllOrNone blocks placed kept es)
 record_moments {blocks} {count} {next} {latest} {placed} {kept} es room fits spreads =
     leaves_weaken _ spreads.moments (λ image is.
     inl (rest_stands blocks (records_of count next latest) placed kept image
     (torn_behind blocks (records_of count next latest) placed kept (4096 * (length es + 1)) is.0 image (omega (arith, room)) (fits.leaves is.0 is.1) is.2)))
 
-pub record_written : {blocks count next : ℕ} {latest : List Entry} {placed : List ℕ} {kept : ℕ → List ℕ} {a b : Meaning} (es : List Entry) (head : List ℕ) → Plan blocks es → count < 64 → next + length es + 1 ≤ 578 → length head ≡ 4096 → IsTrue (is_header blocks head) → homes_of head ≡ homes es → FitsAt blocks (records_of count next latest) placed a kept → IsSettled b (apply (renumbered (next + 1) es) (put a.bytes (4096 * next) head)) → Always b (Unsure blocks (records_of count next latest) kept es)
+pub record_written : {blocks count next : ℕ} {latest : List HomeBlock} {placed : List ℕ} {kept : ℕ → List ℕ} {a b : Meaning} (es : List HomeBlock) (head : List ℕ) → Plan blocks es → count < 64 → next + length es + 1 ≤ 578 → length head ≡ 4096 → IsTrue (is_header blocks head) → homes_of head ≡ homes es → FitsAt blocks (records_of count next latest) placed a kept → IsSettled b (apply (renumbered (next + 1) es) (put a.bytes (4096 * next) head)) → Always b (Unsure blocks (records_of count next latest) kept es)
 record_written {blocks} {count} {next} {latest} {placed} {kept} {a} {b} es head plan few room len form homes_are fits settled =
     let records = records_of count next latest in
     let long = full fits.reads.holds in
@@ -57,18 +57,18 @@ record_written {blocks} {count} {next} {latest} {placed} {kept} {a} {b} es head 
     (torn_behind blocks records [] kept (4096 * (length es + 1)) a.bytes bytes (omega (arith, room)) fits.reads (torn_record next es a.bytes head room within len long))
     (spelled_written blocks next es a.bytes head room within len long form homes_are))
 
-pub opening_moments : {blocks count next : ℕ} {latest : List Entry} {kept : ℕ → List ℕ} {a b : Meaning} (es : List Entry) (placed : List ℕ) → Always a (Unsure blocks (records_of count next latest) kept es) → Spreads a b (Torn (4096 + count) 1) → Leaves a b (StandsForAllOrNone blocks placed kept es)
+pub opening_moments : {blocks count next : ℕ} {latest : List HomeBlock} {kept : ℕ → List ℕ} {a b : Meaning} (es : List HomeBlock) (placed : List ℕ) → Always a (Unsure blocks (records_of count next latest) kept es) → Spreads a b (Torn (4096 + count) 1) → Leaves a b (StandsForAllOrNone blocks placed kept es)
 opening_moments {blocks} {count} {next} {latest} {kept} es placed all spreads =
     leaves_spread (Torn (4096 + count) 1) (StandsForAllOrNone blocks placed kept es) all spreads
     (λ from image u t. unsure_stands blocks (records_of count next latest) placed kept es image (torn_gate blocks (records_of count next latest) kept es from image u t))
 
-pub appended : {blocks count next : ℕ} {latest : List Entry} {kept : ℕ → List ℕ} {a b : Meaning} (es later : List Entry) → IsTrue b.is_honest → Absorbs latest es later → Always a (Unsure blocks (records_of count next latest) kept es) → IsSettled b (put a.bytes (4096 + count) (1 ∷ [])) → FitsAt blocks (records_of (count + 1) (next + length es + 1) later) [] b (looked es kept)
+pub appended : {blocks count next : ℕ} {latest : List HomeBlock} {kept : ℕ → List ℕ} {a b : Meaning} (es later : List HomeBlock) → IsTrue b.is_honest → Absorbs latest es later → Always a (Unsure blocks (records_of count next latest) kept es) → IsSettled b (put a.bytes (4096 + count) (1 ∷ [])) → FitsAt blocks (records_of (count + 1) (next + length es + 1) later) [] b (looked es kept)
 appended {blocks} {count} {next} {latest} {kept} {a} {b} es later honest absorbs all settled =
     let rest = always_settled (IsAtRest blocks (records_of (count + 1) (next + length es + 1) later) [] (looked es kept)) (put a.bytes (4096 + count) (1 ∷ [])) settled (gate_opened blocks (records_of count next latest) kept es later a.bytes absorbs all.reads) in
     record { honest = honest; reads = rest.reads; leaves = rest.leaves }
 
 -- ---- a checkpoint
-module _ {blocks count next : ℕ} {es : List Entry} (plan : Plan blocks es) {placed : List ℕ} {kept : ℕ → List ℕ} {a : Meaning} (opened : IsOpened blocks (records_of count next es) placed a kept) where
+module _ {blocks count next : ℕ} {es : List HomeBlock} (plan : Plan blocks es) {placed : List ℕ} {kept : ℕ → List ℕ} {a : Meaning} (opened : IsOpened blocks (records_of count next es) placed a kept) where
   pub homes_moments : {b : Meaning} → Spreads a b (Touched es) → Leaves a b (StandsBut blocks placed kept)
   homes_moments spreads = leaves_weaken _ spreads.moments (λ image is.
       opened_stands blocks (records_of count next es) placed kept image
@@ -122,17 +122,17 @@ around_torn blocks at n enough high from image torn = record {
   rest = part-torn at n from image torn 4160 2363328 (inr high);
 }
 
-clear_past : (blocks : ℕ) (es : List Entry) (n : ℕ) → Within blocks es → blocks ≤ n → IsClear es (4096 * n) 4096
+clear_past : (blocks : ℕ) (es : List HomeBlock) (n : ℕ) → Within blocks es → blocks ≤ n → IsClear es (4096 * n) 4096
 clear_past blocks [] n within le = tt
 clear_past blocks (e ∷ es) n within le = (inr (omega (arith, within.0, le)), clear_past blocks es n within.2 le)
 
-around_touched : (blocks : ℕ) (es : List Entry) → Plan blocks es → (from image : List ℕ) → Touched es from image → SameAround blocks from image
+around_touched : (blocks : ℕ) (es : List HomeBlock) → Plan blocks es → (from image : List ℕ) → Touched es from image → SameAround blocks from image
 around_touched blocks es plan from image touched = record {
   past = λ n le. touched.clear (4096 * n) 4096 (clear_past blocks es n plan.within le);
   rest = touched.clear 4160 2363328 (homes_clear es 4160 2363328 (omega arith) plan.home);
 }
 
-pub homes_around : {a b : Meaning} {blocks : ℕ} {es : List Entry} → Plan blocks es → Spreads a b (Touched es) → Spreads a b (SameAround blocks)
+pub homes_around : {a b : Meaning} {blocks : ℕ} {es : List HomeBlock} → Plan blocks es → Spreads a b (Touched es) → Spreads a b (SameAround blocks)
 homes_around {blocks = blocks} {es = es} plan spreads = spreads_weaken _ spreads (around_touched blocks es plan)
 
 pub gate_around : {a b c : Meaning} (blocks : ℕ) → 578 < blocks → (at n : ℕ) → at + n ≤ 4160 → Spreads a b (SameAround blocks) → Spreads b c (Torn at n) → Spreads a c (SameAround blocks)

@@ -3,7 +3,7 @@ use Rattle.std.proofs.Common.{◌≡◌, ℕ, zero, suc, ◌+◌, ◌*◌, ◌<�
 use Rattle.std.proofs.lemmas.Bool.{and_parts, leb-true}
 use Rattle.std.proofs.lemmas.List.{append-nil}
 use Rattle.lis_ports.proofs.Parts.{length-part}
-use Rattle.lis_journal.specs.Record.{block, Entry, homes_of, count_of, rises, is_header, record_end, is_record, entries_from, recorded, behind, first_bad, all_recorded}
+use Rattle.lis_journal.specs.Record.{block, HomeBlock, homes_of, count_of, rises, is_header, record_end, is_record, entries_from, recorded, behind, first_bad, all_recorded}
 use Rattle.lis_journal.specs.Images.{look}
 use Rattle.lis_journal.specs.Phases.{Spelled}
 use Rattle.lis_journal.proofs.Entries.{Within, AtHome}
@@ -118,16 +118,16 @@ form-bad blocks b (suc n) (suc m) image lt good bad =
     ap (λ f. cond f (first_bad blocks (record_end b image) m image) (Some b)) parts.0 ∙ form-bad blocks (record_end b image) n m image less parts.1 bad
 
 -- ---- what the records hold
-pub look-append : (es fs : List Entry) (n : ℕ) (old : List ℕ) → look (es ++ fs) n old ≡ look fs n (look es n old)
+pub look-append : (es fs : List HomeBlock) (n : ℕ) (old : List ℕ) → look (es ++ fs) n old ≡ look fs n (look es n old)
 look-append [] fs n old = refl
 look-append (e ∷ es) fs n old = look-append es fs n (cond (n == e.home) e.bytes old)
 
 -- entries that are home blocks within the image, with a block each
-pub record Sound (blocks : ℕ) (es : List Entry) : Type 0 where
+pub record Sound (blocks : ℕ) (es : List HomeBlock) : Type 0 where
   pub within : Within blocks es
   pub home : AtHome es
 
-sound_append : (blocks : ℕ) (es fs : List Entry) → Sound blocks es → Sound blocks fs → Sound blocks (es ++ fs)
+sound_append : (blocks : ℕ) (es fs : List HomeBlock) → Sound blocks es → Sound blocks fs → Sound blocks (es ++ fs)
 sound_append blocks [] fs one two = two
 sound_append blocks (e ∷ es) fs one two =
     let rest = sound_append blocks es fs (record { within = one.within.2; home = one.home.1 }) two in
@@ -156,7 +156,7 @@ all_sound blocks b (suc n) image long good =
     sound_append blocks (recorded b image) (all_recorded (record_end b image) n image) (recorded_sound blocks b image long parts.0) (all_sound blocks (record_end b image) n image long parts.1)
 
 -- a record whose blocks are the same is spelled the same
-pub spelled_same : (blocks b : ℕ) (es : List Entry) (from image : List ℕ) → ((j : ℕ) → b ≤ j → j < record_end b from → block j image ≡ block j from) → Spelled blocks b es from → Spelled blocks b es image
+pub spelled_same : (blocks b : ℕ) (es : List HomeBlock) (from image : List ℕ) → ((j : ℕ) → b ≤ j → j < record_end b from → block j image ≡ block j from) → Spelled blocks b es from → Spelled blocks b es image
 spelled_same blocks b es from image same spelled =
     let here = same b (omega arith) (end_above b from) in
     record {

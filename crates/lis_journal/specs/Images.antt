@@ -2,7 +2,7 @@
 use Rattle.std.specs.Prelude.{◌≡◌, ◌⊎◌, ℕ, zero, suc, ◌+◌, ◌*◌, ◌<◌, ◌≤◌, ◌==◌, nat_lt, Bool, false, if◌then◌else◌, List, [], ◌∷◌, ◌++◌, length, take, drop, None, IsTrue, IsSomeAnd}
 use Rattle.std.specs.List.{list_any}
 use Rattle.lis_ports.specs.Meaning.{Meaning}
-use Rattle.lis_journal.specs.Record.{block, is_open, Entry, behind, first_bad, all_recorded, replayed}
+use Rattle.lis_journal.specs.Record.{block, is_open, HomeBlock, behind, first_bad, all_recorded, replayed}
 use Rattle.lis_journal.specs.Journal.{OpenRecords, Held}
 
 -- A block outside the gates and the records. Those past the image are among them.
@@ -31,12 +31,12 @@ StandsBut blocks placed kept image =
     (4096 * blocks ≤ length image) × IsSomeAnd (replayed blocks image) (KeepsBut blocks placed kept)
 
 -- what a block holds when these entries are in their homes, if `old` was there
-abbrev pub look : List Entry → ℕ → List ℕ → List ℕ
+abbrev pub look : List HomeBlock → ℕ → List ℕ → List ℕ
 look [] n old = old
 look (e ∷ entries) n old = look entries n (if n == e.home then e.bytes else old)
 
 -- It stands for the blocks as before, but for the placed ones, or for all of them with all entries in their homes.
-abbrev pub StandsForAllOrNone : ℕ → List ℕ → (ℕ → List ℕ) → List Entry → List ℕ → Type 0
+abbrev pub StandsForAllOrNone : ℕ → List ℕ → (ℕ → List ℕ) → List HomeBlock → List ℕ → Type 0
 StandsForAllOrNone blocks placed kept entries image =
     StandsBut blocks placed kept image ⊎ StandsFor blocks (λ n. look entries n (kept n)) image
 

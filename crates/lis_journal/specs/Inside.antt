@@ -3,17 +3,17 @@ use Rattle.std.specs.Prelude.{◌≡◌, ◌≢◌, ℕ, zero, suc, ◌+◌, ◌
 use Rattle.std.specs.List.{list_all}
 use Rattle.lis_region.specs.Region as region
 use Rattle.lis_journal.specs.declared.stage.Staged.{Staged}
-use Rattle.lis_journal.specs.Record.{Entry}
+use Rattle.lis_journal.specs.Record.{HomeBlock}
 use Rattle.lis_journal.specs.Journal.{OpenRecords}
 use Rattle.lis_journal.specs.Staging.{Staging, IsStaging}
 
 abbrev pub bytes_at : region.Region ℕ → ℕ → List ℕ
 bytes_at r frame = unwrap_or (region.get r frame) []
 
-abbrev pub entry_of : region.Region ℕ → Staged → Entry
+abbrev pub entry_of : region.Region ℕ → Staged → HomeBlock
 entry_of r s = record { home = s.home; bytes = bytes_at r s.frame }
 
-abbrev pub entries_of : region.Region ℕ → List Staged → List Entry
+abbrev pub entries_of : region.Region ℕ → List Staged → List HomeBlock
 entries_of r staged = map (entry_of r) staged
 
 abbrev pub staging_of : region.Region ℕ → List Staged → ℕ → Staging

@@ -1,15 +1,15 @@
 -- A journal as it is seen.
 use Rattle.std.specs.Prelude.{◌≡◌, ℕ, Bool, List, []}
-use Rattle.lis_journal.specs.Record.{Entry}
+use Rattle.lis_journal.specs.Record.{HomeBlock}
 
 -- The open records: how many there are, the block behind them, and the latest content of each block that is in them, in the order
 -- of their homes.
 pub record OpenRecords : Type 0 where
   pub count : ℕ
   pub next : ℕ
-  pub latest : List Entry
+  pub latest : List HomeBlock
 
-abbrev pub records_of : ℕ → ℕ → List Entry → OpenRecords
+abbrev pub records_of : ℕ → ℕ → List HomeBlock → OpenRecords
 records_of count next latest = record { count = count; next = next; latest = latest }
 
 abbrev pub no_records : OpenRecords
@@ -18,7 +18,7 @@ no_records = records_of 0 2 []
 pub record Held : Type 0 where
   pub blocks : ℕ
   -- in the order of their homes
-  pub staged : List Entry
+  pub staged : List HomeBlock
   pub records : OpenRecords
   -- the blocks that were written without a record since the last commit
   pub placed : List ℕ

@@ -2,7 +2,7 @@
 use Rattle.std.specs.Prelude.{◌≡◌, ◌≢◌, ℕ, ◌+◌, ◌*◌, ◌<◌, ◌≤◌, nat_lt, true, false, List, [], ◌∷◌, length, None, Result, OnOk, IsTrue}
 use Rattle.lis_ports.specs.Meaning.{Meaning}
 use Rattle.lis_ports.specs.Runs.{Leaves, IsSettled}
-use Rattle.lis_journal.specs.Record.{block, is_open, has_open, open_count, Entry, record_end, is_record, recorded, first_bad, all_recorded, apply, recovered}
+use Rattle.lis_journal.specs.Record.{block, is_open, has_open, open_count, HomeBlock, record_end, is_record, recorded, first_bad, all_recorded, apply, recovered}
 use Rattle.lis_journal.specs.Journal.{OpenRecords, no_records}
 use Rattle.lis_journal.specs.Images.{IsOutside, Keeps, Holds, look, FitsAt}
 use Rattle.lis_journal.specs.Spreads.{Spreads, SamePast}
@@ -11,13 +11,13 @@ use Rattle.lis_journal.specs.declared.commit.Target.{Target}
 use Rattle.lis_journal.specs.declared.commit.Target.TheVariants.{Record, Homes}
 
 -- the record that begins at block b is in form and holds these entries
-pub record Spelled (blocks b : ℕ) (es : List Entry) (image : List ℕ) : Type 0 where
+pub record Spelled (blocks b : ℕ) (es : List HomeBlock) (image : List ℕ) : Type 0 where
   pub form : is_record blocks b image ≡ true
   pub holds : recorded b image ≡ es
   pub ends : record_end b image ≡ b + length es + 1
 
 -- A record more is whole behind the open ones, and its gate may be anything.
-pub record Unsure (blocks : ℕ) (records : OpenRecords) (kept : ℕ → List ℕ) (es : List Entry) (image : List ℕ) : Type 0 where
+pub record Unsure (blocks : ℕ) (records : OpenRecords) (kept : ℕ → List ℕ) (es : List HomeBlock) (image : List ℕ) : Type 0 where
   pub few : records.count < 64
   pub holds : Holds blocks records [] kept image
   pub spelled : Spelled blocks records.next es image
@@ -47,7 +47,7 @@ pub record IsOpened (blocks : ℕ) (records : OpenRecords) (placed : List ℕ) (
   pub leaves : (image : List ℕ) → m.images image → Opened blocks records placed kept image
 
 -- what closing the gates begins with: a gate is open, all open records are in form, and their contents are in memory
-pub record IsLoaded (blocks count : ℕ) (latest : List Entry) (m : Meaning) : Type 0 where
+pub record IsLoaded (blocks count : ℕ) (latest : List HomeBlock) (m : Meaning) : Type 0 where
   pub honest : IsTrue m.is_honest
   pub opened : has_open m.bytes ≡ true
   pub settled : IsSettled m m.bytes
@@ -66,24 +66,24 @@ pub record Closes {T E : Type 0} (blocks count : ℕ) (old new : Meaning) (resul
   pub past : Spreads old new (SamePast blocks)
 
 -- the blocks with the entries in their homes
-abbrev pub looked : List Entry → (ℕ → List ℕ) → ℕ → List ℕ
+abbrev pub looked : List HomeBlock → (ℕ → List ℕ) → ℕ → List ℕ
 looked es kept n = look es n (kept n)
 
 -- The later entries look as the earlier ones with `es` over them.
-abbrev pub Absorbs : List Entry → List Entry → List Entry → Type 0
+abbrev pub Absorbs : List HomeBlock → List HomeBlock → List HomeBlock → Type 0
 Absorbs earlier es later = (n : ℕ) (old : List ℕ) → look later n old ≡ look es n (look earlier n old)
 
 -- the entries with blocks in a row as their homes
-abbrev pub renumbered : ℕ → List Entry → List Entry
+abbrev pub renumbered : ℕ → List HomeBlock → List HomeBlock
 renumbered n [] = []
 renumbered n (e ∷ es) = record { home = n; bytes = e.bytes } ∷ renumbered (n + 1) es
 
 -- the entries where they are written: in a row of blocks of a record, or at home
-abbrev pub at_target : Target → List Entry → List Entry
+abbrev pub at_target : Target → List HomeBlock → List HomeBlock
 at_target (Record first) es = renumbered first es
 at_target Homes es = es
 
 -- so many blocks of a record end before the home blocks
-abbrev pub HasRoom : Target → ℕ → Type 0
-HasRoom (Record first) n = first + n ≤ 578
-HasRoom Homes n = Unit {0}
+abbrev pub FitsTarget : Target → ℕ → Type 0
+FitsTarget (Record first) n = first + n ≤ 578
+FitsTarget Homes n = Unit {0}

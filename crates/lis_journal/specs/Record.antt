@@ -36,11 +36,11 @@ abbrev pub behind_gates : List ℕ → List ℕ
 behind_gates image = part 4160 2363328 image
 
 -- a block and what it is to hold
-pub record Entry : Type 0 where
+pub record HomeBlock : Type 0 where
   pub home : ℕ
   pub bytes : List ℕ
 
-abbrev pub homes : List Entry → List ℕ
+abbrev pub homes : List HomeBlock → List ℕ
 homes entries = map (λ e. e.home) entries
 
 -- the k-th number of a header, least byte first
@@ -77,13 +77,13 @@ unfoldable pub is_record : ℕ → ℕ → List ℕ → Bool
 is_record blocks b image = is_header blocks (block b image) && nat_le (record_end b image) 578
 
 -- homes with the blocks of the image from the k-th on
-abbrev pub entries_from : ℕ → List ℕ → List ℕ → List Entry
+abbrev pub entries_from : ℕ → List ℕ → List ℕ → List HomeBlock
 entries_from k [] image = []
 entries_from k (home ∷ homes) image =
     record { home = home; bytes = block k image } ∷ entries_from (k + 1) homes image
 
 -- what the record that begins at block b is to put into the homes
-unfoldable pub recorded : ℕ → List ℕ → List Entry
+unfoldable pub recorded : ℕ → List ℕ → List HomeBlock
 recorded b image = entries_from (b + 1) (homes_of (block b image)) image
 
 -- Of n records, one after another from block b on: the block behind them, the block of the first that is not in form, and what all
@@ -97,12 +97,12 @@ first_bad blocks b zero image = None
 first_bad blocks b (suc n) image =
     if is_record blocks b image then first_bad blocks (record_end b image) n image else Some b
 
-abbrev pub all_recorded : ℕ → ℕ → List ℕ → List Entry
+abbrev pub all_recorded : ℕ → ℕ → List ℕ → List HomeBlock
 all_recorded b zero image = []
 all_recorded b (suc n) image = recorded b image ++ all_recorded (record_end b image) n image
 
 -- an image with each entry in its home, the later ones over the earlier
-abbrev pub apply : List Entry → List ℕ → List ℕ
+abbrev pub apply : List HomeBlock → List ℕ → List ℕ
 apply [] image = image
 apply (e ∷ entries) image = apply entries (put image (4096 * e.home) e.bytes)
 

@@ -3,7 +3,7 @@ use Rattle.std.specs.Prelude.{◌≡◌, ◌⊎◌, ℕ, ◌*◌, ◌+◌, ◌�
 use Rattle.lis_ports.specs.Meaning.{Meaning}
 use Rattle.lis_ports.specs.Bytes.{part}
 use Rattle.lis_ports.specs.Runs.{Leaves}
-use Rattle.lis_journal.specs.Record.{Entry, block, behind_gates}
+use Rattle.lis_journal.specs.Record.{HomeBlock, block, behind_gates}
 
 -- Each image, at each moment and at the end, and the bytes as they read at the end, come from one of before by R.
 pub record Spreads (old new : Meaning) (R : List ℕ → List ℕ → Type 0) : Type 0 where
@@ -18,12 +18,12 @@ pub record OnlyReads (old new : Meaning) : Type 0 where
   pub moments : Leaves old new old.images
 
 -- the range is clear of the blocks of these entries
-abbrev pub IsClear : List Entry → ℕ → ℕ → Type 0
+abbrev pub IsClear : List HomeBlock → ℕ → ℕ → Type 0
 IsClear [] at n = Unit {0}
 IsClear (e ∷ entries) at n = ((at + n ≤ 4096 * e.home) ⊎ (4096 * e.home + 4096 ≤ at)) × IsClear entries at n
 
 -- the same bytes wherever it is clear of the blocks of these entries
-pub record Touched (entries : List Entry) (old new : List ℕ) : Type 0 where
+pub record Touched (entries : List HomeBlock) (old new : List ℕ) : Type 0 where
   pub len : length new ≡ length old
   pub clear : (at n : ℕ) → IsClear entries at n → part at n new ≡ part at n old
 

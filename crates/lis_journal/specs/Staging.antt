@@ -1,30 +1,30 @@
 -- Staged blocks as they are seen: a finite map from homes to contents.
 use Rattle.std.specs.Prelude.{◌≡◌, ℕ, ◌+◌, ◌<◌, ◌≤◌, ◌==◌, nat_lt, Bool, false, if◌then◌else◌, List, [], ◌∷◌, length, IsTrue}
 use Rattle.std.specs.List.{list_all, list_any}
-use Rattle.lis_journal.specs.Record.{Entry, homes, rises}
+use Rattle.lis_journal.specs.Record.{HomeBlock, homes, rises}
 
 -- for an image of so many blocks, the entries in the order of their homes
 pub record Staging : Type 0 where
   pub blocks : ℕ
-  pub entries : List Entry
+  pub entries : List HomeBlock
 
 -- the entries with this one, in the place of that of its home if there is one
-abbrev pub with_entry : List Entry → ℕ → List ℕ → List Entry
+abbrev pub with_entry : List HomeBlock → ℕ → List ℕ → List HomeBlock
 with_entry [] home bytes = record { home = home; bytes = bytes } ∷ []
 with_entry (e ∷ es) home bytes =
     if nat_lt e.home home then e ∷ with_entry es home bytes
     else (if e.home == home then record { home = home; bytes = bytes } ∷ es else record { home = home; bytes = bytes } ∷ e ∷ es)
 
 -- a block is staged
-abbrev pub has_entry : List Entry → ℕ → Bool
+abbrev pub has_entry : List HomeBlock → ℕ → Bool
 has_entry es n = list_any (λ e. e.home == n) es
 
 -- each entry has the bytes of a block
-abbrev pub are_whole : List Entry → Bool
+abbrev pub are_whole : List HomeBlock → Bool
 are_whole es = list_all (λ e. length e.bytes == 4096) es
 
 -- none of so many blocks from this one on is staged
-abbrev pub HasNone : List Entry → ℕ → ℕ → Type 0
+abbrev pub HasNone : List HomeBlock → ℕ → ℕ → Type 0
 HasNone es first count = (n : ℕ) → first ≤ n → n < first + count → has_entry es n ≡ false
 
 -- The homes rise, are home blocks inside the image, and each content is a block.

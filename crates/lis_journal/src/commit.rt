@@ -4,12 +4,12 @@ ghost use Rattle.std.specs.Prelude.{[], ◌∷◌, ◌≡◌, ◌+◌, ◌*◌, 
 ghost use Rattle.lis_ports.specs.Bytes.{put, Torn};
 ghost use Rattle.lis_ports.specs.Runs.{IsDiskRun, Leaves, IsSettled};
 ghost use Rattle.lis_ports.specs.Calls.{HasCause, DiskFaultEnds};
-ghost use Rattle.lis_journal.specs.Record.{Entry, gates_closed, apply, homes, homes_of, is_header};
+ghost use Rattle.lis_journal.specs.Record.{HomeBlock, gates_closed, apply, homes, homes_of, is_header};
 ghost use Rattle.lis_journal.specs.Journal.{records_of, no_records};
 ghost use Rattle.lis_journal.specs.Images.{StandsBut, StandsForAllOrNone, FitsAt};
 ghost use Rattle.lis_journal.specs.Spreads.{Spreads, Touched, SamePast, SameAround};
 ghost use Rattle.lis_journal.specs.Staging.{IsStaging};
-ghost use Rattle.lis_journal.specs.Phases.{IsOpened, Absorbs, looked, renumbered, at_target, HasRoom};
+ghost use Rattle.lis_journal.specs.Phases.{IsOpened, Absorbs, looked, renumbered, at_target, FitsTarget};
 
 use crate::stage::{BLOCK_LEN, Stage};
 use lis_ports::{Disk, Failed};
@@ -36,8 +36,8 @@ fn address(stage: &Stage, target: Target, k: usize) -> u64
     requires k { k < length stage.now.entries }
     requires blocks { 578 < stage.now.blocks }
     requires staging { IsStaging stage.now }
-    requires room { HasRoom target (length stage.now.entries) }
-    ensures address { (d : Entry) → result ≡ 4096 * (slice_index_or (at_target target stage.now.entries) k d).home }
+    requires room { FitsTarget target (length stage.now.entries) }
+    ensures address { (d : HomeBlock) → result ≡ 4096 * (slice_index_or (at_target target stage.now.entries) k d).home }
     ensures within { result + 4096 ≤ 4096 * stage.now.blocks }
 {
     match target {
@@ -50,7 +50,7 @@ fn address(stage: &Stage, target: Target, k: usize) -> u64
 fn write_blocks<D: Disk>(disk: &mut D, stage: &Stage, target: Target) -> Result<(), Failed>
     requires blocks { 578 < stage.now.blocks }
     requires long { 4096 * stage.now.blocks ≤ (D.meaning disk.old).len }
-    requires room { HasRoom target (length stage.now.entries) }
+    requires room { FitsTarget target (length stage.now.entries) }
     ensures run { IsDiskRun (D.meaning disk.old) (D.meaning disk.new) }
     ensures cause { HasCause (D.meaning disk.old).disk_faults (D.meaning disk.new).disk_faults result }
     ensures first_fault { DiskFaultEnds (D.meaning disk.old) (D.meaning disk.new) }
@@ -70,7 +70,7 @@ fn write_blocks<D: Disk>(disk: &mut D, stage: &Stage, target: Target) -> Result<
 fn write_synced<D: Disk>(disk: &mut D, stage: &Stage, target: Target) -> Result<(), Failed>
     requires blocks { 578 < stage.now.blocks }
     requires long { 4096 * stage.now.blocks ≤ (D.meaning disk.old).len }
-    requires room { HasRoom target (length stage.now.entries) }
+    requires room { FitsTarget target (length stage.now.entries) }
     ensures run { IsDiskRun (D.meaning disk.old) (D.meaning disk.new) }
     ensures cause { HasCause (D.meaning disk.old).disk_faults (D.meaning disk.new).disk_faults result }
     ensures first_fault { DiskFaultEnds (D.meaning disk.old) (D.meaning disk.new) }
@@ -157,11 +157,11 @@ pub fn append<D: Disk>(
     ensures run { IsDiskRun (D.meaning disk.old) (D.meaning disk.new) }
     ensures cause { HasCause (D.meaning disk.old).disk_faults (D.meaning disk.new).disk_faults result }
     ensures first_fault { DiskFaultEnds (D.meaning disk.old) (D.meaning disk.new) }
-    ensures any_moment { (latest : List Entry) (placed : List ℕ) (kept : ℕ → List ℕ)
+    ensures any_moment { (latest : List HomeBlock) (placed : List ℕ) (kept : ℕ → List ℕ)
         → FitsAt stage.now.blocks (records_of count next latest) placed (D.meaning disk.old) kept
         → Leaves (D.meaning disk.old) (D.meaning disk.new)
         (StandsForAllOrNone stage.now.blocks placed kept stage.now.entries) }
-    ensures kept { OnOk result ((latest later : List Entry) (placed : List ℕ) (kept : ℕ → List ℕ)
+    ensures kept { OnOk result ((latest later : List HomeBlock) (placed : List ℕ) (kept : ℕ → List ℕ)
         → Absorbs latest stage.now.entries later
         → FitsAt stage.now.blocks (records_of count next latest) placed (D.meaning disk.old) kept
         → FitsAt stage.now.blocks (records_of (count + 1) (next + length stage.now.entries + 1) later) [] (D.meaning disk.new)

@@ -80,7 +80,7 @@ fn fill(frames: &mut Region<u8>, frame: &Frame, bytes: &[u8])
 }
 
 impl Stage {
-    ghost use Rattle.lis_journal.specs.Record.{Entry};
+    ghost use Rattle.lis_journal.specs.Record.{HomeBlock};
     ghost use Rattle.lis_journal.specs.Images.{look};
     ghost use Rattle.lis_journal.specs.Staging.{with_entry, has_entry, IsStaging};
 
@@ -112,7 +112,7 @@ impl Stage {
     /// The home of the k-th block.
     pub fn home(&self, k: usize) -> u32
         requires { k < length self.now.entries }
-        ensures { (d : Entry) → result ≡ (slice_index_or self.now.entries k d).home }
+        ensures { (d : HomeBlock) → result ≡ (slice_index_or self.now.entries k d).home }
     {
         self.staged[k].home
     }
@@ -120,7 +120,7 @@ impl Stage {
     /// What the k-th block is to hold.
     pub fn bytes(&self, k: usize) -> &[u8]
         requires { k < length self.now.entries }
-        ensures bytes { (d : Entry) → result.now ≡ (slice_index_or self.now.entries k d).bytes }
+        ensures bytes { (d : HomeBlock) → result.now ≡ (slice_index_or self.now.entries k d).bytes }
         ensures whole { length result.now ≡ 4096 }
     {
         self.region.items(&self.staged[k].frame)

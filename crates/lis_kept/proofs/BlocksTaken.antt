@@ -5,11 +5,11 @@ use Rattle.std.proofs.lemmas.Bool.{cond-true, cond-false, eq-eqb, ltb-false}
 use Rattle.lis_ports.specs.Meaning.{Meaning}
 use Rattle.lis_ports.specs.Runs.{Leaves}
 use Rattle.lis_ports.proofs.Moments.{leaves_none}
-use Rattle.lis_journal.specs.Record.{Entry}
+use Rattle.lis_journal.specs.Record.{HomeBlock}
 use Rattle.lis_journal.specs.Images.{look, is_among, StandsBut, Fits}
 use Rattle.lis_journal.specs.Phases.{looked}
 use Rattle.lis_blockmap.specs.Bitmap.{free_count}
-use Rattle.lis_content.specs.Content.{given, are_free, are_within, has_number}
+use Rattle.lis_content.specs.Content.{given, are_free, are_within}
 use Rattle.lis_content.specs.Large.{is_large, file_blocks}
 use Rattle.lis_content.specs.Placing.{HasFile, Places, IsPlaced, IsTornOff, IsUnplaced}
 use Rattle.lis_content.specs.Putting.{IsPut, IsRefused}
@@ -26,12 +26,13 @@ use Rattle.lis_kept.specs.Kept.{Kept}
 use Rattle.lis_kept.specs.Areas.{Area, slots_of, block_of, spelled}
 use Rattle.lis_kept.specs.Sound.{is_sound_record}
 use Rattle.lis_kept.specs.Links.{AreHeld}
-use Rattle.lis_kept.specs.Changes.{Takes, Gives, Fills, Lands, Puts, PutTorn}
+use Rattle.lis_kept.specs.Changes.{Takes, GivesBack, Fills, Lands, Puts, PutTorn}
 use Rattle.lis_kept.proofs.InArea.{few_blocks}
 use Rattle.lis_kept.proofs.Formed.{held_files, record_parts}
 use Rattle.lis_kept.proofs.Marking.{block_marked}
 use Rattle.lis_kept.proofs.Filing.{same_distinct}
 use Rattle.lis_kept.proofs.Contents.{slot_blocks_counted}
+use Rattle.lis_model.specs.Sets.{has_number}
 
 -- ---- other blocks are taken, over what memory kept
 module _ (k p : Kept) (t : Taxonomy) (taken marks : List Bool) (is : p ≡ k) (held : AreHeld p t) (len : length taken ≡ length p.taken) (marked_is : marks ≡ set p.marks (bitmap_start p.limits) true) where
@@ -94,11 +95,11 @@ module _ (p : Kept) (t : Taxonomy) (held : AreHeld p t) (bytes numbers : List �
   abbrev placed_lands : (kept : ℕ → List ℕ) → Fits old before kept → Lands p.limits bytes numbers placed.blocks (looked old.staged kept) new after
   placed_lands kept fits =
       let end = placed.lays.fits kept fits in
-      let H : List Entry → Type 0 = λ es. HasFile (data_start p.limits) bytes numbers placed.blocks (looked es end.0) in
+      let H : List HomeBlock → Type 0 = λ es. HasFile (data_start p.limits) bytes numbers placed.blocks (looked es end.0) in
       record {
         kept = end.0;
         fits = end.1;
-        same = λ n none. ap (λ (es : List Entry). look es n (end.0 n)) staged_same ∙ ap (look old.staged n) (end.2 n none);
+        same = λ n none. ap (λ (es : List HomeBlock). look es n (end.0 n)) staged_same ∙ ap (look old.staged n) (end.2 n none);
         holds = subst H (sym (staged_same ∙ unstaged)) end.3;
       }
 
@@ -113,7 +114,7 @@ module _ (p : Kept) (t : Taxonomy) (held : AreHeld p t) (bytes numbers : List �
     broken = ap (λ (h : Held). h.is_broken) placed.lays.journal;
     placed = λ n among. sym (among_homes (data_start p.limits) placed.blocks n) ∙ (ap (λ (h : Held). is_among h.placed n) (sym placed.lays.journal) ∙ among);
     few_staged = omega (arith, ap length staged_same);
-    others = λ n was out. ap (λ (es : List Entry). look es n was) staged_same;
+    others = λ n was out. ap (λ (es : List HomeBlock). look es n was) staged_same;
     lands = placed_lands;
     stays = λ kept fits n none. (placed.lays.fits kept fits).2 n (sym (among_homes (data_start p.limits) placed.blocks n) ∙ (ap (λ (h : Held). is_among h.placed n) (sym placed.lays.journal) ∙ none));
     moments = λ kept fits.
@@ -263,9 +264,9 @@ pub gives : (k p : Kept) (t : Taxonomy) (rec : FileRecord) (journal : Held) (m :
     → marks ≡ set p.marks (bitmap_start p.limits) true → base ≡ data_start p.limits → numbers ≡ rec.blocks → size ≡ rec.size
     → ((kept : ℕ → List ℕ) → Fits journal m kept → taken ≡ given p.taken (file_blocks base numbers size (looked journal.staged kept)))
     → (is_large size ≡ false → taken ≡ given p.taken numbers)
-    → Gives rec k (record p { taken = taken; marks = marks }) journal m
+    → GivesBack rec k (record p { taken = taken; marks = marks }) journal m
 gives k p t rec journal m base size numbers taken marks is held len are_marks from are sized given_back small_back =
-    let P : Kept → Type 0 = λ q. Gives rec q (record p { taken = taken; marks = marks }) journal m in
+    let P : Kept → Type 0 = λ q. GivesBack rec q (record p { taken = taken; marks = marks }) journal m in
     subst P is (record {
       takes = (takes p p t taken marks refl held len are_marks).1;
       small = λ small. small_back (ap is_large sized ∙ small) ∙ ap (given p.taken) are;

@@ -2,13 +2,13 @@
 pub use Rattle.lis_bits.specs.Rows.{NoneTrue, get}
 pub use Rattle.lis_catalog.specs.Catalog.{Catalog, Filed, IsCatalog, rec_at, slot_of, without_slot}
 pub use Rattle.lis_content.proofs.Numbers.{length-marked, neither}
-pub use Rattle.lis_content.specs.Content.{are_distinct, marked}
+pub use Rattle.lis_content.specs.Content.{marked}
 pub use Rattle.lis_content.specs.Large.{slot_count}
 pub use Rattle.lis_dict.proofs.Laws.{number_below, number_from_word, word_from_number}
 pub use Rattle.lis_dict.specs.Dict.{Dict, IsDict, number_of, without_word, word_of, words}
 pub use Rattle.lis_ext.proofs.Numbers.{among_where}
 pub use Rattle.lis_ext.specs.Ext.{Ext, has, set_of as numbers_at}
-pub use Rattle.lis_fields.specs.Layouts.{are_distinct as slots_distinct, axiom_bytes, file_bytes, is_prop, is_undeclared, prop_bytes, slot_blocks}
+pub use Rattle.lis_fields.specs.Layouts.{axiom_bytes, file_bytes, is_prop, is_undeclared, prop_bytes, slot_blocks}
 pub use Rattle.lis_fields.specs.Records.{FileRecord}
 pub use Rattle.lis_fields.specs.declared.slots.AxiomSlot.{AxiomSlot}
 pub use Rattle.lis_fields.specs.declared.slots.AxiomSlot.TheVariants.{Free as FreeAxiom, Pair}
@@ -25,7 +25,7 @@ pub use Rattle.lis_laws.proofs.Members.{among_from_has_word, has_word_from_among
 pub use Rattle.lis_model.specs.Changes.{same_pair, with_axiom}
 pub use Rattle.lis_model.specs.Image.{bitmap_start, data_start}
 pub use Rattle.lis_model.specs.Ranges.{are_in_range}
-pub use Rattle.lis_model.specs.Sets.{with_word}
+pub use Rattle.lis_model.specs.Sets.{with_word, are_distinct}
 pub use Rattle.lis_model.specs.State.{File, description, is_declarable, up}
 pub use Rattle.lis_model.specs.Tests.{are_weaker}
 pub use Rattle.lis_model.specs.declared.limits.Limits.{Limits}

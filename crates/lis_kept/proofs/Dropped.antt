@@ -1,6 +1,6 @@
 -- A file that goes.
 use Rattle.std.proofs.Common.{arith}
-use Rattle.lis_kept.proofs.Common.{rules, ◌≡◌, ◌⊎◌, inl, inr, Option, refl, sym, ap, ◌∙◌, subst, ℕ, ◌<◌, ◌==◌, if◌then◌else◌, ◌&&◌, not, Bool, true, List, length, set, Some, None, is_some, IsSome, length-set, cases_eq, eqb-true, ne_eqb, and_parts, same_Some, Among, are_distinct, Catalog, Filed, IsCatalog, rec_at, slot_of, without_slot, FileRecord, slot_blocks, slots_distinct, Dict, word_of, Taxonomy, same_word, same_word_decides, has, both_ways, same_tests}
+use Rattle.lis_kept.proofs.Common.{rules, ◌≡◌, ◌⊎◌, inl, inr, Option, refl, sym, ap, ◌∙◌, subst, ℕ, ◌<◌, ◌==◌, if◌then◌else◌, ◌&&◌, not, Bool, true, List, length, set, Some, None, is_some, IsSome, length-set, cases_eq, eqb-true, ne_eqb, and_parts, same_Some, Among, are_distinct, Catalog, Filed, IsCatalog, rec_at, slot_of, without_slot, FileRecord, slot_blocks, Dict, word_of, Taxonomy, same_word, same_word_decides, has, both_ways, same_tests}
 use Rattle.std.proofs.lemmas.Bool.{eq-eqb}
 use Rattle.lis_catalog.proofs.Laws.{rec_at-without_slot, slot_is_below, slot_of-rec_at}
 use Rattle.lis_fields.specs.Layouts.{are_short}
@@ -28,7 +28,7 @@ record_in_form version dict blocks rec sound =
 pub blocks_apart : (k : Kept) → AreSound k → (slot : ℕ) (rec : FileRecord) → rec_at k.catalog slot ≡ Some rec → are_distinct rec.blocks ≡ true
 blocks_apart k sound slot rec there =
     let form = record_in_form k.limits.version k.dict k.limits.blocks rec (sound.records slot rec there) in
-    sym (same_distinct rec.blocks) ∙ (and_parts ((length rec.blocks == slot_blocks k.limits.version rec.size) && are_short rec.blocks) (slots_distinct rec.blocks) form.blocks).1
+    sym (same_distinct rec.blocks) ∙ (and_parts ((length rec.blocks == slot_blocks k.limits.version rec.size) && are_short rec.blocks) (are_distinct rec.blocks) form.blocks).1
 
 pub file_slot_below : (k : Kept) → AreSound k → (slot : ℕ) (rec : FileRecord) → rec_at k.catalog slot ≡ Some rec → slot < k.limits.files
 file_slot_below k sound slot rec there = omega (arith, slot_is_below k.catalog slot sound.catalog (ap is_some there), sound.slots)

@@ -4,7 +4,6 @@ use Rattle.lis_kept.proofs.Common.{rules, ◌≡◌, refl, sym, ap, ◌∙◌, s
 use Rattle.std.specs.List.{AllByRecursion, IsDistinct}
 use Rattle.std.proofs.lemmas.Bool.{or_parts, eq-eqb}
 use Rattle.std.proofs.lemmas.Map.Steps.{length-le_from_distinct_below}
-use Rattle.lis_content.specs.Content.{has_number}
 use Rattle.lis_content.proofs.Numbers.{not_true}
 use Rattle.lis_catalog.specs.Catalog.{filed_cmp, slots, with_filed}
 use Rattle.lis_catalog.proofs.Laws.{rec_at-with_filed}
@@ -19,6 +18,7 @@ use Rattle.lis_kept.specs.Links.{AreHeld}
 use Rattle.lis_kept.specs.Changes.{Files}
 use Rattle.lis_kept.proofs.Filing.{number_from_among, map_insert_key, same_distinct, slot_is_free, catalog_then}
 use Rattle.lis_kept.proofs.Dropped.{OneFile, held_then, marks_then, record_in_form}
+use Rattle.lis_model.specs.Sets.{has_number}
 
 -- ---- a sound record
 pub record_named : (version : ℕ) (dict : Dict) (blocks : ℕ) (rec : FileRecord) → is_sound_record version dict blocks rec ≡ true → is_file_name rec.name ≡ true

@@ -1,15 +1,15 @@
 -- Lists of files in the order of their names, and catalogs with a file more or fewer.
 pub use Rattle.lis_laws.proofs.Routes.{find_among}
 use Rattle.std.proofs.Common.{filter, option_map, arith}
-use Rattle.lis_kept.proofs.Common.{common_steps, rules, ◌≡◌, ◌⊎◌, refl, sym, ap, ap₂, ◌∙◌, subst, inl, inr, ℕ, ◌+◌, ◌<◌, ◌≤◌, nat_lt, ◌==◌, ◌&&◌, not, Bool, true, false, cond, List, [], ◌∷◌, length, map, Option, Some, None, Ordering, Less, Equal, Greater, match_ordering, insert_key, find, list_all, list_any, and_parts, eqb-true, lt-ltb, not-true, Among, among_filter, among_from_any, among_insert_key, among_map, are_distinct, FileRecord, slots_distinct, Catalog, Filed, IsCatalog, slot_of, rec_at, without_slot, word_cmp, word_order, all_among, filter_le, and_from, both_ways, false_from_ne_true, any_from_among, map_among, all_from}
+use Rattle.lis_kept.proofs.Common.{common_steps, rules, ◌≡◌, ◌⊎◌, refl, sym, ap, ap₂, ◌∙◌, subst, inl, inr, ℕ, ◌+◌, ◌<◌, ◌≤◌, nat_lt, ◌==◌, ◌&&◌, not, Bool, true, false, cond, List, [], ◌∷◌, length, map, Option, Some, None, Ordering, Less, Equal, Greater, match_ordering, insert_key, find, list_all, list_any, and_parts, eqb-true, lt-ltb, not-true, Among, among_filter, among_from_any, among_insert_key, among_map, are_distinct, FileRecord, Catalog, Filed, IsCatalog, slot_of, rec_at, without_slot, word_cmp, word_order, all_among, filter_le, and_from, both_ways, false_from_ne_true, any_from_among, map_among, all_from}
 use Rattle.std.proofs.lemmas.Bool.{eq-eqb, or_parts}
 use Rattle.lis_graph.specs.Graph.{is_rising}
-use Rattle.lis_content.specs.Content.{has_number}
 use Rattle.lis_catalog.specs.Catalog.{names, slots, filed_cmp, with_filed}
 use Rattle.lis_catalog.proofs.Laws.{slot_of-rec_at}
 use Rattle.lis_catalog.proofs.Slots.{apart_filter, apart_from, apart_parts, any_map}
 use Rattle.lis_words.specs.Words.{is_file_name}
 use Rattle.lis_laws.proofs.Counts.{all_insert_key, rising_insert_key, insert_key_le}
+use Rattle.lis_model.specs.Sets.{has_number}
 
 -- ---- tests and numbers
 pub among_from_number : (ns : List ℕ) (n : ℕ) → has_number ns n ≡ true → Among ns n
@@ -90,17 +90,17 @@ pub catalog_without : (c : Catalog) (slot : ℕ) → IsCatalog c → IsCatalog (
 catalog_without c slot is = search (rules, rising_kept, all_kept, apart_filter, filter_le)
 
 -- ---- numbers of which none stands twice
-pub same_distinct : (ns : List ℕ) → slots_distinct ns ≡ are_distinct ns
+pub same_distinct : (ns : List ℕ) → are_distinct ns ≡ are_distinct ns
 same_distinct [] = refl
 same_distinct (n ∷ ns) = ap (λ b. not (has_number ns n) && b) (same_distinct ns)
 
 -- slots are different ones with one more, that no file has
-apart_more : (f : Filed) (es : List Filed) → slots_distinct (map slot_in es) ≡ true → list_any (λ (g : Filed). g.slot == f.slot) es ≡ false
-    → slots_distinct (map slot_in (insert_key filed_cmp es f)) ≡ true
+apart_more : (f : Filed) (es : List Filed) → are_distinct (map slot_in es) ≡ true → list_any (λ (g : Filed). g.slot == f.slot) es ≡ false
+    → are_distinct (map slot_in (insert_key filed_cmp es f)) ≡ true
 apart_more f [] apart none = refl
 apart_more f (x ∷ xs) apart none = by (filed_cmp f x) (apart_more f xs parts.1 others.1)
   where
-    parts : (list_any (λ (g : Filed). g.slot == x.slot) xs ≡ false) × (slots_distinct (map slot_in xs) ≡ true)
+    parts : (list_any (λ (g : Filed). g.slot == x.slot) xs ≡ false) × (are_distinct (map slot_in xs) ≡ true)
     parts = apart_parts x xs apart
 
     others : ((x.slot == f.slot) ≡ false) × (list_any (λ (g : Filed). g.slot == f.slot) xs ≡ false)
@@ -109,8 +109,8 @@ apart_more f (x ∷ xs) apart none = by (filed_cmp f x) (apart_more f xs parts.1
     not_there : list_any (λ (g : Filed). g.slot == x.slot) (insert_key filed_cmp xs f) ≡ false
     not_there = search (rules, false_from_ne_true, among_from_any, among_insert_key, both_ways, others, eq-eqb, eqb-true, parts, any_from_among)
 
-    by : (r : Ordering) → slots_distinct (map slot_in (insert_key filed_cmp xs f)) ≡ true
-        → slots_distinct (map slot_in (match_ordering r (f ∷ x ∷ xs) (x ∷ xs) (x ∷ insert_key filed_cmp xs f))) ≡ true
+    by : (r : Ordering) → are_distinct (map slot_in (insert_key filed_cmp xs f)) ≡ true
+        → are_distinct (map slot_in (match_ordering r (f ∷ x ∷ xs) (x ∷ xs) (x ∷ insert_key filed_cmp xs f))) ≡ true
     by Less rest = apart_from f (x ∷ xs) none apart
     by Equal rest = apart
     by Greater rest = apart_from x (insert_key filed_cmp xs f) not_there rest

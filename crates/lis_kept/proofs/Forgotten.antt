@@ -5,7 +5,6 @@ use Rattle.std.proofs.lemmas.Bool.{true_from_ne_false}
 use Rattle.std.proofs.lemmas.List.Folds.{list_any_more}
 use Rattle.std.proofs.lemmas.List.Sums.{count_by_more_yes, count_by_more_no}
 use Rattle.lis_blockmap.specs.Bitmap.{is_taken}
-use Rattle.lis_content.specs.Content.{has_number}
 use Rattle.lis_kept.specs.Kept.{Kept}
 use Rattle.lis_kept.specs.Telling.{is_head_by, is_named_left, is_used}
 use Rattle.lis_kept.specs.Changes.{Forgets}
@@ -13,6 +12,7 @@ use Rattle.lis_kept.specs.Forgetting.{MayGo, MayForget, ForgetsWithout}
 use Rattle.lis_kept.specs.Passes.{beside, is_of_pass, is_due, ForgetsWhere, ForgetsDue}
 use Rattle.lis_kept.proofs.WordLess.{had_from}
 use Rattle.lis_kept.proofs.Without.{elsewhere_had}
+use Rattle.lis_model.specs.Sets.{has_number}
 
 -- ---- tests
 one_more : (x d e y : Bool) → y ≡ (x || e) → (e ≡ true → d ≡ true) → ((x && d) || e) ≡ (y && d)

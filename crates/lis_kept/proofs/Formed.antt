@@ -3,7 +3,6 @@ use Rattle.std.proofs.Common.{◌^◌, unwrap_or, arith}
 use Rattle.lis_kept.proofs.Common.{rules, ◌≡◌, ◌⊎◌, inl, inr, ℕ, ◌-◌, ◌<◌, ◌≤◌, ◌&&◌, nat_lt, Bool, true, false, List, [], length, Option, Some, None, is_some, slice_get, IsSome, refl, sym, ap, ◌∙◌, list_all, and_parts, lt-ltb, cases_lt, get_or_from_slice_get, Dict, word_of, number_from_word, number_below, Catalog, IsCatalog, rec_at, Ext, has, Taxonomy, FileRecord, AxiomSlot, FreeAxiom, Pair, and_from, both_ways, false_from_ne_true, get_or_past}
 use Rattle.std.specs.List.{All}
 use Rattle.std.proofs.lemmas.Option.{unwrap_or-slice_get}
-use Rattle.lis_content.specs.Content.{has_number}
 use Rattle.lis_ext.specs.Ext.{set_of}
 use Rattle.lis_ext.proofs.Seen.{each_below}
 use Rattle.lis_fields.specs.Layouts.{is_axiom, is_file, is_record}
@@ -13,6 +12,7 @@ use Rattle.lis_kept.specs.Inside.{IsShort}
 use Rattle.lis_kept.specs.Links.{AreHeld}
 use Rattle.lis_kept.proofs.InArea.{few_properties}
 use Rattle.lis_kept.proofs.Filing.{among_from_number}
+use Rattle.lis_model.specs.Sets.{has_number}
 
 pub some_word : (o : Option (List ℕ)) → IsSome o → (w : List ℕ) × (o ≡ Some w)
 some_word o h = search (rules)

@@ -7,7 +7,7 @@ use Rattle.lis_model.specs.Ranges.{is_files_limit, is_props_limit, is_blocks_lim
 use Rattle.lis_model.specs.Image.{axioms_start, files_start, rows_start}
 use Rattle.lis_fields.proofs.Supers.{files_small}
 use Rattle.lis_kept.specs.Kept.{Kept}
-use Rattle.lis_kept.specs.Areas.{Area, slots_of, block_of, spelled, held_in, row_slots, row_blocks}
+use Rattle.lis_kept.specs.Areas.{Area, slots_of, block_of, spelled, held_in, row_slots}
 use Rattle.lis_kept.specs.Areas.Area.{Properties, Axioms, Files, Rows, Bitmap}
 use Rattle.lis_kept.specs.Inside.{bytes_in, IsBlock}
 
@@ -62,9 +62,9 @@ some_rows limits range = search (rules, each_files_limit, files_range)
 pub rows_counted : (limits : Limits) → IsTrue (are_in_range limits) → limits.props ≤ (row_slots limits).count
 rows_counted limits range = search (rules, each_files_limit, files_range)
 
-row_within : (limits : Limits) (m : ℕ) → IsTrue (are_in_range limits) → m < (row_slots limits).count → m / (4096 / (limits.files / 8)) < row_blocks limits
+row_within : (limits : Limits) (m : ℕ) → IsTrue (are_in_range limits) → m < (row_slots limits).count → m / (4096 / (limits.files / 8)) < (limits.props * limits.files + 32767) / 32768
 row_within limits m range lt =
-    (div-lt_iff_lt-mul {k = 4096 / (limits.files / 8)} {x = m} {y = row_blocks limits} (some_rows limits range)).1
+    (div-lt_iff_lt-mul {k = 4096 / (limits.files / 8)} {x = m} {y = (limits.props * limits.files + 32767) / 32768} (some_rows limits range)).1
     (omega (arith, lt))
 
 -- ---- areas

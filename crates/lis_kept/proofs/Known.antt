@@ -4,7 +4,6 @@ use Rattle.std.proofs.Common.{option_to_list}
 use Rattle.lis_kept.proofs.Common.{rules, ◌≡◌, ◌⊎◌, ℕ, true, List, [], Option, Some, None, is_some, map, slice_get, IsSome, refl, sym, ap, ap₂, ◌∙◌, subst, inl, inr, flat_map, Contains, and_parts, same_Some, Among, contains_from_among, among_filter, among_map, among_flat_map, flat_map_among, sorted_from_rising, number_of, word_of, number_from_word, word_from_number, Filed, rec_at, has, numbers_at, FileRecord, AxiomSlot, FreeAxiom, Pair, word_cmp, same_word, has_word, is_valued, head_bytes, File, description, pair_exact, word_order, same_word_decides, among_from_has_word, both_ways, filter_among, map_among, words, has_word_from_among, same_words, same_tests}
 use Rattle.lis_graph.proofs.Members.{among_with_more, with_more_new}
 use Rattle.lis_blockmap.specs.Bitmap.{is_taken}
-use Rattle.lis_content.specs.Content.{has_number}
 use Rattle.lis_dict.proofs.Laws.{among_from_word, number_from_among}
 use Rattle.lis_model.specs.State.{pair_cmp, known, heads}
 use Rattle.lis_graph.specs.Graph.{is_rising}
@@ -21,6 +20,7 @@ use Rattle.lis_kept.proofs.Filing.{among_from_number as among_numbers, number_fr
 use Rattle.lis_kept.proofs.Formed.{some_word}
 use Rattle.lis_kept.proofs.Used.{WhyUsed, why_used}
 use Rattle.lis_kept.proofs.Used.WhyUsed.{Flagged, Had, OnLeft, HeadOfLeft}
+use Rattle.lis_model.specs.Sets.{has_number}
 
 pub only_word : (o : Option (List ℕ)) (w : List ℕ) → Among (option_to_list o) w → o ≡ Some w
 only_word o w m = search (rules)

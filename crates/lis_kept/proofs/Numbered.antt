@@ -1,12 +1,12 @@
 -- Sets of words, by the numbers that have them.
 use Rattle.lis_kept.proofs.Common.{◌≡◌, ℕ, Bool, true, List, Some, flat_map, IsStrictlySortedBy, Among, Dict, word_of, word_cmp, same_words}
 use Rattle.std.specs.Option.{option_to_list}
-use Rattle.lis_content.specs.Content.{has_number}
 use Rattle.lis_laws.proofs.Members.{sorted_set_of}
 use Rattle.lis_kept.specs.Kept.{Kept}
 use Rattle.lis_kept.specs.Sound.{AreSound}
 use Rattle.lis_kept.specs.Telling.{words_told}
 use Rattle.lis_kept.proofs.Known.{word_among, among_word}
+use Rattle.lis_model.specs.Sets.{has_number}
 
 -- the numbers that pass the test are those of the words
 pub record Numbers (d : Dict) (test : ℕ → Bool) (ws : List (List ℕ)) : Type 0 where

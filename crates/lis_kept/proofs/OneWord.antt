@@ -6,11 +6,10 @@ use Rattle.std.proofs.Math.Bool.{or-false}
 use Rattle.std.proofs.lemmas.Bool.{eq-eqb}
 use Rattle.lis_graph.proofs.Filters.{any_same}
 use Rattle.lis_blockmap.specs.Bitmap.{is_taken}
-use Rattle.lis_content.specs.Content.{has_number}
 use Rattle.lis_dict.specs.Dict.{with_entry}
 use Rattle.lis_dict.proofs.Laws.{number_of-with_entry, word_of-with_entry, length-with_entry, kept_with_entry, number_of-without_word, word_of-without_word, length-without_word, kept_without_word}
 use Rattle.lis_words.specs.Words.{is_property}
-use Rattle.lis_model.specs.Sets.{set_of}
+use Rattle.lis_model.specs.Sets.{set_of, has_number}
 use Rattle.lis_model.specs.State.{pair_cmp}
 use Rattle.lis_laws.proofs.Members.{word_exact}
 use Rattle.lis_laws.proofs.Counts.{all_weaker}

@@ -3,7 +3,7 @@ use Rattle.std.proofs.Common.{arith}
 use Rattle.lis_kept.proofs.Common.{rules, ◌≡◌, ◌⊎◌, ℕ, ◌+◌, ◌<◌, ◌≤◌, ◌==◌, Bool, true, false, cond, List, [], ◌∷◌, length, take, count_by, IsTrue, refl, sym, ap, ◌∙◌, inl, inr, cases_eq, cases_lt, ne_eqb, Held, are_in_range, data_start}
 use Rattle.std.proofs.lemmas.Bool.{eq-eqb}
 use Rattle.std.proofs.lemmas.List.Sums.{count_by_more_no, count_by_more_yes, sum_by-take-le}
-use Rattle.lis_journal.specs.Record.{Entry}
+use Rattle.lis_journal.specs.Record.{HomeBlock}
 use Rattle.lis_journal.specs.Staging.{with_entry}
 use Rattle.lis_journal.specs.Images.{look}
 use Rattle.lis_journal.specs.Phases.{looked}
@@ -29,7 +29,7 @@ stages_block k n old new block is looks spells = record {
 }
 
 -- whatever was there, a block looks as what is staged for it, so something is staged
-staged_some : (es : List Entry) (n : ℕ) (bytes : List ℕ) → ((was : List ℕ) → look es n was ≡ bytes) → 0 < length es
+staged_some : (es : List HomeBlock) (n : ℕ) (bytes : List ℕ) → ((was : List ℕ) → look es n was ≡ bytes) → 0 < length es
 staged_some [] n bytes here = absurd (let e : ◌≡◌ {A = List ℕ} [] (0 ∷ []) = here [] ∙ sym (here (0 ∷ [])) in cc)
 staged_some (e ∷ es) n bytes here = omega arith
 

@@ -18,7 +18,6 @@ use Rattle.lis_kept.proofs.Known.{one_number, among_axiom}
 use Rattle.lis_kept.proofs.Entailed.{link_numbered, chain_has_number}
 use Rattle.std.proofs.lemmas.List.{length-take-le}
 use Rattle.std.proofs.lemmas.List.Sums.{sum_by-set}
-use Rattle.lis_content.specs.Content.{has_number}
 use Rattle.lis_dict.proofs.Laws.{word_of-with_entry, number_of-with_entry}
 use Rattle.lis_kept.proofs.Filing.{among_from_number, number_from_among}
 use Rattle.lis_kept.proofs.OwnLinks.{among_slot, own_to, unnamed_to, unnamed_from}
@@ -26,6 +25,7 @@ use Rattle.lis_kept.proofs.OneWord.{new_no_head}
 use Rattle.lis_kept.proofs.AxiomSlots.{InSlot}
 use Rattle.lis_kept.proofs.AxiomsApart.{apart_linked}
 use Rattle.lis_kept.proofs.AxiomsTold.{slot_free}
+use Rattle.lis_model.specs.Sets.{has_number}
 
 -- ---- states
 under_step : (word : List ℕ) (axioms : List (List ℕ × List ℕ)) (ws : List (List ℕ)) (w : List ℕ)

@@ -2,10 +2,10 @@
 use Rattle.std.proofs.Common.{arith}
 use Rattle.lis_kept.proofs.Common.{rules, ◌≡◌, sym, ap, ◌∙◌, subst, ℕ, ◌+◌, ◌<◌, ◌≤◌, true, false, Option, is_some, IfSome, IfNone, [], length, set, get_or-set_same, get_or-set_other, length-set, get_or_past, cases_lt, NoneTrue, get, Ext, has, both_ways, false_from_ne_true}
 use Rattle.lis_bits.specs.Rows.{Rows, HasShape}
-use Rattle.lis_content.specs.Content.{has_number}
 use Rattle.lis_kept.specs.Telling.{is_had}
 use Rattle.lis_kept.proofs.Used.{had_at}
 use Rattle.lis_kept.proofs.WordLess.{had_from}
+use Rattle.lis_model.specs.Sets.{has_number}
 
 abbrev pub left_out : Ext → ℕ → Ext
 left_out e slot = record e { sets = set e.sets slot [] }

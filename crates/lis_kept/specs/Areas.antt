@@ -25,12 +25,9 @@ axiom_slots limits = record { first = axioms_start limits; count = 512 * ((limit
 abbrev pub file_slots : Limits → Slots
 file_slots limits = record { first = files_start limits; count = limits.files; width = 256 }
 
-abbrev pub row_blocks : Limits → ℕ
-row_blocks limits = (limits.props * limits.files + 32767) / 32768
-
 -- rows of whole blocks: those past the last number have no bit
 abbrev pub row_slots : Limits → Slots
-row_slots limits = record { first = rows_start limits; count = (4096 / (limits.files / 8)) * row_blocks limits; width = limits.files / 8 }
+row_slots limits = record { first = rows_start limits; count = (4096 / (limits.files / 8)) * ((limits.props * limits.files + 32767) / 32768); width = limits.files / 8 }
 
 abbrev pub bitmap_slots : Limits → Slots
 bitmap_slots limits = record { first = bitmap_start limits; count = 1; width = 4096 }

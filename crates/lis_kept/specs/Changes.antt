@@ -6,7 +6,7 @@ use Rattle.lis_ports.specs.Runs.{Leaves}
 use Rattle.lis_journal.specs.Images.{StandsBut, Fits, KeepsPast, is_among, look}
 use Rattle.lis_journal.specs.Phases.{looked}
 use Rattle.std.specs.List.{list_all}
-use Rattle.lis_content.specs.Content.{given, marked, are_free, are_distinct, has_home, has_number}
+use Rattle.lis_content.specs.Content.{given, marked, are_free, has_home}
 use Rattle.lis_content.specs.Large.{is_large}
 use Rattle.lis_content.specs.Placing.{homes_of, HasFile}
 use Rattle.lis_dict.specs.Dict.{words, number_of, word_of, with_entry}
@@ -17,7 +17,7 @@ use Rattle.lis_fields.specs.Records.{FileRecord}
 use Rattle.lis_fields.specs.Layouts.{are_blocks}
 use Rattle.lis_model.specs.declared.limits.Limits.{Limits}
 use Rattle.lis_model.specs.Image.{bitmap_start, data_start}
-use Rattle.lis_model.specs.Sets.{with_word}
+use Rattle.lis_model.specs.Sets.{with_word, are_distinct, has_number}
 use Rattle.lis_model.specs.Changes.{declared_under, new_file, file_added, file_removed}
 use Rattle.lis_kept.specs.Kept.{Kept}
 use Rattle.lis_kept.specs.Areas.{IsSaved, block_of, marked_count}
@@ -110,7 +110,7 @@ pub record Takes (taken : List Bool) (p q : Kept) : Type 0 where
 
 -- The blocks of a file are given back: those that its slot and its index block number, by what the disk keeps under this journal. Without
 -- an index block they are those of the slot, whatever the disk keeps.
-pub record Gives (rec : FileRecord) (p q : Kept) (journal : Held) (m : Meaning) : Type 0 where
+pub record GivesBack (rec : FileRecord) (p q : Kept) (journal : Held) (m : Meaning) : Type 0 where
   pub takes : Takes q.taken p q
   pub small : is_large rec.size ≡ false → q.taken ≡ given p.taken rec.blocks
   pub given : (kept : ℕ → List ℕ) → Fits journal m kept → q.taken ≡ given p.taken (blocks_told p.limits (looked journal.staged kept) rec)

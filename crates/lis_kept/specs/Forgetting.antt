@@ -1,6 +1,5 @@
 -- When the words of numbers may go, and which go where a slot has no file but keeps its bits.
 use Rattle.std.specs.Prelude.{◌≡◌, ◌≢◌, ℕ, ◌&&◌, not, true, false, if◌then◌else◌, is_some, IsSome, Some, None, List, [], length, slice_get, slice_set}
-use Rattle.lis_content.specs.Content.{has_number}
 use Rattle.lis_dict.specs.Dict.{word_of}
 use Rattle.lis_catalog.specs.Catalog.{rec_at}
 use Rattle.lis_blockmap.specs.Bitmap.{is_taken}
@@ -11,6 +10,7 @@ use Rattle.lis_kept.specs.Kept.{Kept}
 use Rattle.lis_kept.specs.Telling.{state_of, is_head_by, is_named_left, is_used, AreUsed}
 use Rattle.lis_kept.specs.Areas.{is_marked}
 use Rattle.lis_kept.specs.Changes.{Marks}
+use Rattle.lis_model.specs.Sets.{has_number}
 
 -- what memory keeps, but for the description in a slot
 abbrev pub emptied : Kept → ℕ → Kept

@@ -1,6 +1,5 @@
 -- The passes over numbers that are forgotten. No public clause cites this module.
 use Rattle.std.specs.Prelude.{◌≡◌, ℕ, Bool, true, false, ◌&&◌, not, if◌then◌else◌, Option, is_some, Some, None, List, [], slice_set, count_by}
-use Rattle.lis_content.specs.Content.{has_number}
 use Rattle.lis_dict.specs.Dict.{word_of}
 use Rattle.lis_ext.specs.Ext.{Ext}
 use Rattle.lis_words.specs.Words.{is_valued}
@@ -8,6 +7,7 @@ use Rattle.lis_kept.specs.Kept.{Kept}
 use Rattle.lis_kept.specs.Telling.{state_of, is_named_left, is_used}
 use Rattle.lis_kept.specs.Areas.{is_marked}
 use Rattle.lis_kept.specs.Changes.{Marks}
+use Rattle.lis_model.specs.Sets.{has_number}
 
 -- what memory keeps, but for the description in a slot, if one is given
 abbrev pub ext_beside : Option ℕ → Ext → Ext

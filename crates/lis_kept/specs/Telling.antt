@@ -4,7 +4,6 @@ use Rattle.std.specs.Option.{option_to_list}
 use Rattle.std.specs.BTreeSet.{insert_key}
 use Rattle.std.specs.List.{flat_map, list_any, fold, Contains}
 use Rattle.lis_blockmap.specs.Bitmap.{is_taken}
-use Rattle.lis_content.specs.Content.{are_distinct, has_number}
 use Rattle.lis_content.specs.Large.{file_content, file_blocks, IsIndexed}
 use Rattle.lis_dict.specs.Dict.{Dict, words, number_of, word_of}
 use Rattle.lis_catalog.specs.Catalog.{Filed}
@@ -16,7 +15,7 @@ use Rattle.lis_fields.specs.Layouts.{SpellsSuper}
 use Rattle.lis_words.specs.Words.{same_word, is_valued, head_bytes}
 use Rattle.lis_model.specs.declared.limits.Limits.{Limits}
 use Rattle.lis_model.specs.Image.{data_start}
-use Rattle.lis_model.specs.Sets.{set_of}
+use Rattle.lis_model.specs.Sets.{set_of, are_distinct, has_number}
 use Rattle.lis_model.specs.State.{State, File, pair_cmp, description, WellFormed}
 use Rattle.lis_kept.specs.Kept.{Kept}
 

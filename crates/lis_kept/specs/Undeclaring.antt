@@ -2,7 +2,6 @@
 use Rattle.std.specs.Prelude.{◌≡◌, ◌≢◌, ℕ, ◌==◌, ◌||◌, ◌&&◌, not, true, false, Bool, if◌then◌else◌, Some, None, is_some, List, slice_get, slice_set}
 use Rattle.std.specs.List.{list_any}
 use Rattle.lis_blockmap.specs.Bitmap.{is_taken}
-use Rattle.lis_content.specs.Content.{has_number}
 use Rattle.lis_dict.specs.Dict.{Dict, word_of, without_word}
 use Rattle.lis_catalog.specs.Catalog.{rec_at}
 use Rattle.lis_fields.specs.Records.{FileRecord}
@@ -16,6 +15,7 @@ use Rattle.lis_kept.specs.Telling.{state_of, is_left_of, is_head_by, is_left_hea
 use Rattle.lis_kept.specs.Links.{is_linked}
 use Rattle.lis_kept.specs.Changes.{Marks}
 use Rattle.lis_kept.specs.TestEdges.{test_by}
+use Rattle.lis_model.specs.Sets.{has_number}
 
 -- It is declared and in use for nothing else: no description has it, no axiom names it, no file was given it, and it is no known word's
 -- head.

@@ -1,12 +1,12 @@
 -- A word that is declared under others: an axiom leads from it to each of them.
 use Rattle.std.specs.Prelude.{◌≡◌, ℕ, ◌+◌, ◌≤◌, Bool, false, Option, Some, None, List, [], ◌∷◌, length, count_by, IsTrue}
 use Rattle.std.specs.List.{list_all}
-use Rattle.lis_content.specs.Content.{are_distinct}
 use Rattle.lis_dict.specs.Dict.{word_of}
 use Rattle.lis_words.specs.Words.{is_plain_word}
 use Rattle.lis_kept.specs.Kept.{Kept}
 use Rattle.lis_kept.specs.Changes.{Declares}
 use Rattle.lis_kept.specs.Linking.{is_filled, Links}
+use Rattle.lis_model.specs.Sets.{are_distinct}
 
 -- axioms from one number to each of these, one after another
 abbrev pub LinksEach : ℕ → List ℕ → Kept → Kept → Type 0

@@ -20,7 +20,7 @@ use Rattle.lis_session.proofs.Going.{has_done_none}
 use Rattle.lis_session.proofs.Moments.{adds_since}
 use Rattle.lis_load.specs.declared.loader.Loader.{Loader}
 use Rattle.lis_load.specs.Load.{Loads, LoadServed, LoadStopped}
-use Rattle.lis_load.specs.Loading.{HasLoaded, IsIdle}
+use Rattle.lis_load.specs.Loading.{HasLoaded, HoldsNothing}
 use Rattle.lis_store.proofs.Holding.{held_fits}
 use Rattle.lis_load.proofs.Moments.{load_more, load_stopped_more}
 use Rattle.lis_load.proofs.Settling.{all_shown, shown_all}
@@ -47,7 +47,7 @@ loads_more {start} {first} {old = old} {new} {ended = ended} others all loads is
 module _ (limit : ℕ) (left_before left : Option (List ℕ)) (start now : Loader) (entry m : Meaning) where
   abbrev pub Halted : Halt End → Type 0
   Halted halt =
-      HoldEnded session_cut limit left_before left (IsIdle now) (λ first. HasLoaded start entry first now m (Ok tt)) (λ first fault. HasLoaded start entry first now m (Err fault)) halt
+      HoldEnded session_cut limit left_before left (HoldsNothing now) (λ first. HasLoaded start entry first now m (Ok tt)) (λ first fault. HasLoaded start entry first now m (Err fault)) halt
 
   -- whatever the state
   pub load_keeps : (halt : Halt End) → Halted halt → SessionKeeps start.session entry now.session m (result_of halt)
@@ -68,7 +68,7 @@ module _ (limit : ℕ) (left_before left : Option (List ℕ)) (start now : Loade
       from = situation_at start.session state
 
       -- nothing is held back: all was shown, and is in each image
-      carried : {first : List Item} (these : List Item) → IsIdle now → HasLoaded start entry first now m (Ok tt) → these ≡ first → Carried step from these entry.shown m
+      carried : {first : List Item} (these : List Item) → HoldsNothing now → HasLoaded start entry first now m (Ok tt) → these ≡ first → Carried step from these entry.shown m
       carried {first} these idle loaded is =
           let waits = (loaded.serves state fitting).ended in
           let fits = held_fits now.session.store m _ (after_by step from first).state idle.committed waits.holds in

@@ -18,7 +18,7 @@ use Rattle.lis_session.specs.Served.{SessionKeeps}
 use Rattle.lis_session.proofs.Fitting.{store_fits_at}
 use Rattle.lis_session.proofs.Moments.{adds_later, moment_in}
 use Rattle.lis_load.specs.declared.loader.Loader.{Loader}
-use Rattle.lis_load.specs.Loading.{Waits, LoadEnded, HasLoaded, IsIdle}
+use Rattle.lis_load.specs.Loading.{Waits, LoadEnded, HasLoaded, HoldsNothing}
 use Rattle.lis_store.proofs.Holding.{held_fits}
 use Rattle.lis_load.proofs.Moments.{load_more, load_session}
 use Rattle.lis_load.proofs.Settling.{Next, loaded_then, all_shown, shown_all}
@@ -62,7 +62,7 @@ module _ (start : Situation) (first : List Item) (item : Item) {before : Option 
     ended = item_ended result sound one;
   }
 
-module _ {start now : Loader} (next : Loader) {entry mid : Meaning} (m : Meaning) {first : List Item} (loaded : HasLoaded start entry first now mid (Ok tt)) (idle : IsIdle now) (same : next.held.items ≡ now.held.items) where
+module _ {start now : Loader} (next : Loader) {entry mid : Meaning} (m : Meaning) {first : List Item} (loaded : HasLoaded start entry first now mid (Ok tt)) (idle : HoldsNothing now) (same : next.held.items ≡ now.held.items) where
   goes_on : (item : Item) (result : Result (Unit {0}) End) → SessionKeeps now.session mid next.session m result
       → CarriesOut step (StoreFits now.session.store mid) now.session.place mid m result (StoreFits next.session.store m) next.session.place item → HasLoaded start entry (first ++ item ∷ []) next m result
   goes_on item result keeps carries = loaded_then (λ from. load_more from first (item ∷ [])) loaded keeps (λ from waits.

@@ -46,6 +46,6 @@ pub record HasLoaded (start : Loader) (entry : Meaning) (items : List Item) (now
       → Loads (situation_at start.session state) items entry m (LoadEnded (situation_at start.session state) items entry.shown now m result)
 
 -- All that was done is committed, and no reply waits.
-pub record IsIdle (now : Loader) : Type 0 where
+pub record HoldsNothing (now : Loader) : Type 0 where
   pub shown : now.held.items ≡ []
   pub committed : now.session.store.journal.staged ≡ []

@@ -8,7 +8,7 @@ ghost use Rattle.lis_session.specs.Parts.{Answers, is_change};
 ghost use Rattle.lis_session.specs.Served.{IsReady};
 ghost use Rattle.lis_load.specs.declared.loader.Loader.{Loader as Loading};
 ghost use Rattle.lis_load.specs.Load.{lag};
-ghost use Rattle.lis_load.specs.Loading.{answer, HasLoaded, IsIdle};
+ghost use Rattle.lis_load.specs.Loading.{answer, HasLoaded, HoldsNothing};
 
 use arrayvec::ArrayVec;
 use lis_line::holder::Holder;
@@ -110,7 +110,7 @@ impl Holder for Loader {
 
     ghost is_ready = { λ loader m more. IsReady loader.session m };
 
-    ghost is_settled = { IsIdle };
+    ghost is_settled = { HoldsNothing };
 
     ghost has_done = { λ start entry first now m. HasLoaded start entry first now m (Ok tt) };
 

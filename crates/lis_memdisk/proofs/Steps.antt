@@ -9,17 +9,17 @@ use Rattle.lis_ports.specs.Runs.{Adds, IsDiskRun}
 use Rattle.lis_ports.specs.Calls.{IsUnchanged, IsTorn, IsWritten, IsSynced, IsShowCall}
 use Rattle.lis_ports.proofs.Parts.{torn-put, torn_refl, length-put, length-part}
 use Rattle.lis_memdisk.proofs.Picks.{length-picked}
-use Rattle.lis_memdisk.specs.Changes.{Deed, Change, Unsynced, State, fresh, bytes_of, after, replay, state_at, is_by, had_happened, picked, crashed, IsImage, IsLeft, clock_at, time_of, Moment}
+use Rattle.lis_memdisk.specs.Changes.{Deed, Change, Unsynced, Medium, fresh, bytes_of, after, replay, state_at, is_by, had_happened, picked, crashed, IsImage, IsLeft, clock_at, time_of, Moment}
 use Rattle.lis_memdisk.specs.Changes.Deed.{Writes, Syncs, Shows}
-use Rattle.lis_memdisk.specs.Seen.{Seen, Faults, now_of, clock_of, meaning, is_within, is_counted, IsSound, Did, bytes_after, shown_after}
+use Rattle.lis_memdisk.specs.Seen.{Seen, Faults, now_of, clock_of, meaning, is_within, is_counted, IsSoundSeen, Did, bytes_after, shown_after}
 use Rattle.lis_memdisk.specs.Laws.{IsWhole, whole_after, whole_fresh, whole_start, Sound, image_reads}
 
-pub replay-push : (s : State) (cs : List Change) (c : Change) → replay s (cs ++ c ∷ []) ≡ after (replay s cs) c.deed
+pub replay-push : (s : Medium) (cs : List Change) (c : Change) → replay s (cs ++ c ∷ []) ≡ after (replay s cs) c.deed
 replay-push s [] c = refl
 replay-push s (d ∷ cs) c = replay-push (after s d.deed) cs c
 
 -- with one change more, a moment is one of before, or it is of the new last state
-pub moment_only : (t : ℕ) (s : State) (cs : List Change) (c : Change) (image bytes : List ℕ) → Moment t s (cs ++ c ∷ []) image bytes → Moment t s cs image bytes ⊎ IsLeft (after (replay s cs) c.deed) image bytes
+pub moment_only : (t : ℕ) (s : Medium) (cs : List Change) (c : Change) (image bytes : List ℕ) → Moment t s (cs ++ c ∷ []) image bytes → Moment t s cs image bytes ⊎ IsLeft (after (replay s cs) c.deed) image bytes
 moment_only t s [] c image bytes is = elim is as (λ _. IsLeft s image bytes ⊎ IsLeft (after s c.deed) image bytes) [
   | inl early ↦ inl early.1
   | inr later ↦ inr later
@@ -32,7 +32,7 @@ moment_only t s (d ∷ cs) c image bytes is = elim is as (λ _. Moment t s (d �
   ]
 ]
 
-pub moment_keeps : (t : ℕ) (s : State) (cs : List Change) (c : Change) (image bytes : List ℕ) → t < time_of c → Moment t s cs image bytes → Moment t s (cs ++ c ∷ []) image bytes
+pub moment_keeps : (t : ℕ) (s : Medium) (cs : List Change) (c : Change) (image bytes : List ℕ) → t < time_of c → Moment t s cs image bytes → Moment t s (cs ++ c ∷ []) image bytes
 moment_keeps t s [] c image bytes lt is = inl (lt, is)
 moment_keeps t s (d ∷ cs) c image bytes lt is = elim is as (λ _. Moment t s (d ∷ cs ++ c ∷ []) image bytes) [
   | inl early ↦ inl early
@@ -47,7 +47,7 @@ past_later t u (c ∷ cs) le past =
     and_from (nat_le (time_of c) u) (list_all (λ c. nat_le (time_of c) u) cs) (le-leb (time_of c) u (omega (arith, early, le))) (past_later t u cs le parts.1)
 
 -- A record stays sound while calls pass.
-pub sound_later : (s : Seen) (left calls shows : ℕ) → s.calls ≤ calls → s.shows ≤ shows → IsSound s → IsSound (record { is_kept = s.is_kept; start = s.start; changes = s.changes; bytes = s.bytes; shown = s.shown; left = left; calls = calls; shows = shows })
+pub sound_later : (s : Seen) (left calls shows : ℕ) → s.calls ≤ calls → s.shows ≤ shows → IsSoundSeen s → IsSoundSeen (record { is_kept = s.is_kept; start = s.start; changes = s.changes; bytes = s.bytes; shown = s.shown; left = left; calls = calls; shows = shows })
 sound_later s left calls shows le_calls le_shows sound = record {
   within = sound.within;
   counted = sound.counted;
@@ -59,12 +59,12 @@ sound_later s left calls shows le_calls le_shows sound = record {
 all_within : (P : Change → Bool) (cs : List Change) (c : Change) → IsTrue (list_all P cs) → IsTrue (P c) → IsTrue (list_all P (cs ++ c ∷ []))
 all_within P cs c all one = list_all-append P cs (c ∷ []) ∙ and_from (list_all P cs) (P c && true) all (and_from (P c) true one refl)
 
-reads_after : (s : State) (deed : Deed) → bytes_of (after s deed) ≡ bytes_after deed (bytes_of s)
+reads_after : (s : Medium) (deed : Deed) → bytes_of (after s deed) ≡ bytes_after deed (bytes_of s)
 reads_after s (Writes place bytes) = refl
 reads_after s Syncs = refl
 reads_after s (Shows piece) = refl
 
-shows_after : (s : State) (deed : Deed) → (after s deed).shown ≡ shown_after deed s.shown
+shows_after : (s : Medium) (deed : Deed) → (after s deed).shown ≡ shown_after deed s.shown
 shows_after s (Writes place bytes) = refl
 shows_after s Syncs = refl
 shows_after s (Shows piece) = refl
@@ -76,7 +76,7 @@ now_after a b deed cost kept did =
     ∙ (ap (replay (fresh a.start)) (did.changes kept) ∙ replay-push (fresh a.start) a.changes (record { calls = b.calls; shows = b.shows; deed = deed }))
 
 -- A record stays sound with one deed more.
-pub sound_did : (a b : Seen) (deed : Deed) (cost : ℕ) → IsTrue a.is_kept → IsSound a → Did a b deed cost → IsTrue (is_within (length a.bytes) deed) → IsTrue (is_counted b.shows deed) → IsSound b
+pub sound_did : (a b : Seen) (deed : Deed) (cost : ℕ) → IsTrue a.is_kept → IsSoundSeen a → Did a b deed cost → IsTrue (is_within (length a.bytes) deed) → IsTrue (is_counted b.shows deed) → IsSoundSeen b
 sound_did a b deed cost kept sound did within counts =
     let change : Change = record { calls = b.calls; shows = b.shows; deed = deed } in
     let le : clock_of a ≤ clock_of b = omega (arith, did.passes kept) in
@@ -94,7 +94,7 @@ sound_did a b deed cost kept sound did within counts =
 
 -- Calls that do something.
 
-shown_now : (a b : Seen) (deed : Deed) (cost : ℕ) → IsSound a → Did a b deed cost → (after (now_of a) deed).shown ≡ b.shown
+shown_now : (a b : Seen) (deed : Deed) (cost : ℕ) → IsSoundSeen a → Did a b deed cost → (after (now_of a) deed).shown ≡ b.shown
 shown_now a b deed cost sound did = shows_after (now_of a) deed ∙ (ap (shown_after deed) sound.shows ∙ sym did.shown)
 
 pub adds_did : (a b : Seen) (deed : Deed) (cost : ℕ) (f g : Faults) → Sound a → Did a b deed cost → clock_of a ≤ clock_of b → Adds (meaning a f) (meaning b g) (Now (meaning b g))
@@ -213,7 +213,7 @@ not_yet call calls shows (Shows piece) counts not_by =
     omega arith
 
 -- What a crash leaves of the state at a call is a moment since that call.
-pub moment_at : (call : ℕ) (s : State) (cs : List Change) (image bytes : List ℕ) → IsTrue (list_all (λ c. is_counted c.shows c.deed) cs) → IsLeft (state_at s call cs) image bytes → Moment (call * 2 ^ 64) s cs image bytes
+pub moment_at : (call : ℕ) (s : Medium) (cs : List Change) (image bytes : List ℕ) → IsTrue (list_all (λ c. is_counted c.shows c.deed) cs) → IsLeft (state_at s call cs) image bytes → Moment (call * 2 ^ 64) s cs image bytes
 moment_at call s [] image bytes counts left = left
 moment_at call s (c ∷ cs) image bytes counts left =
     let parts = and_parts (is_counted c.shows c.deed) (list_all (λ c. is_counted c.shows c.deed) cs) counts in
@@ -223,7 +223,7 @@ moment_at call s (c ∷ cs) image bytes counts left =
     by true is more counts left = inr (more left)
     by false is more counts left = inl (not_yet call c.calls c.shows c.deed counts is, left)
 
-whole_at : (n call : ℕ) (s : State) (cs : List Change) → IsWhole n s → IsTrue (list_all (λ c. is_within n c.deed) cs) → IsWhole n (state_at s call cs)
+whole_at : (n call : ℕ) (s : Medium) (cs : List Change) → IsWhole n s → IsTrue (list_all (λ c. is_within n c.deed) cs) → IsWhole n (state_at s call cs)
 whole_at n call s [] whole within = whole
 whole_at n call s (c ∷ cs) whole within =
     let parts = and_parts (is_within n c.deed) (list_all (λ c. is_within n c.deed) cs) within in
@@ -254,7 +254,7 @@ crashed_is pick (w ∷ ws) synced n fits len =
     )
 
 -- The image that a pick takes of the state at a call is a moment since that call.
-pub moment_crashed : (s : Seen) (f : Faults) (call pick : ℕ) → IsTrue s.is_kept → IsSound s → (meaning s f).moments (call * 2 ^ 64) (crashed pick (state_at (fresh s.start) call s.changes).unsynced (state_at (fresh s.start) call s.changes).synced) (state_at (fresh s.start) call s.changes).shown
+pub moment_crashed : (s : Seen) (f : Faults) (call pick : ℕ) → IsTrue s.is_kept → IsSoundSeen s → (meaning s f).moments (call * 2 ^ 64) (crashed pick (state_at (fresh s.start) call s.changes).unsynced (state_at (fresh s.start) call s.changes).synced) (state_at (fresh s.start) call s.changes).shown
 moment_crashed s f call pick kept sound =
     let state = state_at (fresh s.start) call s.changes in
     let whole = whole_at (length s.start) call (fresh s.start) s.changes (whole_fresh s.start) sound.within in (

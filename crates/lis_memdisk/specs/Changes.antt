@@ -19,14 +19,14 @@ pub record Unsynced : Type 0 where
   pub place : ℕ
   pub bytes : List ℕ
 
-pub record State : Type 0 where
+pub record Medium : Type 0 where
   -- the bytes of the last sync, or of the beginning
   pub synced : List ℕ
   -- the newest first
   pub unsynced : List Unsynced
   pub shown : List ℕ
 
-abbrev pub fresh : List ℕ → State
+abbrev pub fresh : List ℕ → Medium
 fresh start = record { synced = start; unsynced = []; shown = [] }
 
 abbrev pub written : List Unsynced → List ℕ → List ℕ
@@ -34,10 +34,10 @@ written [] synced = synced
 written (w ∷ ws) synced = put (written ws synced) w.place w.bytes
 
 -- the bytes as they read
-abbrev pub bytes_of : State → List ℕ
+abbrev pub bytes_of : Medium → List ℕ
 bytes_of s = written s.unsynced s.synced
 
-abbrev pub after : State → Deed → State
+abbrev pub after : Medium → Deed → Medium
 after s (Writes place bytes) = record {
   synced = s.synced;
   unsynced = record { place = place; bytes = bytes } ∷ s.unsynced;
@@ -46,7 +46,7 @@ after s (Writes place bytes) = record {
 after s Syncs = record { synced = bytes_of s; unsynced = []; shown = s.shown }
 after s (Shows piece) = record { synced = s.synced; unsynced = s.unsynced; shown = s.shown ++ piece }
 
-abbrev pub replay : State → List Change → State
+abbrev pub replay : Medium → List Change → Medium
 replay s [] = s
 replay s (c ∷ cs) = replay (after s c.deed) cs
 
@@ -57,7 +57,7 @@ IsImage (w ∷ ws) synced image =
     (from : List ℕ) × IsImage ws synced from × Torn w.place (length w.bytes) from image
 
 -- what a crash in this state leaves, with the bytes shown by then
-abbrev pub IsLeft : State → List ℕ → List ℕ → Type 0
+abbrev pub IsLeft : Medium → List ℕ → List ℕ → Type 0
 IsLeft s image bytes = IsImage s.unsynced s.synced image × (bytes ≡ s.shown)
 
 -- a time: calls that show pass it on between two calls of the disk
@@ -68,7 +68,7 @@ abbrev pub time_of : Change → ℕ
 time_of c = clock_at c.calls c.shows
 
 -- A moment since a time: what a crash could have left in a state that a later change ended, or in the last state.
-abbrev pub Moment : ℕ → State → List Change → List ℕ → List ℕ → Type 0
+abbrev pub Moment : ℕ → Medium → List Change → List ℕ → List ℕ → Type 0
 Moment t s [] image bytes = IsLeft s image bytes
 Moment t s (c ∷ cs) image bytes =
     ((t < time_of c) × IsLeft s image bytes) ⊎ Moment t (after s c.deed) cs image bytes
@@ -83,7 +83,7 @@ abbrev pub had_happened : ℕ → Change → Bool
 had_happened call c = is_by call c.calls c.deed
 
 -- the state just after a call of the disk: the changes are in the order of their calls
-abbrev pub state_at : State → ℕ → List Change → State
+abbrev pub state_at : Medium → ℕ → List Change → Medium
 state_at s call [] = s
 state_at s call (c ∷ cs) = if had_happened call c then state_at (after s c.deed) call cs else s
 
@@ -104,6 +104,6 @@ crashed pick (w ∷ ws) synced =
     put (crashed pick ws synced) w.place (picked pick w.place w.bytes (part w.place (length w.bytes) (crashed pick ws synced)))
 
 -- the bytes of a state, and the image that a pick takes of it
-pub record IsAt (pick : ℕ) (s : State) (image bytes : List ℕ) : Type 0 where
+pub record IsAt (pick : ℕ) (s : Medium) (image bytes : List ℕ) : Type 0 where
   pub image_is : image ≡ crashed pick s.unsynced s.synced
   pub bytes_are : bytes ≡ bytes_of s

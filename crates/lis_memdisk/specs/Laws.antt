@@ -5,17 +5,17 @@ use Rattle.std.proofs.Common.{sym, ◌∙◌, ap, subst, inl, inr, arith}
 use Rattle.std.proofs.lemmas.Bool.{and_parts, and_from, leb-true}
 use Rattle.lis_ports.specs.Meaning.{Now}
 use Rattle.lis_ports.proofs.Parts.{torn-put, length-put}
-use Rattle.lis_memdisk.specs.Changes.{Deed, Change, State, fresh, bytes_of, after, replay, IsImage, IsLeft, time_of, Moment}
+use Rattle.lis_memdisk.specs.Changes.{Deed, Change, Medium, fresh, bytes_of, after, replay, IsImage, IsLeft, time_of, Moment}
 use Rattle.lis_memdisk.specs.Changes.Deed.{Writes, Syncs, Shows}
-use Rattle.lis_memdisk.specs.Seen.{Seen, Faults, now_of, clock_of, meaning, is_within, IsSound}
+use Rattle.lis_memdisk.specs.Seen.{Seen, Faults, now_of, clock_of, meaning, is_within, IsSoundSeen}
 
 -- The last state is a moment since any time.
-pub moment_last : (t : ℕ) (s : State) (cs : List Change) (image bytes : List ℕ) → IsLeft (replay s cs) image bytes → Moment t s cs image bytes
+pub moment_last : (t : ℕ) (s : Medium) (cs : List Change) (image bytes : List ℕ) → IsLeft (replay s cs) image bytes → Moment t s cs image bytes
 moment_last t s [] image bytes is = is
 moment_last t s (c ∷ cs) image bytes is = inr (moment_last t (after s c.deed) cs image bytes is)
 
 -- A moment since a time that no change came after is one of the last state.
-pub moment_now : (t : ℕ) (s : State) (cs : List Change) (image bytes : List ℕ) → IsTrue (list_all (λ c. nat_le (time_of c) t) cs) → Moment t s cs image bytes → IsLeft (replay s cs) image bytes
+pub moment_now : (t : ℕ) (s : Medium) (cs : List Change) (image bytes : List ℕ) → IsTrue (list_all (λ c. nat_le (time_of c) t) cs) → Moment t s cs image bytes → IsLeft (replay s cs) image bytes
 moment_now t s [] image bytes past is = is
 moment_now t s (c ∷ cs) image bytes past is =
     let parts = and_parts (nat_le (time_of c) t) (list_all (λ c. nat_le (time_of c) t) cs) past in
@@ -24,7 +24,7 @@ moment_now t s (c ∷ cs) image bytes past is =
       | inr later ↦ moment_now t (after s c.deed) cs image bytes parts.1 later
     ]
 
-pub moment_earlier : (t u : ℕ) (s : State) (cs : List Change) (image bytes : List ℕ) → t ≤ u → Moment u s cs image bytes → Moment t s cs image bytes
+pub moment_earlier : (t u : ℕ) (s : Medium) (cs : List Change) (image bytes : List ℕ) → t ≤ u → Moment u s cs image bytes → Moment t s cs image bytes
 moment_earlier t u s [] image bytes le is = is
 moment_earlier t u s (c ∷ cs) image bytes le is =
     elim is as (λ _. Moment t s (c ∷ cs) image bytes) [
@@ -33,13 +33,13 @@ moment_earlier t u s (c ∷ cs) image bytes le is =
     ]
 
 -- It has so many bytes, in each image too, and it reads as an image.
-pub record IsWhole (n : ℕ) (s : State) : Type 0 where
+pub record IsWhole (n : ℕ) (s : Medium) : Type 0 where
   pub len : length (bytes_of s) ≡ n
   pub fits : IsTrue (list_all (λ w. nat_le (w.place + length w.bytes) n) s.unsynced)
   pub reads : IsImage s.unsynced s.synced (bytes_of s)
   pub images : (image : List ℕ) → IsImage s.unsynced s.synced image → length image ≡ n
 
-pub whole_after : (n : ℕ) (s : State) (deed : Deed) → IsWhole n s → IsTrue (is_within n deed) → IsWhole n (after s deed)
+pub whole_after : (n : ℕ) (s : Medium) (deed : Deed) → IsWhole n s → IsTrue (is_within n deed) → IsWhole n (after s deed)
 whole_after n s (Writes place bytes) whole within =
     let le : place + length bytes ≤ n = leb-true (place + length bytes) n within in
     let fits : place + length bytes ≤ length (bytes_of s) = omega (arith, whole.len, le) in
@@ -62,7 +62,7 @@ whole_after n s (Shows piece) whole within = record {
   images = whole.images;
 }
 
-pub whole_replay : (n : ℕ) (s : State) (cs : List Change) → IsWhole n s → IsTrue (list_all (λ c. is_within n c.deed) cs) → IsWhole n (replay s cs)
+pub whole_replay : (n : ℕ) (s : Medium) (cs : List Change) → IsWhole n s → IsTrue (list_all (λ c. is_within n c.deed) cs) → IsWhole n (replay s cs)
 whole_replay n s [] whole within = whole
 whole_replay n s (c ∷ cs) whole within =
     let parts = and_parts (is_within n c.deed) (list_all (λ c. is_within n c.deed) cs) within in
@@ -72,12 +72,12 @@ pub whole_fresh : (start : List ℕ) → IsWhole (length start) (fresh start)
 whole_fresh start = record { len = refl; fits = refl; reads = refl; images = λ image is. ap length is }
 
 -- It has as many bytes as at its start.
-pub whole_start : (s : Seen) → IsSound s → length s.start ≡ length s.bytes
+pub whole_start : (s : Seen) → IsSoundSeen s → length s.start ≡ length s.bytes
 whole_start s sound =
     sym (whole_replay (length s.start) (fresh s.start) s.changes (whole_fresh s.start) sound.within).len ∙ ap length sound.reads
 
 -- What is sound is whole.
-pub whole_of : (s : Seen) → IsSound s → IsWhole (length s.bytes) (now_of s)
+pub whole_of : (s : Seen) → IsSoundSeen s → IsWhole (length s.bytes) (now_of s)
 whole_of s sound = subst (λ n. IsWhole n (now_of s)) (whole_start s sound)
     (whole_replay (length s.start) (fresh s.start) s.changes (whole_fresh s.start) sound.within)
 
@@ -86,7 +86,7 @@ some_same xs ys e = ap (λ o. unwrap_or o []) e
 
 -- what is sound where it is kept
 abbrev pub Sound : Seen → Type 0
-Sound s = IsTrue s.is_kept → IsSound s
+Sound s = IsTrue s.is_kept → IsSoundSeen s
 
 pub now_counts : (s : Seen) (f : Faults) → Sound s → (t : ℕ) (image bytes : List ℕ) → IsTrue s.is_kept → Now (meaning s f) image bytes → (meaning s f).moments t image bytes
 now_counts s f sound t image bytes kept now =

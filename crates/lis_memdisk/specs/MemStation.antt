@@ -3,7 +3,7 @@ use Rattle.std.specs.Prelude.{◌≡◌, ℕ, ◌-◌, ◌^◌, ◌==◌, nat_lt
 use Rattle.std.specs.List.{list_any}
 use Rattle.lis_ports.specs.Meaning.{Meaning}
 use Rattle.lis_memdisk.specs.declared.mem_station.MemStation.{MemStation}
-use Rattle.lis_memdisk.specs.Changes.{State, fresh, state_at}
+use Rattle.lis_memdisk.specs.Changes.{Medium, fresh, state_at}
 use Rattle.lis_memdisk.specs.Seen.{Seen, Faults, Passed, meaning, next_of, is_full, cost_of, show_cost_of, first_seen}
 use Rattle.lis_memdisk.specs.History.{seen_of}
 
@@ -38,7 +38,7 @@ abbrev pub lacks_room_to_show : MemStation → ℕ → Bool
 lacks_room_to_show m n = is_full (held m).is_kept (held m).left (held m).shows (show_cost_of (held m).is_kept n)
 
 -- the state when a call of the disk answered
-abbrev pub state_of : MemStation → ℕ → State
+abbrev pub state_of : MemStation → ℕ → Medium
 state_of m call = state_at (fresh (held m).start) call (held m).changes
 
 -- A new station: it reads as these bytes, nothing was written or shown, no call failed, and none was told to fail.

@@ -3,7 +3,7 @@ use Rattle.std.specs.Prelude.{◌≡◌, ℕ, ◌+◌, ◌-◌, ◌^◌, ◌<◌
 use Rattle.std.specs.List.{list_all}
 use Rattle.lis_ports.specs.Meaning.{Meaning}
 use Rattle.lis_ports.specs.Bytes.{put}
-use Rattle.lis_memdisk.specs.Changes.{Deed, Change, State, fresh, bytes_of, replay, IsImage, clock_at, time_of, Moment}
+use Rattle.lis_memdisk.specs.Changes.{Deed, Change, Medium, fresh, bytes_of, replay, IsImage, clock_at, time_of, Moment}
 use Rattle.lis_memdisk.specs.Changes.Deed.{Writes, Syncs, Shows}
 
 pub record Seen : Type 0 where
@@ -18,7 +18,7 @@ pub record Seen : Type 0 where
   pub calls : ℕ
   pub shows : ℕ
 
-abbrev pub now_of : Seen → State
+abbrev pub now_of : Seen → Medium
 now_of s = replay (fresh s.start) s.changes
 
 abbrev pub clock_of : Seen → ℕ
@@ -59,7 +59,7 @@ is_counted shows Syncs = true
 is_counted shows (Shows piece) = nat_lt 0 shows
 
 -- The record is that of a disk that reads as these bytes, shows these, and counts so many calls.
-pub record IsSound (s : Seen) : Type 0 where
+pub record IsSoundSeen (s : Seen) : Type 0 where
   pub within : IsTrue (list_all (λ c. is_within (length s.start) c.deed) s.changes)
   pub counted : IsTrue (list_all (λ c. is_counted c.shows c.deed) s.changes)
   pub past : IsTrue (list_all (λ c. nat_le (time_of c) (clock_of s)) s.changes)

@@ -3,9 +3,9 @@
 ghost use Rattle.std.specs.Prelude.{false, [], ◌∷◌, ◌≡◌, ◌⊎◌, ◌+◌, ◌-◌, ◌*◌, ◌^◌, ◌<◌, ◌≤◌, ◌↔◌, ◌++◌, ℕ, List, length, take, IsTrue, IsErr, IfOk, OnOk, OnErr, vec_len, vec_capacity};
 ghost use Rattle.lis_ports.specs.Bytes.{part, put};
 ghost use Rattle.lis_memdisk.specs.Event.{changes_of, all_stored, deed_of, has_given};
-ghost use Rattle.lis_memdisk.specs.Seen.{IsSound, is_within};
-ghost use Rattle.lis_memdisk.specs.Changes.{State, after, bytes_of, crashed, IsAt};
-ghost use Rattle.lis_memdisk.specs.Room.{HasRoom};
+ghost use Rattle.lis_memdisk.specs.Seen.{IsSoundSeen, is_within};
+ghost use Rattle.lis_memdisk.specs.Changes.{Medium, after, bytes_of, crashed, IsAt};
+ghost use Rattle.lis_memdisk.specs.Room.{HasSpace};
 
 use crate::bytes::{overwrite, overwrite_vec, tear};
 use crate::event::{EVENT_LEN, Event, Kind, Span};
@@ -27,8 +27,8 @@ pub struct History {
     calls: u64,
     shows: u64,
     ghost stored: { IsTrue (all_stored (length given.items) (length shown.items) events.items) },
-    ghost sound: { IsTrue is_kept → IsSound (record { is_kept = is_kept; start = start.items; changes = changes_of given.items shown.items events.items; bytes = bytes.items; shown = shown.items; left = left; calls = calls; shows = shows }) },
-    ghost room: { HasRoom is_kept left (vec_len shown) (vec_capacity shown) (vec_len given) (vec_capacity given) (vec_len events) (vec_capacity events) },
+    ghost sound: { IsTrue is_kept → IsSoundSeen (record { is_kept = is_kept; start = start.items; changes = changes_of given.items shown.items events.items; bytes = bytes.items; shown = shown.items; left = left; calls = calls; shows = shows }) },
+    ghost room: { HasSpace is_kept left (vec_len shown) (vec_capacity shown) (vec_len given) (vec_capacity given) (vec_len events) (vec_capacity events) },
 }
 
 // Adds an event, for which there is room.
@@ -60,7 +60,7 @@ fn redo(given: &[u8], kind: Kind, pick: u8, image: &mut [u8], bytes: &mut [u8])
     requires stored { IsTrue (has_given (length given.now) kind) }
     requires within { IsTrue (is_within (length image.old) (deed_of given.now [] kind)) }
     requires same_len { length bytes.old ≡ length image.old }
-    ensures { (s : State) (shown : List ℕ) → IsAt pick s image.old bytes.old
+    ensures { (s : Medium) (shown : List ℕ) → IsAt pick s image.old bytes.old
         → IsAt pick (after s (deed_of given.now shown kind)) image.new bytes.new }
 {
     match kind {
@@ -79,7 +79,7 @@ fn redo_vec(given: &[u8], kind: Kind, pick: u8, image: &mut Vec<u8>, bytes: &mut
     requires stored { IsTrue (has_given (length given.now) kind) }
     requires within { IsTrue (is_within (length image.old.items) (deed_of given.now [] kind)) }
     requires same_len { length bytes.old.items ≡ length image.old.items }
-    ensures at { (s : State) (shown : List ℕ) → IsAt pick s image.old.items bytes.old.items
+    ensures at { (s : Medium) (shown : List ℕ) → IsAt pick s image.old.items bytes.old.items
         → IsAt pick (after s (deed_of given.now shown kind)) image.new.items bytes.new.items }
     ensures image_len { length image.new.items ≡ length image.old.items }
     ensures bytes_len { length bytes.new.items ≡ length bytes.old.items }

@@ -7,7 +7,7 @@ use Rattle.lis_content.proofs.Reading.{unchanged_none, unchanged_then}
 use Rattle.lis_open.specs.declared.blocks.LastBlock.{LastBlock}
 use Rattle.lis_open.specs.Reading.{OnlyReads, Recalls, IsReadAs}
 use Rattle.std.proofs.Math.Nat.{mul-le-mul_left}
-use Rattle.lis_journal.specs.Record.{Entry}
+use Rattle.lis_journal.specs.Record.{HomeBlock}
 use Rattle.lis_journal.specs.Phases.{looked}
 use Rattle.lis_fields.proofs.OneSpelling.{file_once}
 use Rattle.lis_kept.proofs.InArea.{few_files, few_blocks as few_data}
@@ -42,7 +42,7 @@ pub few_blocks : (limits : Limits) (blocks : ℕ) → IsTrue (are_in_range limit
 few_blocks limits blocks range is = search (rules, few_files, mul-le-mul_left, few_properties, few_data)
 
 -- what is read of a slot where nothing is staged
-pub slot_read : (slots : Slots) (staged : List Entry) (kept : ℕ → List ℕ) (n : ℕ) (bytes : List ℕ) → staged ≡ [] → bytes ≡ slot slots (looked staged kept) n → bytes ≡ slot slots kept n
+pub slot_read : (slots : Slots) (staged : List HomeBlock) (kept : ℕ → List ℕ) (n : ℕ) (bytes : List ℕ) → staged ≡ [] → bytes ≡ slot slots (looked staged kept) n → bytes ≡ slot slots kept n
 slot_read slots staged kept n bytes none read = read ∙ ap (λ es. slot slots (looked es kept) n) none
 
 module _ {X : Type 0} (spelled : X → List ℕ) (is_in_range : X → Bool) (slots : Slots) (at : ℕ → List ℕ) (n : ℕ) where

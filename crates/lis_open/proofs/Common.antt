@@ -4,7 +4,7 @@ pub use Rattle.lis_bits.specs.Rows.{HasShape, Rows, get, with_row}
 pub use Rattle.lis_blockmap.specs.Bitmap.{has_bit, is_taken}
 pub use Rattle.lis_catalog.specs.Catalog.{Filed, rec_at}
 pub use Rattle.lis_content.proofs.Numbers.{are_below, not_true}
-pub use Rattle.lis_content.specs.Content.{are_distinct, are_free, has_number, marked}
+pub use Rattle.lis_content.specs.Content.{are_free, marked}
 pub use Rattle.lis_content.specs.Large.{index_bytes, index_home, is_large, numbers_in}
 pub use Rattle.lis_dict.proofs.Laws.{number_below, number_from_word, word_from_number}
 pub use Rattle.lis_dict.specs.Dict.{Dict, IsDict, number_of, word_of}
@@ -39,7 +39,7 @@ pub use Rattle.lis_laws.proofs.Counts.{all_among}
 pub use Rattle.lis_laws.proofs.Members.{among_from_has_word, among_set_of, has_word_from_among, same_word_decides, set_of_among, sorted_set_of}
 pub use Rattle.lis_model.specs.Image.{bitmap_start, data_start, image_blocks}
 pub use Rattle.lis_model.specs.Ranges.{are_in_range}
-pub use Rattle.lis_model.specs.Sets.{set_of}
+pub use Rattle.lis_model.specs.Sets.{set_of, are_distinct, has_number}
 pub use Rattle.lis_model.specs.State.{File, State, WellFormed, blocks_needed, description, file_cmp, file_words, is_assignable, is_nameable, known, own_words, pair_cmp, up}
 pub use Rattle.lis_model.specs.Tests.{met_tests}
 pub use Rattle.lis_model.specs.declared.limits.Limits.{Limits}

@@ -6,7 +6,6 @@ use Rattle.lis_bits.specs.Bytes.{bits_bytes}
 use Rattle.lis_journal.specs.Record.{block, bad_record, replayed}
 use Rattle.lis_slots.specs.Slots.{Slots, slot}
 use Rattle.lis_blockmap.specs.Bitmap.{has_bit}
-use Rattle.lis_content.specs.Content.{has_number, are_distinct}
 use Rattle.lis_fields.specs.Records.{FileRecord}
 use Rattle.lis_fields.specs.Layouts.{zeros, prop_bytes, is_prop, axiom_bytes, is_axiom, file_bytes, is_file}
 use Rattle.lis_fields.specs.declared.slots.PropSlot.{PropSlot}
@@ -19,7 +18,7 @@ use Rattle.lis_model.specs.declared.limits.Limits.{Limits}
 use Rattle.lis_model.specs.declared.spot.Spot.{Spot}
 use Rattle.lis_model.specs.declared.spot.Spot.TheVariants.{Super, BadRecord, Property, Axiom, File, Word, Bitmap, Row}
 use Rattle.lis_model.specs.Image.{bitmap_start, image_blocks}
-use Rattle.lis_model.specs.Sets.{set_of}
+use Rattle.lis_model.specs.Sets.{set_of, are_distinct, has_number}
 use Rattle.lis_model.specs.State.{Entails, file_words, known, is_assignable, is_nameable, pair_cmp}
 use Rattle.lis_kept.specs.Areas.{property_slots, axiom_slots, file_slots, row_slots}
 use Rattle.lis_kept.specs.Telling.{blocks_told, HasIndex}

@@ -5,7 +5,7 @@ use Rattle.std.specs.List.{list_all, list_any, flat_map, Contains}
 use Rattle.lis_bits.specs.Rows.{Rows, HasShape, get}
 use Rattle.lis_slots.specs.Slots.{slot}
 use Rattle.lis_blockmap.specs.Bitmap.{is_taken}
-use Rattle.lis_content.specs.Content.{marked, are_free, are_distinct, has_number}
+use Rattle.lis_content.specs.Content.{marked, are_free}
 use Rattle.lis_content.specs.Large.{index_bytes, numbers_in, file_blocks, IsIndexed}
 use Rattle.lis_dict.specs.Dict.{Dict, number_of, word_of}
 use Rattle.lis_catalog.specs.Catalog.{Filed, IsCatalog, slot_of, rec_at, with_filed}
@@ -29,6 +29,7 @@ use Rattle.lis_open.specs.declared.words.Words.{Words}
 use Rattle.lis_open.specs.declared.axioms.Axioms.{Axioms}
 use Rattle.lis_open.specs.declared.files.Files.{Files}
 use Rattle.lis_open.specs.ReadWords.{declared_words, kept_words}
+use Rattle.lis_model.specs.Sets.{are_distinct, has_number}
 
 unfoldable pub no_files : Limits → Files
 no_files limits = record {

@@ -9,7 +9,7 @@ ghost use Rattle.lis_ports.specs.Calls.{HasCause, DiskFaultEnds};
 ghost use Rattle.lis_journal.specs.Images.{Fits};
 ghost use Rattle.lis_bits.specs.Rows.{HasShape, get};
 ghost use Rattle.lis_blockmap.specs.Bitmap.{is_taken};
-ghost use Rattle.lis_content.specs.Content.{marked, are_free, are_distinct};
+ghost use Rattle.lis_content.specs.Content.{marked, are_free};
 ghost use Rattle.lis_dict.specs.Dict.{number_of};
 ghost use Rattle.lis_catalog.specs.Catalog.{slot_of, rec_at};
 ghost use Rattle.lis_ext.specs.Ext.{set_of};
@@ -25,6 +25,7 @@ ghost use Rattle.lis_store.specs.Contents.{AreContentsWithin};
 ghost use Rattle.lis_open.specs.Reading.{OnlyReads, HasPartCause, Recalls, IsReadAs, Ends};
 ghost use Rattle.lis_open.specs.ReadWords.{AreWords, declared_words, AreFirstWords, AreFirstAxioms, WordsAreSpelled, AxiomsAreSpelled};
 ghost use Rattle.lis_open.specs.ReadFiles.{no_files, Gathered, AreListed, found_words, numbers_of, is_numbered, AreDescribed, may_file, TakesNumbers, TakesRecord, TakesFile, RecordFault, HasSlotFault, AreFirstFiles, FilesAreTold};
+ghost use Rattle.lis_model.specs.Sets.{are_distinct};
 
 use crate::axioms::Axioms;
 use crate::blocks::LastBlock;

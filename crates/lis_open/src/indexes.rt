@@ -5,7 +5,7 @@ ghost use Rattle.std.specs.Option.{option_map};
 ghost use Rattle.lis_ports.specs.Calls.{HasCause, DiskFaultEnds};
 ghost use Rattle.lis_journal.specs.Images.{Fits};
 ghost use Rattle.lis_blockmap.specs.Bitmap.{is_taken};
-ghost use Rattle.lis_content.specs.Content.{are_free, are_distinct, are_within, has_number};
+ghost use Rattle.lis_content.specs.Content.{are_free, are_within};
 ghost use Rattle.lis_content.specs.Large.{slot_count};
 ghost use Rattle.lis_fields.specs.Layouts.{is_record};
 ghost use Rattle.lis_model.specs.Ranges.{are_in_range};
@@ -13,6 +13,7 @@ ghost use Rattle.lis_model.specs.Image.{data_start, image_blocks};
 ghost use Rattle.lis_model.specs.State.{blocks_needed};
 ghost use Rattle.lis_open.specs.Reading.{OnlyReads};
 ghost use Rattle.lis_open.specs.ReadFiles.{AreIndexed, AreReadBlocks, AreUsable, AreItsBlocks};
+ghost use Rattle.lis_model.specs.Sets.{are_distinct, has_number};
 
 use arrayvec::ArrayVec;
 use lis_blockmap::BlockMap;

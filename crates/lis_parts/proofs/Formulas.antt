@@ -17,6 +17,6 @@ pub whole_place : (text : List ℕ) (rooted : Bool) (place : List Formula) → l
 whole_place text rooted place short is fits =
     let test = test_from_place place fits in
     cond-false (nat_lt 1024 (length text)) _ _ (le-ltb 1024 (length text) short)
-    ∙ (ap (resolved_path [] text) is
+    ∙ (ap (resolved_path []) is
     ∙ (cond-true (is_place place) (within_limits (steps_from [] rooted place)) BeyondLimits test
     ∙ (ap within_limits (from_root rooted place) ∙ cond-true (is_place place) (NewPlace place) BeyondLimits test)))

@@ -17,8 +17,8 @@ use Rattle.lis_model.specs.Step.{SituationOf, OutcomeOf, Outcome, Payload, refus
 use Rattle.lis_laws.proofs.Regular.{write_stays}
 use Rattle.lis_eval.specs.View as seen
 use Rattle.lis_store.specs.Seen.{seen_of}
-use Rattle.lis_store.proofs.Facts.{name_filed}
-use Rattle.lis_store.proofs.Here.{slot_seen}
+use Rattle.lis_store.proofs.StoreSays.{name_filed}
+use Rattle.lis_store.proofs.FilesHere.{slot_seen}
 use Rattle.lis_store.specs.Stored.{Stored, IsSound, StoreFits}
 use Rattle.lis_store.specs.Changes.{Changes}
 use Rattle.lis_store.specs.declared.change.Change.{Change}

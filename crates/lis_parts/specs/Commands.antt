@@ -13,17 +13,12 @@ use Rattle.lis_model.specs.Step.{Situation, Outcome, refused, judged, write}
 use Rattle.lis_views.specs.Views.{view_of}
 use Rattle.lis_views.specs.Edits.{Back, back_of}
 use Rattle.lis_views.specs.Edits.Back.{NotAView, WrongMarks, Content}
+use Rattle.lis_store.specs.Retagging.{place_or_refusal}
 use Rattle.lis_session.specs.Parts.{only_shows}
 
 -- The steps that a formula text stands for. A text of more than 1,024 bytes is too large whatever it holds; `..` is no formula here.
 abbrev pub formula_of : List ℕ → Resolution
-formula_of text = if nat_lt 1024 (length text) then BeyondLimits else resolved_path [] text (text_steps text)
-
--- the same, or why it is refused
-abbrev pub formula_or_refusal : Resolution → Result (List Formula) Refusal
-formula_or_refusal (Unreadable k) = Err BadFormula
-formula_or_refusal BeyondLimits = Err LargeFormula
-formula_or_refusal (NewPlace place) = Ok place
+formula_of text = if nat_lt 1024 (length text) then BeyondLimits else resolved_path [] (text_steps text)
 
 -- what is done of a file with a formula: first the formula is judged, and then whether the state has the file
 abbrev pub done_of : Situation → List ℕ → Result (List Formula) Refusal → (List Formula → Outcome) → Outcome
@@ -36,7 +31,7 @@ bytes_of now name = (file_of now.state.files name).bytes
 -- shows the view of the file of that name under the formula of the text
 abbrev pub view : Situation → List ℕ → List ℕ → Outcome
 view now name text =
-    done_of now name (formula_or_refusal (formula_of text)) (λ place. only_shows (view_of (bytes_of now name) place) now)
+    done_of now name (place_or_refusal (formula_of text)) (λ place. only_shows (view_of (bytes_of now name) place) now)
 
 -- `no`, a number in two digits, and the words of a refusal that no command of a session has
 abbrev pub no_line : ℕ → List ℕ → List ℕ
@@ -57,4 +52,4 @@ put_as now name (Content bytes) = write now name (payload_of (length bytes) byte
 -- puts an edited view of the file back
 abbrev pub put : Situation → List ℕ → List ℕ → List ℕ → Outcome
 put now name text input =
-    done_of now name (formula_or_refusal (formula_of text)) (λ place. put_as now name (back_of (bytes_of now name) place input))
+    done_of now name (place_or_refusal (formula_of text)) (λ place. put_as now name (back_of (bytes_of now name) place input))

@@ -7,7 +7,7 @@ use Rattle.std.proofs.lemmas.Grind.{common_steps}
 use Rattle.std.specs.Vec.{with_items}
 use Rattle.std.specs.List.{refill}
 use Rattle.lis_region.specs.declared.region.Slot.{Slot}
-use Rattle.lis_region.specs.Inside.{IsSound, IsMade, slot_items, frames_of}
+use Rattle.lis_region.specs.Inside.{IsSoundRegion, IsMade, slot_items, frames_of}
 use Rattle.lis_region.proofs.Order.{taken, given, written}
 
 -- from the first element on, all are x
@@ -61,7 +61,7 @@ module _ {T : Type 0} where
     in_frames lt = rw length-map lt
 
     -- a taken frame's items are written
-    pub sound_written : IsSome (get_or (frames_of slots) n None) → slot'.is_taken ≡ slot.is_taken → IsSound slots order free width → IsSound (set slots n slot') order free width
+    pub sound_written : IsSome (get_or (frames_of slots) n None) → slot'.is_taken ≡ slot.is_taken → IsSoundRegion slots order free width → IsSoundRegion (set slots n slot') order free width
     sound_written h same sound =
         let lt = frame_in_range slots n h in
         record {
@@ -70,7 +70,7 @@ module _ {T : Type 0} where
         }
 
     -- a taken frame is given back
-    pub sound_given : IsSome (get_or (frames_of slots) n None) → slot_items slot' ≡ None → IsSound slots order free width → IsSound (set slots n slot') (set order free n) (free + 1) width
+    pub sound_given : IsSome (get_or (frames_of slots) n None) → slot_items slot' ≡ None → IsSoundRegion slots order free width → IsSoundRegion (set slots n slot') (set order free n) (free + 1) width
     sound_given h none sound =
         let lt = frame_in_range slots n h in
         record {
@@ -79,14 +79,14 @@ module _ {T : Type 0} where
         }
 
     -- the last of the free frames is taken
-    pub sound_taken : (items : List T) → n ≡ get_or order free 0 → n < length slots → slot_items slot' ≡ Some items → IsSound slots order (free + 1) width → IsSound (set slots n slot') order free width
+    pub sound_taken : (items : List T) → n ≡ get_or order free 0 → n < length slots → slot_items slot' ≡ Some items → IsSoundRegion slots order (free + 1) width → IsSoundRegion (set slots n slot') order free width
     sound_taken items last lt some sound = record {
       widths = widths_kept lt sound.widths;
       free_first = rw (map-set slot_items slots n slot', some, last) (taken (frames_of slots) order free items sound.free_first);
     }
 
   -- the last of the free frames has a slot
-  pub last_free : (slots : List (Slot T)) (order : List ℕ) (free width n : ℕ) → n ≡ get_or order (free - 1) n → 0 < free → IsSound slots order free width → (n ≡ get_or order (free - 1) 0) × (n < length slots)
+  pub last_free : (slots : List (Slot T)) (order : List ℕ) (free width n : ℕ) → n ≡ get_or order (free - 1) n → 0 < free → IsSoundRegion slots order free width → (n ≡ get_or order (free - 1) 0) × (n < length slots)
   last_free slots order free width n read some sound =
       let h = sound.free_first in
       let number = get_or_read order (free - 1) n (omega (arith, h.as_many, h.counted)) read 0 in
@@ -110,7 +110,7 @@ module _ {T : Type 0} where
   }
 
   -- when all are made, the region is as it begins
-  pub sound_made : (slots : List (Slot T)) (order : List ℕ) (count width : ℕ) → count < 2 ^ 32 → IsMade slots order count width → IsSound slots order count width
+  pub sound_made : (slots : List (Slot T)) (order : List ℕ) (count width : ℕ) → count < 2 ^ 32 → IsMade slots order count width → IsSoundRegion slots order count width
   sound_made slots order count width few made =
       let long : length (frames_of slots) ≡ count = ap length made.frames ∙ length-replicate count None in
       record {

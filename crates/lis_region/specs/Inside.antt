@@ -21,7 +21,7 @@ module _ {T : Type 0} where
   frames_of slots = map slot_items slots
 
   -- each slot has as many items, and the order tells the free ones
-  pub record IsSound (slots : List (Slot T)) (order : List ℕ) (free width : ℕ) : Type 0 where
+  pub record IsSoundRegion (slots : List (Slot T)) (order : List ℕ) (free width : ℕ) : Type 0 where
     pub widths : All (λ slot. vec_len slot.items ≡ width) slots
     pub free_first : IsOrder (frames_of slots) order free
 

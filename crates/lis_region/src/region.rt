@@ -41,11 +41,11 @@ impl<T: Copy> Model for Region<T> {
 
     ghost coded = { region_code T.code };
 
-    ghost use Rattle.lis_region.specs.Inside.{frames_of, IsSound};
+    ghost use Rattle.lis_region.specs.Inside.{frames_of, IsSoundRegion};
 
     ghost view = { λ r. record { width = r.width; fill = r.fill; frames = frames_of r.slots.items } };
 
-    ghost invariant = { λ r. IsSound r.slots.items r.order.items r.free r.width };
+    ghost invariant = { λ r. IsSoundRegion r.slots.items r.order.items r.free r.width };
 }
 
 impl<T: Copy> Region<T> {

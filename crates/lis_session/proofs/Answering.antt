@@ -9,7 +9,7 @@ use Rattle.lis_store.specs.declared.change.Change.{Change}
 use Rattle.lis_store.specs.declared.change.Change.TheVariants.{Refused, Disk}
 use Rattle.lis_store.specs.Stored.{Stored, IsSound, StoreFits}
 use Rattle.lis_store.specs.Changes.{Changes}
-use Rattle.lis_store.proofs.Facts.{known_told}
+use Rattle.lis_store.proofs.StoreSays.{known_told}
 use Rattle.lis_session.specs.declared.end.End.{End}
 use Rattle.lis_session.specs.declared.end.End.TheVariants.{DiskFault}
 use Rattle.lis_session.specs.Item.{OneItem}

@@ -21,7 +21,7 @@ use Rattle.lis_store.specs.Stands.{Stands}
 use Rattle.lis_store.specs.Stored.{Stored, IsSound, StoreFits}
 use Rattle.lis_store.specs.Judging.{is_among}
 use Rattle.lis_store.proofs.ToldBy.{told_fits}
-use Rattle.lis_store.proofs.Facts.{sizes_told, here_told}
+use Rattle.lis_store.proofs.StoreSays.{sizes_told, here_told}
 use Rattle.lis_session.specs.declared.end.End.{End}
 use Rattle.lis_session.specs.declared.end.End.TheVariants.{DiskFault}
 use Rattle.lis_session.specs.Session.{root_of}

@@ -32,7 +32,7 @@ use Rattle.lis_store.specs.Stored.{Stored, IsSound, StoreFits}
 use Rattle.lis_store.specs.Seen.{table_of}
 use Rattle.lis_store.specs.Judging.{is_among}
 use Rattle.lis_store.proofs.ToldBy.{told_fits}
-use Rattle.lis_store.proofs.Facts.{any_is_found, table_told}
+use Rattle.lis_store.proofs.StoreSays.{any_is_found, table_told}
 use Rattle.lis_store.proofs.Described.{description_told, entry_found}
 use Rattle.lis_session.specs.Described.{words_had}
 

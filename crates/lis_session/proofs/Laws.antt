@@ -24,7 +24,7 @@ cd_led now text = by (resolved now.place text)
     judge false place = refl
 
     by : (to : Resolution) → cd_to now text to ≡ arrived now (led_to (known now.state) text to)
-    by (Unreadable k) = refl
+    by Unreadable = refl
     by BeyondLimits = refl
     by (NewPlace place) = judge (list_all (has_word (known now.state)) (text_words text)) place
 

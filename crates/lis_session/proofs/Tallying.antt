@@ -26,7 +26,7 @@ use Rattle.lis_store.specs.declared.change.Change.TheVariants.{Refused, Disk}
 use Rattle.lis_store.specs.Stored.{Stored, IsSound, StoreFits}
 use Rattle.lis_store.specs.Judging.{is_among}
 use Rattle.lis_store.proofs.ToldBy.{told_fits}
-use Rattle.lis_store.proofs.Facts.{here_told}
+use Rattle.lis_store.proofs.StoreSays.{here_told}
 use Rattle.lis_store.specs.Changes.{Changes}
 use Rattle.lis_store.specs.Stands.{Stands}
 use Rattle.lis_session.specs.declared.tally.Tally.{Tally}

@@ -58,7 +58,7 @@ shown_line (File name) = body_line 102 name
 
 -- the place to which a text leads, by the known words, or why it is refused
 abbrev pub led_to : List (List ℕ) → List ℕ → Resolution → Result (List Formula) Refusal
-led_to known text (Unreadable k) = Err BadFormula
+led_to known text Unreadable = Err BadFormula
 led_to known text BeyondLimits = Err LargeFormula
 led_to known text (NewPlace place) = if list_all (has_word known) (text_words text) then Ok place else Err UnknownProperty
 

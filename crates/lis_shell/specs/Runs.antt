@@ -42,8 +42,8 @@ loading = record {
 abbrev pub rooming : Work
 rooming = serving room_step tagged_cut rooms_of
 
-abbrev pub Entry : Meaning → Option (List ℕ) → State → List ℕ → Type 0
-Entry m left state bytes = EntryWith m (left ≡ Some bytes) state
+abbrev pub AtEntry : Meaning → Option (List ℕ) → State → List ℕ → Type 0
+AtEntry m left state bytes = EntryWith m (left ≡ Some bytes) state
 
 -- Every item was carried out and its reply shown. Or there was no memory at the opening: nothing was shown, no input was taken, and the image
 -- stands for the same state.

@@ -6,7 +6,7 @@ ghost use Rattle.lis_model.specs.declared.limits.Limits.{Limits as LimitsOf};
 ghost use Rattle.lis_model.specs.State.{State, empty_state};
 ghost use Rattle.lis_shell.specs.Agree.{ShowSame, EndSame, replies_from_empty, replies_from, state_behind};
 ghost use Rattle.lis_shell.specs.Keeps.{TryKeeps, RunKeeps, LoadKeeps};
-ghost use Rattle.lis_shell.specs.Runs.{Entry};
+ghost use Rattle.lis_shell.specs.Runs.{AtEntry};
 ghost use Rattle.lis_shell.specs.declared.status.Status.TheVariants.{Ended};
 
 use lis_ports::{Source, Station};
@@ -20,7 +20,7 @@ pub fn try_and_run_agree<R: Source, S: Source, T: Station, U: Station>()
         → (typed typed_after : R) (plain plain_after : T) (piped piped_after : S) (image image_after : U)
         → R.left typed ≡ Some bytes
         → TryKeeps limits (R.left typed) (R.left typed_after) (T.meaning plain) (T.meaning plain_after) (Ended AtEnd)
-        → Entry (U.meaning image) (S.left piped) (empty_state limits) bytes
+        → AtEntry (U.meaning image) (S.left piped) (empty_state limits) bytes
         → RunKeeps (piped_after ≡ piped) (image_after ≡ image) (S.left piped) (S.left piped_after) (U.meaning image) (U.meaning image_after) (Ended AtEnd)
         → ShowSame (T.meaning plain) (T.meaning plain_after) (U.meaning image) (U.meaning image_after) (replies_from_empty limits bytes) }
 {}
@@ -33,9 +33,9 @@ pub fn try_and_run_agree<R: Source, S: Source, T: Station, U: Station>()
 pub fn run_and_load_agree<R: Source, S: Source, T: Station, U: Station>()
     ensures { (state : State) (bytes : List ℕ)
         → (piped piped_after : R) (image image_after : T) (fed fed_after : S) (other other_after : U)
-        → Entry (T.meaning image) (R.left piped) state bytes
+        → AtEntry (T.meaning image) (R.left piped) state bytes
         → RunKeeps (piped_after ≡ piped) (image_after ≡ image) (R.left piped) (R.left piped_after) (T.meaning image) (T.meaning image_after) (Ended AtEnd)
-        → Entry (U.meaning other) (S.left fed) state bytes
+        → AtEntry (U.meaning other) (S.left fed) state bytes
         → LoadKeeps (fed_after ≡ fed) (other_after ≡ other) (S.left fed) (S.left fed_after) (U.meaning other) (U.meaning other_after) (Ended AtEnd)
         → EndSame (T.meaning image) (T.meaning image_after) (U.meaning other) (U.meaning other_after) (replies_from state bytes) (state_behind state bytes) }
 {}

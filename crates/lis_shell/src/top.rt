@@ -18,7 +18,7 @@ ghost use Rattle.lis_shell.specs.declared.words.Task.TheVariants.{Try, Make, Upg
 ghost use Rattle.lis_shell.specs.declared.words.ImageTask.{ImageTask as WorkNamed};
 ghost use Rattle.lis_shell.specs.declared.words.ImageTask.TheVariants.{Run, Load, Grow};
 ghost use Rattle.lis_shell.specs.Causes.{counts, HasStatusCause, NoFault};
-ghost use Rattle.lis_shell.specs.Runs.{Entry, IsComplete};
+ghost use Rattle.lis_shell.specs.Runs.{AtEntry, IsComplete};
 ghost use Rattle.lis_shell.specs.Grows.{GrowHeadline, GrowEntry, IsGrown};
 ghost use Rattle.lis_shell.specs.Image.{Told, EntryWith, ComesToEnd, ImageKeeps};
 ghost use Rattle.lis_shell.specs.Keeps.{TryKeeps, MakeKeeps, UpgradeKeeps, work_of, TaskKeeps};
@@ -157,14 +157,14 @@ pub fn lisfs<S: Source, T: Station>(
     // `run`: stopped at any moment, the image stands for the model's state after some first items, and what was shown is a front of
     // exactly their replies; or it is what a stop could have left at entry, with nothing shown since.
     ensures headline { task_of (map string_bytes words.now) ≡ Some (OnImage Run) → (state : State) (bytes : List ℕ)
-        → Entry (T.meaning station.old) (S.left input.old) state bytes
+        → AtEntry (T.meaning station.old) (S.left input.old) state bytes
         → Headline state (script bytes (2 ^ 40)) (T.meaning station.old) (T.meaning station.new) }
     ensures headline_settled { task_of (map string_bytes words.now) ≡ Some (OnImage Run) → (state : State) (bytes : List ℕ)
-        → Entry (T.meaning station.old) (S.left input.old) state bytes
+        → AtEntry (T.meaning station.old) (S.left input.old) state bytes
         → ((image : List ℕ) → (T.meaning station.old).images image → image ≡ (T.meaning station.old).bytes)
         → FullHeadline step (root_of state) (script bytes (2 ^ 40)) (T.meaning station.old) (T.meaning station.new) }
     ensures complete { task_of (map string_bytes words.now) ≡ Some (OnImage Run) → (state : State) (bytes : List ℕ)
-        → Entry (T.meaning station.old) (S.left input.old) state bytes → length bytes ≤ 2 ^ 40
+        → AtEntry (T.meaning station.old) (S.left input.old) state bytes → length bytes ≤ 2 ^ 40
         → NoFault (counts (T.meaning station.old) (S.faults input.old)) (counts (T.meaning station.new) (S.faults input.new))
         → IsComplete state (2 ^ 40) bytes (S.left input.new) (T.meaning station.old).shown (T.meaning station.new) result }
 
@@ -193,7 +193,7 @@ pub fn lisfs<S: Source, T: Station>(
         (T.meaning station.old) (T.meaning station.new) result × ((work_of (map string_bytes words.now) task).takes_input ≡ false → input.new ≡ input.old) }
     // `load` on an image of which nothing is unsynced: each moment is one of the load, with no exception.
     ensures load_settled { task_of (map string_bytes words.now) ≡ Some (OnImage Load) → (state : State) (bytes : List ℕ)
-        → Entry (T.meaning station.old) (S.left input.old) state bytes
+        → AtEntry (T.meaning station.old) (S.left input.old) state bytes
         → ((image : List ℕ) → (T.meaning station.old).images image → image ≡ (T.meaning station.old).bytes)
         → FullLoadHeadline (root_of state) (script bytes (2 ^ 40)) (T.meaning station.old) (T.meaning station.new) }
     ensures completes { (task : WorkNamed) → task_of (map string_bytes words.now) ≡ Some (OnImage task) → (state : State) (bytes : List ℕ)

@@ -2,7 +2,7 @@
 use Rattle.std.proofs.Common.{rules}
 use Rattle.lis_store.proofs.Common.{◌≡◌, refl, sym, ap, ap₂, ◌∙◌, subst, ℕ, ◌≤◌, nat_lt, nat_le, Bool, true, false, not, cond, is_some, Option, Some, None, List, [], ◌∷◌, ◌++◌, length, Result, Err, arith, ◌⊎◌, inl, inr, list_any, list_all, ltb-false, not-false, ltb-true, leb-true, Meaning, free_count, slot_of, Formula, word_cmp, is_file_name, is_built_in, Limits, Refusal, UnknownProperty, NameTaken, LargeFile, NoSpace, place_words, State, File, is_assignable, file_limit, blocks_taken, derived_words, derived_built_in, description, file_cmp, has_name, new_file, file_added, Situation, Payload, assigned_at, free_blocks, add, exceeds_words, exceeds_known, word_order, rising_from_sorted, Kept, declared_of, Among, among_insert_key, with_words, leb-false, known, changed, all_among, all_from, among_from_any, any_from_among, same_tests}
 use Rattle.lis_model.specs.declared.refusal.Refusal.TheVariants.{NotAPlace, NotAssignable, TooManyAssigned, NoFileRoom, BuiltIn}
-use Rattle.lis_model.specs.Step.{is_head_or_test, room_checks as told_room, add_checks}
+use Rattle.lis_model.specs.Step.{is_head_or_test, room_checks as told_room, add_checks, first_refusal}
 use Rattle.lis_laws.proofs.Derived.{derived_few}
 use Rattle.lis_store.specs.Stored.{Stored, IsSound, StoreHolds}
 use Rattle.lis_store.proofs.ToldBy.{ToldBy, told_held}
@@ -11,9 +11,9 @@ use Rattle.lis_store.specs.Admitting.{described_by, known_with, named_checks, ro
 use Rattle.lis_store.specs.Beside.{words_checks, words_beside, known_beside}
 use Rattle.lis_store.specs.declared.change.Change.{Change}
 use Rattle.lis_store.specs.declared.change.Change.TheVariants.{Refused}
-use Rattle.lis_store.specs.Changes.{Holds, first_refusal}
+use Rattle.lis_store.specs.Changes.{Holds}
 use Rattle.lis_store.proofs.Assigned.{sorted_assigned}
-use Rattle.lis_store.proofs.Facts.{known_told, name_filed, files_counted, limits_told}
+use Rattle.lis_store.proofs.StoreSays.{known_told, name_filed, files_counted, limits_told}
 use Rattle.lis_store.proofs.Judged.{refused_then, AllPass, all_pass, same_behind, judged_refused, judged_done, change_refused}
 use Rattle.lis_laws.proofs.Growth.{known_adds_file}
 use Rattle.lis_laws.proofs.Named.{file_there}

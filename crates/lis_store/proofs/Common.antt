@@ -7,7 +7,7 @@ pub use Rattle.lis_catalog.specs.Catalog.{Filed, rec_at, slot_of}
 pub use Rattle.lis_content.proofs.Indexes.{small_size}
 pub use Rattle.lis_content.proofs.Laying.{among_homes}
 pub use Rattle.lis_content.proofs.Numbers.{stays_marked}
-pub use Rattle.lis_content.specs.Content.{are_distinct, are_free, given, has_home, has_number, marked}
+pub use Rattle.lis_content.specs.Content.{are_free, given, has_home, marked}
 pub use Rattle.lis_content.specs.Large.{content_blocks, is_large, slot_count}
 pub use Rattle.lis_content.specs.Placing.{Asks, homes_of}
 pub use Rattle.lis_dict.proofs.Laws.{number_below, number_from_word, word_from_number}
@@ -31,7 +31,7 @@ pub use Rattle.lis_graph.specs.Graph.{Chain, is_rising}
 pub use Rattle.lis_journal.specs.Images.{Fits, KeepsPast, StandsBut, is_among}
 pub use Rattle.lis_journal.specs.Journal.{Held}
 pub use Rattle.lis_journal.specs.Phases.{looked}
-pub use Rattle.lis_journal.specs.Record.{Entry, block, replayed}
+pub use Rattle.lis_journal.specs.Record.{HomeBlock, block, replayed}
 pub use Rattle.lis_journal.specs.Staging.{are_whole}
 pub use Rattle.lis_kept.proofs.AxiomsTold.{axioms_counted}
 pub use Rattle.lis_kept.proofs.Dropped.{record_in_form}
@@ -46,7 +46,7 @@ pub use Rattle.lis_kept.proofs.Without.{left_out}
 pub use Rattle.lis_kept.proofs.WordMore.{declared_there, flat_all}
 pub use Rattle.lis_kept.specs.Areas.{IsSaved, IsWritten, axiom_slots, block_of, is_marked, marked_count}
 pub use Rattle.lis_kept.specs.Areas.Area.{Axioms, Bitmap, Files, Properties, Rows}
-pub use Rattle.lis_kept.specs.Changes.{Describes, Gives, Puts}
+pub use Rattle.lis_kept.specs.Changes.{Describes, GivesBack, Puts}
 pub use Rattle.lis_kept.specs.Forgetting.{KeepsInUse, MayForget, emptied}
 pub use Rattle.lis_kept.specs.Kept.{Kept, property_by}
 pub use Rattle.lis_kept.specs.Linking.{is_filled}
@@ -75,7 +75,7 @@ pub use Rattle.lis_model.specs.Derived.{derived_words}
 pub use Rattle.lis_model.specs.Image.{bitmap_start, data_start, image_blocks}
 pub use Rattle.lis_model.specs.Places.{place_words}
 pub use Rattle.lis_model.specs.Ranges.{are_in_range}
-pub use Rattle.lis_model.specs.Sets.{set_of, with_word, with_words}
+pub use Rattle.lis_model.specs.Sets.{set_of, with_word, with_words, are_distinct, has_number}
 pub use Rattle.lis_model.specs.State.{File, State, WellFormed, all_up, blocks_taken, description, file_cmp, file_limit, file_words, heads, is_assignable, known, links, own_words, pair_cmp, up, used_blocks}
 pub use Rattle.lis_model.specs.Step.{Outcome, Payload, Situation, add, add_axiom, assigned_at, changed, exceeds_known, exceeds_words, free_blocks, mkdir, mv, refused, rename, retagged, rm, rmdir, tags_at, words_at, write}
 pub use Rattle.lis_model.specs.Tests.{is_met, met_tests}

@@ -3,7 +3,7 @@ use Rattle.lis_store.proofs.Common.{◌≡◌, length, sym, ap, ◌∙◌, arith
 use Rattle.lis_store.specs.Stored.{Stored, IsSound}
 use Rattle.lis_store.proofs.ToldBy.{ToldBy}
 use Rattle.lis_store.specs.Counting.{CountsState}
-use Rattle.lis_store.proofs.Facts.{files_counted, known_counted}
+use Rattle.lis_store.proofs.StoreSays.{files_counted, known_counted}
 use Rattle.lis_store.proofs.FreeBlocks.{used_told}
 
 module _ (k : Stored) (s : State) (sound : IsSound k) (fits : ToldBy k s) where

@@ -8,7 +8,7 @@ use Rattle.lis_words.specs.Words.{is_property}
 use Rattle.lis_model.specs.declared.refusal.Refusal.TheVariants.{NoAxiomRoom, NoPropertyRoom, LargeDescription}
 use Rattle.lis_model.specs.Places.{all_conjuncts}
 use Rattle.lis_model.specs.State.{is_declarable}
-use Rattle.lis_model.specs.Step.{exceeds_axioms, is_plain_place, mkdir_checks}
+use Rattle.lis_model.specs.Step.{exceeds_axioms, is_plain_place, mkdir_checks, first_refusal}
 use Rattle.lis_laws.proofs.Apart.{declarable_from, declarable_not_built_in}
 use Rattle.lis_laws.proofs.Growth.{known_declares}
 use Rattle.lis_kept.specs.Kept.{property_at}
@@ -22,8 +22,8 @@ use Rattle.lis_store.specs.Judging.{word_checks, place_checks, room_checks}
 use Rattle.lis_store.specs.Placing.{AreNumbersOf}
 use Rattle.lis_store.specs.Testing.{MayDeclare}
 use Rattle.lis_store.proofs.Crowded.{crowded_told, unknown, crowded_alike}
-use Rattle.lis_store.specs.Changes.{first_refusal, Judges}
-use Rattle.lis_store.proofs.Facts.{limits_told, known_counted}
+use Rattle.lis_store.specs.Changes.{Judges}
+use Rattle.lis_store.proofs.StoreSays.{limits_told, known_counted}
 use Rattle.lis_store.proofs.Judged.{all_pass, judges_then, Alike, same_first}
 use Rattle.lis_store.proofs.Told.{words_same, length-with_word}
 use Rattle.lis_store.proofs.Points.{AllApart}

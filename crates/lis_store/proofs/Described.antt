@@ -6,7 +6,7 @@ use Rattle.lis_model.specs.Step.{entry_at}
 use Rattle.lis_kept.proofs.Filing.{find_among}
 use Rattle.lis_store.specs.Stored.{Stored, IsSound}
 use Rattle.lis_store.proofs.ToldBy.{ToldBy}
-use Rattle.lis_store.proofs.Facts.{filed_named, slot_of_file, file_in_slot}
+use Rattle.lis_store.proofs.StoreSays.{filed_named, slot_of_file, file_in_slot}
 
 module _ (k : Stored) (s : State) (sound : IsSound k) (fits : ToldBy k s) where
   -- the numbers in the slot of a name are those of the file's description

@@ -3,7 +3,7 @@ use Rattle.lis_store.proofs.Common.{◌≡◌, refl, sym, ap, ◌∙◌, subst, 
 use Rattle.lis_store.specs.declared.change.Change.{Change}
 use Rattle.lis_store.specs.declared.change.Change.TheVariants.{Refused, Disk}
 use Rattle.lis_store.specs.Stored.{Stored, IsSound, StoreHolds}
-use Rattle.lis_store.specs.Changes.{Holds, first_refusal}
+use Rattle.lis_store.specs.Changes.{Holds}
 use Rattle.lis_store.specs.Contents.{AreContentsWithin}
 use Rattle.lis_store.specs.Judging.{is_among}
 use Rattle.lis_store.specs.Saving.{Saves}
@@ -11,13 +11,14 @@ use Rattle.lis_store.specs.Instead.{given_before, instead_checks, renaming_check
 use Rattle.lis_store.specs.Drafts.{draft_of}
 use Rattle.lis_store.specs.Replacing.{MayReplace}
 use Rattle.lis_store.specs.ReplacingIn.{RefilesIn, record_in}
-use Rattle.lis_store.proofs.Facts.{told_below}
+use Rattle.lis_store.proofs.StoreSays.{told_below}
 use Rattle.lis_store.proofs.InsteadTold.{old_is, rename_refused}
 use Rattle.lis_store.proofs.Judged.{change_refused}
 use Rattle.lis_store.proofs.ReplaceFile.{refiled_holds}
 use Rattle.lis_store.proofs.Steps.{holds_behind, holds_lost, asks_stand, asks_past}
 use Rattle.lis_store.proofs.ToldBy.{ToldBy, told_held}
 use Rattle.lis_store.proofs.WriteFile.{found_there, rest_of_rename, rename_first, renamed_done}
+use Rattle.lis_model.specs.Step.{first_refusal}
 
 module _ (k : Stored) (base : State) (before mid : Meaning) (now : Situation) (sound : IsSound k) (holds : StoreHolds k before base now.state) (asks : Asks k.journal before mid) where
   -- memory tells as before, by the same blocks

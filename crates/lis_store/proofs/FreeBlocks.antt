@@ -3,7 +3,7 @@ use Rattle.lis_store.proofs.Common.{rules, ◌≡◌, refl, sym, ap, ◌∙◌, 
 use Rattle.lis_blockmap.proofs.Taken.{all_free}
 use Rattle.lis_store.specs.Stored.{Stored, IsSound}
 use Rattle.lis_store.proofs.ToldBy.{ToldBy}
-use Rattle.lis_store.proofs.Facts.{limits_told, files_told, size_of_filed}
+use Rattle.lis_store.proofs.StoreSays.{limits_told, files_told, size_of_filed}
 use Rattle.lis_store.proofs.FileBlocks.{told_counted}
 use Rattle.lis_store.proofs.Marks.{marks_are}
 use Rattle.lis_store.proofs.Spelled.{used, used_once, told_below}

@@ -1,11 +1,11 @@
 -- A store at which nothing is held back, and one at which changes are; and a change that is held back and then committed.
-use Rattle.lis_store.proofs.Common.{◌≡◌, ◌⊎◌, refl, sym, ap, ◌∙◌, subst, inl, inr, ℕ, true, false, List, [], Result, Ok, Err, Meaning, Leaves, looked, KeepsPast, image_blocks, State, Situation, Outcome, IsWritten, Tells, leaves_weaken, leaves_then, Entry}
+use Rattle.lis_store.proofs.Common.{◌≡◌, ◌⊎◌, refl, sym, ap, ◌∙◌, subst, inl, inr, ℕ, true, false, List, [], Result, Ok, Err, Meaning, Leaves, looked, KeepsPast, image_blocks, State, Situation, Outcome, IsWritten, Tells, leaves_weaken, leaves_then, HomeBlock}
 use Rattle.lis_store.specs.declared.change.Change.{Change}
 use Rattle.lis_store.specs.declared.change.Change.TheVariants.{Refused, Disk}
 use Rattle.lis_store.specs.Stands.{Stands}
 use Rattle.lis_store.specs.Stored.{Stored, IsSound, StoreFits, StoreHolds}
 use Rattle.lis_store.specs.Changes.{Changes, ChangeEnded, ChangeLeft, Holds, HeldEnded, Commits, CommitEnded}
-use Rattle.lis_store.proofs.Facts.{limits_told}
+use Rattle.lis_store.proofs.StoreSays.{limits_told}
 use Rattle.lis_store.proofs.Standing.{change_stands}
 
 -- a store that fits holds back nothing
@@ -16,8 +16,8 @@ fits_held k m s sound fits = record {
   unbroken = fits.unbroken;
   limits = limits_told k.parts fits.kept s sound.parts sound.free fits.tells;
   stands = λ image stands. change_stands k k.journal.blocks fits.kept s sound.parts sound.free sound.pairs fits.tells fits.written sound.image image stands;
-  tells = subst (λ (es : List Entry). Tells k.parts (looked es fits.kept) s) (sym fits.settled) fits.tells;
-  written = subst (λ (es : List Entry). IsWritten k.parts (looked es fits.kept)) (sym fits.settled) fits.written;
+  tells = subst (λ (es : List HomeBlock). Tells k.parts (looked es fits.kept) s) (sym fits.settled) fits.tells;
+  written = subst (λ (es : List HomeBlock). IsWritten k.parts (looked es fits.kept)) (sym fits.settled) fits.written;
 }
 
 -- and one where nothing is staged fits
@@ -27,8 +27,8 @@ held_fits k m base s settled holds = record {
   journal = holds.journal;
   unbroken = holds.unbroken;
   settled = settled;
-  tells = subst (λ (es : List Entry). Tells k.parts (looked es holds.kept) s) settled holds.tells;
-  written = subst (λ (es : List Entry). IsWritten k.parts (looked es holds.kept)) settled holds.written;
+  tells = subst (λ (es : List HomeBlock). Tells k.parts (looked es holds.kept) s) settled holds.tells;
+  written = subst (λ (es : List HomeBlock). IsWritten k.parts (looked es holds.kept)) settled holds.written;
 }
 
 one_of_two : {A B : Type 0} → (A ⊎ A) ⊎ B → A ⊎ B

@@ -9,7 +9,7 @@ use Rattle.lis_laws.proofs.Sources.Source.{Declared, LeftHead, Described}
 use Rattle.lis_kept.proofs.Known.{placed_at, axiom_among}
 use Rattle.lis_kept.proofs.Without.{had_elsewhere, elsewhere_had}
 use Rattle.lis_store.specs.Replacing.{words_without}
-use Rattle.lis_store.proofs.Facts.{described_told, filed_named}
+use Rattle.lis_store.proofs.StoreSays.{described_told, filed_named}
 
 -- ---- numbers and their words
 filter_entries : (t : ℕ → Bool) (u : List ℕ → Bool) (es : List (List ℕ × ℕ)) → ((e : List ℕ × ℕ) → Among es e → u e.0 ≡ t e.1)

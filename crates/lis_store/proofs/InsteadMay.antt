@@ -5,7 +5,7 @@ use Rattle.lis_store.specs.Stored.{Stored, IsSound}
 use Rattle.lis_store.specs.Drafts.{Draft}
 use Rattle.lis_store.specs.Instead.{instead_checks}
 use Rattle.lis_store.specs.Replacing.{MayReplace}
-use Rattle.lis_store.proofs.Facts.{file_of_filed}
+use Rattle.lis_store.proofs.StoreSays.{file_of_filed}
 use Rattle.lis_store.proofs.Relates.{told_few}
 use Rattle.lis_store.proofs.Judged.{AllPass}
 use Rattle.lis_fields.proofs.Parts.{few_tags}

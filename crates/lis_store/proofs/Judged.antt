@@ -2,11 +2,11 @@
 use Rattle.lis_store.proofs.Common.{common_steps, rules, ◌≡◌, refl, sym, ap₂, ◌∙◌, subst, Bool, true, false, cond, List, [], ◌∷◌, ◌++◌, Option, Some, None, Result, Ok, Err, same_Some, Meaning, Refusal, Situation, Outcome, refused, State}
 use native.Mathlib.Omega.{arith}
 use Rattle.lis_ports.proofs.Moments.{leaves_none}
-use Rattle.lis_model.specs.Step.{judged}
+use Rattle.lis_model.specs.Step.{judged, first_refusal}
 use Rattle.lis_store.specs.declared.change.Change.{Change}
 use Rattle.lis_store.specs.declared.change.Change.TheVariants.{Refused}
 use Rattle.lis_store.specs.Stored.{Stored, StoreHolds}
-use Rattle.lis_store.specs.Changes.{Holds, first_refusal, Judges}
+use Rattle.lis_store.specs.Changes.{Holds, Judges}
 
 pub judged_refused : (now : Situation) (checks : List (Bool × Refusal)) (done : Outcome) (refusal : Refusal) → first_refusal checks ≡ Some refusal → judged now checks done ≡ refused now refusal
 judged_refused now [] done refusal first = absurd cc

@@ -10,7 +10,7 @@ use Rattle.lis_store.specs.Admitting.{described_by}
 use Rattle.lis_store.specs.Beside.{words_beside, known_beside, is_leaving, leaving}
 use Rattle.lis_store.specs.Describing.{IsTold}
 use Rattle.lis_store.proofs.Assigned.{has_both}
-use Rattle.lis_store.proofs.Facts.{numbered}
+use Rattle.lis_store.proofs.StoreSays.{numbered}
 use Rattle.lis_store.proofs.Gathered.{numbered_below}
 use Rattle.lis_store.proofs.InsteadKnown.{sorted_without, without_word, word_without}
 use Rattle.lis_store.proofs.Measured.{IsCounted, counted}

@@ -7,7 +7,7 @@ use Rattle.lis_store.specs.Stands.{Stands}
 use Rattle.lis_store.specs.Stored.{Stored, IsSound, StoreHolds}
 use Rattle.lis_store.specs.Changes.{Holds, HeldEnded, Commits}
 use Rattle.lis_store.specs.Saving.{SaveEnded}
-use Rattle.lis_store.proofs.Facts.{limits_told}
+use Rattle.lis_store.proofs.StoreSays.{limits_told}
 use Rattle.lis_store.proofs.Holding.{held_fits, fits_held}
 
 module _ (base : State) (now : Situation) (outcome : Outcome) (before between after : Meaning) where

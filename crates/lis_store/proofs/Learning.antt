@@ -8,7 +8,7 @@ use Rattle.lis_words.proofs.Head.{head_is_word}
 use Rattle.lis_fields.specs.Layouts.{is_undeclared}
 use Rattle.lis_kept.specs.Changes.{Learns}
 use Rattle.lis_store.specs.Adding.{behind_head, with_heads, may_learn, HasWordRoom, LearnsAll}
-use Rattle.lis_store.proofs.Facts.{numbered}
+use Rattle.lis_store.proofs.StoreSays.{numbered}
 use Rattle.lis_store.proofs.Told.{length-with_word, words_grow}
 
 -- ---- words that have numbers

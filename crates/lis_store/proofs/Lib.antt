@@ -11,7 +11,7 @@ pub mod OneState
 pub mod Standing
 pub mod Empty
 pub mod ToldBy
-pub mod Facts
+pub mod StoreSays
 pub mod Entailment
 pub mod FileTests
 pub mod Viewing
@@ -25,11 +25,11 @@ pub mod Told
 pub mod OwnStay
 pub mod Declared
 pub mod Undeclared
-pub mod Here
+pub mod FilesHere
 pub mod Reading
 pub mod Given
 pub mod Removed
-pub mod Had
+pub mod NumbersFound
 pub mod Learning
 pub mod Naming
 pub mod Entailed
@@ -58,7 +58,7 @@ pub mod Rebuilt
 pub mod Unaxiomed
 pub mod Forgot
 pub mod Vacated
-pub mod Left
+pub mod Unfiled
 pub mod FreeAgain
 pub mod Housed
 pub mod Renewed

@@ -8,7 +8,7 @@ use Rattle.std.proofs.lemmas.List.Sums.{length-filter}
 use Rattle.lis_graph.specs.Graph.{Linked}
 use Rattle.lis_bits.specs.Rows.{Rows, row_of, true_count}
 use Rattle.lis_bits.proofs.Laws.{row-with_row}
-use Rattle.lis_model.specs.Noted.{are_distinct}
+use Rattle.lis_model.specs.Noted.{are_distinct_words}
 use Rattle.lis_laws.proofs.Chains.{heads_of_valued, own_link, links_head, up_own}
 use Rattle.lis_kept.proofs.Described.{few_where}
 use Rattle.lis_store.specs.Drafts.{Draft}
@@ -23,10 +23,10 @@ use Rattle.lis_store.proofs.Naming.{one_of, same_shape, value_at}
 use Rattle.lis_store.proofs.Points.{AllApart, no_tie, length-with_more}
 
 -- ---- lists in which nothing stands twice
-distinct_apart : (words : List (List ℕ)) → are_distinct words ≡ true → AllApart words
+distinct_apart : (words : List (List ℕ)) → are_distinct_words words ≡ true → AllApart words
 distinct_apart [] h = tt
 distinct_apart (w ∷ words) h =
-    let both = and_parts (not (has_word words w)) (are_distinct words) h in
+    let both = and_parts (not (has_word words w)) (are_distinct_words words) h in
     (λ m. both_ways (has_word words w) (not-true (has_word words w) both.0) (has_word_from_among words w m), distinct_apart words both.1)
 
 pub sorted_apart : {K : Type 0} (cmp : K → K → Ordering) → IsTotalOrder cmp → (xs : List K) → IsStrictlySortedBy cmp xs → AllApart xs
@@ -97,7 +97,7 @@ module _ (k : Kept) (sound : AreSound k) where
     pub sorted : IsStrictlySortedBy word_cmp set
     pub named : (n : ℕ) → n < k.limits.props → test n ≡ true → IsSome (word_of k.dict n)
     pub numbered : (w : List ℕ) (n : ℕ) → word_of k.dict n ≡ Some w → has_word set w ≡ test n
-    pub once : are_distinct fresh ≡ true
+    pub once : are_distinct_words fresh ≡ true
     pub new : (w : List ℕ) → has_word fresh w ≡ true → number_of k.dict w ≡ None
     pub others : (w : List ℕ) → number_of k.dict w ≡ None → has_word set w ≡ has_word fresh w
 

@@ -7,15 +7,15 @@ use Rattle.lis_kept.proofs.Filed.{record_named}
 use Rattle.lis_store.specs.declared.change.Change.{Change}
 use Rattle.lis_store.specs.declared.change.Change.TheVariants.{Refused}
 use Rattle.lis_store.specs.Stored.{Stored, IsSound, StoreHolds}
-use Rattle.lis_store.specs.Changes.{Holds, first_refusal}
+use Rattle.lis_store.specs.Changes.{Holds}
 use Rattle.lis_store.specs.Drafts.{Draft, drafted, own_kept}
 use Rattle.lis_store.specs.Judging.{is_among}
 use Rattle.lis_store.specs.Saving.{Saves}
 use Rattle.lis_store.specs.Instead.{instead_checks}
 use Rattle.lis_store.specs.Replacing.{MayReplace}
 use Rattle.lis_store.specs.ReplacingIn.{RefilesIn, record_in}
-use Rattle.lis_store.specs.Retagging.{led_by, words_moved, moved_draft, moving_checks, retag_checks}
-use Rattle.lis_store.proofs.Facts.{size_told}
+use Rattle.lis_store.specs.Retagging.{place_or_refusal, words_moved, moved_draft, moving_checks, retag_checks}
+use Rattle.lis_store.proofs.StoreSays.{size_told}
 use Rattle.lis_store.proofs.InsteadTold.{old_is, old_given}
 use Rattle.lis_store.proofs.Judged.{change_refused, refused_first, refused_then}
 use Rattle.lis_store.proofs.OwnKept.{own_told}
@@ -23,9 +23,10 @@ use Rattle.lis_store.proofs.ReplaceFile.{refiled_holds}
 use Rattle.lis_store.proofs.RetagTold.{mv_may, mv_here_refused, mv_here_done, mv_nowhere}
 use Rattle.lis_store.proofs.ToldBy.{ToldBy, told_held}
 use Rattle.lis_store.proofs.WriteFile.{found_there}
+use Rattle.lis_model.specs.Step.{first_refusal}
 
 -- the place to which a text leads
-pub led_to : (r : Resolution) (next : List Formula) → led_by r ≡ Ok next → r ≡ NewPlace next
+pub led_to : (r : Resolution) (next : List Formula) → place_or_refusal r ≡ Ok next → r ≡ NewPlace next
 led_to r next is = search (rules, same_Some)
 
 -- no file of the name is here
@@ -37,7 +38,7 @@ moved_nowhere old m base s place next name text result sound holds leads none en
 -- ---- a file that is here
 -- What a call asks speaks of the store's value `now`, and what is proved of its parts, `old`.
 module _ {old now : Stored} (same : old ≡ now) (sound : IsSound old) (place : List Formula) (name : List ℕ) {slot : ℕ} (named_now : slot_of now.parts.catalog name ≡ Some slot)
-    (here_now : true ≡ is_among now.parts place name) (text : List ℕ) {next : List Formula} (led : Ok next ≡ led_by (resolved place text)) where
+    (here_now : true ≡ is_among now.parts place name) (text : List ℕ) {next : List Formula} (led : Ok next ≡ place_or_refusal (resolved place text)) where
   abbrev k : Kept
   k = old.parts
 

@@ -10,7 +10,7 @@ use Rattle.lis_laws.proofs.Sources.Assignable.{Plain, Valued}
 use Rattle.lis_store.specs.Stored.{Stored, IsSound}
 use Rattle.lis_store.specs.Drafts.{AreOwnWords, own_word as kept_word, own_kept}
 use Rattle.lis_store.proofs.ToldBy.{ToldBy}
-use Rattle.lis_store.proofs.Facts.{file_in_slot, file_of_filed}
+use Rattle.lis_store.proofs.StoreSays.{file_in_slot, file_of_filed}
 
 -- ---- in a state
 module _ (s : State) (formed : WellFormed s) where

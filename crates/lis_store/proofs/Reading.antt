@@ -1,6 +1,6 @@
 -- One block of a file's bytes.
 use Rattle.std.proofs.Common.{rules}
-use Rattle.lis_store.proofs.Common.{◌≡◌, refl, sym, ap, ◌∙◌, subst, inl, inr, ℕ, zero, suc, ◌+◌, ◌-◌, ◌*◌, ◌<◌, ◌≤◌, List, [], ◌∷◌, ◌++◌, length, get_or, take, drop, replicate, slice_index, nat_lt, true, Some, IsSomeAnd, arith, flat_map, cases_lt, lt-ltb, take_all, length-take-le, Meaning, part, Fits, looked, is_large, slot_count, content_blocks, Among, FileRecord, size_fits, Filed, slot_of, rec_at, data_start, State, File, bytes_told, filed_at_slot, Entry, file_of}
+use Rattle.lis_store.proofs.Common.{◌≡◌, refl, sym, ap, ◌∙◌, subst, inl, inr, ℕ, zero, suc, ◌+◌, ◌-◌, ◌*◌, ◌<◌, ◌≤◌, List, [], ◌∷◌, ◌++◌, length, get_or, take, drop, replicate, slice_index, nat_lt, true, Some, IsSomeAnd, arith, flat_map, cases_lt, lt-ltb, take_all, length-take-le, Meaning, part, Fits, looked, is_large, slot_count, content_blocks, Among, FileRecord, size_fits, Filed, slot_of, rec_at, data_start, State, File, bytes_told, filed_at_slot, HomeBlock, file_of}
 use Rattle.std.proofs.lemmas.Bool.{cond-true}
 use Rattle.std.proofs.lemmas.List.{take_at, take-take, take-append-le, drop-drop, drop_at, drop-take}
 use Rattle.lis_journal.specs.Images.{held_in}
@@ -13,7 +13,7 @@ use Rattle.lis_store.specs.Stored.{Stored, IsSound, StoreFits, IsIndex}
 use Rattle.lis_dict.proofs.Places.{among_at}
 use Rattle.lis_store.proofs.Elsewhere.{numbers_counted}
 use Rattle.lis_store.proofs.FileBlocks.{content_told, content_among, content_counted}
-use Rattle.lis_store.proofs.Facts.{file_in_slot, told_below}
+use Rattle.lis_store.proofs.StoreSays.{file_in_slot, told_below}
 use Rattle.lis_store.proofs.ToldBy.{told_fits}
 use Rattle.lis_store.proofs.Spelled.{sound_parts}
 
@@ -114,7 +114,7 @@ module _ {k : Stored} {slot n : ℕ} {rec : FileRecord} {ns : List ℕ} {size : 
       → (s : State) (name : List ℕ) → StoreFits k m s → slot_of k.parts.catalog name ≡ Some slot
       → take (length (part (4096 * n) 4096 (file_of s.files name).bytes)) buf ≡ part (4096 * n) 4096 (file_of s.files name).bytes
   block_read m base buf is_base read s name fits is_slot =
-      let held : ℕ → List ℕ → ℕ → List Entry → List ℕ =
+      let held : ℕ → List ℕ → ℕ → List HomeBlock → List ℕ =
       λ b slots bytes es. block_within b k.journal.blocks (looked es fits.kept) (slice_index (content_blocks b slots bytes (looked es fits.kept)) n) in
       let ds = data_start k.parts.limits in
       let number = get_or (numbers m s fits) n 0 in

@@ -3,7 +3,7 @@ use Rattle.std.proofs.Common.{rules}
 use Rattle.lis_store.proofs.Common.{◌≡◌, ◌⊎◌, inl, inr, refl, subst, ℕ, zero, suc, ◌+◌, ◌≤◌, Bool, true, false, cond, List, [], ◌∷◌, ◌++◌, length, count_by, arith, length-append, sym, ap, ap₂, ◌∙◌, ◌<◌, map, get_or-set_same, get_or-set_other, length-set, if◌then◌else◌, filter, take, not, Option, Some, is_some, IsSome, both_ways, false_from_ne_true, sum_by-cons, Among, among_left, among_right, is_taken, Kept, is_marked, marked_count, cases_lt, numbers_at, differs, IsSaved, block_of, Describes, among_where, map_all, length-map, length-take-le, list_all, among_append, among_filter, word_of, rec_at, slot_is_below, Ext, has, FileRecord, is_test, is_had, had_at, AreSound, FreeSlotsAreEmpty, among_map, map_among, numbers_where, Rows, has_number, all_among, all_from, is_linked, common_steps}
 use Rattle.lis_kept.proofs.Marking.{marked_within, marked_only}
 use Rattle.std.proofs.lemmas.List.FromFn.{sum_by-map-range_with_len_more}
-use Rattle.lis_store.specs.Redescribing.{Gives, turned_at, IsTurnedRow, Redescribes}
+use Rattle.lis_store.specs.Redescribing.{SlotHas, turned_at, IsTurnedRow, Redescribes}
 use Rattle.lis_store.proofs.Edits.{AreEditsFew}
 use Rattle.std.proofs.lemmas.List.Filters.{length-filter_both}
 use Rattle.lis_kept.proofs.WordLess.{had_from}
@@ -51,7 +51,7 @@ module _ (sets : ℕ → List ℕ) (n : ℕ) (p q : Kept) (so_far : Redescribes 
   pub same_here : numbers_at q.ext n ≡ numbers_at p.ext n
   same_here = so_far.others n (omega arith)
 
-  module _ (r : Kept) (inside : n < length p.ext.sets) (one : Gives n (sets n) q r) where
+  module _ (r : Kept) (inside : n < length p.ext.sets) (one : SlotHas n (sets n) q r) where
     -- the slot, in the terms of what was at first
     record Turn : Type 0 where
       parts : r ≡ record p { ext = r.ext; marks = r.marks }

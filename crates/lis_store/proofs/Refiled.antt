@@ -10,7 +10,7 @@ use Rattle.lis_store.specs.Contents.{blocks_gone}
 use Rattle.lis_store.proofs.Differing.{none_rising}
 use Rattle.lis_store.proofs.Edits.{AreEditsFew}
 use Rattle.lis_store.proofs.Housed.{IsHoused, housed_given}
-use Rattle.lis_store.proofs.Left.{left_is, coming, tells_without}
+use Rattle.lis_store.proofs.Unfiled.{left_is, coming, tells_without}
 use Rattle.lis_store.proofs.PutIn.{may_come, none_has}
 use Rattle.lis_store.proofs.Retaken.{retaken, sound_retaken}
 use Rattle.lis_store.proofs.Settled.{end_is, limits_same, form_end}

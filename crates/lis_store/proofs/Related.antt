@@ -9,7 +9,7 @@ use Rattle.lis_store.proofs.PutIn.{declared_known}
 use Rattle.lis_store.specs.Adding.{behind_head}
 use Rattle.lis_store.specs.Relating.{entails_word, is_number_of, is_overfull, has_overfull, axiom_checks_of, MayRelate}
 use Rattle.lis_store.proofs.Entailment.{up_has_number}
-use Rattle.lis_store.proofs.Facts.{numbered, file_of_filed, limits_told}
+use Rattle.lis_store.proofs.StoreSays.{numbered, file_of_filed, limits_told}
 use Rattle.lis_store.proofs.Gathered.{headed, headless}
 use Rattle.lis_store.proofs.Told.{length-with_word}
 use Rattle.lis_laws.proofs.Closures.{with_one_axiom}
@@ -20,8 +20,7 @@ use Rattle.lis_store.proofs.Rebuilt.{had_filed}
 use Rattle.lis_store.specs.Stored.{AreClosed, Stored, IsSound}
 use Rattle.std.specs.Prelude.{count_by}
 use Rattle.lis_model.specs.State.{is_nameable}
-use Rattle.lis_model.specs.Step.{exceeds_axioms, axiom_checks}
-use Rattle.lis_store.specs.Changes.{first_refusal}
+use Rattle.lis_model.specs.Step.{exceeds_axioms, axiom_checks, first_refusal}
 use Rattle.lis_store.proofs.Assigned.{has_declared}
 use Rattle.lis_store.proofs.Judged.{same_first, all_pass, judged_refused, judged_done}
 use Rattle.lis_store.proofs.Relates.{known_then}

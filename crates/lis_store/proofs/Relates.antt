@@ -31,7 +31,7 @@ use Rattle.lis_kept.proofs.AxiomSlots.{InSlot, set_cases, same_sides}
 use Rattle.lis_store.specs.Saving.{settled, IsReady, Saves}
 use Rattle.lis_store.specs.RelatingIn.{RelatesIn}
 use Rattle.lis_store.proofs.Declared.{slot_pair}
-use Rattle.lis_store.proofs.Facts.{known_told}
+use Rattle.lis_store.proofs.StoreSays.{known_told}
 use Rattle.lis_store.proofs.Cleaned.{none_marked}
 use Rattle.lis_store.proofs.FileTests.{test_flagged, flagged_before, tests_stay}
 use Rattle.lis_store.proofs.Edits.{AreEditsFew}

@@ -1,6 +1,6 @@
 -- A call that takes a file away.
 use Rattle.std.proofs.Common.{rules}
-use Rattle.lis_store.proofs.Common.{◌≡◌, sym, ap, ◌∙◌, subst, ℕ, ◌+◌, ◌≤◌, not, Bool, true, false, cond, List, length, set, Some, Result, Err, arith, Meaning, Held, looked, Asks, slot_of, rec_at, rec_at-slot_of, Ext, Formula, FileRecord, NoFileHere, bitmap_start, image_blocks, State, Situation, Outcome, refused, rm, file_removed, Kept, IsSaved, marked_count, AreSound, changed, Gives}
+use Rattle.lis_store.proofs.Common.{◌≡◌, sym, ap, ◌∙◌, subst, ℕ, ◌+◌, ◌≤◌, not, Bool, true, false, cond, List, length, set, Some, Result, Err, arith, Meaning, Held, looked, Asks, slot_of, rec_at, rec_at-slot_of, Ext, Formula, FileRecord, NoFileHere, bitmap_start, image_blocks, State, Situation, Outcome, refused, rm, file_removed, Kept, IsSaved, marked_count, AreSound, changed, GivesBack}
 use Rattle.lis_store.specs.declared.change.Change.{Change}
 use Rattle.lis_store.specs.declared.change.Change.TheVariants.{Refused, Disk}
 use Rattle.lis_store.specs.Stored.{Stored, IsSound, StoreHolds}
@@ -10,7 +10,7 @@ use Rattle.lis_store.specs.Judging.{is_among}
 use Rattle.lis_store.specs.Saving.{settled, IsReady, Saves}
 use Rattle.lis_store.specs.Removing.{TakesOut}
 use Rattle.lis_store.specs.ReplacingIn.{AreInForm}
-use Rattle.lis_store.proofs.Facts.{here_told, filed_named}
+use Rattle.lis_store.proofs.StoreSays.{here_told, filed_named}
 use Rattle.lis_store.proofs.Judged.{change_refused}
 use Rattle.lis_store.proofs.Cleaned.{none_marked}
 use Rattle.lis_store.proofs.Edits.{AreEditsFew}
@@ -54,7 +54,7 @@ module _ (T : Type 0) (old : Stored) (slot : ℕ) (name : List ℕ) (sound : IsS
       (asks_past old base now.state before sound holds after lost.2) broken (ends ∙ ap Err lost.0)
 
 -- ---- its blocks are given back, and then it is taken out
-module _ (old : Stored) (mid : Kept) (slot : ℕ) (rec : FileRecord) (before : Meaning) (gives : Gives rec old.parts mid old.journal before) (sound : IsSound old) (filed : rec_at old.parts.catalog slot ≡ Some rec) where
+module _ (old : Stored) (mid : Kept) (slot : ℕ) (rec : FileRecord) (before : Meaning) (gives : GivesBack rec old.parts mid old.journal before) (sound : IsSound old) (filed : rec_at old.parts.catalog slot ≡ Some rec) where
   pub form_given : AreInForm mid
   form_given = form_taken old.parts mid mid.taken gives.takes (in_form old sound)
 

@@ -5,7 +5,7 @@ use Rattle.lis_store.specs.ReplacingIn.{AreInForm}
 use Rattle.lis_store.specs.Removing.{TakesOut}
 use Rattle.lis_store.proofs.Differing.{differ_few, none_rising}
 use Rattle.lis_store.proofs.Edits.{AreEditsFew, edits_at}
-use Rattle.lis_store.proofs.Left.{gone, set_gone, form_gone, tells_without}
+use Rattle.lis_store.proofs.Unfiled.{gone, set_gone, form_gone, tells_without}
 use Rattle.lis_store.proofs.Vacated.{slot_below}
 
 module _ (slot : ℕ) (rec : FileRecord) (p q : Kept) (form : AreInForm p) (out : TakesOut slot rec p q) where

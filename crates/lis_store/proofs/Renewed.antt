@@ -1,7 +1,7 @@
 -- Bytes that come into blocks in the place of others, and what the disk keeps meanwhile.
 use Rattle.std.proofs.Common.{rules}
 use Rattle.std.proofs.Common.{OnErr}
-use Rattle.lis_store.proofs.Common.{◌≡◌, refl, sym, ap, ◌∙◌, subst, ℕ, true, false, Bool, List, [], ◌∷◌, length, Some, None, Result, Ok, Err, IsTrue, set, get_or-set_same, arith, both_ways, false_from_ne_true, ArrayVec, Meaning, Leaves, Held, block, looked, Fits, KeepsPast, are_free, has_home, is_large, Asks, homes_of, stays_marked, among_homes, FileRecord, bitmap_start, data_start, Kept, is_marked, AreSound, blocks_told, Puts, leaves_weaken, leaves_then, is_among, given, marked, Gives}
+use Rattle.lis_store.proofs.Common.{◌≡◌, refl, sym, ap, ◌∙◌, subst, ℕ, true, false, Bool, List, [], ◌∷◌, length, Some, None, Result, Ok, Err, IsTrue, set, get_or-set_same, arith, both_ways, false_from_ne_true, ArrayVec, Meaning, Leaves, Held, block, looked, Fits, KeepsPast, are_free, has_home, is_large, Asks, homes_of, stays_marked, among_homes, FileRecord, bitmap_start, data_start, Kept, is_marked, AreSound, blocks_told, Puts, leaves_weaken, leaves_then, is_among, given, marked, GivesBack}
 use Rattle.lis_journal.specs.Images.{StandsBut}
 use Rattle.lis_journal.proofs.Fitting.{fits_but}
 use Rattle.lis_journal.proofs.Phases.{stands_less}
@@ -72,7 +72,7 @@ put_alone p q bytes old new before after result sound puts = search (rules, rene
 
 -- ---- the blocks of the other file are given back first
 module _ (p q : Kept) (ts ms : List Bool) (rec : FileRecord) (bytes numbers : List ℕ) (old new : Held) (before asked after : Meaning) (sound : AreSound p) (unplaced : old.placed ≡ []) (small : is_large (length bytes) ≡ false)
-    (gives : Gives rec p (record p { taken = ts; marks = ms }) old before) (asks : Asks old before asked) (puts : Puts bytes numbers (record p { taken = ts; marks = ms }) q old new asked after) where
+    (gives : GivesBack rec p (record p { taken = ts; marks = ms }) old before) (asks : Asks old before asked) (puts : Puts bytes numbers (record p { taken = ts; marks = ms }) q old new asked after) where
   abbrev freed : Kept
   freed = record p { taken = ts; marks = ms }
 
@@ -160,7 +160,7 @@ module _ (p : Kept) (ts ms : List Bool) (bytes numbers : List ℕ) (old new : He
       by true large = torn puts.blocks puts.fills.were_free (λ small. absurd (both_ways (is_large (length bytes)) small large)) puts.placed
       by false small = torn [] refl (λ _. refl) (λ n among. absurd (both_ways (is_among new.placed n) (ap (λ ns. is_among ns n) (puts.unplaced small)) among))
 
-  module _ (q : Kept) (rec : FileRecord) (gives : Gives rec put q new placed) where
+  module _ (q : Kept) (rec : FileRecord) (gives : GivesBack rec put q new placed) where
     last_renewed : (kept : ℕ → List ℕ) → Fits old before kept → IsRenewed bytes numbers puts.blocks (Some rec) p q kept old new after
     last_renewed kept fits =
         let landed = puts.lands kept fits in
@@ -181,16 +181,16 @@ torn_first bytes p old before after unplaced asks = search (rules, leaves_weaken
 
 -- ---- the same, over what memory keeps in between
 pub renews_given : (p mid q : Kept) (rec : FileRecord) (bytes numbers : List ℕ) (old new : Held) (before asked after : Meaning) → AreSound p → old.placed ≡ [] → is_large (length bytes) ≡ false
-    → Gives rec p mid old before → Asks old before asked → Puts bytes numbers mid q old new asked after → Renews bytes numbers (Some rec) p q old new before after
+    → GivesBack rec p mid old before → Asks old before asked → Puts bytes numbers mid q old new asked after → Renews bytes numbers (Some rec) p q old new before after
 renews_given p mid q rec bytes numbers old new before asked after sound unplaced small gives asks puts =
-    let P : Kept → Type 0 = λ x. Gives rec p x old before → Puts bytes numbers x q old new asked after → Renews bytes numbers (Some rec) p q old new before after in
+    let P : Kept → Type 0 = λ x. GivesBack rec p x old before → Puts bytes numbers x q old new asked after → Renews bytes numbers (Some rec) p q old new before after in
     subst P (sym gives.takes.parts)
     (λ gave put. renews_first p q mid.taken (set p.marks (bitmap_start p.limits) true) rec bytes numbers old new before asked after sound unplaced small gave asks put) gives puts
 
 pub renews_placed : (p mid q : Kept) (rec : FileRecord) (bytes numbers : List ℕ) (old new : Held) (before placed after : Meaning) → AreSound p
-    → Puts bytes numbers p mid old new before placed → Gives rec mid q new placed → Asks new placed after → Renews bytes numbers (Some rec) p q old new before after
+    → Puts bytes numbers p mid old new before placed → GivesBack rec mid q new placed → Asks new placed after → Renews bytes numbers (Some rec) p q old new before after
 renews_placed p mid q rec bytes numbers old new before placed after sound puts gives asks =
-    let P : Kept → Type 0 = λ x. Puts bytes numbers p x old new before placed → Gives rec x q new placed → Renews bytes numbers (Some rec) p q old new before after in
+    let P : Kept → Type 0 = λ x. Puts bytes numbers p x old new before placed → GivesBack rec x q new placed → Renews bytes numbers (Some rec) p q old new before after in
     subst P (sym puts.takes.parts)
     (λ put gave. renews_last p (marked p.taken puts.blocks) (set p.marks (bitmap_start p.limits) true) bytes numbers old new before placed after sound put asks q rec gave) puts gives
 
@@ -217,7 +217,7 @@ lost_first T p q rec bytes old before after change result unplaced gave ends = s
 
 -- a put of a content that is not large fails never
 pub put_last : (p mid q : Kept) (rec : FileRecord) (bytes : List ℕ) (old new : Held) (before asked after : Meaning) (result : Result (ArrayVec ℕ) Change) → AreSound p → old.placed ≡ [] → is_large (length bytes) ≡ false
-    → Gives rec p mid old before → Asks old before asked → ContentPut bytes mid q old new asked after result → OnErr result (is_large (length bytes) ≡ true) → ContentRenewed bytes (Some rec) p q old new before after result
+    → GivesBack rec p mid old before → Asks old before asked → ContentPut bytes mid q old new asked after result → OnErr result (is_large (length bytes) ≡ true) → ContentRenewed bytes (Some rec) p q old new before after result
 put_last p mid q rec bytes old new before asked after result sound unplaced small gives asks put torn = by result put torn
   where
     by : (r : Result (ArrayVec ℕ) Change) → ContentPut bytes mid q old new asked after r → OnErr r (is_large (length bytes) ≡ true) → ContentRenewed bytes (Some rec) p q old new before after r

@@ -15,7 +15,7 @@ use Rattle.lis_store.specs.Replacing.{MayReplace}
 use Rattle.lis_store.specs.ReplacingIn.{AreInForm, MayPut, RefilesIn, record_in, file_gone}
 use Rattle.lis_store.proofs.Cleaned.{none_marked}
 use Rattle.lis_store.proofs.Elsewhere.{saved_there, no_home_before}
-use Rattle.lis_store.proofs.Facts.{size_of_filed, file_of_filed}
+use Rattle.lis_store.proofs.StoreSays.{size_of_filed, file_of_filed}
 use Rattle.lis_store.proofs.FreeBlocks.{used_told, version_told}
 use Rattle.lis_store.proofs.Housed.{IsHoused, stay_housed, trades_housed, alone_housed}
 use Rattle.lis_store.proofs.Renewed.{stands_same}

@@ -2,17 +2,16 @@
 use Rattle.lis_store.proofs.Common.{◌≡◌, refl, sym, ap, ap₂, ◌∙◌, ℕ, ◌≤◌, nat_lt, Bool, true, false, not, cond, ◌&&◌, is_some, option_to_list, Some, None, List, [], ◌∷◌, ◌++◌, length, filter, arith, list_any, list_all, flat_map, ltb-false, not-false, IsStrictlySortedBy-filter, slot_of, rec_at, word_of, FileRecord, among_filter, Formula, resolved, text_words, word_cmp, has_word, is_file_name, is_built_in, is_head, Refusal, UnknownProperty, NoFileHere, State, File, is_assignable, place_words, new_file, file_replaced, Situation, refused, retagged, mv, word_order, sorted_set_of, sorted_with_words, rising_from_sorted, file_of_name, Kept, declared_of, and_from, both_ways, file_of, changed, tags_at, all_among, all_from, words_told}
 use Rattle.lis_grammar.specs.Places.Resolution.{NewPlace}
 use Rattle.lis_model.specs.declared.refusal.Refusal.TheVariants.{NotAPlace, NotAssignable, TooManyAssigned, BuiltIn}
-use Rattle.lis_model.specs.Step.{here_checks, room_checks, mv_checks, mv_to}
+use Rattle.lis_model.specs.Step.{here_checks, room_checks, mv_checks, mv_to, first_refusal}
 use Rattle.lis_laws.proofs.Named.{gone_free}
 use Rattle.lis_store.specs.Stored.{Stored, IsSound}
 use Rattle.lis_store.proofs.ToldBy.{ToldBy}
-use Rattle.lis_store.specs.Changes.{first_refusal}
 use Rattle.lis_store.specs.Judging.{is_among}
 use Rattle.lis_store.specs.Instead.{instead_checks}
 use Rattle.lis_store.specs.Replacing.{MayReplace}
 use Rattle.lis_store.specs.Drafts.{Draft, drafted, own_kept}
 use Rattle.lis_store.specs.Retagging.{words_moved, moved_draft, retag_checks}
-use Rattle.lis_store.proofs.Facts.{size_told}
+use Rattle.lis_store.proofs.StoreSays.{size_told}
 use Rattle.lis_store.proofs.OwnKept.{own_built_in, own_told}
 use Rattle.lis_store.proofs.InsteadMay.{given_assignable, may_stand, sized_small}
 use Rattle.lis_store.proofs.InsteadTold.{old_given, here_row, instead_row}

@@ -1,6 +1,6 @@
 -- How parts are saved, and what is held back is committed.
 use Rattle.std.proofs.Common.{rules}
-use Rattle.lis_store.proofs.Common.{◌≡◌, ◌⊎◌, ℕ, zero, suc, ◌+◌, ◌<◌, ◌≤◌, ◌||◌, Bool, true, false, List, [], ◌∷◌, length, Result, Ok, Err, refl, sym, ap, ◌∙◌, subst, inl, inr, IsTrue, arith, eq-eqb, false_from_ne_true, contains_from_among, Meaning, Leaves, Held, are_whole, Fits, KeepsPast, looked, bitmap_start, data_start, image_blocks, State, Situation, Outcome, Kept, IsWritten, AreSound, Tells, leaves_weaken, Entry, StandsBut, is_among, changed}
+use Rattle.lis_store.proofs.Common.{◌≡◌, ◌⊎◌, ℕ, zero, suc, ◌+◌, ◌<◌, ◌≤◌, ◌||◌, Bool, true, false, List, [], ◌∷◌, length, Result, Ok, Err, refl, sym, ap, ◌∙◌, subst, inl, inr, IsTrue, arith, eq-eqb, false_from_ne_true, contains_from_among, Meaning, Leaves, Held, are_whole, Fits, KeepsPast, looked, bitmap_start, data_start, image_blocks, State, Situation, Outcome, Kept, IsWritten, AreSound, Tells, leaves_weaken, HomeBlock, StandsBut, is_among, changed}
 use Rattle.lis_ports.proofs.Moments.{leaves_none}
 use Rattle.lis_journal.specs.Images.{StandsFor, StandsForAllOrNone}
 use Rattle.lis_model.specs.Image.{properties_start}
@@ -33,7 +33,7 @@ module _ (p : Kept) (j x : Held) (settles : IsSound (settled p j)) (image : x.bl
       → KeepsStaged mid x before after result → SaveEnded b result → IsSound (record { parts = q; journal = x; is_broken = b })
   sound_committed mid before after q b (Ok done) is unbroken some keeps whole =
       let none : x.staged ≡ [] = ap (λ (h : Held). h.staged) keeps.done in
-      sound_held q b is (ap (λ (h : Held). h.is_broken) keeps.done ∙ unbroken) (omega (arith, ap (λ (es : List Entry). length es) none)) (ap are_whole none) (keeps.none_placed some)
+      sound_held q b is (ap (λ (h : Held). h.is_broken) keeps.done ∙ unbroken) (omega (arith, ap (λ (es : List HomeBlock). length es) none)) (ap are_whole none) (keeps.none_placed some)
   sound_committed mid before after q b (Err (Refused refusal)) is unbroken some keeps never = absurd (let e : false ≡ true = never in cc)
   sound_committed mid before after q b (Err Disk) is unbroken some keeps broken = sound_broken q b is broken
 
@@ -132,8 +132,8 @@ module _ (p : Kept) (j mid : Held) (before : Meaning) (stages : Stages p j mid) 
                 unbroken = whole;
                 limits = ap (λ (s : State). s.limits) tells.state;
                 stands = λ image stands. next_stands image (subst (λ n. StandsFor n there image) blocks stands);
-                tells = subst (λ (es : List Entry). Tells (clean p) (looked es there) next) (sym staged) tells;
-                written = subst (λ (es : List Entry). IsWritten (clean p) (looked es there)) (sym staged) written;
+                tells = subst (λ (es : List HomeBlock). Tells (clean p) (looked es there) next) (sym staged) tells;
+                written = subst (λ (es : List HomeBlock). IsWritten (clean p) (looked es there)) (sym staged) written;
               }),
             )
         by (Err (Refused refusal)) keeps never = absurd (let e : false ≡ true = never in cc)
@@ -146,7 +146,7 @@ module _ {T : Type 0} (old : Stored) (x : Held) (b : Bool) (before after : Meani
   none_after : (0 < length old.journal.staged → x.placed ≡ []) → x.placed ≡ []
   none_after some = by old.journal.staged idle some
     where
-      by : (es : List Entry) → (es ≡ [] → x ≡ old.journal) → (0 < length es → x.placed ≡ []) → x.placed ≡ []
+      by : (es : List HomeBlock) → (es ≡ [] → x ≡ old.journal) → (0 < length es → x.placed ≡ []) → x.placed ≡ []
       by [] none some = ap (λ (h : Held). h.placed) (none refl) ∙ sound.placed unbroken
       by (e ∷ es) none some = some (omega arith)
 

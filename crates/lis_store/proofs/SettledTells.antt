@@ -9,7 +9,7 @@ use Rattle.lis_store.specs.Drafts.{Draft, with_own, AreOwnWords}
 use Rattle.lis_store.specs.Admitting.{described_by}
 use Rattle.lis_store.specs.ReplacingIn.{MayComeIn, IsVacant, SettlesIn}
 use Rattle.lis_store.proofs.Elsewhere.{AreFilesSame, blocks_there, index_there, state_there, no_home_before}
-use Rattle.lis_store.proofs.Facts.{limits_told, files_counted, filed_of_file}
+use Rattle.lis_store.proofs.StoreSays.{limits_told, files_counted, filed_of_file}
 use Rattle.lis_store.proofs.Housed.{IsHoused}
 use Rattle.lis_store.proofs.Learnt.{word_stays}
 use Rattle.lis_store.proofs.Naming.{named_told}

@@ -15,7 +15,7 @@ use Rattle.lis_slots.specs.Slots.{slot}
 use Rattle.lis_bits.specs.Bytes.{bits_bytes}
 use Rattle.lis_bits.proofs.Numbers.{bytes_same}
 use Rattle.lis_dict.proofs.Laws.{number_from_among}
-use Rattle.lis_fields.specs.Layouts.{is_axiom, is_file, are_short, are_distinct as distinct, slot_blocks}
+use Rattle.lis_fields.specs.Layouts.{is_axiom, is_file, are_short, slot_blocks}
 use Rattle.lis_fields.proofs.Parts.{record_tests, few_blocks}
 use Rattle.lis_fields.specs.declared.slots.PropSlot.{PropSlot}
 use Rattle.lis_fields.specs.declared.slots.PropSlot.TheVariants.{Free as FreeProp, Declared}
@@ -28,7 +28,7 @@ use Rattle.lis_kept.specs.Telling.{pair_by, pair_told, pairs_told}
 use Rattle.lis_kept.proofs.Formed.{axioms_formed, records_formed}
 use Rattle.lis_kept.proofs.Filing.{number_from_among as has_from_among, same_distinct}
 use Rattle.lis_kept.proofs.Known.{placed_at, only_pair, declared_set}
-use Rattle.lis_store.specs.Stands.{Contents, AreSlots, word_in, declared_in, words_in, all_declared, word_at, pair_in, pairs_in, is_named_axiom, is_free_axiom, records_in, all_records, all_blocks, file_by as file_of_record, are_named, spelled_state, is_had_by, row_bit, Spells}
+use Rattle.lis_store.specs.Stands.{Contents, AreSlots, word_in, declared_in, words_in, all_declared, word_at, pair_in, pairs_in, is_named_axiom, is_free_axiom, records_in, all_records, all_blocks, file_by as file_of_record, spelled_state, is_had_by, row_bit, Spells}
 use Rattle.lis_store.specs.Stored.{PairsAreApart}
 use Rattle.lis_store.proofs.SlotOrder.{given_at, flat_map-flat_map, permuted_among, distinct_permuted, held, held_at, slot_order}
 use Rattle.lis_store.proofs.Points.{set_of_points, AllApart, length-with_more}
@@ -55,7 +55,7 @@ contents_of k = record { properties = properties_told k; axioms = k.axioms; file
 pub record SoundParts (k : Kept) (rec : FileRecord) : Type 0 where
   pub short : rec.size ≤ file_limit k.limits.version
   pub count : length rec.blocks ≡ slot_blocks k.limits.version rec.size
-  pub apart : distinct rec.blocks ≡ true
+  pub apart : are_distinct rec.blocks ≡ true
   pub named : list_all (λ n. is_some (word_of k.dict n)) rec.tags ≡ true
   pub below : list_all (λ n. nat_lt n k.limits.blocks) rec.blocks ≡ true
 
@@ -65,7 +65,7 @@ sound_parts k sound f m =
     let most = and_parts (is_record k.limits.version rec && list_all (λ n. is_some (word_of k.dict n)) rec.tags) (list_all (λ n. nat_lt n k.limits.blocks) rec.blocks) (sound.records f.slot rec (filed_rec k.catalog sound.catalog f m)) in
     let both = and_parts (is_record k.limits.version rec) (list_all (λ n. is_some (word_of k.dict n)) rec.tags) most.0 in
     let form = record_tests k.limits.version rec both.0 in
-    let ns = and_parts ((length rec.blocks == slot_blocks k.limits.version rec.size) && are_short rec.blocks) (distinct rec.blocks) form.blocks in
+    let ns = and_parts ((length rec.blocks == slot_blocks k.limits.version rec.size) && are_short rec.blocks) (are_distinct rec.blocks) form.blocks in
     record {
       short = form.small;
       count = few_blocks k.limits.version rec.size rec.blocks form.blocks;
@@ -194,7 +194,7 @@ module _ (k : Kept) (sound : AreSound k) where
   entry_recorded : (f : Filed) → Among k.catalog.entries f → Among (all_records (files_told k)) f.rec
   entry_recorded f m = permuted_among (map (λ (f : Filed). f.rec) k.catalog.entries) (all_records (files_told k)) f.rec records_permuted (map_among (λ (f : Filed). f.rec) k.catalog.entries f m)
 
-  all_named : IsTrue (are_named (properties_told k) (all_records (files_told k)))
+  all_named : IsTrue (list_all (λ (rec : FileRecord). list_all (λ n. is_some (word_at (properties_told k) n)) rec.tags) (all_records (files_told k)))
   all_named = all_from (λ (rec : FileRecord). list_all (λ n. is_some (word_at (properties_told k) n)) rec.tags) (all_records (files_told k)) (λ rec m.
       let f = recorded_entry rec m in
       subst (λ (r : FileRecord). list_all (λ n. is_some (word_at (properties_told k) n)) r.tags ≡ true) f.2

@@ -12,15 +12,15 @@ use Rattle.lis_store.specs.Testing.{is_crowded, has_crowded, tested, DeclaresTes
 use Rattle.lis_store.proofs.HeadsUsed.{use_stays}
 use Rattle.lis_store.proofs.Edits.{AreEditsFew}
 use Rattle.lis_store.proofs.Closed.{few_within, closure_told, closure_named, closure_has, led_plain}
-use Rattle.lis_model.specs.Step.{mkdir_checks}
+use Rattle.lis_model.specs.Step.{mkdir_checks, first_refusal}
 use Rattle.lis_store.specs.Saving.{settled, Saves}
 use Rattle.lis_store.specs.Judging.{word_checks}
-use Rattle.lis_store.specs.Changes.{Holds, first_refusal}
+use Rattle.lis_store.specs.Changes.{Holds}
 use Rattle.lis_store.specs.declared.change.Change.{Change}
 use Rattle.lis_store.proofs.Cleaned.{none_marked}
 use Rattle.lis_store.proofs.SavedAlone.{IsChange, saves_alone}
 use Rattle.lis_store.proofs.ToldBy.{told_held}
-use Rattle.lis_store.proofs.Facts.{file_of_filed, size_of_filed}
+use Rattle.lis_store.proofs.StoreSays.{file_of_filed, size_of_filed}
 use Rattle.lis_store.proofs.Judged.{judged_refused, judged_done, all_pass}
 use Rattle.lis_store.proofs.Told.{words_same, retold}
 use Rattle.lis_store.specs.ReplacingIn.{AreInForm}

@@ -1,5 +1,5 @@
 -- What memory tells by what a disk keeps, whether changes are held back or not.
-use Rattle.lis_store.proofs.Common.{◌≡◌, inr, ℕ, ◌+◌, ◌<◌, ◌==◌, Bool, true, false, cond, List, [], ◌∷◌, length, arith, and_parts, eqb-true, Meaning, looked, are_whole, data_start, State, IsWritten, Tells, Entry}
+use Rattle.lis_store.proofs.Common.{◌≡◌, inr, ℕ, ◌+◌, ◌<◌, ◌==◌, Bool, true, false, cond, List, [], ◌∷◌, length, arith, and_parts, eqb-true, Meaning, looked, are_whole, data_start, State, IsWritten, Tells, HomeBlock}
 use Rattle.lis_journal.specs.Images.{look}
 use Rattle.lis_journal.proofs.Fitting.{kept_whole}
 use Rattle.lis_store.specs.Stored.{Stored, IsSound, StoreFits, StoreHolds}
@@ -12,7 +12,7 @@ pub record ToldBy (k : Stored) (s : State) : Type 0 where
   pub whole : (b : ℕ) → b < k.parts.limits.blocks → length (kept (data_start k.parts.limits + b)) ≡ 4096
 
 -- whole blocks over whole blocks are whole
-pub look_whole : (es : List Entry) (n : ℕ) (old : List ℕ) → are_whole es ≡ true → length old ≡ 4096 → length (look es n old) ≡ 4096
+pub look_whole : (es : List HomeBlock) (n : ℕ) (old : List ℕ) → are_whole es ≡ true → length old ≡ 4096 → length (look es n old) ≡ 4096
 look_whole [] n old whole len = len
 look_whole (e ∷ es) n old whole len =
     let parts = and_parts (length e.bytes == 4096) (are_whole es) whole in

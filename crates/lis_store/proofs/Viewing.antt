@@ -10,7 +10,7 @@ use Rattle.lis_store.specs.Stored.{AreClosed, TestsAreMet}
 use Rattle.lis_store.specs.Seen.{placed, seen_of, table_of}
 use Rattle.lis_kept.proofs.Entailed.{leads_from_up, up_from_leads}
 use Rattle.lis_store.proofs.Entailment.{closed_up}
-use Rattle.lis_store.proofs.Facts.{any_is_found}
+use Rattle.lis_store.proofs.StoreSays.{any_is_found}
 
 -- the step of a test asks for the size
 size_asked : (word : List ℕ) (test : Bool × ℕ) (file : Entry) → holds (step_by (Some test) word) file ≡ is_met (Some test) file.size

@@ -7,18 +7,19 @@ use Rattle.lis_store.specs.declared.change.Change.{Change}
 use Rattle.lis_store.specs.declared.change.Change.TheVariants.{Refused}
 use Rattle.lis_store.specs.Stored.{Stored, IsSound, StoreHolds}
 use Rattle.lis_store.proofs.ToldBy.{ToldBy, told_held}
-use Rattle.lis_store.specs.Changes.{Holds, first_refusal}
+use Rattle.lis_store.specs.Changes.{Holds}
 use Rattle.lis_store.specs.Judging.{is_among}
 use Rattle.lis_store.specs.Instead.{given_before, free_instead, free_for, overwriting_checks, renaming_checks, write_checks_of, rename_checks_of}
 use Rattle.lis_store.specs.Drafts.{draft_of}
 use Rattle.lis_store.specs.Replacing.{MayReplace}
 use Rattle.lis_store.specs.ReplacingIn.{file_gone, MayPutBytes}
-use Rattle.lis_store.proofs.Facts.{filed_named}
+use Rattle.lis_store.proofs.StoreSays.{filed_named}
 use Rattle.lis_store.proofs.InsteadMay.{may_stand, given_set, given_few, sized_small}
 use Rattle.lis_store.proofs.Admitted.{none_there, derived_own, derived_few_own}
 use Rattle.lis_store.proofs.InsteadTold.{free_told, old_is, old_given, write_refused, write_done, rename_refused, rename_done}
 use Rattle.lis_store.proofs.FreeBlocks.{used_told, version_told}
 use Rattle.lis_store.proofs.Judged.{all_pass, change_refused}
+use Rattle.lis_model.specs.Step.{first_refusal}
 
 -- What a call asks speaks of the store's value `now`, and what is proved of its parts, `old`. The slot that it found has a record.
 pub found_there : {old now : Stored} → old ≡ now → IsSound old → (name : List ℕ) {slot : ℕ} → slot_of now.parts.catalog name ≡ Some slot

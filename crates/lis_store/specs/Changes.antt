@@ -11,16 +11,11 @@ use Rattle.lis_model.specs.declared.refusal.Refusal.{Refusal}
 use Rattle.lis_model.specs.Image.{image_blocks}
 use Rattle.lis_model.specs.State.{State}
 use Rattle.lis_model.specs.Replies.{ok_line}
-use Rattle.lis_model.specs.Step.{Situation, Outcome, refused}
+use Rattle.lis_model.specs.Step.{Situation, Outcome, refused, first_refusal}
 use Rattle.lis_store.specs.Stands.{Stands}
 use Rattle.lis_store.specs.Stored.{Stored, StoreFits, StoreHolds}
 use Rattle.lis_store.specs.declared.change.Change.{Change}
 use Rattle.lis_store.specs.declared.change.Change.TheVariants.{Refused, Disk}
-
--- the first refusal of a row whose condition holds
-abbrev pub first_refusal : List (Bool × Refusal) → Option Refusal
-first_refusal [] = None
-first_refusal (check ∷ checks) = if check.0 then Some check.1 else first_refusal checks
 
 -- a judgement that answers the first refusal of a row, or that none holds
 abbrev pub Judges : {T : Type 0} → List (Bool × Refusal) → Result T Refusal → Type 0

@@ -1,7 +1,6 @@
 -- Descriptions that are made anew: of some of their numbers, with all that these entail.
 use Rattle.std.specs.Prelude.{ℕ, Bool, true, false, not, ◌&&◌, ◌||◌, if◌then◌else◌, Option, is_some, Some, None, List, [], ◌∷◌, ◌++◌, filter}
 use Rattle.std.specs.List.{list_any}
-use Rattle.lis_content.specs.Content.{has_number}
 use Rattle.lis_dict.specs.Dict.{word_of}
 use Rattle.lis_catalog.specs.Catalog.{rec_at}
 use Rattle.lis_ext.specs.Ext.{has, set_of as numbers_at}
@@ -14,6 +13,7 @@ use Rattle.lis_kept.specs.Telling.{declared_of, axioms_of}
 use Rattle.lis_store.specs.Adding.{is_one_of}
 use Rattle.lis_store.specs.declared.closing.Rebuild.{Rebuild}
 use Rattle.lis_store.specs.declared.closing.Rebuild.TheVariants.{Having, Losing, Meeting}
+use Rattle.lis_model.specs.Sets.{has_number}
 
 -- ---- what numbers entail
 abbrev pub entails_by : Kept → Option (List ℕ) → Option (List ℕ) → Bool

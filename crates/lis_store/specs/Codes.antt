@@ -8,7 +8,7 @@ use Rattle.lis_fields.specs.Records.{FileRecord}
 use Rattle.lis_fields.specs.declared.slots.AxiomSlot.{AxiomSlot}
 use Rattle.lis_fields.specs.declared.slots.AxiomSlot.TheVariants.{Free, Pair}
 use Rattle.lis_journal.specs.Journal.{OpenRecords, Held}
-use Rattle.lis_journal.specs.Record.{Entry}
+use Rattle.lis_journal.specs.Record.{HomeBlock}
 use Rattle.lis_kept.specs.Kept.{Kept}
 use Rattle.lis_model.specs.declared.limits.Limits.{Limits}
 use Rattle.lis_model.specs.Codes.{word_code, limits_code}
@@ -71,17 +71,17 @@ kept_code =
     }) (λ _. refl)
 
 -- ---- its journal
-abbrev pub entry_code : Coded Entry
+abbrev pub entry_code : Coded HomeBlock
 entry_code = code_by (ℕ × List ℕ) (coded× coded_ℕ word_code) (λ e. (e.home, e.bytes)) (λ p. record { home = p.0; bytes = p.1 }) (λ _. refl)
 
 abbrev pub records_code : Coded OpenRecords
 records_code =
-    code_by (ℕ × (ℕ × List Entry)) (coded× coded_ℕ (coded× coded_ℕ (coded_list entry_code))) (λ r. (r.count, (r.next, r.latest)))
+    code_by (ℕ × (ℕ × List HomeBlock)) (coded× coded_ℕ (coded× coded_ℕ (coded_list entry_code))) (λ r. (r.count, (r.next, r.latest)))
     (λ p. record { count = p.0; next = p.1.0; latest = p.1.1 }) (λ _. refl)
 
 abbrev pub held_code : Coded Held
 held_code =
-    code_by (ℕ × (List Entry × (OpenRecords × (List ℕ × Bool)))) (coded× coded_ℕ (coded× (coded_list entry_code) (coded× records_code (coded× word_code coded_bool))))
+    code_by (ℕ × (List HomeBlock × (OpenRecords × (List ℕ × Bool)))) (coded× coded_ℕ (coded× (coded_list entry_code) (coded× records_code (coded× word_code coded_bool))))
     (λ h. (h.blocks, (h.staged, (h.records, (h.placed, h.is_broken)))))
     (λ p. record { blocks = p.0; staged = p.1.0; records = p.1.1.0; placed = p.1.1.1.0; is_broken = p.1.1.1.1 }) (λ _. refl)
 

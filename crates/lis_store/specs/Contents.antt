@@ -7,7 +7,7 @@ use Rattle.lis_ports.specs.Runs.{Leaves}
 use Rattle.lis_journal.specs.Journal.{Held}
 use Rattle.lis_journal.specs.Images.{StandsBut, Fits, KeepsPast, is_among}
 use Rattle.lis_journal.specs.Phases.{looked}
-use Rattle.lis_content.specs.Content.{given, marked, are_free, are_distinct, has_home}
+use Rattle.lis_content.specs.Content.{given, marked, are_free, has_home}
 use Rattle.lis_content.specs.Large.{is_large}
 use Rattle.lis_content.specs.Placing.{Asks, homes_of}
 use Rattle.lis_fields.specs.Records.{FileRecord}
@@ -17,9 +17,10 @@ use Rattle.lis_model.specs.Image.{bitmap_start, data_start}
 use Rattle.lis_kept.specs.Kept.{Kept}
 use Rattle.lis_kept.specs.Areas.{is_marked}
 use Rattle.lis_kept.specs.Telling.{blocks_told}
-use Rattle.lis_kept.specs.Changes.{Marks, Lands, Gives, Puts}
+use Rattle.lis_kept.specs.Changes.{Marks, Lands, GivesBack, Puts}
 use Rattle.lis_store.specs.declared.change.Change.{Change}
 use Rattle.lis_store.specs.declared.change.Change.TheVariants.{Refused, Disk}
+use Rattle.lis_model.specs.Sets.{are_distinct}
 
 -- the blocks of the file are blocks of the image
 abbrev pub AreContentsWithin : Limits → (ℕ → List ℕ) → FileRecord → Type 0
@@ -50,7 +51,7 @@ ContentPut bytes p q old new before after (Err Disk) = ContentTorn bytes p q old
 
 -- The blocks of the file of a record are given back. The disk is asked alone, and at a fault none is.
 abbrev pub ContentGiven : {T : Type 0} → FileRecord → Kept → Kept → Held → Meaning → Meaning → Result T Change → Type 0
-ContentGiven rec p q journal before after (Ok done) = Gives rec p q journal before × Asks journal before after
+ContentGiven rec p q journal before after (Ok done) = GivesBack rec p q journal before × Asks journal before after
 ContentGiven rec p q journal before after (Err (Refused refusal)) = false ≡ true
 ContentGiven rec p q journal before after (Err Disk) = (q ≡ p) × Asks journal before after
 

@@ -5,7 +5,7 @@ use Rattle.lis_bits.specs.Rows.{Rows, HasShape, get, true_count}
 use Rattle.lis_ext.specs.Numbers.{numbers_where}
 use Rattle.lis_dict.specs.Dict.{number_of, word_of}
 use Rattle.lis_words.specs.Words.{has_word}
-use Rattle.lis_model.specs.Noted.{are_distinct}
+use Rattle.lis_model.specs.Noted.{are_distinct_words}
 use Rattle.lis_model.specs.State.{heads, all_up}
 use Rattle.lis_kept.specs.Kept.{Kept}
 use Rattle.lis_kept.specs.Telling.{declared_of, axioms_of}
@@ -27,7 +27,7 @@ pub record Gathers (k : Kept) (more : List (List ℕ)) (old new : Rows) (fresh w
   pub bits : (n : ℕ) → n < k.limits.props
       → get new 0 n ≡ (get old 0 n && not (is_one_of (all_up (declared_of k) (axioms_of k) (with_numbers k more)) (word_of k.dict n)))
   pub few : length wider ≤ length fresh + length more
-  pub once : IsTrue (are_distinct fresh) → IsTrue (are_distinct wider)
+  pub once : IsTrue (are_distinct_words fresh) → IsTrue (are_distinct_words wider)
   pub noted : (word : List ℕ) → has_word wider word ≡ (has_word fresh word || (has_word more word && is_none (number_of k.dict word)))
 
 -- The row has the numbers of the words that the file's description would have, where they have any.
@@ -39,6 +39,6 @@ pub record IsTold (k : Kept) (draft : Draft) (row : Rows) (fresh : List (List �
   pub shape : HasShape row 1 k.limits.props
   pub numbers : HasNumbers k row draft
   pub count : true_count row 0 ≡ length (numbers_where k.limits.props (get row 0))
-  pub once : IsTrue (are_distinct fresh)
+  pub once : IsTrue (are_distinct_words fresh)
   pub new : (word : List ℕ) → has_word fresh word ≡ true → number_of k.dict word ≡ None
   pub others : (word : List ℕ) → number_of k.dict word ≡ None → has_word (described_by k draft) word ≡ has_word fresh word

@@ -1,4 +1,4 @@
--- Files as a change tells them: of the bytes of one only how many they are, and which words it has by itself.
+-- Files as a change tells them: of the bytes of one only how many they are, and which words are derived from them and its name.
 use Rattle.std.specs.Prelude.{◌≡◌, ℕ, List, ◌++◌, length, filter}
 use Rattle.std.specs.List.{flat_map}
 use Rattle.std.specs.Option.{option_to_list}
@@ -19,7 +19,7 @@ pub record Draft : Type 0 where
 abbrev pub drafted : List ℕ → ℕ → List (List ℕ) → List (List ℕ) → Draft
 drafted name size assigned own = record { name = name; size = size; assigned = assigned; own = own }
 
--- a file that has these words by itself
+-- a file from which these words are derived
 abbrev pub with_own : File → List (List ℕ) → Draft
 with_own file own = drafted file.name (length file.bytes) file.assigned own
 
@@ -27,7 +27,7 @@ with_own file own = drafted file.name (length file.bytes) file.assigned own
 abbrev pub draft_of : File → Draft
 draft_of file = with_own file (derived_words file.name file.bytes)
 
--- These words by itself give a file the description that it has.
+-- These words in the place of those derived from a file give it the description that it has.
 abbrev pub AreOwnWords : List (List ℕ) → List (List ℕ × List ℕ) → List (List ℕ) → File → Type 0
 AreOwnWords declared axioms own file = all_up declared axioms (file.assigned ++ own ++ met_tests declared (length file.bytes)) ≡ file_words declared axioms file
 
@@ -36,6 +36,7 @@ AreOwnWords declared axioms own file = all_up declared axioms (file.assigned ++ 
 abbrev pub own_word : Kept → ℕ → List (List ℕ)
 own_word k n = filter is_built_in (option_to_list (word_of k.dict n))
 
--- Those of the description in a slot. A file can be given none of them, and no other word leads to one, so these it has by itself.
+-- Those of the description in a slot: the words derived from its file, and their heads. A file can be given none of them, and no word that
+-- it can be given leads to one.
 abbrev pub own_kept : Kept → ℕ → List (List ℕ)
 own_kept k slot = flat_map (own_word k) (set_of k.ext slot)

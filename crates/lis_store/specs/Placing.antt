@@ -1,12 +1,11 @@
 -- The words of a place under which a word is declared, and their numbers.
 use Rattle.std.specs.Prelude.{◌≡◌, ℕ, ◌+◌, ◌≤◌, Bool, true, ◌&&◌, if◌then◌else◌, is_some, Option, None, List, length, IsTrue}
 use Rattle.std.specs.List.{list_all}
-use Rattle.lis_content.specs.Content.{are_distinct}
 use Rattle.lis_dict.specs.Dict.{number_of, word_of}
 use Rattle.lis_words.specs.Words.{is_plain_word}
 use Rattle.lis_place.specs.declared.node.Node.{Node}
 use Rattle.lis_place.specs.Nodes.{node_words}
-use Rattle.lis_model.specs.Sets.{with_words}
+use Rattle.lis_model.specs.Sets.{with_words, are_distinct}
 use Rattle.lis_kept.specs.Kept.{Kept}
 use Rattle.lis_kept.specs.Telling.{is_declared, words_told}
 use Rattle.lis_store.specs.Assigning.{is_conjunct}

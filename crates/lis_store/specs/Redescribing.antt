@@ -9,8 +9,8 @@ use Rattle.lis_kept.specs.Areas.Area.{Rows}
 use Rattle.lis_kept.specs.Changes.{Describes}
 
 -- One slot has these numbers then: it is described anew, or it had them.
-abbrev pub Gives : ℕ → List ℕ → Kept → Kept → Type 0
-Gives slot numbers p q = Describes slot numbers p q ⊎ ((numbers ≡ numbers_at p.ext slot) × (q ≡ p))
+abbrev pub SlotHas : ℕ → List ℕ → Kept → Kept → Type 0
+SlotHas slot numbers p q = Describes slot numbers p q ⊎ ((numbers ≡ numbers_at p.ext slot) × (q ≡ p))
 
 -- which numbers differ at a slot that gets others
 abbrev pub turned_at : Kept → (ℕ → List ℕ) → ℕ → List ℕ

@@ -2,7 +2,6 @@
 use Rattle.std.specs.Prelude.{◌≡◌, ℕ, ◌+◌, true, not, ◌&&◌, if◌then◌else◌, is_some, Some, None, List, [], length}
 use Rattle.std.specs.List.Sorted.{IsStrictlyIncreasing}
 use Rattle.lis_catalog.specs.Catalog.{rec_at, without_slot}
-use Rattle.lis_content.specs.Content.{has_number}
 use Rattle.lis_dict.specs.Dict.{word_of}
 use Rattle.lis_ext.specs.Ext.{set_of}
 use Rattle.lis_fields.specs.Records.{FileRecord}
@@ -14,6 +13,7 @@ use Rattle.lis_kept.specs.Sound.{AreSound}
 use Rattle.lis_kept.specs.Telling.{state_of, is_used}
 use Rattle.lis_kept.specs.Forgetting.{emptied}
 use Rattle.lis_kept.specs.Changes.{Marks, Describes}
+use Rattle.lis_model.specs.Sets.{has_number}
 
 -- what is kept without the record in the slot
 abbrev pub without_record : Kept → ℕ → Kept

@@ -17,10 +17,10 @@ use Rattle.lis_store.specs.Drafts.{Draft, drafted, own_kept}
 use Rattle.lis_store.specs.Instead.{instead_checks}
 
 -- the place that a text makes of a place, or why it is refused
-abbrev pub led_by : Resolution → Result (List Formula) Refusal
-led_by (Unreadable k) = Err BadFormula
-led_by BeyondLimits = Err LargeFormula
-led_by (NewPlace place) = Ok place
+abbrev pub place_or_refusal : Resolution → Result (List Formula) Refusal
+place_or_refusal Unreadable = Err BadFormula
+place_or_refusal BeyondLimits = Err LargeFormula
+place_or_refusal (NewPlace place) = Ok place
 
 -- the words of the file of a record, without the tags of one place and with those of another
 abbrev pub words_moved : Kept → FileRecord → List Formula → List Formula → List (List ℕ)

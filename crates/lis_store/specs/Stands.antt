@@ -7,7 +7,7 @@ use Rattle.lis_ports.specs.Bytes.{part}
 use Rattle.lis_journal.specs.Record.{block, replayed}
 use Rattle.lis_slots.specs.Slots.{Slots, slot}
 use Rattle.lis_blockmap.specs.Bitmap.{bitmap_bytes}
-use Rattle.lis_content.specs.Content.{marked, are_distinct}
+use Rattle.lis_content.specs.Content.{marked}
 use Rattle.lis_bits.specs.Bytes.{bits_bytes}
 use Rattle.lis_fields.specs.Records.{FileRecord}
 use Rattle.lis_fields.specs.declared.slots.PropSlot.{PropSlot}
@@ -21,7 +21,7 @@ use Rattle.lis_words.specs.Words.{has_word}
 use Rattle.lis_model.specs.declared.limits.Limits.{Limits}
 use Rattle.lis_model.specs.Image.{bitmap_start, image_blocks}
 use Rattle.lis_model.specs.Ranges.{are_in_range}
-use Rattle.lis_model.specs.Sets.{set_of}
+use Rattle.lis_model.specs.Sets.{set_of, are_distinct}
 use Rattle.lis_model.specs.State.{State, File, pair_cmp, file_cmp, known, description, WellFormed}
 use Rattle.lis_kept.specs.Areas.{property_slots, axiom_slots, file_slots, row_slots}
 use Rattle.lis_kept.specs.Telling.{pair_by, bytes_told, blocks_told, HasIndex}
@@ -98,10 +98,6 @@ file_by limits properties at rec = record {
   assigned = set_of (flat_map (λ n. option_to_list (word_at properties n)) rec.tags);
 }
 
--- every number of an assigned word is that of a slot with a word
-abbrev pub are_named : List PropSlot → List FileRecord → Bool
-are_named properties recs = list_all (λ (rec : FileRecord). list_all (λ n. is_some (word_at properties n)) rec.tags) recs
-
 -- ---- the state
 -- the state that slots and data blocks spell
 abbrev pub spelled_state : Limits → Contents → (ℕ → List ℕ) → State
@@ -133,7 +129,7 @@ pub record Spells (limits : Limits) (contents : Contents) (at : ℕ → List ℕ
   pub files : AreSlots file_bytes (is_file limits.version) (file_slots limits) at contents.files
   pub named_axioms : IsTrue (list_all (is_named_axiom contents.properties) contents.axioms)
   pub free_axioms : IsTrue (list_all is_free_axiom (drop limits.props contents.axioms))
-  pub named : IsTrue (are_named contents.properties (all_records contents.files))
+  pub named : IsTrue (list_all (λ (rec : FileRecord). list_all (λ n. is_some (word_at contents.properties n)) rec.tags) (all_records contents.files))
   pub state : s ≡ spelled_state limits contents at
   pub formed : WellFormed s
   pub words : set_of (words_in contents.properties) ≡ known s

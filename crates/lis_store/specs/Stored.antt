@@ -8,7 +8,6 @@ use Rattle.lis_journal.specs.Staging.{are_whole}
 use Rattle.lis_dict.specs.Dict.{word_of}
 use Rattle.lis_ext.specs.Ext.{has, set_of as numbers_at, empty_ext}
 use Rattle.lis_catalog.specs.Catalog.{rec_at}
-use Rattle.lis_content.specs.Content.{has_number}
 use Rattle.lis_content.specs.Large.{is_large, index_home}
 use Rattle.lis_fields.specs.Records.{FileRecord}
 use Rattle.lis_fields.specs.declared.slots.AxiomSlot.TheVariants.{Free as FreeAxiom, Pair}
@@ -24,6 +23,7 @@ use Rattle.lis_kept.specs.Telling.{Tells}
 use Rattle.lis_kept.specs.TestEdges.{test_by}
 use Rattle.lis_kept.specs.Forgetting.{KeepsInUse}
 use Rattle.lis_store.specs.Stands.{Stands}
+use Rattle.lis_model.specs.Sets.{has_number}
 
 pub record Stored : Type 0 where
   pub parts : Kept

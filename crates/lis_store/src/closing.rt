@@ -2,13 +2,13 @@
 
 ghost use Rattle.std.specs.Prelude.{◌≡◌, ℕ, ◌<◌, ◌≤◌, true, is_some, Some, length, filter, IsTrue, IsSome};
 ghost use Rattle.std.specs.List.{list_all};
-ghost use Rattle.lis_content.specs.Content.{has_number};
 ghost use Rattle.lis_dict.specs.Dict.{word_of};
 ghost use Rattle.lis_ext.specs.Ext.{has, set_of};
 ghost use Rattle.lis_kept.specs.Sound.{AreSound, FreeSlotsAreEmpty};
 ghost use Rattle.lis_store.specs.Closing.{is_entailed, closure, is_concerned, tags_at, stays, is_base, added, base_at, has_words, rebuilt};
-ghost use Rattle.lis_store.specs.Redescribing.{Gives, Redescribes};
+ghost use Rattle.lis_store.specs.Redescribing.{SlotHas, Redescribes};
 ghost use Rattle.lis_store.specs.Stored.{DescriptionsAreShort};
+ghost use Rattle.lis_model.specs.Sets.{has_number};
 
 use crate::crowding::is_met_at;
 use crate::removing::numbers_at;
@@ -133,7 +133,7 @@ fn rebuild_slot(parts: &mut Parts, how: Rebuild, slot: u16)
     requires named { (n : ℕ) → has parts.old.ext n slot ≡ true → IsSome (word_of parts.old.dict n) }
     requires short { length (set_of parts.old.ext slot) ≤ 128 }
     requires few { is_concerned parts.old how slot ≡ true → length (closure parts.old (base_at parts.old how slot)) ≤ 128 }
-    ensures gives { Gives slot (rebuilt parts.old how slot) parts.old parts.new }
+    ensures gives { SlotHas slot (rebuilt parts.old how slot) parts.old parts.new }
     ensures sound { AreSound parts.new }
 {
     let props = parts.limits().props;

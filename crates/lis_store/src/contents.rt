@@ -56,7 +56,7 @@ fn put_content<D: Disk>(
 }
 
 /// Gives the blocks of the file in a slot back.
-pub(crate) fn give_content<D: Disk>(
+pub(crate) fn free_content<D: Disk>(
     parts: &mut Parts,
     journal: &Journal,
     is_broken: &mut bool,
@@ -131,10 +131,10 @@ fn put_instead<D: Disk>(
 {
     if parts.limits().version == 2 {
         let numbers = put_content(parts, journal, is_broken, disk, payload)?;
-        give_content(parts, journal, is_broken, disk, slot)?;
+        free_content(parts, journal, is_broken, disk, slot)?;
         return Ok(numbers);
     }
-    give_content(parts, journal, is_broken, disk, slot)?;
+    free_content(parts, journal, is_broken, disk, slot)?;
     put_content(parts, journal, is_broken, disk, payload)
 }
 

@@ -2,13 +2,13 @@
 
 ghost use Rattle.std.specs.Prelude.{◌≡◌, ◌∷◌, ◌<◌, ◌≤◌, [], false, length, IsSome, MatchOption, IfSome};
 ghost use Rattle.std.specs.List.{list_all};
-ghost use Rattle.lis_content.specs.Content.{has_number};
 ghost use Rattle.lis_place.specs.Nodes.{node_words};
 ghost use Rattle.lis_model.specs.Places.{place_words};
 ghost use Rattle.lis_model.specs.Step.{is_plain_place, words_at};
 ghost use Rattle.lis_kept.specs.Sound.{AreSound};
 ghost use Rattle.lis_kept.specs.Telling.{is_declared};
 ghost use Rattle.lis_store.specs.Placing.{is_plain_conjunct, declared_number, AreNumbersOf, TakesNumbers};
+ghost use Rattle.lis_model.specs.Sets.{has_number};
 
 use arrayvec::ArrayVec;
 use lis_kept::Parts;

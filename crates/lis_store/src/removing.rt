@@ -34,7 +34,7 @@ pub(crate) fn numbers_at(ext: &Ext, props: u32, slot: u16) -> ArrayVec<u16, 128>
 
 /// Takes the file out of its slot, and forgets the words that nothing else uses. The slot is described as before, by the numbers that it
 /// answers.
-pub(crate) fn vacate(parts: &mut Parts, slot: u16) -> ArrayVec<u16, 128>
+pub(crate) fn unfile(parts: &mut Parts, slot: u16) -> ArrayVec<u16, 128>
     requires form { AreInForm parts.old }
     requires there { IsSome (rec_at parts.old.catalog slot) }
     ensures vacated { (rec : FileRecord) → rec_at parts.old.catalog slot ≡ Some rec → Vacates slot rec parts.old parts.new }
@@ -52,6 +52,6 @@ pub(crate) fn take_out(parts: &mut Parts, slot: u16)
     requires there { IsSome (rec_at parts.old.catalog slot) }
     ensures { (rec : FileRecord) → rec_at parts.old.catalog slot ≡ Some rec → TakesOut slot rec parts.old parts.new }
 {
-    let numbers = vacate(parts, slot);
+    let numbers = unfile(parts, slot);
     parts.describe(slot, numbers.as_slice(), &[]);
 }

@@ -12,7 +12,7 @@ ghost use Rattle.lis_store.specs.ReplacingIn.{AreInForm, record_in, MayPut, MayC
 
 use crate::adding::{learn_words, numbers_entailed, numbers_of};
 use crate::describing::Draft;
-use crate::removing::vacate;
+use crate::removing::unfile;
 use arrayvec::ArrayVec;
 use lis_derive::derive_words;
 use lis_eval::Scratch;
@@ -88,7 +88,7 @@ fn make_room(parts: &mut Parts, slot: Option<u16>) -> Room
         },
         Some(slot) => Room {
             slot,
-            numbers: vacate(parts, slot),
+            numbers: unfile(parts, slot),
         },
     }
 }
@@ -125,7 +125,7 @@ fn settle_in(
 }
 
 /// Files a file, in the place of the one in the slot if one is told. Its bytes stand in these blocks, which are taken already.
-pub(crate) fn refile_draft(
+pub(crate) fn replace_draft(
     parts: &mut Parts,
     scratch: &mut Scratch,
     slot: Option<u16>,
@@ -145,8 +145,8 @@ pub(crate) fn refile_draft(
     settle_in(parts, scratch, &room, draft, blocks);
 }
 
-/// As `refile_draft`, with the words that are derived from the file's bytes.
-pub(crate) fn refile(
+/// As `replace_draft`, with the words that are derived from the file's bytes.
+pub(crate) fn replace_record(
     parts: &mut Parts,
     scratch: &mut Scratch,
     slot: Option<u16>,
@@ -170,5 +170,5 @@ pub(crate) fn refile(
         assigned,
         own: derived.as_slice(),
     };
-    refile_draft(parts, scratch, slot, draft, blocks);
+    replace_draft(parts, scratch, slot, draft, blocks);
 }

@@ -14,7 +14,7 @@ ghost use Rattle.lis_model.specs.Places.{place_words};
 ghost use Rattle.lis_model.specs.Step.{tags_at, retagged};
 ghost use Rattle.lis_store.specs.Assigning.{node_tags};
 ghost use Rattle.lis_store.specs.Changes.{Judges};
-ghost use Rattle.lis_store.specs.Retagging.{led_by, words_moved, text_checks, places_checks, moving_checks};
+ghost use Rattle.lis_store.specs.Retagging.{place_or_refusal, words_moved, text_checks, places_checks, moving_checks};
 
 use crate::assigning::{are_assignable, has_words, is_tag, put_place};
 use crate::instead::assigned_in;
@@ -29,8 +29,8 @@ use lis_words::{Word, is_builtin, is_head};
 // ---- the text
 
 /// The place to which a text leads, or why it is refused.
-pub(crate) fn led_by(place: &Place, text: &Text) -> Result<Place, Refusal>
-    ensures { result ≡ led_by (resolved place.now text.now) }
+pub(crate) fn place_or_refusal(place: &Place, text: &Text) -> Result<Place, Refusal>
+    ensures { result ≡ place_or_refusal (resolved place.now text.now) }
 {
     match resolve(place, text.bytes()) {
         Ok(next) => Ok(next),

@@ -28,9 +28,9 @@ mod unlinking;
 
 use crate::admitting::may_add;
 use crate::change::Change;
-use crate::contents::{give_content, put_anew};
+use crate::contents::{free_content, put_anew};
 use crate::removing::take_out;
-use crate::replacing::refile;
+use crate::replacing::replace_record;
 use crate::saving::{MOST_HELD, commit, hold, most_held};
 use lis_content::{Buffer, is_large, read_block, read_block_by, read_index_block};
 use lis_eval::{Scratch, View, evaluate, found};
@@ -393,7 +393,7 @@ impl Store {
             slot,
             payload,
         )?;
-        refile(
+        replace_record(
             &mut self.parts,
             scratch,
             slot,
@@ -470,7 +470,7 @@ impl Store {
         let Some(slot) = self.slot_here(scratch, place, name) else {
             return Err(Change::Refused(Refusal::NoFileHere));
         };
-        give_content(
+        free_content(
             &mut self.parts,
             &self.journal,
             &mut self.is_broken,

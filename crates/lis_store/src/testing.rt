@@ -5,7 +5,7 @@ ghost use Rattle.lis_dict.specs.Dict.{word_of};
 ghost use Rattle.lis_ext.specs.Ext.{has, set_of};
 ghost use Rattle.lis_kept.specs.Sound.{AreSound, FreeSlotsAreEmpty};
 ghost use Rattle.lis_kept.specs.Undeclaring.{MayUndeclare};
-ghost use Rattle.lis_store.specs.Redescribing.{Gives, Redescribes};
+ghost use Rattle.lis_store.specs.Redescribing.{SlotHas, Redescribes};
 ghost use Rattle.lis_store.specs.ReplacingIn.{AreInForm};
 ghost use Rattle.lis_store.specs.Stored.{DescriptionsAreShort};
 ghost use Rattle.lis_store.specs.Testing.{MayDeclare, DeclaresTested, without_number, undescribed, UndeclaresUnmet};
@@ -53,7 +53,7 @@ fn describe_without(parts: &mut Parts, number: u16, slot: u16)
     requires slot { slot < parts.old.limits.files }
     requires had { (n : ℕ) → has parts.old.ext n slot ≡ true → IsSome (word_of parts.old.dict n) }
     requires short { length (set_of parts.old.ext slot) ≤ 128 }
-    ensures gives { Gives slot (without_number parts.old number slot) parts.old parts.new }
+    ensures gives { SlotHas slot (without_number parts.old number slot) parts.old parts.new }
     ensures sound { AreSound parts.new }
 {
     let props = parts.limits().props;

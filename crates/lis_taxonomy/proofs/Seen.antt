@@ -14,7 +14,7 @@ use Rattle.lis_graph.proofs.Members.{Among, among_from_any, any_from_among, amon
 use Rattle.lis_graph.proofs.Pairs.{pairs_total, pairs_exact}
 use Rattle.lis_graph.proofs.Graph as graph
 use Rattle.lis_taxonomy.specs.Taxonomy.{pair_cmp, no_links, has_edge, Entails, IsAcyclic, entails, with_edge, without_edge, empty_taxonomy}
-use Rattle.lis_taxonomy.specs.Inside.{edge_list, reach, IsAcyclicTable, seen, IsSound, IsWidened, IsPartlyRight}
+use Rattle.lis_taxonomy.specs.Inside.{edge_list, reach, IsAcyclicTable, seen, IsSoundTaxonomy, IsWidened, IsPartlyRight}
 use Rattle.lis_taxonomy.proofs.Edges.{IsOneMore, among_edges, edges_among, big_among, among_big, reach_with, acyclic_with, acyclic_without, reach_decides, acyclic_decides, first_step, reach_self, reach_trans, nat_decides, no_links_ordered}
 
 -- ---- sets of pairs
@@ -209,8 +209,8 @@ module _ (small big : Rows) (props p q : ℕ) (one : IsOneMore small big props p
           other m false same = refl
 
 -- ---- what the rows keep
-pub sound_added : (linked reached reached' stale : Rows) (props p q : ℕ) → IsSound linked reached stale props → p < props → q < props → get reached q p ≡ false → IsWidened reached reached' props p q
-    → IsSound (with_row linked p (λ k. if k == q then true else get linked p k)) reached' stale props
+pub sound_added : (linked reached reached' stale : Rows) (props p q : ℕ) → IsSoundTaxonomy linked reached stale props → p < props → q < props → get reached q p ≡ false → IsWidened reached reached' props p q
+    → IsSoundTaxonomy (with_row linked p (λ k. if k == q then true else get linked p k)) reached' stale props
 sound_added linked reached reached' stale props p q sound p_in q_in apart widened =
     let one = one_more_set linked props p q sound.linked_shape p_in q_in in
     let linked' = with_row linked p (λ k. if k == q then true else get linked p k) in
@@ -225,7 +225,7 @@ sound_added linked reached reached' stale props p q sound p_in q_in apart widene
     }
 
 -- rows where p has q are as wide as an edge from p to q makes them
-widened_already : (linked reached stale : Rows) (props p q : ℕ) → IsSound linked reached stale props → p < props → q < props → get reached p q ≡ true → IsWidened reached reached props p q
+widened_already : (linked reached stale : Rows) (props p q : ℕ) → IsSoundTaxonomy linked reached stale props → p < props → q < props → get reached p q ≡ true → IsWidened reached reached props p q
 widened_already linked reached stale props p q sound p_in q_in there = record {
   shape = sound.reached_shape;
   bits = λ a b a_in b_in. by a b a_in b_in (get reached a b) (get reached a p) (get reached q b) refl refl refl;
@@ -245,12 +245,12 @@ widened_already linked reached stale props p q sound p_in q_in there = record {
     by a b a_in b_in false false z e f g = refl
 
 -- so they stay
-pub sound_known : (linked reached stale : Rows) (props p q : ℕ) → IsSound linked reached stale props → p < props → q < props → get reached q p ≡ false → get reached p q ≡ true
-    → IsSound (with_row linked p (λ k. if k == q then true else get linked p k)) reached stale props
+pub sound_known : (linked reached stale : Rows) (props p q : ℕ) → IsSoundTaxonomy linked reached stale props → p < props → q < props → get reached q p ≡ false → get reached p q ≡ true
+    → IsSoundTaxonomy (with_row linked p (λ k. if k == q then true else get linked p k)) reached stale props
 sound_known linked reached stale props p q sound p_in q_in apart there =
     sound_added linked reached reached stale props p q sound p_in q_in apart (widened_already linked reached stale props p q sound p_in q_in there)
 
-module _ (linked reached stale : Rows) (props p q : ℕ) (sound : IsSound linked reached stale props) (p_in : p < props) (q_in : q < props) (there : get linked p q ≡ true) where
+module _ (linked reached stale : Rows) (props p q : ℕ) (sound : IsSoundTaxonomy linked reached stale props) (p_in : p < props) (q_in : q < props) (there : get linked p q ≡ true) where
   pub acyclic_removed : IsAcyclicTable (with_row linked p (λ k. if k == q then false else get linked p k)) props
   acyclic_removed = acyclic_without (with_row linked p (λ k. if k == q then false else get linked p k)) linked props p q (one_more_cleared linked props p q sound.linked_shape p_in q_in there) sound.acyclic
 
@@ -283,7 +283,7 @@ module _ (linked reached stale : Rows) (props p q : ℕ) (sound : IsSound linked
       kept a b none = wider a b ∙ alone (reach small props a b) (reach small props q b) (reach small props a p) (left_false (reach small props a p) (reach small props a p && reach small props q p) (sym (wider a p) ∙ none))
 
   pub sound_removed : (reached' stale' : Rows) → HasShape reached' props props → HasShape stale' 1 props → ((a b : ℕ) → a < props → b < props → get reached' a b ≡ reach (with_row linked p (λ k. if k == q then false else get linked p k)) props a b)
-      → IsSound (with_row linked p (λ k. if k == q then false else get linked p k)) reached' stale' props
+      → IsSoundTaxonomy (with_row linked p (λ k. if k == q then false else get linked p k)) reached' stale' props
   sound_removed reached' stale' shape stale_shape right = record {
     few = sound.few;
     linked_shape = shape_removed;
@@ -312,7 +312,7 @@ pub seen_new : (props : ℕ) → seen (empty_rows props props) props ≡ empty_t
 seen_new props = ap (λ es. record { props = props; edges = set.from_list es }) (nothing (edge_list (empty_rows props props) props) (no_edges props))
 
 pub sound_new : (reached stale : Rows) (props : ℕ) → props ≤ 8192 → HasShape (empty_rows props props) props props → HasShape reached props props → HasShape stale 1 props → ((p q : ℕ) → p < props → q < props → get reached p q ≡ (p == q))
-    → IsSound (empty_rows props props) reached stale props
+    → IsSoundTaxonomy (empty_rows props props) reached stale props
 sound_new reached stale props few shape reached_shape stale_shape own = record {
   few = few;
   linked_shape = shape;

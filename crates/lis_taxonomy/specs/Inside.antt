@@ -37,7 +37,7 @@ abbrev pub IsAcyclicTable : Rows → ℕ → Type 0
 IsAcyclicTable linked props = graph.is_acyclic nat_eq nat_cmp no_links (edge_list linked props) ≡ true
 
 -- the rows tell edges without a circle, and what chains of them lead to
-pub record IsSound (linked reached stale : Rows) (props : ℕ) : Type 0 where
+pub record IsSoundTaxonomy (linked reached stale : Rows) (props : ℕ) : Type 0 where
   pub few : props ≤ 8192
   pub linked_shape : HasShape linked props props
   pub reached_shape : HasShape reached props props

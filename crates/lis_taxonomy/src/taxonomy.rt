@@ -37,11 +37,11 @@ impl Model for Taxonomy {
 
     ghost coded = { taxonomy_code };
 
-    ghost use Rattle.lis_taxonomy.specs.Inside.{seen, IsSound};
+    ghost use Rattle.lis_taxonomy.specs.Inside.{seen, IsSoundTaxonomy};
 
     ghost view = { λ t. seen t.linked t.props };
 
-    ghost invariant = { λ t. IsSound t.linked t.reached t.stale t.props };
+    ghost invariant = { λ t. IsSoundTaxonomy t.linked t.reached t.stale t.props };
 }
 
 impl Taxonomy {

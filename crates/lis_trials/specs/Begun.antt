@@ -5,7 +5,7 @@ use Rattle.lis_memdisk.specs.declared.mem_station.MemStation.{MemStation}
 use Rattle.lis_memdisk.specs.MemStation.{meaning_of}
 use Rattle.lis_model.specs.declared.limits.Limits.{Limits}
 use Rattle.lis_model.specs.State.{empty_state}
-use Rattle.lis_shell.specs.Runs.{Entry}
+use Rattle.lis_shell.specs.Runs.{AtEntry}
 
 -- the bytes that a source in memory has left
 abbrev pub left_of : MemSource → Option (List ℕ)
@@ -15,7 +15,7 @@ left_of source = Some (drop source.place source.bytes.items)
 -- bytes as they read, what was shown is told, and where there is room for a record the moments are.
 pub record IsBegun (limits : Limits) (room : ℕ) (station : MemStation) : Type 0 where
   pub entry : (source : MemSource) (bytes : List ℕ) → left_of source ≡ Some bytes
-      → Entry (meaning_of station) (left_of source) (empty_state limits) bytes
+      → AtEntry (meaning_of station) (left_of source) (empty_state limits) bytes
   pub settled : (image : List ℕ) → (meaning_of station).images image → image ≡ (meaning_of station).bytes
   pub shown : (meaning_of station).shown ≡ Some []
   pub recorded : (meaning_of station).is_recorded ≡ nat_lt 0 room

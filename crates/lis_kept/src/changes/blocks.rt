@@ -11,7 +11,7 @@ ghost use Rattle.lis_fields.specs.Records.{FileRecord};
 ghost use Rattle.lis_model.specs.Image.{bitmap_start, data_start, image_blocks};
 ghost use Rattle.lis_model.specs.Ranges.{are_in_range};
 ghost use Rattle.lis_model.specs.State.{blocks_taken, file_limit};
-ghost use Rattle.lis_kept.specs.Changes.{Gives, Puts, PutTorn};
+ghost use Rattle.lis_kept.specs.Changes.{GivesBack, Puts, PutTorn};
 ghost use Rattle.lis_kept.specs.Sound.{AreSound};
 
 use crate::parts::Parts;
@@ -83,7 +83,7 @@ impl Parts {
         requires image { journal.now.blocks ≡ image_blocks self.old.limits }
         requires unbroken { journal.now.is_broken ≡ false }
         requires long { 4096 * journal.now.blocks ≤ (D.meaning disk.old).len }
-        ensures gives { OnOk result ((rec : FileRecord) → rec_at self.old.catalog slot ≡ Some rec → Gives rec self.old self.new journal.now (D.meaning disk.old)) }
+        ensures gives { OnOk result ((rec : FileRecord) → rec_at self.old.catalog slot ≡ Some rec → GivesBack rec self.old self.new journal.now (D.meaning disk.old)) }
         ensures stays { OnErr result (self.new ≡ self.old) }
         ensures sound { AreSound self.new }
         ensures run { IsDiskRun (D.meaning disk.old) (D.meaning disk.new) }

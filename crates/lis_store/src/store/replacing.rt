@@ -17,8 +17,8 @@ use crate::contents::blocks_in;
 use crate::describing::Draft;
 use crate::file_bytes::read_file;
 use crate::instead::{may_rename, may_stand_instead, may_write, own_in, size_in};
-use crate::replacing::{refile, refile_draft};
-use crate::retagging::{led_by, may_move};
+use crate::replacing::{replace_draft, replace_record};
+use crate::retagging::{may_move, place_or_refusal};
 use crate::saving::{MOST_HELD, hold};
 use crate::store::Store;
 use lis_content::is_large;
@@ -178,7 +178,7 @@ impl Store {
         }
         let words = may_rename(&self.parts, scratch, slot, new, self.bytes.bytes())?;
         let blocks = blocks_in(&self.parts, slot);
-        refile(
+        replace_record(
             &mut self.parts,
             scratch,
             Some(slot),
@@ -196,7 +196,7 @@ impl Store {
         )
     }
 
-    /// Moves a file to the place to which a text leads: `mv` at the place. Its bytes are not read: the words that it has by itself stay.
+    /// Moves a file to the place to which a text leads: `mv` at the place. Its bytes are not read: the words derived from it stay.
     pub fn retag<D: Disk>(
         &mut self,
         disk: &mut D,
@@ -256,7 +256,7 @@ impl Store {
     {
         // As before each change, no call of the disk has failed.
         prove!(!self.is_broken);
-        let next = led_by(place, text)?;
+        let next = place_or_refusal(place, text)?;
         let Some(slot) = self.slot_here(scratch, place, name) else {
             return Err(Change::Refused(Refusal::NoFileHere));
         };
@@ -270,7 +270,7 @@ impl Store {
         };
         may_stand_instead(&self.parts, scratch, slot, draft)?;
         let blocks = blocks_in(&self.parts, slot);
-        refile_draft(&mut self.parts, scratch, Some(slot), draft, blocks);
+        replace_draft(&mut self.parts, scratch, Some(slot), draft, blocks);
         hold(
             &mut self.parts,
             &mut self.journal,

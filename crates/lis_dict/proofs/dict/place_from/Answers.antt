@@ -4,7 +4,7 @@ use Rattle.lis_graph.proofs.Members.{map_among}
 use Rattle.lis_words.specs.Words.{is_property}
 use Rattle.lis_dict.specs.Dict.{words}
 use Rattle.lis_dict.specs.Inside.{dict_of}
-use Rattle.lis_dict.proofs.Entries.{Entry}
+use Rattle.lis_dict.proofs.Entries.{DictEntry}
 use Rattle.lis_dict.proofs.Finds.{all_among}
 use Rattle.lis_dict.proofs.Places.{among_at}
 use Rattle.lis_dict.proofs.dict.place_from.Goals as goal
@@ -14,7 +14,7 @@ pub unreachable-requires : goal.unreachable-requires
 unreachable-requires c =
     let es = c.args.entries.now in
     let k = c.in_default.field-0 in
-    let none : Entry = ([], 0) in
+    let none : DictEntry = ([], 0) in
     let found : List ℕ = (get_or es k none).0 in
-    let is = all_among is_property (words (dict_of es c.requires.dict.0)) found c.requires.dict.1.forms (map_among (λ (e : Entry). e.0) es (get_or es k none) (among_at es k none c.in_default.ensures.bound)) in
+    let is = all_among is_property (words (dict_of es c.requires.dict.0)) found c.requires.dict.1.forms (map_among (λ (e : DictEntry). e.0) es (get_or es k none) (among_at es k none c.in_default.ensures.bound)) in
     both_ways (is_property c.args.bytes.now) c.requires.none (sym (ap is_property (c.in_default.ensures.found none)) ∙ is)

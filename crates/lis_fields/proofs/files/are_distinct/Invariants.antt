@@ -1,5 +1,5 @@
 use Rattle.std.proofs.Common.{◌≡◌, drop}
-use Rattle.lis_fields.specs.Layouts.{are_distinct}
+use Rattle.lis_model.specs.Sets.{are_distinct}
 use Rattle.lis_fields.proofs.files.are_distinct.Given as goal
 
 abbrev pub invariant-loop-k : goal.invariant-loop-k

@@ -1,5 +1,5 @@
 use Rattle.std.proofs.Common.{◌≡◌, ◌+◌, ◌∙◌, ap, arith, [], get_or}
-use Rattle.lis_journal.specs.Record.{Entry}
+use Rattle.lis_journal.specs.Record.{HomeBlock}
 use Rattle.lis_journal.specs.Phases.{at_target}
 use Rattle.lis_journal.specs.declared.commit.Target.{Target}
 use Rattle.lis_journal.proofs.Writing.{renumbered-home, home_within}
@@ -14,6 +14,6 @@ returns-in-Record-clause-address c = λ d.
 
 pub returns-in-Homes-clause-within : goal.returns-in-Homes-clause-within
 returns-in-Homes-clause-within c =
-    let nothing : Entry = record { home = 0; bytes = [] } in
+    let nothing : HomeBlock = record { home = 0; bytes = [] } in
     let s = c.args.stage.now in
     omega (arith, c.from-in-Homes.ensures, c.home.ensures nothing, home_within s.blocks 577 s.entries c.args.k nothing c.requires.staging.rise c.requires.k)

@@ -1,5 +1,5 @@
 use Rattle.std.proofs.Common.{[], length, replicate, subst, ap, ◌∙◌, take, ◌+◌, ◌<◌, arith, rules}
-use Rattle.lis_journal.specs.Record.{Entry, homes}
+use Rattle.lis_journal.specs.Record.{HomeBlock, homes}
 use Rattle.lis_journal.proofs.Headers.{Begun, begin_header, one_home_more, homes-take}
 use Rattle.lis_journal.proofs.header.write_header.Goals as goal
 
@@ -9,7 +9,7 @@ loop-k-init c =
 
 pub loop-k-preserved : goal.loop-k-preserved
 loop-k-preserved c =
-    let nothing : Entry = record { home = 0; bytes = [] } in
+    let nothing : HomeBlock = record { home = 0; bytes = [] } in
     let k = c.loop-k.k in
     let es = c.args.stage.now.entries in
     let lt : k < length es = omega (arith, c.loop-k-test.true, c.len-count.ensures.len) in

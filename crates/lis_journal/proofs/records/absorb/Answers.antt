@@ -1,12 +1,12 @@
 use Rattle.std.proofs.Common.{◌<◌, [], length, ap, inr, arith}
-use Rattle.lis_journal.specs.Record.{Entry}
+use Rattle.lis_journal.specs.Record.{HomeBlock}
 use Rattle.lis_journal.specs.Staging.{Staging}
 use Rattle.lis_journal.proofs.Entries.{length-with_entry}
 use Rattle.lis_journal.proofs.Absorbing.{absorbed_more, absorbed_all}
 use Rattle.lis_journal.proofs.Writing.{home_above, home_within}
 use Rattle.lis_journal.proofs.records.absorb.Goals as goal
 
-nothing : Entry
+nothing : HomeBlock
 nothing = record { home = 0; bytes = [] }
 
 pub put-requires-clause-home : goal.put-requires-clause-home

@@ -1,11 +1,11 @@
 use Rattle.lis_open.proofs.Common.{◌≡◌, ◌∙◌, refl, sym, ap, subst, ℕ, List, [], bitmap_start}
 use Rattle.lis_blockmap.specs.Bitmap.{IsFirstDifference}
 use Rattle.lis_journal.specs.Images.{look}
-use Rattle.lis_journal.specs.Record.{Entry}
+use Rattle.lis_journal.specs.Record.{HomeBlock}
 use Rattle.lis_open.proofs.checks.check_bitmap.Goals as goal
 
 -- a block that is read where nothing is staged
-block_read : (staged : List Entry) (kept : ℕ → List ℕ) (n m : ℕ) (bytes : List ℕ) → staged ≡ [] → n ≡ m → bytes ≡ look staged n (kept n) → bytes ≡ kept m
+block_read : (staged : List HomeBlock) (kept : ℕ → List ℕ) (n m : ℕ) (bytes : List ℕ) → staged ≡ [] → n ≡ m → bytes ≡ look staged n (kept n) → bytes ≡ kept m
 block_read staged kept n m bytes none same read = read ∙ (ap (λ es. look es n (kept n)) none ∙ ap kept same)
 
 pub returns-in-None-clause-ended : goal.returns-in-None-clause-ended

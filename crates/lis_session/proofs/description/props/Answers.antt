@@ -4,7 +4,7 @@ use Rattle.lis_model.specs.Changes.{file_of}
 use Rattle.lis_model.specs.Replies.{body_line}
 use Rattle.lis_model.specs.State.{description}
 use Rattle.lis_model.specs.Step.{Situation}
-use Rattle.lis_store.proofs.Here.{slot_in}
+use Rattle.lis_store.proofs.FilesHere.{slot_in}
 use Rattle.lis_session.proofs.Blocks.{shows_nowhere, shows_here}
 use Rattle.lis_session.proofs.Described.{had_described}
 use Rattle.lis_session.proofs.Saying.{shows_bytes}

@@ -4,7 +4,7 @@ use Rattle.lis_model.specs.Replies.{ok_line, listing_lines}
 use Rattle.lis_model.specs.Step.{Situation, ls}
 use Rattle.lis_model.specs.Table.{Table}
 use Rattle.lis_store.proofs.ToldBy.{told_fits}
-use Rattle.lis_store.proofs.Facts.{table_told}
+use Rattle.lis_store.proofs.StoreSays.{table_told}
 use Rattle.lis_session.proofs.Saying.{shows_item}
 use Rattle.lis_session.proofs.listing.ls.Goals as goal
 

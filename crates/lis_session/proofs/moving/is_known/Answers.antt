@@ -4,7 +4,7 @@ use Rattle.lis_words.specs.Words.{has_word}
 use Rattle.lis_place.specs.Nodes.{node_words}
 use Rattle.std.specs.List.{list_all}
 use Rattle.std.proofs.Math.Bool.{and-true}
-use Rattle.lis_store.proofs.Facts.{numbered}
+use Rattle.lis_store.proofs.StoreSays.{numbered}
 use Rattle.lis_session.proofs.moving.is_known.Goals as goal
 
 pub returns-in-Word : goal.returns-in-Word

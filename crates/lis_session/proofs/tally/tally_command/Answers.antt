@@ -8,7 +8,7 @@ use Rattle.lis_model.specs.State.{description}
 use Rattle.lis_model.specs.Step.{Situation, entry_at, cd, ls, pwd, stat}
 use Rattle.lis_model.specs.Table.{Table, table}
 use Rattle.lis_store.proofs.ToldBy.{told_fits}
-use Rattle.lis_store.proofs.Facts.{table_told}
+use Rattle.lis_store.proofs.StoreSays.{table_told}
 use Rattle.lis_session.proofs.Staying.{done_stays}
 use Rattle.lis_session.proofs.Answering.{words_known}
 use Rattle.lis_session.proofs.Tallying.{tally_with, tallied_change, tallied_still, tallied_look, refused_answer, no_refusal, listing_no_refusal}

@@ -1,5 +1,5 @@
 use Rattle.lis_store.proofs.Common.{◌≡◌, ◌+◌, ◌<◌, ◌∙◌, [], ◌∷◌, ◌++◌, length, refl, ap, arith, get}
-use Rattle.lis_store.proofs.Had.{found_below, found_one, found_past, found_room, found_all}
+use Rattle.lis_store.proofs.NumbersFound.{found_below, found_one, found_past, found_room, found_all}
 use Rattle.lis_store.proofs.adding.numbers_in.Goals as goal
 
 pub push-requires : goal.push-requires

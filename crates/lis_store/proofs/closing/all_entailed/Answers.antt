@@ -1,5 +1,5 @@
 use Rattle.lis_store.proofs.Common.{◌≡◌, ◌+◌, ◌∙◌, [], ◌∷◌, ◌++◌, length, refl, ap, arith, get_any, few_properties}
-use Rattle.lis_store.proofs.Had.{found_below, found_one, found_past, found_room, found_all}
+use Rattle.lis_store.proofs.NumbersFound.{found_below, found_one, found_past, found_room, found_all}
 use Rattle.lis_store.proofs.Closed.{rows_below, wide_as, closure_shown}
 use Rattle.lis_store.proofs.closing.all_entailed.Goals as goal
 

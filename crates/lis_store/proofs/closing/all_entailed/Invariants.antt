@@ -1,5 +1,5 @@
 use Rattle.lis_store.proofs.Common.{◌≡◌, ◌-◌, ◌≤◌, get_any}
-use Rattle.lis_store.proofs.Had.{found_below}
+use Rattle.lis_store.proofs.NumbersFound.{found_below}
 use Rattle.lis_store.proofs.closing.all_entailed.Given as goal
 
 -- those so far that are entailed

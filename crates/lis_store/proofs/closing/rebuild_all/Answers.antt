@@ -1,6 +1,6 @@
 use Rattle.lis_store.proofs.Common.{◌≡◌, ◌∙◌, ℕ, ◌<◌, List, is_some, length, sym, ap, subst, arith, has_number, word_of, Kept, named_all, Limits}
 use Rattle.lis_store.specs.Closing.{rebuilt}
-use Rattle.lis_store.specs.Redescribing.{Gives, Redescribes}
+use Rattle.lis_store.specs.Redescribing.{SlotHas, Redescribes}
 use Rattle.lis_store.proofs.Rebuilt.{concerned_same, closure_same, rebuilt_same, words_same_yet, same_here, redescribed_none, redescribed_more}
 use Rattle.lis_store.proofs.closing.rebuild_all.Goals as goal
 
@@ -35,7 +35,7 @@ loop-slot-preserved c =
     let q = c.loop-slot.parts in
     let so_far = c.loop-slot.invariant.0 in
     let inside : n < length p.ext.sets = omega (arith, c.loop-slot-test.true, c.limits.ensures.sound.files, ap (λ (l : Limits). l.files) c.limits.ensures.value) in
-    let Q : List ℕ → Type 0 = λ ns. Gives n ns q c.rebuild_slot.new.parts in
+    let Q : List ℕ → Type 0 = λ ns. SlotHas n ns q c.rebuild_slot.new.parts in
     let one = subst Q (rebuilt_same c.args.how n p q so_far) c.rebuild_slot.ensures.gives in
     (redescribed_more (rebuilt p c.args.how) n p q so_far c.rebuild_slot.new.parts inside one, c.rebuild_slot.ensures.sound)
 

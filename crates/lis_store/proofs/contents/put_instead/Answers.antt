@@ -13,41 +13,41 @@ put_content-requires-clause-enough g c =
     let instead = cond-true (p.limits.version == 2) (free_count p.taken) (free_count p.taken + length (filter (is_taken p.taken) (found.0).blocks)) (eq-eqb p.limits.version 2 two) in
     omega (arith, c.requires.enough found.0 found.1, instead)
 
-pub returns-in_err-give_content-clause-renewed : goal.returns-in_err-give_content-clause-renewed
-returns-in_err-give_content-clause-renewed g c = λ rec there.
-    let e = err_from_is_err_and c.from_residual-in_err-give_content.result c.from_residual-in_err-give_content.ensures.1 in
+pub returns-in_err-free_content-clause-renewed : goal.returns-in_err-free_content-clause-renewed
+returns-in_err-free_content-clause-renewed g c = λ rec there.
+    let e = err_from_is_err_and c.from_residual-in_err-free_content.result c.from_residual-in_err-free_content.ensures.1 in
     let puts = c.in_ok-numbers.ensures.put in
-    lost_last ℕ c.args.parts.now c.put_content.new.parts c.give_content.new.parts rec c.args.payload.now c.in_ok-numbers.numbers.items c.args.journal.now c.put_content.new.journal
-    (g.D.Disk.meaning c.args.disk.now) (g.D.Disk.meaning c.put_content.new.disk) (g.D.Disk.meaning c.give_content.new.disk) c.in_err-give_content.field-0.0 c.from_residual-in_err-give_content.result
-    c.limits.ensures.sound puts (c.in_err-give_content.ensures.given rec (ap (λ (x : Kept). rec_at x.catalog c.args.slot) puts.takes.parts ∙ there)) (e.1 ∙ ap Err e.2)
+    lost_last ℕ c.args.parts.now c.put_content.new.parts c.free_content.new.parts rec c.args.payload.now c.in_ok-numbers.numbers.items c.args.journal.now c.put_content.new.journal
+    (g.D.Disk.meaning c.args.disk.now) (g.D.Disk.meaning c.put_content.new.disk) (g.D.Disk.meaning c.free_content.new.disk) c.in_err-free_content.field-0.0 c.from_residual-in_err-free_content.result
+    c.limits.ensures.sound puts (c.in_err-free_content.ensures.given rec (ap (λ (x : Kept). rec_at x.catalog c.args.slot) puts.takes.parts ∙ there)) (e.1 ∙ ap Err e.2)
 
 pub returns-then-limits-eq2-clause-renewed : goal.returns-then-limits-eq2-clause-renewed
 returns-then-limits-eq2-clause-renewed g c = λ rec there.
     let puts = c.in_ok-numbers.ensures.put in
-    let given = c.in_ok-give_content.ensures.given rec (ap (λ (x : Kept). rec_at x.catalog c.args.slot) puts.takes.parts ∙ there) in
-    renews_placed c.args.parts.now c.put_content.new.parts c.give_content.new.parts rec c.args.payload.now c.in_ok-numbers.numbers.items c.args.journal.now c.put_content.new.journal
-    (g.D.Disk.meaning c.args.disk.now) (g.D.Disk.meaning c.put_content.new.disk) (g.D.Disk.meaning c.give_content.new.disk) c.limits.ensures.sound puts given.0 given.1
+    let given = c.in_ok-free_content.ensures.given rec (ap (λ (x : Kept). rec_at x.catalog c.args.slot) puts.takes.parts ∙ there) in
+    renews_placed c.args.parts.now c.put_content.new.parts c.free_content.new.parts rec c.args.payload.now c.in_ok-numbers.numbers.items c.args.journal.now c.put_content.new.journal
+    (g.D.Disk.meaning c.args.disk.now) (g.D.Disk.meaning c.put_content.new.disk) (g.D.Disk.meaning c.free_content.new.disk) c.limits.ensures.sound puts given.0 given.1
 
 -- ---- in version 1
-pub returns-in_err-give_content-2-clause-renewed : goal.returns-in_err-give_content-2-clause-renewed
-returns-in_err-give_content-2-clause-renewed g c = λ rec there.
-    let e = err_from_is_err_and c.from_residual-in_err-give_content-2.result c.from_residual-in_err-give_content-2.ensures.1 in
-    lost_first ℕ c.args.parts.now c.give_content-2.new.parts rec c.args.payload.now c.args.journal.now (g.D.Disk.meaning c.args.disk.now) (g.D.Disk.meaning c.give_content-2.new.disk)
-    c.in_err-give_content-2.field-0.0 c.from_residual-in_err-give_content-2.result c.requires.unplaced (c.in_err-give_content-2.ensures.given rec there) (e.1 ∙ ap Err e.2)
+pub returns-in_err-free_content-2-clause-renewed : goal.returns-in_err-free_content-2-clause-renewed
+returns-in_err-free_content-2-clause-renewed g c = λ rec there.
+    let e = err_from_is_err_and c.from_residual-in_err-free_content-2.result c.from_residual-in_err-free_content-2.ensures.1 in
+    lost_first ℕ c.args.parts.now c.free_content-2.new.parts rec c.args.payload.now c.args.journal.now (g.D.Disk.meaning c.args.disk.now) (g.D.Disk.meaning c.free_content-2.new.disk)
+    c.in_err-free_content-2.field-0.0 c.from_residual-in_err-free_content-2.result c.requires.unplaced (c.in_err-free_content-2.ensures.given rec there) (e.1 ∙ ap Err e.2)
 
 pub put_content-requires-2-clause-enough : goal.put_content-requires-2-clause-enough
 put_content-requires-2-clause-enough g c =
     let p = c.args.parts.now in
     let found = rec_some (rec_at p.catalog c.args.slot) c.requires.there in
-    enough_given p c.give_content-2.new.parts c.args.slot found.0 found.1 c.limits.ensures.sound c.args.journal.now (g.D.Disk.meaning c.args.disk.now)
-    (c.in_ok-give_content-2.ensures.given found.0 found.1).0 (length c.args.payload.now)
+    enough_given p c.free_content-2.new.parts c.args.slot found.0 found.1 c.limits.ensures.sound c.args.journal.now (g.D.Disk.meaning c.args.disk.now)
+    (c.in_ok-free_content-2.ensures.given found.0 found.1).0 (length c.args.payload.now)
     (λ two. c.if-limits-eq2.false (ap (λ (l : Limits). l.version) c.limits.ensures.value ∙ two)) (c.requires.enough found.0 found.1)
 
 pub returns-clause-renewed : goal.returns-clause-renewed
 returns-clause-renewed g c = λ rec there.
     let p = c.args.parts.now in
-    let given = c.in_ok-give_content-2.ensures.given rec there in
+    let given = c.in_ok-free_content-2.ensures.given rec there in
     let one = first_version p.limits c.limits.ensures.sound.range (λ two. c.if-limits-eq2.false (ap (λ (l : Limits). l.version) c.limits.ensures.value ∙ two)) in
-    put_last p c.give_content-2.new.parts c.put_content-2.new.parts rec c.args.payload.now c.args.journal.now c.put_content-2.new.journal
-    (g.D.Disk.meaning c.args.disk.now) (g.D.Disk.meaning c.give_content-2.new.disk) (g.D.Disk.meaning c.put_content-2.new.disk) c.put_content-2.result
+    put_last p c.free_content-2.new.parts c.put_content-2.new.parts rec c.args.payload.now c.args.journal.now c.put_content-2.new.journal
+    (g.D.Disk.meaning c.args.disk.now) (g.D.Disk.meaning c.free_content-2.new.disk) (g.D.Disk.meaning c.put_content-2.new.disk) c.put_content-2.result
     c.limits.ensures.sound c.requires.unplaced (small_size (length c.args.payload.now) (omega (arith, c.requires.short, ap file_limit one))) given.0 given.1 c.put_content-2.ensures.put c.put_content-2.ensures.torn

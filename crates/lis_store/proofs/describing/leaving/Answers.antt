@@ -1,6 +1,6 @@
 use Rattle.lis_store.proofs.Common.{◌≡◌, ◌∙◌, length, sym, ap, subst, IfSome, IsSome, arith, rec_at, slot_is_below, Limits}
 use Rattle.lis_store.specs.Beside.{is_leaving, leaving}
-use Rattle.lis_store.proofs.Had.{found_below, found_all, counted_one, counted_none}
+use Rattle.lis_store.proofs.NumbersFound.{found_below, found_all, counted_one, counted_none}
 use Rattle.lis_store.proofs.describing.leaving.Goals.{then-is_leaving, else-is_leaving}
 use Rattle.lis_store.proofs.describing.leaving.Goals as goal
 

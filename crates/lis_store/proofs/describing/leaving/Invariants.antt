@@ -1,6 +1,6 @@
 use Rattle.lis_store.proofs.Common.{◌≡◌, ◌≤◌, length}
 use Rattle.lis_store.specs.Beside.{is_leaving}
-use Rattle.lis_store.proofs.Had.{found_below}
+use Rattle.lis_store.proofs.NumbersFound.{found_below}
 use Rattle.lis_store.proofs.describing.leaving.Given as goal
 
 -- the numbers so far that leave

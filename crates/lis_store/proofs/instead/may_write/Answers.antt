@@ -1,8 +1,8 @@
 use Rattle.lis_store.proofs.Common.{◌≡◌, ◌∙◌, ℕ, List, [], ◌∷◌, Some, None, cond, nat_lt, true, ap, subst, arith, lt-ltb, Limits, NoSpace, blocks_taken, new_file}
 use Rattle.lis_store.specs.Drafts.{draft_of}
-use Rattle.lis_store.specs.Changes.{first_refusal}
 use Rattle.lis_store.specs.Instead.{given_before, free_instead, instead_checks}
 use Rattle.lis_store.proofs.Judged.{refused_then}
+use Rattle.lis_model.specs.Step.{first_refusal}
 use Rattle.lis_store.proofs.instead.may_write.Goals as goal
 
 pub returns-then-blocks_taken-free_instead-clause-row : goal.returns-then-blocks_taken-free_instead-clause-row

@@ -1,10 +1,10 @@
 use Rattle.lis_store.proofs.Common.{◌∙◌, ◌≡◌, ℕ, List, ap, sym, subst, length, is_some, None, Ok, Err, arith, err_from_is_err_and, list_all, word_of, words_at}
 use Rattle.lis_store.specs.Adding.{numbers_named}
-use Rattle.lis_store.specs.Changes.{first_refusal}
 use Rattle.lis_store.specs.Judging.{place_checks, room_checks, word_checks}
 use Rattle.lis_store.specs.Placing.{AreNumbersOf}
 use Rattle.lis_store.proofs.Declared.{may_be_declared, row_told}
 use Rattle.lis_store.proofs.Judged.{judges_refused, refused_first}
+use Rattle.lis_model.specs.Step.{first_refusal}
 use Rattle.lis_store.proofs.judging.may_declare.Goals as goal
 
 pub returns-in_err-numbers-clause-row : goal.returns-in_err-numbers-clause-row

@@ -1,4 +1,4 @@
-use Rattle.lis_store.proofs.Facts.{table_told}
+use Rattle.lis_store.proofs.StoreSays.{table_told}
 use Rattle.lis_store.proofs.ToldBy.{told_fits}
 use Rattle.lis_store.proofs.laws.fitting_stores_tell.Goals as goal
 

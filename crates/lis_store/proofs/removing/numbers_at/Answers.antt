@@ -1,5 +1,5 @@
 use Rattle.lis_store.proofs.Common.{◌≡◌, ◌+◌, ◌<◌, ◌∙◌, [], ◌∷◌, ◌++◌, length, refl, ap, sym, arith, Contains-get_or, among_from_contains, get, among_where, sorted_where, IsStrictlyIncreasing-from_sorted, numbers_where}
-use Rattle.lis_store.proofs.Had.{found_below, found_one, found_past, found_room, found_all}
+use Rattle.lis_store.proofs.NumbersFound.{found_below, found_one, found_past, found_room, found_all}
 use Rattle.lis_store.proofs.removing.numbers_at.Goals as goal
 
 pub push-requires : goal.push-requires

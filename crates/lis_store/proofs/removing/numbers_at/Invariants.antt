@@ -1,5 +1,5 @@
 use Rattle.lis_store.proofs.Common.{◌≡◌, ◌-◌, ◌≤◌, get}
-use Rattle.lis_store.proofs.Had.{found_below}
+use Rattle.lis_store.proofs.NumbersFound.{found_below}
 use Rattle.lis_store.proofs.removing.numbers_at.Given as goal
 
 -- the numbers so far that the set has

@@ -1,6 +1,6 @@
 use Rattle.lis_store.proofs.Common.{ℕ, Option, IfSome, IsSome, sym, subst, rec_at}
 use Rattle.lis_store.specs.ReplacingIn.{IsVacant}
-use Rattle.lis_store.proofs.Left.{vacant_left}
+use Rattle.lis_store.proofs.Unfiled.{vacant_left}
 use Rattle.lis_store.proofs.Refiled.{vacant_free}
 use Rattle.lis_store.proofs.Vacated.{rec_there}
 use Rattle.lis_store.proofs.replacing.make_room.Goals as goal
@@ -18,5 +18,5 @@ returns-in-Some-clause-vacant c =
     let p = c.args.parts.now in
     let T : Option ℕ → Type 0 = λ o. IfSome o (λ slot. IsSome (rec_at p.catalog slot)) in
     let found = rec_there (rec_at p.catalog c.in-Some.slot) (subst T c.in-Some.is c.requires.there) in
-    subst (λ ns. IsVacant c.in-Some.slot ns c.vacate.new.parts) (sym c.vacate.ensures.numbers)
-    (vacant_left p c.vacate.new.parts c.in-Some.slot found.0 c.requires.form (c.vacate.ensures.vacated found.0 found.1))
+    subst (λ ns. IsVacant c.in-Some.slot ns c.unfile.new.parts) (sym c.unfile.ensures.numbers)
+    (vacant_left p c.unfile.new.parts c.in-Some.slot found.0 c.requires.form (c.unfile.ensures.vacated found.0 found.1))

@@ -1,7 +1,8 @@
 use Rattle.lis_store.proofs.Common.{ℕ, ◌≡◌, None, List, refl, subst}
 use Rattle.lis_formula.proofs.TextWords.{path_named, none_named}
-use Rattle.lis_store.specs.Changes.{first_refusal, Judges}
+use Rattle.lis_store.specs.Changes.{Judges}
 use Rattle.lis_store.specs.Retagging.{text_checks}
+use Rattle.lis_model.specs.Step.{first_refusal}
 use Rattle.lis_store.proofs.retagging.may_name_text.Goals as goal
 
 pub returns-in-Ok : goal.returns-in-Ok

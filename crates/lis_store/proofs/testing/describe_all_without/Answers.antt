@@ -1,5 +1,5 @@
 use Rattle.lis_store.proofs.Common.{◌≡◌, ℕ, ◌<◌, List, length, ap, subst, arith, Limits}
-use Rattle.lis_store.specs.Redescribing.{Gives, Redescribes}
+use Rattle.lis_store.specs.Redescribing.{SlotHas, Redescribes}
 use Rattle.lis_store.specs.Testing.{without_number}
 use Rattle.lis_store.proofs.Rebuilt.{redescribed_more}
 use Rattle.lis_store.proofs.Without.{without_same}
@@ -11,7 +11,7 @@ loop-slot-preserved c =
     let p = c.args.parts.now in
     let q = c.loop-slot.parts in
     let inside : n < length p.ext.sets = omega (arith, c.loop-slot-test.true, c.limits.ensures.sound.files, ap (λ (l : Limits). l.files) c.limits.ensures.value) in
-    let Q : List ℕ → Type 0 = λ ns. Gives n ns q c.describe_without.new.parts in (
+    let Q : List ℕ → Type 0 = λ ns. SlotHas n ns q c.describe_without.new.parts in (
       redescribed_more (without_number p c.args.number) n p q c.loop-slot.invariant.0 c.describe_without.new.parts inside
           (subst Q (without_same c.args.number n p q c.loop-slot.invariant.0) c.describe_without.ensures.gives),
       c.describe_without.ensures.sound,

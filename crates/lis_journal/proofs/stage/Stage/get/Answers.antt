@@ -1,6 +1,6 @@
 use Rattle.std.proofs.Common.{List, [], IsTrue, sym, ◌∙◌, ap, subst, get_or}
 use Rattle.lis_journal.specs.declared.stage.Staged.{Staged}
-use Rattle.lis_journal.specs.Record.{Entry, rises}
+use Rattle.lis_journal.specs.Record.{HomeBlock, rises}
 use Rattle.lis_journal.specs.Images.{look}
 use Rattle.lis_journal.specs.Staging.{Staging, has_entry}
 use Rattle.lis_journal.specs.Inside.{home_list, FoundAt, PlaceFor}
@@ -21,7 +21,7 @@ returns-in-Ok-clause-some c = λ old.
     let inside = c.self.inside in
     let n = c.args.n in
     let place = c.in-Ok.place in
-    let nothing : Entry = record { home = 0; bytes = [] } in
+    let nothing : HomeBlock = record { home = 0; bytes = [] } in
     let found : FoundAt n place inside.staged.items = subst (λ (xs : List Staged). FoundAt n place xs) c.deref.ensures.value c.in-Ok.ensures.place in
     ap (λ (s : Staging). look s.entries n old) (sym c.self.view_is)
     ∙ (look-found inside.region inside.staged.items inside.blocks 577 n place nothing old c.self.invariant.staging.rise found

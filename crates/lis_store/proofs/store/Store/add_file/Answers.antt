@@ -1,6 +1,6 @@
 use Rattle.lis_store.proofs.Common.{◌∙◌, ap, subst, Err, err_from_is_err_and, Situation, Payload, add}
 use Rattle.lis_store.specs.Changes.{Holds}
-use Rattle.lis_store.proofs.Facts.{limits_told}
+use Rattle.lis_store.proofs.StoreSays.{limits_told}
 use Rattle.lis_store.proofs.Holding.{fits_held, changes_ended, changes_committed}
 use Rattle.lis_store.proofs.store.Store.add_file.Goals as goal
 

@@ -32,24 +32,24 @@ returns-in_err-blocks-clause-holds g c = λ base now holds.
     lost_holds (ArrayVec ℕ) old c.self.invariant c.args.payload.now (record_in old.parts c.args.slot) c.put_anew.new.parts c.put_anew.new.journal c.put_anew.new.is_broken c.in_err-blocks.field-0.0 m after c.in_err-blocks.ensures.renewed c.in_err-blocks.ensures.ended base now
     (changed now (file_added (file_gone now.state (record_in c.args.self.now.parts c.args.slot)) (new_file c.args.name.now c.args.assigned.now c.args.payload.now))) c.from_residual.result (r.1 ∙ ap Err r.2) alone (subst H (sym c.self.view_is) holds)
 
-pub refile-requires-clause-form : goal.refile-requires-clause-form
-refile-requires-clause-form g c =
+pub replace_record-requires-clause-form : goal.replace_record-requires-clause-form
+replace_record-requires-clause-form g c =
     mid_form c.self.view_is c.args.slot c.args.name.now c.args.assigned.now c.args.payload.now c.in_ok-blocks.blocks.items c.self.invariant c.in_ok-blocks.ensures.sound c.requires.may.0 c.in_ok-blocks.ensures.renewed
 
-pub refile-requires-clause-may : goal.refile-requires-clause-may
-refile-requires-clause-may g c =
+pub replace_record-requires-clause-may : goal.replace_record-requires-clause-may
+replace_record-requires-clause-may g c =
     mid_first c.self.view_is c.args.slot c.args.name.now c.args.assigned.now c.args.payload.now c.in_ok-blocks.blocks.items c.self.invariant c.in_ok-blocks.ensures.sound c.requires.may.0 c.in_ok-blocks.ensures.renewed
 
-pub refile-requires-clause-in_form : goal.refile-requires-clause-in_form
-refile-requires-clause-in_form g c =
+pub replace_record-requires-clause-in_form : goal.replace_record-requires-clause-in_form
+replace_record-requires-clause-in_form g c =
     mid_in_form c.self.view_is c.args.slot c.args.name.now c.args.assigned.now c.args.payload.now c.in_ok-blocks.blocks.items c.self.invariant c.in_ok-blocks.ensures.sound c.requires.may.0 c.in_ok-blocks.ensures.renewed
 
-pub refile-requires-clause-below : goal.refile-requires-clause-below
-refile-requires-clause-below g c =
+pub replace_record-requires-clause-below : goal.replace_record-requires-clause-below
+replace_record-requires-clause-below g c =
     mid_below c.self.view_is c.args.slot c.args.name.now c.args.assigned.now c.args.payload.now c.in_ok-blocks.blocks.items c.self.invariant c.in_ok-blocks.ensures.sound c.requires.may.0 c.in_ok-blocks.ensures.renewed
 
-pub refile-requires-clause-scratch : goal.refile-requires-clause-scratch
-refile-requires-clause-scratch g c =
+pub replace_record-requires-clause-scratch : goal.replace_record-requires-clause-scratch
+replace_record-requires-clause-scratch g c =
     subst (λ (l : Limits). HasRoom c.args.scratch.now l) (sym (mid_limits c.self.view_is c.args.slot c.args.name.now c.args.assigned.now c.args.payload.now c.in_ok-blocks.blocks.items c.self.invariant c.in_ok-blocks.ensures.sound c.requires.may.0 c.in_ok-blocks.ensures.renewed)) c.requires.scratch
 
 pub most_held-requires : goal.most_held-requires
@@ -58,23 +58,23 @@ most_held-requires g c =
 
 pub hold-requires-clause-sound : goal.hold-requires-clause-sound
 hold-requires-clause-sound g c =
-    written_sound c.self.view_is c.args.slot c.args.name.now c.args.assigned.now c.args.payload.now c.in_ok-blocks.blocks.items c.self.invariant c.in_ok-blocks.ensures.sound c.requires.may.0 c.in_ok-blocks.ensures.renewed c.refile.ensures.refiles c.requires.unbroken
+    written_sound c.self.view_is c.args.slot c.args.name.now c.args.assigned.now c.args.payload.now c.in_ok-blocks.blocks.items c.self.invariant c.in_ok-blocks.ensures.sound c.requires.may.0 c.in_ok-blocks.ensures.renewed c.replace_record.ensures.refiles c.requires.unbroken
 
 pub hold-requires-clause-unbroken : goal.hold-requires-clause-unbroken
 hold-requires-clause-unbroken g c =
-    written_unbroken c.self.view_is c.args.slot c.args.name.now c.args.assigned.now c.args.payload.now c.in_ok-blocks.blocks.items c.self.invariant c.in_ok-blocks.ensures.sound c.requires.may.0 c.in_ok-blocks.ensures.renewed c.refile.ensures.refiles c.requires.unbroken
+    written_unbroken c.self.view_is c.args.slot c.args.name.now c.args.assigned.now c.args.payload.now c.in_ok-blocks.blocks.items c.self.invariant c.in_ok-blocks.ensures.sound c.requires.may.0 c.in_ok-blocks.ensures.renewed c.replace_record.ensures.refiles c.requires.unbroken
 
 pub hold-requires-clause-placed : goal.hold-requires-clause-placed
 hold-requires-clause-placed g c =
-    written_placed c.self.view_is c.args.slot c.args.name.now c.args.assigned.now c.args.payload.now c.in_ok-blocks.blocks.items c.self.invariant c.in_ok-blocks.ensures.sound c.requires.may.0 c.in_ok-blocks.ensures.renewed c.refile.ensures.refiles c.requires.unbroken
+    written_placed c.self.view_is c.args.slot c.args.name.now c.args.assigned.now c.args.payload.now c.in_ok-blocks.blocks.items c.self.invariant c.in_ok-blocks.ensures.sound c.requires.may.0 c.in_ok-blocks.ensures.renewed c.replace_record.ensures.refiles c.requires.unbroken
 
 pub hold-requires-clause-room : goal.hold-requires-clause-room
 hold-requires-clause-room g c =
-    written_room c.self.view_is c.args.slot c.args.name.now c.args.assigned.now c.args.payload.now c.in_ok-blocks.blocks.items c.self.invariant c.in_ok-blocks.ensures.sound c.requires.may.0 c.in_ok-blocks.ensures.renewed c.refile.ensures.refiles c.requires.unbroken
+    written_room c.self.view_is c.args.slot c.args.name.now c.args.assigned.now c.args.payload.now c.in_ok-blocks.blocks.items c.self.invariant c.in_ok-blocks.ensures.sound c.requires.may.0 c.in_ok-blocks.ensures.renewed c.replace_record.ensures.refiles c.requires.unbroken
 
 pub hold-requires-clause-image : goal.hold-requires-clause-image
 hold-requires-clause-image g c =
-    written_image c.self.view_is c.args.slot c.args.name.now c.args.assigned.now c.args.payload.now c.in_ok-blocks.blocks.items c.self.invariant c.in_ok-blocks.ensures.sound c.requires.may.0 c.in_ok-blocks.ensures.renewed c.refile.ensures.refiles
+    written_image c.self.view_is c.args.slot c.args.name.now c.args.assigned.now c.args.payload.now c.in_ok-blocks.blocks.items c.self.invariant c.in_ok-blocks.ensures.sound c.requires.may.0 c.in_ok-blocks.ensures.renewed c.replace_record.ensures.refiles
 
 pub hold-requires-clause-unplaced : goal.hold-requires-clause-unplaced
 hold-requires-clause-unplaced g c = λ some. c.in_ok-blocks.ensures.renewed.unplaced (c.most_held.ensures.large some)
@@ -85,12 +85,12 @@ hold-requires-clause-long g c =
 
 pub returns-clause-scratch : goal.returns-clause-scratch
 returns-clause-scratch g c =
-    subst (λ (l : Limits). HasRoom c.refile.new.scratch l) (mid_limits c.self.view_is c.args.slot c.args.name.now c.args.assigned.now c.args.payload.now c.in_ok-blocks.blocks.items c.self.invariant c.in_ok-blocks.ensures.sound c.requires.may.0 c.in_ok-blocks.ensures.renewed) c.refile.ensures.scratch
+    subst (λ (l : Limits). HasRoom c.replace_record.new.scratch l) (mid_limits c.self.view_is c.args.slot c.args.name.now c.args.assigned.now c.args.payload.now c.in_ok-blocks.blocks.items c.self.invariant c.in_ok-blocks.ensures.sound c.requires.may.0 c.in_ok-blocks.ensures.renewed) c.replace_record.ensures.scratch
 
 pub returns-clause-holds : goal.returns-clause-holds
 returns-clause-holds g c = λ base now holds.
     let new : Stored = record { parts = c.hold.new.parts; journal = c.hold.new.journal; is_broken = c.hold.new.is_broken } in
-    written_holds c.self.view_is c.args.slot c.args.name.now c.args.assigned.now c.args.payload.now c.in_ok-blocks.blocks.items c.self.invariant c.in_ok-blocks.ensures.sound c.requires.may.0 c.in_ok-blocks.ensures.renewed c.refile.ensures.refiles
+    written_holds c.self.view_is c.args.slot c.args.name.now c.args.assigned.now c.args.payload.now c.in_ok-blocks.blocks.items c.self.invariant c.in_ok-blocks.ensures.sound c.requires.may.0 c.in_ok-blocks.ensures.renewed c.replace_record.ensures.refiles
     base now holds c.requires.may.1 c.requires.alone new (g.D.Disk.meaning c.hold.new.disk) c.hold.result c.hold.ensures.saves
 
 pub returns-clause-settled : goal.returns-clause-settled
@@ -99,7 +99,7 @@ returns-clause-settled g c = λ large.
 
 pub returns-clause-limits : goal.returns-clause-limits
 returns-clause-limits g c =
-    ap (λ (k : Kept). k.limits) c.hold.ensures.parts ∙ written_limits c.self.view_is c.args.slot c.args.name.now c.args.assigned.now c.args.payload.now c.in_ok-blocks.blocks.items c.self.invariant c.in_ok-blocks.ensures.sound c.requires.may.0 c.in_ok-blocks.ensures.renewed c.refile.ensures.refiles
+    ap (λ (k : Kept). k.limits) c.hold.ensures.parts ∙ written_limits c.self.view_is c.args.slot c.args.name.now c.args.assigned.now c.args.payload.now c.in_ok-blocks.blocks.items c.self.invariant c.in_ok-blocks.ensures.sound c.requires.may.0 c.in_ok-blocks.ensures.renewed c.replace_record.ensures.refiles
 
 pub returns-clause-image : goal.returns-clause-image
 returns-clause-image g c =
@@ -107,7 +107,7 @@ returns-clause-image g c =
 
 pub returns-clause-edits : goal.returns-clause-edits
 returns-clause-edits g c =
-    edits_saved c.refile.new.parts c.self.view_is c.hold.ensures.parts (written_edits c.self.view_is c.args.slot c.args.name.now c.args.assigned.now c.args.payload.now c.in_ok-blocks.blocks.items c.self.invariant c.in_ok-blocks.ensures.sound c.requires.may.0 c.in_ok-blocks.ensures.renewed c.refile.ensures.refiles)
+    edits_saved c.replace_record.new.parts c.self.view_is c.hold.ensures.parts (written_edits c.self.view_is c.args.slot c.args.name.now c.args.assigned.now c.args.payload.now c.in_ok-blocks.blocks.items c.self.invariant c.in_ok-blocks.ensures.sound c.requires.may.0 c.in_ok-blocks.ensures.renewed c.replace_record.ensures.refiles)
 
 pub put_anew-requires-clause-sound : goal.put_anew-requires-clause-sound
 put_anew-requires-clause-sound g c = c.self.invariant.parts

@@ -11,8 +11,8 @@ returns-in_default-clause-holds g c = λ base s holds.
     let sound = subst P c.self.view_is c.self.invariant in
     removed_refused c.args.self.now (g.D.Disk.meaning c.args.disk.now) c.args.place.now c.args.name.now _ sound (sym c.in_default.ensures.here) refl base s holds
 
-pub give_content-requires-clause-there : goal.give_content-requires-clause-there
-give_content-requires-clause-there g c =
+pub free_content-requires-clause-there : goal.free_content-requires-clause-there
+free_content-requires-clause-there g c =
     let named = ap (λ (k : Stored). slot_of k.parts.catalog c.args.name.now) c.self.view_is ∙ c.in-Some.ensures.slot in
     ap is_some (rec_at-slot_of c.self.inside.parts.catalog c.args.name.now c.in-Some.slot c.self.invariant.parts.catalog named).1
 
@@ -20,129 +20,129 @@ pub invariant_of-self : goal.invariant_of-self
 invariant_of-self g c =
     let old : Stored = record { parts = c.self.inside.parts; journal = c.self.inside.journal; is_broken = c.self.inside.is_broken } in
     let named = ap (λ (k : Stored). slot_of k.parts.catalog c.args.name.now) c.self.view_is ∙ c.in-Some.ensures.slot in
-    lost_sound (Unit {0}) old c.in-Some.slot c.args.name.now c.self.invariant named c.give_content.new.parts c.give_content.new.is_broken c.in_err-give_content.field-0.0 (g.D.Disk.meaning c.args.disk.now)
-    (g.D.Disk.meaning c.give_content.new.disk) c.in_err-give_content.ensures.given c.in_err-give_content.ensures.ended
+    lost_sound (Unit {0}) old c.in-Some.slot c.args.name.now c.self.invariant named c.free_content.new.parts c.free_content.new.is_broken c.in_err-free_content.field-0.0 (g.D.Disk.meaning c.args.disk.now)
+    (g.D.Disk.meaning c.free_content.new.disk) c.in_err-free_content.ensures.given c.in_err-free_content.ensures.ended
 
-pub returns-in_err-give_content-clause-sound : goal.returns-in_err-give_content-clause-sound
-returns-in_err-give_content-clause-sound g c =
+pub returns-in_err-free_content-clause-sound : goal.returns-in_err-free_content-clause-sound
+returns-in_err-free_content-clause-sound g c =
     let old : Stored = record { parts = c.self.inside.parts; journal = c.self.inside.journal; is_broken = c.self.inside.is_broken } in
     let named = ap (λ (k : Stored). slot_of k.parts.catalog c.args.name.now) c.self.view_is ∙ c.in-Some.ensures.slot in
-    lost_sound (Unit {0}) old c.in-Some.slot c.args.name.now c.self.invariant named c.give_content.new.parts c.give_content.new.is_broken c.in_err-give_content.field-0.0 (g.D.Disk.meaning c.args.disk.now)
-    (g.D.Disk.meaning c.give_content.new.disk) c.in_err-give_content.ensures.given c.in_err-give_content.ensures.ended
+    lost_sound (Unit {0}) old c.in-Some.slot c.args.name.now c.self.invariant named c.free_content.new.parts c.free_content.new.is_broken c.in_err-free_content.field-0.0 (g.D.Disk.meaning c.args.disk.now)
+    (g.D.Disk.meaning c.free_content.new.disk) c.in_err-free_content.ensures.given c.in_err-free_content.ensures.ended
 
-pub returns-in_err-give_content-clause-holds : goal.returns-in_err-give_content-clause-holds
-returns-in_err-give_content-clause-holds g c = λ base s holds.
+pub returns-in_err-free_content-clause-holds : goal.returns-in_err-free_content-clause-holds
+returns-in_err-free_content-clause-holds g c = λ base s holds.
     let old : Stored = record { parts = c.self.inside.parts; journal = c.self.inside.journal; is_broken = c.self.inside.is_broken } in
     let named = ap (λ (k : Stored). slot_of k.parts.catalog c.args.name.now) c.self.view_is ∙ c.in-Some.ensures.slot in
     let p = err_from_is_err_and c.from_residual.result c.from_residual.ensures.1 in
     let now : Situation = record { state = s; place = c.args.place.now } in
     let H : Stored → Type 0 = λ k. StoreHolds k (g.D.Disk.meaning c.args.disk.now) base s in
-    lost_holds (Unit {0}) old c.in-Some.slot c.args.name.now c.self.invariant named c.give_content.new.parts c.give_content.new.is_broken c.in_err-give_content.field-0.0 (g.D.Disk.meaning c.args.disk.now)
-    (g.D.Disk.meaning c.give_content.new.disk) c.in_err-give_content.ensures.given c.in_err-give_content.ensures.ended base now (rm now c.args.name.now) c.from_residual.result (p.1 ∙ ap Err p.2) (subst H (sym c.self.view_is) holds)
+    lost_holds (Unit {0}) old c.in-Some.slot c.args.name.now c.self.invariant named c.free_content.new.parts c.free_content.new.is_broken c.in_err-free_content.field-0.0 (g.D.Disk.meaning c.args.disk.now)
+    (g.D.Disk.meaning c.free_content.new.disk) c.in_err-free_content.ensures.given c.in_err-free_content.ensures.ended base now (rm now c.args.name.now) c.from_residual.result (p.1 ∙ ap Err p.2) (subst H (sym c.self.view_is) holds)
 
-pub returns-in_err-give_content-clause-limits : goal.returns-in_err-give_content-clause-limits
-returns-in_err-give_content-clause-limits g c =
+pub returns-in_err-free_content-clause-limits : goal.returns-in_err-free_content-clause-limits
+returns-in_err-free_content-clause-limits g c =
     let old : Stored = record { parts = c.self.inside.parts; journal = c.self.inside.journal; is_broken = c.self.inside.is_broken } in
     let named = ap (λ (k : Stored). slot_of k.parts.catalog c.args.name.now) c.self.view_is ∙ c.in-Some.ensures.slot in
-    ap (λ (k : Kept). k.limits) (lost_parts (Unit {0}) old c.in-Some.slot c.args.name.now c.self.invariant named c.give_content.new.parts c.give_content.new.is_broken c.in_err-give_content.field-0.0 (g.D.Disk.meaning c.args.disk.now)
-    (g.D.Disk.meaning c.give_content.new.disk) c.in_err-give_content.ensures.given c.in_err-give_content.ensures.ended) ∙ ap (λ (k : Stored). k.parts.limits) c.self.view_is
+    ap (λ (k : Kept). k.limits) (lost_parts (Unit {0}) old c.in-Some.slot c.args.name.now c.self.invariant named c.free_content.new.parts c.free_content.new.is_broken c.in_err-free_content.field-0.0 (g.D.Disk.meaning c.args.disk.now)
+    (g.D.Disk.meaning c.free_content.new.disk) c.in_err-free_content.ensures.given c.in_err-free_content.ensures.ended) ∙ ap (λ (k : Stored). k.parts.limits) c.self.view_is
 
-pub returns-in_err-give_content-clause-edits : goal.returns-in_err-give_content-clause-edits
-returns-in_err-give_content-clause-edits g c =
+pub returns-in_err-free_content-clause-edits : goal.returns-in_err-free_content-clause-edits
+returns-in_err-free_content-clause-edits g c =
     let old : Stored = record { parts = c.self.inside.parts; journal = c.self.inside.journal; is_broken = c.self.inside.is_broken } in
     let named = ap (λ (k : Stored). slot_of k.parts.catalog c.args.name.now) c.self.view_is ∙ c.in-Some.ensures.slot in
-    let same = lost_parts (Unit {0}) old c.in-Some.slot c.args.name.now c.self.invariant named c.give_content.new.parts c.give_content.new.is_broken c.in_err-give_content.field-0.0 (g.D.Disk.meaning c.args.disk.now)
-    (g.D.Disk.meaning c.give_content.new.disk) c.in_err-give_content.ensures.given c.in_err-give_content.ensures.ended in
-    let is : c.give_content.new.parts.ext ≡ c.args.self.now.parts.ext = ap (λ (k : Kept). k.ext) same ∙ ap (λ (k : Stored). k.parts.ext) c.self.view_is in
-    edits_same c.args.self.now.parts.ext c.give_content.new.parts.ext is
+    let same = lost_parts (Unit {0}) old c.in-Some.slot c.args.name.now c.self.invariant named c.free_content.new.parts c.free_content.new.is_broken c.in_err-free_content.field-0.0 (g.D.Disk.meaning c.args.disk.now)
+    (g.D.Disk.meaning c.free_content.new.disk) c.in_err-free_content.ensures.given c.in_err-free_content.ensures.ended in
+    let is : c.free_content.new.parts.ext ≡ c.args.self.now.parts.ext = ap (λ (k : Kept). k.ext) same ∙ ap (λ (k : Stored). k.parts.ext) c.self.view_is in
+    edits_same c.args.self.now.parts.ext c.free_content.new.parts.ext is
 
 pub take_out-requires-clause-form : goal.take_out-requires-clause-form
 take_out-requires-clause-form g c =
     let old : Stored = record { parts = c.self.inside.parts; journal = c.self.inside.journal; is_broken = c.self.inside.is_broken } in
     let named = ap (λ (k : Stored). slot_of k.parts.catalog c.args.name.now) c.self.view_is ∙ c.in-Some.ensures.slot in
     let found = rec_at-slot_of c.self.inside.parts.catalog c.args.name.now c.in-Some.slot c.self.invariant.parts.catalog named in
-    let given = c.in_ok-give_content.ensures.given found.0 found.1 in
-    form_given old c.give_content.new.parts c.in-Some.slot found.0 (g.D.Disk.meaning c.args.disk.now) given.0 c.self.invariant found.1
+    let given = c.in_ok-free_content.ensures.given found.0 found.1 in
+    form_given old c.free_content.new.parts c.in-Some.slot found.0 (g.D.Disk.meaning c.args.disk.now) given.0 c.self.invariant found.1
 
 pub take_out-requires-clause-there : goal.take_out-requires-clause-there
 take_out-requires-clause-there g c =
     let old : Stored = record { parts = c.self.inside.parts; journal = c.self.inside.journal; is_broken = c.self.inside.is_broken } in
     let named = ap (λ (k : Stored). slot_of k.parts.catalog c.args.name.now) c.self.view_is ∙ c.in-Some.ensures.slot in
     let found = rec_at-slot_of c.self.inside.parts.catalog c.args.name.now c.in-Some.slot c.self.invariant.parts.catalog named in
-    let given = c.in_ok-give_content.ensures.given found.0 found.1 in
-    ap is_some (filed_given old c.give_content.new.parts c.in-Some.slot found.0 (g.D.Disk.meaning c.args.disk.now) given.0 c.self.invariant found.1)
+    let given = c.in_ok-free_content.ensures.given found.0 found.1 in
+    ap is_some (filed_given old c.free_content.new.parts c.in-Some.slot found.0 (g.D.Disk.meaning c.args.disk.now) given.0 c.self.invariant found.1)
 
 pub hold-requires-clause-sound : goal.hold-requires-clause-sound
 hold-requires-clause-sound g c =
     let old : Stored = record { parts = c.self.inside.parts; journal = c.self.inside.journal; is_broken = c.self.inside.is_broken } in
     let named = ap (λ (k : Stored). slot_of k.parts.catalog c.args.name.now) c.self.view_is ∙ c.in-Some.ensures.slot in
     let found = rec_at-slot_of c.self.inside.parts.catalog c.args.name.now c.in-Some.slot c.self.invariant.parts.catalog named in
-    let given = c.in_ok-give_content.ensures.given found.0 found.1 in
+    let given = c.in_ok-free_content.ensures.given found.0 found.1 in
     let m = g.D.Disk.meaning c.args.disk.now in
     let unbroken = ap (λ (k : Stored). k.is_broken) c.self.view_is ∙ c.requires.unbroken in
     let here = ap (λ (k : Stored). is_among k.parts c.args.place.now c.args.name.now) c.self.view_is ∙ sym c.in-Some.ensures.here in
-    let out = c.take_out.ensures found.0 (filed_given old c.give_content.new.parts c.in-Some.slot found.0 m given.0 c.self.invariant found.1) in
-    removed_sound old c.give_content.new.parts c.in-Some.slot found.0 m given.0 c.self.invariant found.1 c.take_out.new.parts c.args.place.now c.args.name.now out unbroken here named
+    let out = c.take_out.ensures found.0 (filed_given old c.free_content.new.parts c.in-Some.slot found.0 m given.0 c.self.invariant found.1) in
+    removed_sound old c.free_content.new.parts c.in-Some.slot found.0 m given.0 c.self.invariant found.1 c.take_out.new.parts c.args.place.now c.args.name.now out unbroken here named
 
 pub hold-requires-clause-image : goal.hold-requires-clause-image
 hold-requires-clause-image g c =
     let old : Stored = record { parts = c.self.inside.parts; journal = c.self.inside.journal; is_broken = c.self.inside.is_broken } in
     let named = ap (λ (k : Stored). slot_of k.parts.catalog c.args.name.now) c.self.view_is ∙ c.in-Some.ensures.slot in
     let found = rec_at-slot_of c.self.inside.parts.catalog c.args.name.now c.in-Some.slot c.self.invariant.parts.catalog named in
-    let given = c.in_ok-give_content.ensures.given found.0 found.1 in
+    let given = c.in_ok-free_content.ensures.given found.0 found.1 in
     let m = g.D.Disk.meaning c.args.disk.now in
     let unbroken = ap (λ (k : Stored). k.is_broken) c.self.view_is ∙ c.requires.unbroken in
     let here = ap (λ (k : Stored). is_among k.parts c.args.place.now c.args.name.now) c.self.view_is ∙ sym c.in-Some.ensures.here in
-    let out = c.take_out.ensures found.0 (filed_given old c.give_content.new.parts c.in-Some.slot found.0 m given.0 c.self.invariant found.1) in
-    c.self.invariant.image ∙ ap image_blocks (sym (same_limits old c.give_content.new.parts c.in-Some.slot found.0 m given.0 c.self.invariant found.1 c.take_out.new.parts c.args.place.now c.args.name.now out unbroken here named))
+    let out = c.take_out.ensures found.0 (filed_given old c.free_content.new.parts c.in-Some.slot found.0 m given.0 c.self.invariant found.1) in
+    c.self.invariant.image ∙ ap image_blocks (sym (same_limits old c.free_content.new.parts c.in-Some.slot found.0 m given.0 c.self.invariant found.1 c.take_out.new.parts c.args.place.now c.args.name.now out unbroken here named))
 
 pub hold-requires-clause-room : goal.hold-requires-clause-room
 hold-requires-clause-room g c =
     let old : Stored = record { parts = c.self.inside.parts; journal = c.self.inside.journal; is_broken = c.self.inside.is_broken } in
     let named = ap (λ (k : Stored). slot_of k.parts.catalog c.args.name.now) c.self.view_is ∙ c.in-Some.ensures.slot in
     let found = rec_at-slot_of c.self.inside.parts.catalog c.args.name.now c.in-Some.slot c.self.invariant.parts.catalog named in
-    let given = c.in_ok-give_content.ensures.given found.0 found.1 in
+    let given = c.in_ok-free_content.ensures.given found.0 found.1 in
     let m = g.D.Disk.meaning c.args.disk.now in
     let unbroken = ap (λ (k : Stored). k.is_broken) c.self.view_is ∙ c.requires.unbroken in
     let here = ap (λ (k : Stored). is_among k.parts c.args.place.now c.args.name.now) c.self.view_is ∙ sym c.in-Some.ensures.here in
-    let out = c.take_out.ensures found.0 (filed_given old c.give_content.new.parts c.in-Some.slot found.0 m given.0 c.self.invariant found.1) in
-    removed_marks old c.give_content.new.parts c.in-Some.slot found.0 m given.0 c.self.invariant found.1 c.take_out.new.parts c.args.place.now c.args.name.now out unbroken here named
+    let out = c.take_out.ensures found.0 (filed_given old c.free_content.new.parts c.in-Some.slot found.0 m given.0 c.self.invariant found.1) in
+    removed_marks old c.free_content.new.parts c.in-Some.slot found.0 m given.0 c.self.invariant found.1 c.take_out.new.parts c.args.place.now c.args.name.now out unbroken here named
 
 pub returns-clause-holds : goal.returns-clause-holds
 returns-clause-holds g c = λ base s holds.
     let old : Stored = record { parts = c.self.inside.parts; journal = c.self.inside.journal; is_broken = c.self.inside.is_broken } in
     let named = ap (λ (k : Stored). slot_of k.parts.catalog c.args.name.now) c.self.view_is ∙ c.in-Some.ensures.slot in
     let found = rec_at-slot_of c.self.inside.parts.catalog c.args.name.now c.in-Some.slot c.self.invariant.parts.catalog named in
-    let given = c.in_ok-give_content.ensures.given found.0 found.1 in
+    let given = c.in_ok-free_content.ensures.given found.0 found.1 in
     let m = g.D.Disk.meaning c.args.disk.now in
     let unbroken = ap (λ (k : Stored). k.is_broken) c.self.view_is ∙ c.requires.unbroken in
     let here = ap (λ (k : Stored). is_among k.parts c.args.place.now c.args.name.now) c.self.view_is ∙ sym c.in-Some.ensures.here in
-    let out = c.take_out.ensures found.0 (filed_given old c.give_content.new.parts c.in-Some.slot found.0 m given.0 c.self.invariant found.1) in
+    let out = c.take_out.ensures found.0 (filed_given old c.free_content.new.parts c.in-Some.slot found.0 m given.0 c.self.invariant found.1) in
     let new : Stored = record { parts = c.hold.new.parts; journal = c.hold.new.journal; is_broken = c.hold.new.is_broken } in
     let H : Stored → Type 0 = λ k. StoreHolds k m base s in
-    removed_holds old c.give_content.new.parts c.in-Some.slot found.0 m given.0 c.self.invariant found.1 c.take_out.new.parts c.args.place.now c.args.name.now out unbroken here named
-    base s (subst H (sym c.self.view_is) holds) new (g.D.Disk.meaning c.give_content.new.disk) (g.D.Disk.meaning c.hold.new.disk) c.hold.result given.1 c.hold.ensures.saves
+    removed_holds old c.free_content.new.parts c.in-Some.slot found.0 m given.0 c.self.invariant found.1 c.take_out.new.parts c.args.place.now c.args.name.now out unbroken here named
+    base s (subst H (sym c.self.view_is) holds) new (g.D.Disk.meaning c.free_content.new.disk) (g.D.Disk.meaning c.hold.new.disk) c.hold.result given.1 c.hold.ensures.saves
 
 pub returns-clause-limits : goal.returns-clause-limits
 returns-clause-limits g c =
     let old : Stored = record { parts = c.self.inside.parts; journal = c.self.inside.journal; is_broken = c.self.inside.is_broken } in
     let named = ap (λ (k : Stored). slot_of k.parts.catalog c.args.name.now) c.self.view_is ∙ c.in-Some.ensures.slot in
     let found = rec_at-slot_of c.self.inside.parts.catalog c.args.name.now c.in-Some.slot c.self.invariant.parts.catalog named in
-    let given = c.in_ok-give_content.ensures.given found.0 found.1 in
+    let given = c.in_ok-free_content.ensures.given found.0 found.1 in
     let m = g.D.Disk.meaning c.args.disk.now in
     let unbroken = ap (λ (k : Stored). k.is_broken) c.self.view_is ∙ c.requires.unbroken in
     let here = ap (λ (k : Stored). is_among k.parts c.args.place.now c.args.name.now) c.self.view_is ∙ sym c.in-Some.ensures.here in
-    let out = c.take_out.ensures found.0 (filed_given old c.give_content.new.parts c.in-Some.slot found.0 m given.0 c.self.invariant found.1) in
-    ap (λ (k : Kept). k.limits) c.hold.ensures.parts ∙ (same_limits old c.give_content.new.parts c.in-Some.slot found.0 m given.0 c.self.invariant found.1 c.take_out.new.parts c.args.place.now c.args.name.now out unbroken here named ∙ ap (λ (k : Stored). k.parts.limits) c.self.view_is)
+    let out = c.take_out.ensures found.0 (filed_given old c.free_content.new.parts c.in-Some.slot found.0 m given.0 c.self.invariant found.1) in
+    ap (λ (k : Kept). k.limits) c.hold.ensures.parts ∙ (same_limits old c.free_content.new.parts c.in-Some.slot found.0 m given.0 c.self.invariant found.1 c.take_out.new.parts c.args.place.now c.args.name.now out unbroken here named ∙ ap (λ (k : Stored). k.parts.limits) c.self.view_is)
 
 pub returns-clause-edits : goal.returns-clause-edits
 returns-clause-edits g c =
     let old : Stored = record { parts = c.self.inside.parts; journal = c.self.inside.journal; is_broken = c.self.inside.is_broken } in
     let named = ap (λ (k : Stored). slot_of k.parts.catalog c.args.name.now) c.self.view_is ∙ c.in-Some.ensures.slot in
     let found = rec_at-slot_of c.self.inside.parts.catalog c.args.name.now c.in-Some.slot c.self.invariant.parts.catalog named in
-    let given = c.in_ok-give_content.ensures.given found.0 found.1 in
+    let given = c.in_ok-free_content.ensures.given found.0 found.1 in
     let m = g.D.Disk.meaning c.args.disk.now in
     let unbroken = ap (λ (k : Stored). k.is_broken) c.self.view_is ∙ c.requires.unbroken in
     let here = ap (λ (k : Stored). is_among k.parts c.args.place.now c.args.name.now) c.self.view_is ∙ sym c.in-Some.ensures.here in
-    let out = c.take_out.ensures found.0 (filed_given old c.give_content.new.parts c.in-Some.slot found.0 m given.0 c.self.invariant found.1) in
-    edits_saved c.take_out.new.parts c.self.view_is c.hold.ensures.parts (removed_edits old c.give_content.new.parts c.in-Some.slot found.0 m given.0 c.self.invariant found.1 c.take_out.new.parts c.args.place.now c.args.name.now out unbroken here named)
+    let out = c.take_out.ensures found.0 (filed_given old c.free_content.new.parts c.in-Some.slot found.0 m given.0 c.self.invariant found.1) in
+    edits_saved c.take_out.new.parts c.self.view_is c.hold.ensures.parts (removed_edits old c.free_content.new.parts c.in-Some.slot found.0 m given.0 c.self.invariant found.1 c.take_out.new.parts c.args.place.now c.args.name.now out unbroken here named)

@@ -36,26 +36,26 @@ returns-in_err-words-clause-holds g c = λ base s holds.
     (record { run = c.read_file.ensures.run; same = c.read_file.ensures.same; moments = c.read_file.ensures.any_moment; fits = c.read_file.ensures.fits })
     c.in_default-read_file.ensures.read c.bytes.ensures.bytes c.in_err-words.field-0.0 c.from_residual.result (e.1 ∙ ap Err e.2) c.in_err-words.ensures.row
 
-pub refile-requires-clause-may : goal.refile-requires-clause-may
-refile-requires-clause-may g c =
+pub replace_record-requires-clause-may : goal.replace_record-requires-clause-may
+replace_record-requires-clause-may g c =
     rename_asks c.self.view_is c.self.invariant c.args.place.now c.args.name.now c.in-Some.ensures.slot c.in-Some.ensures.here c.args.new.now c.bytes.ensures.bytes c.bytes-2.ensures.bytes c.in_default-read_file.ensures.size
     c.slot_of.ensures.name c.as_slice.ensures.value c.in_ok-words.ensures.words c.in_ok-words.ensures.row
 
 pub hold-requires-clause-sound : goal.hold-requires-clause-sound
-hold-requires-clause-sound g c = refiled_sound c.self.view_is c.self.invariant c.refile.ensures.refiles c.requires.unbroken
+hold-requires-clause-sound g c = refiled_sound c.self.view_is c.self.invariant c.replace_record.ensures.refiles c.requires.unbroken
 
 pub hold-requires-clause-image : goal.hold-requires-clause-image
-hold-requires-clause-image g c = refiled_image c.self.view_is c.self.invariant c.refile.ensures.refiles
+hold-requires-clause-image g c = refiled_image c.self.view_is c.self.invariant c.replace_record.ensures.refiles
 
 pub hold-requires-clause-placed : goal.hold-requires-clause-placed
-hold-requires-clause-placed g c = refiled_placed c.self.view_is c.self.invariant c.refile.ensures.refiles c.requires.unbroken
+hold-requires-clause-placed g c = refiled_placed c.self.view_is c.self.invariant c.replace_record.ensures.refiles c.requires.unbroken
 
 pub hold-requires-clause-room : goal.hold-requires-clause-room
-hold-requires-clause-room g c = refiled_room c.self.view_is c.self.invariant c.refile.ensures.refiles c.requires.unbroken
+hold-requires-clause-room g c = refiled_room c.self.view_is c.self.invariant c.replace_record.ensures.refiles c.requires.unbroken
 
 pub returns-clause-edits : goal.returns-clause-edits
 returns-clause-edits g c =
-    edits_saved c.refile.new.parts c.self.view_is c.hold.ensures.parts (refiled_edits c.self.view_is c.self.invariant c.refile.ensures.refiles)
+    edits_saved c.replace_record.new.parts c.self.view_is c.hold.ensures.parts (refiled_edits c.self.view_is c.self.invariant c.replace_record.ensures.refiles)
 
 pub returns-clause-holds : goal.returns-clause-holds
 returns-clause-holds g c = λ base s holds.
@@ -63,21 +63,21 @@ returns-clause-holds g c = λ base s holds.
     renaming_holds c.self.view_is c.self.invariant c.args.place.now c.args.name.now c.in-Some.ensures.slot c.in-Some.ensures.here c.args.new.now (g.D.Disk.meaning c.args.disk.now) base s holds (g.D.Disk.meaning c.read_file.new.disk)
     (record { run = c.read_file.ensures.run; same = c.read_file.ensures.same; moments = c.read_file.ensures.any_moment; fits = c.read_file.ensures.fits })
     c.in_default-read_file.ensures.read c.bytes-2.ensures.bytes c.bytes.ensures.bytes c.in_ok-words.ensures.row (λ rec is. c.as_slice.ensures.value ∙ c.in_ok-words.ensures.words rec is)
-    c.refile.ensures.refiles c.blocks_in-blocks.ensures c.requires.unbroken new (g.D.Disk.meaning c.hold.new.disk) c.hold.result c.hold.ensures.saves
+    c.replace_record.ensures.refiles c.blocks_in-blocks.ensures c.requires.unbroken new (g.D.Disk.meaning c.hold.new.disk) c.hold.result c.hold.ensures.saves
 
 pub returns-clause-limits : goal.returns-clause-limits
 returns-clause-limits g c =
-    ap (λ (k : Kept). k.limits) c.hold.ensures.parts ∙ refiled_limits c.self.view_is c.self.invariant c.refile.ensures.refiles
+    ap (λ (k : Kept). k.limits) c.hold.ensures.parts ∙ refiled_limits c.self.view_is c.self.invariant c.replace_record.ensures.refiles
 
 pub blocks_in-blocks-requires : goal.blocks_in-blocks-requires
 blocks_in-blocks-requires g c =
     ap is_some (found_there c.self.view_is c.self.invariant c.args.name.now c.in-Some.ensures.slot).1
 
-pub refile-requires-clause-in_form : goal.refile-requires-clause-in_form
-refile-requires-clause-in_form g c =
+pub replace_record-requires-clause-in_form : goal.replace_record-requires-clause-in_form
+replace_record-requires-clause-in_form g c =
     still_in_form c.self.view_is c.self.invariant c.args.name.now c.in-Some.ensures.slot c.blocks_in-blocks.ensures
     (λ rec is. ap length c.bytes-2.ensures.bytes ∙ c.in_default-read_file.ensures.size rec is)
 
-pub refile-requires-clause-below : goal.refile-requires-clause-below
-refile-requires-clause-below g c =
+pub replace_record-requires-clause-below : goal.replace_record-requires-clause-below
+replace_record-requires-clause-below g c =
     still_below c.self.view_is c.self.invariant c.args.name.now c.in-Some.ensures.slot c.blocks_in-blocks.ensures

@@ -43,40 +43,40 @@ returns-in_err-may_stand_instead-clause-holds g c = λ base s holds.
     c.in_ok-words.ensures.row c.size_in.ensures (λ rec is. c.as_slice.ensures.value ∙ c.in_ok-words.ensures.words rec is) (c.as_slice-2.ensures.value ∙ c.own_in-own.ensures.own) (g.D.Disk.meaning c.args.disk.now) base s holds
     c.in_err-may_stand_instead.field-0.0 c.from_residual-in_err-may_stand_instead.result (e.1 ∙ ap Err e.2) c.in_err-may_stand_instead.ensures.row
 
-pub refile_draft-requires-clause-may : goal.refile_draft-requires-clause-may
-refile_draft-requires-clause-may g c =
+pub replace_draft-requires-clause-may : goal.replace_draft-requires-clause-may
+replace_draft-requires-clause-may g c =
     move_asks c.self.view_is c.self.invariant c.args.place.now c.args.name.now c.in-Some.ensures.slot c.in-Some.ensures.here c.args.text.now c.in_ok-next.ensures
     c.in_ok-words.ensures.row c.size_in.ensures (λ rec is. c.as_slice.ensures.value ∙ c.in_ok-words.ensures.words rec is) (c.as_slice-2.ensures.value ∙ c.own_in-own.ensures.own) c.in_ok-may_stand_instead.ensures.row
     (omega (arith, ap length c.as_slice-2.ensures.value, c.own_in-own.ensures.few))
 
-pub refile_draft-requires-clause-in_form : goal.refile_draft-requires-clause-in_form
-refile_draft-requires-clause-in_form g c = still_in_form c.self.view_is c.self.invariant c.args.name.now c.in-Some.ensures.slot c.blocks_in-blocks.ensures c.size_in.ensures
+pub replace_draft-requires-clause-in_form : goal.replace_draft-requires-clause-in_form
+replace_draft-requires-clause-in_form g c = still_in_form c.self.view_is c.self.invariant c.args.name.now c.in-Some.ensures.slot c.blocks_in-blocks.ensures c.size_in.ensures
 
-pub refile_draft-requires-clause-below : goal.refile_draft-requires-clause-below
-refile_draft-requires-clause-below g c = still_below c.self.view_is c.self.invariant c.args.name.now c.in-Some.ensures.slot c.blocks_in-blocks.ensures
+pub replace_draft-requires-clause-below : goal.replace_draft-requires-clause-below
+replace_draft-requires-clause-below g c = still_below c.self.view_is c.self.invariant c.args.name.now c.in-Some.ensures.slot c.blocks_in-blocks.ensures
 
 pub hold-requires-clause-sound : goal.hold-requires-clause-sound
-hold-requires-clause-sound g c = refiled_sound c.self.view_is c.self.invariant c.refile_draft.ensures.refiles c.requires.unbroken
+hold-requires-clause-sound g c = refiled_sound c.self.view_is c.self.invariant c.replace_draft.ensures.refiles c.requires.unbroken
 
 pub hold-requires-clause-image : goal.hold-requires-clause-image
-hold-requires-clause-image g c = refiled_image c.self.view_is c.self.invariant c.refile_draft.ensures.refiles
+hold-requires-clause-image g c = refiled_image c.self.view_is c.self.invariant c.replace_draft.ensures.refiles
 
 pub hold-requires-clause-placed : goal.hold-requires-clause-placed
-hold-requires-clause-placed g c = refiled_placed c.self.view_is c.self.invariant c.refile_draft.ensures.refiles c.requires.unbroken
+hold-requires-clause-placed g c = refiled_placed c.self.view_is c.self.invariant c.replace_draft.ensures.refiles c.requires.unbroken
 
 pub hold-requires-clause-room : goal.hold-requires-clause-room
-hold-requires-clause-room g c = refiled_room c.self.view_is c.self.invariant c.refile_draft.ensures.refiles c.requires.unbroken
+hold-requires-clause-room g c = refiled_room c.self.view_is c.self.invariant c.replace_draft.ensures.refiles c.requires.unbroken
 
 pub returns-clause-edits : goal.returns-clause-edits
 returns-clause-edits g c =
-    edits_saved c.refile_draft.new.parts c.self.view_is c.hold.ensures.parts (refiled_edits c.self.view_is c.self.invariant c.refile_draft.ensures.refiles)
+    edits_saved c.replace_draft.new.parts c.self.view_is c.hold.ensures.parts (refiled_edits c.self.view_is c.self.invariant c.replace_draft.ensures.refiles)
 
 pub returns-clause-limits : goal.returns-clause-limits
-returns-clause-limits g c = ap (λ (k : Kept). k.limits) c.hold.ensures.parts ∙ refiled_limits c.self.view_is c.self.invariant c.refile_draft.ensures.refiles
+returns-clause-limits g c = ap (λ (k : Kept). k.limits) c.hold.ensures.parts ∙ refiled_limits c.self.view_is c.self.invariant c.replace_draft.ensures.refiles
 
 pub returns-clause-holds : goal.returns-clause-holds
 returns-clause-holds g c = λ base s holds.
     let new : Stored = record { parts = c.hold.new.parts; journal = c.hold.new.journal; is_broken = c.hold.new.is_broken } in
     move_holds c.self.view_is c.self.invariant c.args.place.now c.args.name.now c.in-Some.ensures.slot c.in-Some.ensures.here c.args.text.now c.in_ok-next.ensures
     c.in_ok-words.ensures.row c.size_in.ensures (λ rec is. c.as_slice.ensures.value ∙ c.in_ok-words.ensures.words rec is) (c.as_slice-2.ensures.value ∙ c.own_in-own.ensures.own) c.in_ok-may_stand_instead.ensures.row
-    c.refile_draft.ensures.refiles c.blocks_in-blocks.ensures c.requires.unbroken (g.D.Disk.meaning c.args.disk.now) base s holds new (g.D.Disk.meaning c.hold.new.disk) c.hold.result c.hold.ensures.saves
+    c.replace_draft.ensures.refiles c.blocks_in-blocks.ensures c.requires.unbroken (g.D.Disk.meaning c.args.disk.now) base s holds new (g.D.Disk.meaning c.hold.new.disk) c.hold.result c.hold.ensures.saves

@@ -1,6 +1,6 @@
 use Rattle.lis_store.proofs.Common.{◌∙◌, sym, ap, subst, arith, get, slot_of, Limits}
 use Rattle.lis_store.specs.Stored.{Stored, IsSound}
-use Rattle.lis_store.proofs.Here.{none_here, named_here, slot_in}
+use Rattle.lis_store.proofs.FilesHere.{none_here, named_here, slot_in}
 use Rattle.lis_store.proofs.store.Store.slot_here.Goals as goal
 
 pub returns-in_default-clause-here : goal.returns-in_default-clause-here

@@ -1,6 +1,6 @@
 use Rattle.lis_store.proofs.Common.{◌∙◌, sym, ap, rec_at, FileRecord}
 use Rattle.lis_store.specs.Stored.{Stored}
-use Rattle.lis_store.proofs.Here.{none_seen, size_seen}
+use Rattle.lis_store.proofs.FilesHere.{none_seen, size_seen}
 use Rattle.lis_store.proofs.store.StoreView.size_of.Goals as goal
 
 pub returns-in-None : goal.returns-in-None

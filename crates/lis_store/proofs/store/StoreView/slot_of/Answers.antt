@@ -1,6 +1,6 @@
 use Rattle.lis_store.proofs.Common.{◌∙◌, sym, ap, slot_of}
 use Rattle.lis_store.specs.Stored.{Stored}
-use Rattle.lis_store.proofs.Here.{slot_seen}
+use Rattle.lis_store.proofs.FilesHere.{slot_seen}
 use Rattle.lis_store.proofs.store.StoreView.slot_of.Goals as goal
 
 pub returns : goal.returns

@@ -1,6 +1,6 @@
 use Rattle.std.proofs.Common.{refl, sym, ◌∙◌, subst}
 use Rattle.lis_taxonomy.specs.Taxonomy.{IsAcyclic}
-use Rattle.lis_taxonomy.specs.Inside.{IsSound}
+use Rattle.lis_taxonomy.specs.Inside.{IsSoundTaxonomy}
 use Rattle.lis_taxonomy.proofs.Seen.{has_edge-seen, entails_from_reach, reach_from_entails, acyclic-seen, no_way_back, sound_added, sound_known, seen_added}
 use Rattle.lis_taxonomy.proofs.taxonomy.Taxonomy.add.Goals as goal
 
@@ -75,7 +75,7 @@ returns-then-not-get-clause-acyclic c =
     let inside = c.self.inside in
     let p_in = rw (← c.self.view_is) at c.requires.p in
     let q_in = rw (← c.self.view_is) at c.requires.q in
-    let sound : IsSound c.put.new.self c.widen.new.reached inside.stale inside.props =
+    let sound : IsSoundTaxonomy c.put.new.self c.widen.new.reached inside.stale inside.props =
     rw c.put.ensures (sound_added inside.linked inside.reached c.widen.new.reached inside.stale inside.props c.args.p c.args.q c.self.invariant p_in q_in (sym c.get-2.ensures ∙ c.if-get-2.false) c.widen.ensures) in
     acyclic-seen c.put.new.self inside.props sound.acyclic
 
@@ -114,6 +114,6 @@ returns-else-not-get-clause-acyclic c =
     let inside = c.self.inside in
     let p_in = rw (← c.self.view_is) at c.requires.p in
     let q_in = rw (← c.self.view_is) at c.requires.q in
-    let sound : IsSound c.put.new.self inside.reached inside.stale inside.props =
+    let sound : IsSoundTaxonomy c.put.new.self inside.reached inside.stale inside.props =
     rw c.put.ensures (sound_known inside.linked inside.reached inside.stale inside.props c.args.p c.args.q c.self.invariant p_in q_in (sym c.get-2.ensures ∙ c.if-get-2.false) (sym c.get-3.ensures ∙ c.if-not-get.false)) in
     acyclic-seen c.put.new.self inside.props sound.acyclic

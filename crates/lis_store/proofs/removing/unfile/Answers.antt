@@ -2,7 +2,7 @@ use Rattle.lis_store.proofs.Common.{◌≡◌, ℕ, List, ◌∙◌, length, sym
 use Rattle.lis_kept.specs.Changes.{Drops}
 use Rattle.lis_kept.specs.Forgetting.{ForgetsWithout}
 use Rattle.lis_store.proofs.Vacated.{below_dropped, free_dropped, may_forget_dropped, vacates}
-use Rattle.lis_store.proofs.removing.vacate.Goals as goal
+use Rattle.lis_store.proofs.removing.unfile.Goals as goal
 
 pub numbers_at-numbers-requires-clause-slot : goal.numbers_at-numbers-requires-clause-slot
 numbers_at-numbers-requires-clause-slot c =

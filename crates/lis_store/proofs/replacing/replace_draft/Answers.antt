@@ -3,7 +3,7 @@ use Rattle.lis_store.specs.Drafts.{drafted}
 use Rattle.lis_store.specs.Admitting.{IsAdmitted}
 use Rattle.lis_store.specs.ReplacingIn.{MayPut, record_in}
 use Rattle.lis_store.proofs.Refiled.{may_there, may_comes, limits_room}
-use Rattle.lis_store.proofs.replacing.refile_draft.Goals as goal
+use Rattle.lis_store.proofs.replacing.replace_draft.Goals as goal
 
 pub make_room-room-requires-clause-free : goal.make_room-room-requires-clause-free
 make_room-room-requires-clause-free c = λ none.

@@ -7,7 +7,7 @@ use Rattle.lis_eval.specs.View.{TellsTest}
 use Rattle.lis_kept.proofs.Dropped.{file_slot_below}
 use Rattle.lis_store.specs.Seen.{placed, seen_of, table_of}
 use Rattle.lis_store.specs.Judging.{is_among}
-use Rattle.lis_store.proofs.Facts.{filed_named}
+use Rattle.lis_store.proofs.StoreSays.{filed_named}
 
 module _ (k : Kept) (sound : AreSound k) (place : List Formula) (name : List ℕ) where
   abbrev entry : Filed → Entry
