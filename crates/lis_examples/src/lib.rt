@@ -1,4 +1,4 @@
-//! Worked examples of the lower crates: what each public call gives, by hand or by another program. All here are tests.
+//! What public calls of the lower crates give, by hand or by another program. All here are tests.
 #![tactic(auto)]
 
 #[cfg(test)]

@@ -70,6 +70,7 @@ abbrev pub judged : Situation → List (Bool × Refusal) → Outcome → Outcome
 judged now [] done = done
 judged now (check ∷ checks) done = if check.0 then refused now check.1 else judged now checks done
 
+-- the first refusal of a row whose condition holds
 abbrev pub first_refusal : List (Bool × Refusal) → Option Refusal
 first_refusal [] = None
 first_refusal (check ∷ checks) = if check.0 then Some check.1 else first_refusal checks

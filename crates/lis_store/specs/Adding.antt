@@ -54,6 +54,6 @@ pub record LearnsAll (more : List (List ℕ)) (p q : Kept) : Type 0 where
   pub keeps : (n : ℕ) (word : List ℕ) → word_of p.dict n ≡ Some word → word_of q.dict n ≡ Some word
   pub state : (at : ℕ → List ℕ) → state_of q at ≡ state_of p at
 
--- The words of a file that are learnt with it: those that it was given, and those that it has by itself. Tests that it meets are declared.
+-- The words of a file that are learnt with it: those that it was given, and those derived from it. Tests that it meets are declared.
 abbrev pub learnt_words : Draft → List (List ℕ)
 learnt_words draft = draft.assigned ++ draft.own

@@ -19,7 +19,7 @@ pub record Draft : Type 0 where
 abbrev pub drafted : List ℕ → ℕ → List (List ℕ) → List (List ℕ) → Draft
 drafted name size assigned own = record { name = name; size = size; assigned = assigned; own = own }
 
--- a file from which these words are derived
+-- a file, with these words in the place of those derived from it
 abbrev pub with_own : File → List (List ℕ) → Draft
 with_own file own = drafted file.name (length file.bytes) file.assigned own
 

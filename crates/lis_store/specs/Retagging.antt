@@ -26,7 +26,7 @@ place_or_refusal (NewPlace place) = Ok place
 abbrev pub words_moved : Kept → FileRecord → List Formula → List Formula → List (List ℕ)
 words_moved k rec here there = retagged (words_told k.dict rec.tags) (tags_at here) (tags_at there)
 
--- the file of a record, which has the words by itself that its description has kept
+-- the file of a record, with the derived words and their heads that its description has kept
 abbrev pub moved_draft : Kept → ℕ → FileRecord → List Formula → List Formula → List ℕ → Draft
 moved_draft k slot rec here there name = drafted name rec.size (words_moved k rec here there) (own_kept k slot)
 

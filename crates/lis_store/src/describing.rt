@@ -18,7 +18,7 @@ use lis_bits::{Rows, and_not_row};
 use lis_kept::Parts;
 use lis_words::{Name, Word, head_of};
 
-/// A file as a change tells it: of its bytes only how many they are, and which words it has by itself.
+/// A file as a change tells it: of its bytes only how many they are, and which words are derived from them and its name.
 #[derive(Clone, Copy)]
 pub(crate) struct Draft<'a> {
     pub(crate) name: &'a Name,
@@ -27,7 +27,7 @@ pub(crate) struct Draft<'a> {
     pub(crate) own: &'a [Word],
 }
 
-/// The words that are new: as many as 144 words, which a file is given or has by itself, have with their heads.
+/// The words that are new: as many as 144 words, which a file is given or which are derived from it, have with their heads.
 type Fresh = ArrayVec<Word, 288>;
 
 /// How many words a description has, and how many words would be known with them.

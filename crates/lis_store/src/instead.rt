@@ -101,7 +101,7 @@ fn own_among(parts: &Parts, numbers: &[u16]) -> ArrayVec<Word, 128>
     words
 }
 
-/// The words that the file in a slot has by itself, as its description has kept them.
+/// The derived words of the file in a slot and their heads, as its description has kept them.
 pub(crate) fn own_in(parts: &Parts, slot: u16) -> ArrayVec<Word, 128>
     requires there { IsSome (rec_at parts.now.catalog slot) }
     requires short { DescriptionsAreShort parts.now }
