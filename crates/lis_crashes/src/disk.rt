@@ -1,6 +1,6 @@
 //! A disk of 594 zero blocks, whose first and last home block are committed, and what a mount after a crash reads of them.
 
-ghost use Rattle.std.specs.Prelude.{[], ◌≡◌, ◌*◌, ◌+◌, ◌<◌, ◌≤◌, length, false, IfOk, OnOk, IsTrue};
+ghost use Rattle.std.specs.Prelude.{◌≡◌, ◌+◌, ◌<◌, ◌≤◌, length, false, IfOk, OnOk, IsTrue};
 ghost use Rattle.lis_memdisk.specs.MemStation.{meaning_of};
 ghost use Rattle.lis_crashes.specs.Idle.{IsAtRest, HasStaged, IsSameDisk};
 
@@ -156,20 +156,26 @@ pub fn fills_left(alloc: Global, disk: &MemStation, call: u64, pick: u8) -> Resu
     fills_of(alloc, &mut again, &journal)
 }
 
+// A mount after a stop at any of these calls reads these bytes.
+fn are_left(alloc: Global, disk: &MemStation, calls: u64, fills: [u8; 2]) -> Result<(), Fail>
+    requires { IsTrue (meaning_of disk.now).is_recorded }
+{
+    for stop in 0..calls {
+        if fills_left(alloc, disk, stop, 165)? != fills {
+            return Err("a second stop changed what is kept".into());
+        }
+    }
+    Ok(())
+}
+
 /// The same, which a stop at any call of that mount does not change.
 pub fn fills_after(alloc: Global, disk: &MemStation, call: u64, pick: u8) -> Result<[u8; 2], Fail>
     requires { IsTrue (meaning_of disk.now).is_recorded }
 {
     let image = image_after(alloc, disk, call, pick)?;
     let (mut again, journal) = mounted(alloc, &image)?;
-    let end = again.calls();
+    let calls = again.calls();
     let fills = fills_of(alloc, &mut again, &journal)?;
-    for stop in 0..end {
-        let image = image_after(alloc, &again, stop, 165)?;
-        let (mut last, journal) = mounted(alloc, &image)?;
-        if fills_of(alloc, &mut last, &journal)? != fills {
-            return Err("a second stop changed what is kept".into());
-        }
-    }
+    are_left(alloc, &again, calls, fills)?;
     Ok(fills)
 }

@@ -1,6 +1,6 @@
 //! Commits on a disk of zero blocks, with a stop, a failing call or a checkpoint. A mount after any crash reads all of a commit or none.
 
-ghost use Rattle.std.specs.Prelude.{[], ◌≡◌, ◌≤◌, false, OnOk, IsTrue};
+ghost use Rattle.std.specs.Prelude.{◌≤◌, OnOk, IsTrue};
 ghost use Rattle.lis_memdisk.specs.MemStation.{meaning_of};
 ghost use Rattle.lis_crashes.specs.Idle.{IsAtRest, IsSameDisk};
 
@@ -102,16 +102,26 @@ fn a_stop_before_a_block_is_placed_changes_nothing(rt: HostRuntime) -> Result<()
     )
 }
 
-// A commit with one call that fails.
-fn broken(alloc: Global, call: u64, pick: u8) -> Result<[u8; 2], Fail> {
-    let (mut disk, mut journal) = mounted(alloc, &zeros(alloc)?)?;
-    disk.fails.push(call)?;
-    if !commit(alloc, &mut disk, &mut journal, [Some(7), Some(7)])? {
+// The commit of both home blocks fails, and breaks the journal.
+fn break_commit(alloc: Global, disk: &mut MemStation, journal: &mut Journal) -> Result<(), Fail>
+    requires idle { IsAtRest 594 journal.old }
+    requires long { 2433024 ≤ (meaning_of disk.old).len }
+    ensures same { IsSameDisk (meaning_of disk.old) (meaning_of disk.new) }
+{
+    if !commit(alloc, disk, journal, [Some(7), Some(7)])? {
         return Err("the commit did not fail".into());
     }
     if !journal.is_broken() {
         return Err("the journal is not broken".into());
     }
+    Ok(())
+}
+
+// A commit with one call that fails.
+fn broken(alloc: Global, call: u64, pick: u8) -> Result<[u8; 2], Fail> {
+    let (mut disk, mut journal) = mounted(alloc, &zeros(alloc)?)?;
+    disk.fails.push(call)?;
+    break_commit(alloc, &mut disk, &mut journal)?;
     fills_after(alloc, &disk, disk.calls(), pick)
 }
 

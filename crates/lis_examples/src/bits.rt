@@ -14,11 +14,23 @@ fn finds_and_counts_true_bits(rt: HostRuntime) -> Result<(), Fail> {
         (rows.byte(0, 8), rows.byte(0, 12), rows.byte(1, 12)),
         (1, 16, 0)
     );
-    assert_eq!(rt; rows.next(0, 1), Some(64));
-    assert_eq!(rt; rows.next(0, 65), Some(100));
-    assert_eq!(rt; rows.next(0, 101), None);
-    assert_eq!(rt; rows.next(0, 4000), None);
+    let found = [
+        rows.next(0, 1),
+        rows.next(0, 65),
+        rows.next(0, 101),
+        rows.next(0, 4000),
+    ];
+    assert_eq!(rt; found, [Some(64), Some(100), None, None]);
+    Ok(())
+}
+
+#[test]
+fn copies_a_row(rt: HostRuntime) -> Result<(), Fail> {
+    let mut rows = Rows::new(rt.alloc(), 2, 128)?;
     let mut copies = Rows::new(rt.alloc(), 1, 128)?;
+    rows.put(0, 0, true);
+    rows.put(0, 64, true);
+    rows.put(0, 100, true);
     copy_row(&rows, 0, &mut copies, 0);
     assert_eq!(rt; copies.next(0, 65), Some(100));
     assert_eq!(rt; (rows.edits(), copies.edits()), (3, 1));

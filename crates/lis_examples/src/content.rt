@@ -1,6 +1,7 @@
 //! What was put is read back, of small files and of large ones.
 
-ghost use Rattle.std.specs.Prelude.{◌≡◌, ◌+◌, ◌*◌, ◌<◌, ◌≤◌, length, IfOk};
+ghost use Rattle.std.specs.Prelude.{◌≡◌, ◌*◌, ◌<◌, ◌≤◌, [], false, length, IfOk};
+ghost use Rattle.lis_journal.specs.Journal.{no_records};
 ghost use Rattle.lis_memdisk.specs.MemStation.{meaning_of};
 
 use lis_blockmap::BlockMap;
@@ -27,30 +28,43 @@ fn pattern(alloc: Global, size: usize) -> Result<Vec<u8>, AllocError>
     (0..size).map(|k| (k % 251) as u8).collect(alloc)
 }
 
-// Whether so many bytes, put in the place of two blocks, are read as they were put and kept, and then leave all blocks
-// free.
+// Whether these bytes, put in the place of two blocks of others, are read as they were put and kept, and then leave all blocks free.
+fn is_read_back(
+    map: &mut BlockMap,
+    journal: &mut Journal,
+    disk: &mut MemStation,
+    before: &[u8],
+    bytes: &[u8],
+    buf: &mut [u8],
+) -> Result<bool, Fail>
+    requires map { length map.old ≡ 3 }
+    requires journal { journal.old ≡ record { blocks = 581; staged = []; records = no_records; placed = []; is_broken = false } }
+    requires long { 4096 * 581 ≤ (meaning_of disk.old).len }
+    requires before { length before.now ≡ 4097 }
+    requires size { length bytes.now ≤ 12288 }
+    requires buf { length buf.old ≡ length bytes.now }
+    ensures { (meaning_of disk.new).len ≡ (meaning_of disk.old).len }
+{
+    let old = put(map, journal, disk, BASE, &[], before)?;
+    let blocks = put(map, journal, disk, BASE, &old, bytes)?;
+    journal.commit(disk)?;
+    read(journal, disk, BASE, &blocks, bytes.len() as u32, buf)?;
+    drop_file(map, &blocks);
+    Ok(&*buf == bytes && map.free() == 3)
+}
+
+// The same of so many bytes.
 fn reads_back(alloc: Global, disk: &mut MemStation, size: u32) -> Result<bool, Fail>
     requires long { 4096 * 581 ≤ (meaning_of disk.old).len }
     requires size { size ≤ 12288 }
     ensures { (meaning_of disk.new).len ≡ (meaning_of disk.old).len }
 {
+    let before = pattern(alloc, 4_097)?;
     let bytes = pattern(alloc, size as usize)?;
+    let mut buf = vec![in alloc; 9; size as usize]?;
     let mut map = BlockMap::new(alloc, 3)?;
     let mut journal = Journal::mount(alloc, disk, BLOCKS)?;
-    let old = put(
-        &mut map,
-        &mut journal,
-        disk,
-        BASE,
-        &[],
-        &pattern(alloc, 4_097)?,
-    )?;
-    let blocks = put(&mut map, &mut journal, disk, BASE, &old, &bytes)?;
-    journal.commit(disk)?;
-    let mut buf = vec![in alloc; 9; size as usize]?;
-    read(&journal, disk, BASE, &blocks, size, &mut buf)?;
-    drop_file(&mut map, &blocks);
-    Ok(buf == bytes && map.free() == 3)
+    is_read_back(&mut map, &mut journal, disk, &before, &bytes, &mut buf)
 }
 
 #[test]
@@ -73,7 +87,34 @@ fn more_zeros(alloc: Global) -> Result<Vec<u8>, AllocError>
     vec![in alloc; 0; 2_457_600]
 }
 
-// Whether the n-th block of so many bytes is read as it was placed, with as many blocks free, and all are free after.
+// Whether the n-th block of these bytes is read as it was placed, with as many blocks free, and all are free after.
+fn is_block_read_back(
+    map: &mut BlockMap,
+    journal: &mut Journal,
+    disk: &mut MemStation,
+    bytes: &[u8],
+    n: u32,
+    free: u32,
+) -> Result<bool, Fail>
+    requires map { length map.old ≡ 22 }
+    requires journal { journal.old ≡ record { blocks = 600; staged = []; records = no_records; placed = []; is_broken = false } }
+    requires long { 4096 * 600 ≤ (meaning_of disk.old).len }
+    requires few { length bytes.now ≤ 81920 }
+    requires inside { 4096 * n < length bytes.now }
+    ensures { (meaning_of disk.new).len ≡ (meaning_of disk.old).len }
+{
+    let size = bytes.len() as u32;
+    let blocks = place_file(map, journal, disk, BASE, bytes)?;
+    let left = map.free();
+    let mut buf = [9; 4_096];
+    read_block(journal, disk, BASE, &blocks, size, n, &mut buf)?;
+    drop_large(map, journal, disk, BASE, &blocks, size)?;
+    let at = n as usize * 4_096;
+    let end = bytes.len().min(at + 4_096);
+    Ok(left == free && buf[..end - at] == bytes[at..end] && map.free() == 22)
+}
+
+// The same of so many bytes.
 fn reads_block_back(
     alloc: Global,
     disk: &mut MemStation,
@@ -89,14 +130,7 @@ fn reads_block_back(
     let bytes = pattern(alloc, size as usize)?;
     let mut map = BlockMap::new(alloc, 22)?;
     let mut journal = Journal::mount(alloc, disk, MORE_BLOCKS)?;
-    let blocks = place_file(&mut map, &mut journal, disk, BASE, &bytes)?;
-    let left = map.free();
-    let mut buf = [9; 4_096];
-    read_block(&journal, disk, BASE, &blocks, size, n, &mut buf)?;
-    drop_large(&mut map, &journal, disk, BASE, &blocks, size)?;
-    let at = n as usize * 4_096;
-    let end = bytes.len().min(at + 4_096);
-    Ok(left == free && buf[..end - at] == bytes[at..end] && map.free() == 22)
+    is_block_read_back(&mut map, &mut journal, disk, &bytes, n, free)
 }
 
 #[test]

@@ -10,9 +10,8 @@ fn marks_what_differs(rt: HostRuntime) -> Result<(), Fail> {
     ext.settle();
     assert_eq!(rt; ext.changed(0), None);
     ext.set_file(3, &[1, 5], &[1, 7]);
-    assert_eq!(rt; ext.changed(0), Some(5));
-    assert_eq!(rt; ext.changed(1), Some(7));
-    assert_eq!(rt; ext.changed(2), None);
+    let changed = [ext.changed(0), ext.changed(1), ext.changed(2)];
+    assert_eq!(rt; changed, [Some(5), Some(7), None]);
     assert_eq!(rt; ext.rows().edits(), 4);
     Ok(())
 }

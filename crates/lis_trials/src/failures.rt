@@ -102,6 +102,14 @@ fn a_failing_call_of_the_disk_leaves_the_state_that_was_shown_or_the_next_one(
     Err("the script makes more calls".into())
 }
 
+// The script at one byte a call, where the show behind so many bytes fails.
+fn with_failing_show(alloc: Global, image: &[u8], before: usize) -> Result<Ending, Fail> {
+    let mut station = MemStation::new(alloc, image, 0)?;
+    station.step = 1;
+    station.show_fails.push((before as u64).saturating_add(1))?;
+    ending_of(alloc, &mut station, &SOUND)
+}
+
 // At one byte a call it is known what was shown. The command whose reply is not shown whole was carried out.
 #[test]
 fn a_failing_show_leaves_the_state_of_the_reply_that_it_cuts_off(
@@ -110,10 +118,7 @@ fn a_failing_show_leaves_the_state_of_the_reply_that_it_cuts_off(
     let alloc = rt.alloc();
     let image = made(alloc, MAKES[0])?;
     for before in 0..SHOWN.len() {
-        let mut station = MemStation::new(alloc, &image, 0)?;
-        station.step = 1;
-        station.show_fails.push(before as u64 + 1)?;
-        let ended = ending_of(alloc, &mut station, &SOUND)?;
+        let ended = with_failing_show(alloc, &image, before)?;
         assert_eq!(rt; ended.status, Status::OUTPUT_FAULT, "behind {before}");
         assert!(rt; is_front(ended.shown.as_str(), before), "behind {before}");
         assert!(rt;
@@ -124,18 +129,23 @@ fn a_failing_show_leaves_the_state_of_the_reply_that_it_cuts_off(
     Ok(())
 }
 
+// The script out of a source that fails at this place.
+fn with_failing_source(alloc: Global, image: &[u8], place: usize) -> Result<Ending, Fail> {
+    let mut station = MemStation::new(alloc, image, 0)?;
+    let outside = Outside {
+        step: 1,
+        fail_at: Some(place),
+        ..SOUND
+    };
+    ending_of(alloc, &mut station, &outside)
+}
+
 #[test]
 fn a_failing_source_leaves_the_state_of_what_came_whole(rt: HostRuntime) -> Result<(), Fail> {
     let alloc = rt.alloc();
     let image = made(alloc, MAKES[0])?;
     for (place, commands) in &FAILING_PLACES {
-        let mut station = MemStation::new(alloc, &image, 0)?;
-        let outside = Outside {
-            step: 1,
-            fail_at: Some(*place),
-            ..SOUND
-        };
-        let ended = ending_of(alloc, &mut station, &outside)?;
+        let ended = with_failing_source(alloc, &image, *place)?;
         assert_eq!(rt; ended.status, Status::INPUT_FAULT, "at {place}");
         assert!(rt;
             is_front(ended.shown.as_str(), commands.saturating_mul(REPLY_LEN)),

@@ -1,6 +1,6 @@
 //! The first call that fails is the last one, of whichever object, in every word of the program.
 
-use crate::images::{bytes_of, fresh, run};
+use crate::images::{fresh, used};
 use crate::tests::{Outside, SOUND, source};
 use lis_memdisk::MemStation;
 use lis_shell::status::Status;
@@ -107,15 +107,6 @@ struct Ended {
     failed: u64,
 }
 
-// The bytes of an image on which a session was carried out. Its records are open.
-fn used(alloc: Global, row: &str) -> Result<Vec<u8>, Fail> {
-    let mut station = MemStation::new(alloc, &fresh(alloc)?, 0)?;
-    if run(alloc, row, &mut station)? != Status::DONE {
-        return Err("the session did not end".into());
-    }
-    bytes_of(alloc, &mut station)
-}
-
 // What the words do where this call of a kind fails.
 fn carried(
     alloc: Global,
@@ -158,7 +149,8 @@ fn first_wrong(alloc: Global, case: &Case, kind: Kind) -> Result<u64, Fail> {
     for name in *names {
         words.push(String::from_str(alloc, name)?)?;
     }
-    let image = used(alloc, before)?;
+    // Its records are open.
+    let image = used(alloc, &fresh(alloc)?, &[before])?;
     for fails in 1..MANY_CALLS {
         let log = Log::new(kind, fails);
         let ended = carried(alloc, &words, &image, row, &log)?;

@@ -1,5 +1,6 @@
 //! Large sessions over images in memory.
 
+use crate::images::run_all;
 use crate::tests::{SOUND, call, row_of};
 use lis_memdisk::MemStation;
 use lis_shell::status::Status;
@@ -29,45 +30,65 @@ fn fresh(alloc: Global) -> Result<MemStation, Fail> {
     Ok(station)
 }
 
+// What the session of the number 7 shows, done so many times.
+fn grown(alloc: Global, times: u32) -> Result<String, Fail> {
+    let mut station = fresh(alloc)?;
+    for _ in 0..times {
+        if grow(alloc, "7", &mut station)? != Status::DONE {
+            return Err("the session did not end".into());
+        }
+    }
+    Ok(row_of(alloc, station.shown())?)
+}
+
+// All words, axioms and files are there the second time, but for the files that were removed, and these are made and removed again.
 #[test]
 fn a_session_of_a_number_is_always_the_same(rt: HostRuntime) -> Result<(), Fail> {
-    let alloc = rt.alloc();
-    let mut first = fresh(alloc)?;
-    let mut second = fresh(alloc)?;
-    assert_eq!(rt; grow(alloc, "7", &mut first)?, Status::DONE);
-    assert_eq!(rt; grow(alloc, "7", &mut second)?, Status::DONE);
-    let summary = row_of(alloc, first.shown())?;
-    assert_eq!(rt;
-        summary.as_str(),
-        "replies 1241;refused 0;files 800;axioms 15;free 28;listed 81;"
-    );
-    assert_eq!(rt; second.shown(), first.shown());
-    // All words, axioms and files are there already, but for the files that were removed, and these are made and removed again.
-    assert_eq!(rt; grow(alloc, "7", &mut second)?, Status::DONE);
-    let both = row_of(alloc, second.shown())?;
-    assert!(rt;
-        both.as_str().contains(";replies 1241;refused 832;files 800;axioms 15;free 28;listed 81;"),
-        "{both}"
-    );
+    let once = "replies 1241;refused 0;files 800;axioms 15;free 28;listed 81;";
+    let twice =
+        "replies 1241;refused 0;files 800;axioms 15;free 28;listed 81;replies 1241;refused 832;files 800;axioms 15;free 28;listed 81;";
+    for (times, wanted) in [(1, once), (1, once), (2, twice)] {
+        let shown = grown(rt.alloc(), times)?;
+        assert_eq!(rt; shown.as_str(), wanted);
+    }
     Ok(())
 }
 
-// A call of the disk fails behind the opening: nothing is shown. A call that shows fails: all was carried out.
+// The session meets a call of the disk that fails behind the opening. Nothing is shown.
+fn meet_disk_fault(alloc: Global, station: &mut MemStation) -> Result<(), Fail> {
+    let number = station.calls().saturating_add(1_000);
+    station.fails.push(number)?;
+    let status = grow(alloc, "7", station)?;
+    station.fails.clear();
+    if !status.is_disk_fault() || !station.shown().is_empty() {
+        return Err("the fault was not met, or something was shown".into());
+    }
+    Ok(())
+}
+
+// It meets a call that fails to show. Nothing is shown.
+fn meet_output_fault(alloc: Global, station: &mut MemStation) -> Result<(), Fail> {
+    station.show_fails.push(1)?;
+    let status = grow(alloc, "7", station)?;
+    if status != Status::OUTPUT_FAULT || !station.shown().is_empty() {
+        return Err("the fault was not met, or something was shown".into());
+    }
+    Ok(())
+}
+
+// What a look shows behind both.
+fn left_by_faults(alloc: Global) -> Result<String, Fail> {
+    let mut station = fresh(alloc)?;
+    meet_disk_fault(alloc, &mut station)?;
+    meet_output_fault(alloc, &mut station)?;
+    run_all(alloc, &["stat;"], &mut station)?;
+    Ok(row_of(alloc, station.shown())?)
+}
+
+// Where a call of the disk fails, nothing is shown. Where a call that shows fails, all was carried out.
 #[test]
 fn a_fault_shows_nothing_of_the_summary(rt: HostRuntime) -> Result<(), Fail> {
-    let alloc = rt.alloc();
-    let mut station = fresh(alloc)?;
-    let made = station.calls();
-    station.fails.push(made.saturating_add(1_000))?;
-    assert!(rt; grow(alloc, "7", &mut station)?.is_disk_fault());
-    assert!(rt; station.shown().is_empty());
-    station.fails.clear();
-    station.show_fails.push(1)?;
-    assert_eq!(rt; grow(alloc, "7", &mut station)?, Status::OUTPUT_FAULT);
-    assert!(rt; station.shown().is_empty());
-    let (status, _) = call(alloc, &["run", "i"], "stat;", &SOUND, &mut station)?;
-    assert_eq!(rt; status, Status::DONE);
-    let shown = row_of(alloc, station.shown())?;
+    let shown = left_by_faults(rt.alloc())?;
     assert!(rt; shown.starts_with("s files 800;"), "{shown}");
     Ok(())
 }

@@ -104,16 +104,20 @@ fn images_show_the_same_of_long_lines_and_many_words(rt: HostRuntime) -> Result<
     Ok(())
 }
 
+// How words end over so many zero bytes, and how many bytes they take and show.
+fn on_zeros(alloc: Global, words: &[&str], len: usize) -> Result<(Status, usize, usize), Fail> {
+    let mut station = MemStation::new(alloc, &zeros(alloc, len)?, 0)?;
+    let (status, taken) = call(alloc, words, "mkdir a;", &SOUND, &mut station)?;
+    Ok((status, taken, station.shown().len()))
+}
+
 #[test]
 fn each_word_that_opens_an_image_judges_it(rt: HostRuntime) -> Result<(), Fail> {
-    let alloc = rt.alloc();
     for words in &OPENING_WORDS {
         for (len, wanted) in &ZEROS {
-            let mut station = MemStation::new(alloc, &zeros(alloc, *len)?, 0)?;
-            let (status, taken) = call(alloc, words, "mkdir a;", &SOUND, &mut station)?;
+            let (status, taken, shown) = on_zeros(rt.alloc(), words, *len)?;
             assert_eq!(rt; status, *wanted, "{words:?}");
-            assert_eq!(rt; taken, 0, "{words:?}");
-            assert!(rt; station.shown().is_empty(), "{words:?}");
+            assert_eq!(rt; (taken, shown), (0, 0), "{words:?}");
         }
     }
     Ok(())
@@ -121,26 +125,35 @@ fn each_word_that_opens_an_image_judges_it(rt: HostRuntime) -> Result<(), Fail> 
 
 #[test]
 fn no_image_is_made_of_a_byte_less(rt: HostRuntime) -> Result<(), Fail> {
-    let alloc = rt.alloc();
     for words in &MAKES {
-        let mut station = MemStation::new(alloc, &zeros(alloc, 2_433_023)?, 0)?;
-        let (status, _) = call(alloc, words, "mkdir a;", &SOUND, &mut station)?;
+        let (status, _, shown) = on_zeros(rt.alloc(), words, 2_433_023)?;
         let wanted = Status::Opening(OpenFault::TooShort(2_433_023, 2_433_024));
         assert_eq!(rt; status, wanted, "{words:?}");
-        assert!(rt; station.shown().is_empty(), "{words:?}");
+        assert_eq!(rt; shown, 0, "{words:?}");
     }
     Ok(())
 }
 
-// The bytes of an image with a file that has a word. A second session has brought the records home.
-fn with_file(alloc: Global) -> Result<Vec<u8>, Fail> {
-    let mut station = MemStation::new(alloc, &fresh(alloc)?, 0)?;
-    for row in ["mkdir music;create s music;", ""] {
-        if run(alloc, row, &mut station)? != Status::DONE {
+/// Carries out sessions, one after another, each of which must be done.
+pub fn run_all(alloc: Global, rows: &[&str], station: &mut MemStation) -> Result<(), Fail> {
+    for row in rows {
+        if run(alloc, row, station)? != Status::DONE {
             return Err("the session did not end".into());
         }
     }
+    Ok(())
+}
+
+/// The bytes of an image behind such sessions.
+pub fn used(alloc: Global, image: &[u8], rows: &[&str]) -> Result<Vec<u8>, Fail> {
+    let mut station = MemStation::new(alloc, image, 0)?;
+    run_all(alloc, rows, &mut station)?;
     bytes_of(alloc, &mut station)
+}
+
+// The bytes of an image with a file that has a word. A second session has brought the records home.
+fn with_file(alloc: Global) -> Result<Vec<u8>, Fail> {
+    used(alloc, &fresh(alloc)?, &["mkdir music;create s music;", ""])
 }
 
 #[test]
@@ -168,26 +181,51 @@ pub fn shown_behind(alloc: Global, station: &MemStation, before: usize) -> Resul
     }
 }
 
+/// How a session with a fault ended and what it showed, and the same of one behind it without the fault.
+#[derive(Drop)]
+struct Both {
+    status: Status,
+    shown: String,
+    again: Status,
+    reply: String,
+}
+
+// Both sessions over a station that lets a call fail.
+fn run_both(alloc: Global, rows: [&str; 2], station: &mut MemStation) -> Result<Both, Fail> {
+    let status = run(alloc, rows[0], station)?;
+    let shown = row_of(alloc, station.shown())?;
+    station.show_fails.clear();
+    station.fails.clear();
+    let again = run(alloc, rows[1], station)?;
+    let reply = shown_behind(alloc, station, shown.len())?;
+    Ok(Both {
+        status,
+        shown,
+        again,
+        reply,
+    })
+}
+
+// The same over such an image, where the second show fails.
+fn with_failing_show(alloc: Global, image: &[u8], rows: [&str; 2]) -> Result<Both, Fail> {
+    let mut station = MemStation::new(alloc, image, 0)?;
+    station.show_fails.push(2)?;
+    run_both(alloc, rows, &mut station)
+}
+
 // The replies of the first command are shown whole or in part; the second command was carried out where the first reply was whole.
 #[test]
 fn a_failing_show_leaves_what_was_carried_out(rt: HostRuntime) -> Result<(), Fail> {
     let alloc = rt.alloc();
-    let mut station = MemStation::new(alloc, &fresh(alloc)?, 0)?;
-    station.show_fails.push(2)?;
-    let status = run(alloc, "create a;create b;ls;", &mut station)?;
-    assert_eq!(rt; status, Status::OUTPUT_FAULT);
-    let shown = row_of(alloc, station.shown())?;
-    assert!(rt; "ok;".starts_with(shown.as_str()));
-    station.show_fails.clear();
-    let before = shown.len();
-    run(alloc, "ls;", &mut station)?;
-    let left = shown_behind(alloc, &station, before)?;
-    let wanted = if before == 3 {
+    let both = with_failing_show(alloc, &fresh(alloc)?, ["create a;create b;ls;", "ls;"])?;
+    assert_eq!(rt; both.status, Status::OUTPUT_FAULT);
+    assert!(rt; "ok;".starts_with(both.shown.as_str()));
+    let wanted = if both.shown.len() == 3 {
         "f a;f b;ok;"
     } else {
         "f a;ok;"
     };
-    assert_eq!(rt; left.as_str(), wanted);
+    assert_eq!(rt; both.reply.as_str(), wanted);
     Ok(())
 }
 
@@ -198,6 +236,26 @@ pub fn opening_calls(alloc: Global, image: &[u8]) -> Result<u64, AllocError> {
     Ok(station.calls())
 }
 
+// Both sessions over such an image, where a call of the disk fails.
+fn with_failing_call(
+    alloc: Global,
+    image: &[u8],
+    rows: [&str; 2],
+    number: u64,
+) -> Result<Both, Fail> {
+    let mut station = MemStation::new(alloc, image, 0)?;
+    station.fails.push(number)?;
+    run_both(alloc, rows, &mut station)
+}
+
+// A word is declared once, by the first session or behind its fault by the second.
+fn is_declared_once(both: &Both) -> bool {
+    let is_fault = both.status.is_disk_fault();
+    let is_new = is_fault && both.reply.as_str() == "ok;";
+    both.shown.as_str() == (if is_fault { "" } else { "ok;" })
+        && (is_new || both.reply.as_str() == "no 11 already declared;")
+}
+
 // The call of the disk that fails, counted from the first one behind the opening; nothing is shown, and the state is the old one or
 // the new one.
 #[test]
@@ -206,21 +264,10 @@ fn a_failing_sync_shows_nothing(rt: HostRuntime) -> Result<(), Fail> {
     let image = fresh(alloc)?;
     let opened = opening_calls(alloc, &image)?;
     for behind in 1..8 {
-        let mut station = MemStation::new(alloc, &image, 0)?;
-        station.fails.push(opened.saturating_add(behind))?;
-        let status = run(alloc, "mkdir a;", &mut station)?;
-        let wanted = if status.is_disk_fault() { "" } else { "ok;" };
-        let shown = row_of(alloc, station.shown())?;
-        assert_eq!(rt; shown.as_str(), wanted, "the call {behind}");
-        station.fails.clear();
-        let again = run(alloc, "mkdir a;", &mut station)?;
-        assert_eq!(rt; again, Status::DONE, "the call {behind}");
-        let reply = shown_behind(alloc, &station, shown.len())?;
-        let is_new = status.is_disk_fault() && reply.as_str() == "ok;";
-        assert!(rt;
-            is_new || reply.as_str() == "no 11 already declared;",
-            "the call {behind}"
-        );
+        let number = opened.saturating_add(behind);
+        let both = with_failing_call(alloc, &image, ["mkdir a;", "mkdir a;"], number)?;
+        assert_eq!(rt; both.again, Status::DONE, "the call {behind}");
+        assert!(rt; is_declared_once(&both), "the call {behind}");
     }
     Ok(())
 }

@@ -2,7 +2,7 @@
 
 ghost use Rattle.std.specs.Prelude.{◌≡◌, ◌*◌, ◌≤◌, ◌^◌, false, IfOk};
 ghost use Rattle.lis_memdisk.specs.MemStation.{meaning_of};
-ghost use Rattle.lis_store.specs.Stored.{IsSound};
+ghost use Rattle.lis_store.specs.Stored.{IsSound, IsUsable};
 
 use crate::images::{fresh, run, shown_behind};
 use crate::tests::tables::{EDITS, LIMITED};
@@ -26,8 +26,7 @@ fn serve_row(
 ) -> Result<Status, AllocError>
     requires limit { limit ≤ 2 ^ 40 }
     requires sound { IsSound session.old.store }
-    requires unbroken { session.old.store.is_broken ≡ false }
-    requires long { 4096 * session.old.store.journal.blocks ≤ (meaning_of station.old).len }
+    requires usable { IsUsable session.old.store (meaning_of station.old) }
 {
     let mut payload = Payload::new(alloc)?;
     let mut input = source(alloc, row, &SOUND)?;
@@ -61,22 +60,34 @@ fn serve_image(
     Ok(status?)
 }
 
+// How the session ends at a small limit, its replies, and those of one behind it without the limit.
+fn cut_and_again(
+    alloc: Global,
+    row: &str,
+    station: &mut MemStation,
+) -> Result<(Status, String, String), Fail> {
+    let status = serve_image(alloc, row, station, 10)?;
+    let replies = row_of(alloc, station.shown())?;
+    run(alloc, row, station)?;
+    let left = shown_behind(alloc, station, replies.len())?;
+    Ok((status, replies, left))
+}
+
+// The same over such an image.
+fn limited(alloc: Global, image: &[u8], row: &str) -> Result<(Status, String, String), Fail> {
+    let mut station = MemStation::new(alloc, image, 0)?;
+    cut_and_again(alloc, row, &mut station)
+}
+
 #[test]
 fn a_session_ends_at_its_limit(rt: HostRuntime) -> Result<(), Fail> {
     let alloc = rt.alloc();
     let image = fresh(alloc)?;
-    for (row, wanted, replies, left) in &LIMITED {
-        let mut station = MemStation::new(alloc, &image, 0)?;
-        let status = serve_image(alloc, row, &mut station, 10)?;
+    for (row, wanted, wanted_replies, wanted_left) in &LIMITED {
+        let (status, replies, left) = limited(alloc, &image, row)?;
         assert_eq!(rt; status, *wanted, "{row}");
-        assert_eq!(rt; row_of(alloc, station.shown())?.as_str(), *replies, "{row}");
-        let before = station.shown().len();
-        run(alloc, row, &mut station)?;
-        assert_eq!(rt;
-            shown_behind(alloc, &station, before)?.as_str(),
-            *left,
-            "{row}"
-        );
+        assert_eq!(rt; replies.as_str(), *wanted_replies, "{row}");
+        assert_eq!(rt; left.as_str(), *wanted_left, "{row}");
     }
     Ok(())
 }
@@ -91,13 +102,18 @@ fn edits_by(alloc: Global, row: &str, station: &mut MemStation) -> Result<u64, F
     Ok(edits)
 }
 
+// The same over such an image.
+fn edits_on(alloc: Global, image: &[u8], row: &str) -> Result<u64, Fail> {
+    let mut station = MemStation::new(alloc, image, 0)?;
+    edits_by(alloc, row, &mut station)
+}
+
 #[test]
 fn rows_are_edited_where_descriptions_differ(rt: HostRuntime) -> Result<(), Fail> {
     let alloc = rt.alloc();
     let image = fresh(alloc)?;
     for (row, wanted) in &EDITS {
-        let mut station = MemStation::new(alloc, &image, 0)?;
-        let edits = edits_by(alloc, row, &mut station)?;
+        let edits = edits_on(alloc, &image, row)?;
         assert_eq!(rt; edits, *wanted, "{row}");
     }
     Ok(())

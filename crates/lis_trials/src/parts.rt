@@ -1,6 +1,6 @@
 //! Parts of a file over images in memory: what is shown of them, and what is left of the file.
 
-use crate::images::{MAKES, bytes_of, made, run, session};
+use crate::images::{MAKES, bytes_of, made, session, used};
 use crate::tests::tables::{NOTES, NOTES_LEFT, PARTS};
 use crate::tests::{Outside, SOUND, call, row_of};
 use lis_memdisk::MemStation;
@@ -13,17 +13,52 @@ const EDITED: &str = "@1 2;+alpha;+end;";
 
 // The bytes of an image with the file, which these words make. Its records are open.
 fn noted(alloc: Global, words: &[&str]) -> Result<Vec<u8>, Fail> {
-    let mut station = MemStation::new(alloc, &made(alloc, words)?, 0)?;
-    if run(alloc, NOTES, &mut station)? != Status::DONE {
-        return Err("the session did not end".into());
-    }
-    bytes_of(alloc, &mut station)
+    used(alloc, &made(alloc, words)?, &[NOTES])
 }
 
 // What the file has.
 fn left_on(alloc: Global, station: &mut MemStation) -> Result<String, Fail> {
     let (_, shown) = session(alloc, &bytes_of(alloc, station)?, "cat notes.txt;")?;
     Ok(shown)
+}
+
+/// How a part was carried out, what it showed, how many bytes of the input it took, and what the file has behind it.
+#[derive(Drop)]
+struct Carried {
+    status: Status,
+    shown: String,
+    taken: usize,
+    left: String,
+}
+
+fn carry_on(
+    alloc: Global,
+    words: &[&str],
+    row: &str,
+    outside: &Outside,
+    station: &mut MemStation,
+) -> Result<Carried, Fail> {
+    let (status, taken) = call(alloc, words, row, outside, station)?;
+    let shown = row_of(alloc, station.shown())?;
+    let left = left_on(alloc, station)?;
+    Ok(Carried {
+        status,
+        shown,
+        taken,
+        left,
+    })
+}
+
+// The same over such an image.
+fn carried_on(
+    alloc: Global,
+    image: &[u8],
+    words: &[&str],
+    row: &str,
+    outside: &Outside,
+) -> Result<Carried, Fail> {
+    let mut station = MemStation::new(alloc, image, 0)?;
+    carry_on(alloc, words, row, outside, &mut station)
 }
 
 #[test]
@@ -33,24 +68,12 @@ fn parts_show_and_leave_the_same_in_any_pieces(rt: HostRuntime) -> Result<(), Fa
         let image = noted(alloc, makes)?;
         let outside = Outside { step, ..SOUND };
         for (words, row, is_taken, wanted, left) in &PARTS {
-            let mut station = MemStation::new(alloc, &image, 0)?;
-            let (status, taken) = call(alloc, words, row, &outside, &mut station)?;
-            assert_eq!(rt; status, Status::DONE, "{words:?} with {row}");
-            assert_eq!(rt;
-                row_of(alloc, station.shown())?.as_str(),
-                *wanted,
-                "{words:?} with {row}"
-            );
-            assert_eq!(rt;
-                taken,
-                if *is_taken { row.len() } else { 0 },
-                "{words:?} with {row}"
-            );
-            assert_eq!(rt;
-                left_on(alloc, &mut station)?.as_str(),
-                *left,
-                "{words:?} with {row}"
-            );
+            let seen = carried_on(alloc, &image, words, row, &outside)?;
+            let taken = if *is_taken { row.len() } else { 0 };
+            assert_eq!(rt; seen.status, Status::DONE, "{words:?} with {row}");
+            assert_eq!(rt; seen.shown.as_str(), *wanted, "{words:?} with {row}");
+            assert_eq!(rt; seen.taken, taken, "{words:?} with {row}");
+            assert_eq!(rt; seen.left.as_str(), *left, "{words:?} with {row}");
         }
     }
     Ok(())
@@ -62,21 +85,16 @@ fn a_failing_source_leaves_the_file(rt: HostRuntime) -> Result<(), Fail> {
     let alloc = rt.alloc();
     let image = noted(alloc, MAKES[0])?;
     for place in 0..EDITED.len() {
-        let mut station = MemStation::new(alloc, &image, 0)?;
         let outside = Outside {
             step: 1,
             fail_at: Some(place),
             ..SOUND
         };
         let words = ["put", "i", "notes.txt", "word:alpha"];
-        let (status, _) = call(alloc, &words, EDITED, &outside, &mut station)?;
-        assert_eq!(rt; status, Status::INPUT_FAULT, "at {place}");
-        assert!(rt; station.shown().is_empty(), "at {place}");
-        assert_eq!(rt;
-            left_on(alloc, &mut station)?.as_str(),
-            NOTES_LEFT,
-            "at {place}"
-        );
+        let seen = carried_on(alloc, &image, &words, EDITED, &outside)?;
+        assert_eq!(rt; seen.status, Status::INPUT_FAULT, "at {place}");
+        assert!(rt; seen.shown.is_empty(), "at {place}");
+        assert_eq!(rt; seen.left.as_str(), NOTES_LEFT, "at {place}");
     }
     Ok(())
 }

@@ -18,7 +18,7 @@ use std::test::Fail;
 pub mod tables;
 
 use tables::{
-    CUT_SESSIONS, FAILING_SHOWS, LARGE_FILES, LONG_LINES, RIGHT_WORDS, SESSIONS, WRONG_WORDS,
+    CUT_SESSIONS, Cut, FAILING_SHOWS, LARGE_FILES, LONG_LINES, RIGHT_WORDS, SESSIONS, WRONG_WORDS,
 };
 
 /// The words of most sessions.
@@ -136,6 +136,11 @@ fn run(alloc: Global, words: &[&str], row: &str, outside: &Outside) -> Result<Se
     })
 }
 
+// The session is done, has taken all of its input, and made no call of a disk.
+fn is_whole(seen: &Seen, row: &str) -> bool {
+    seen.status == Status::DONE && seen.taken == row.len() && seen.calls == 0
+}
+
 // They are done: no clause can say that there is memory, so a body that gives up would be proved.
 #[test]
 fn sessions_show_the_same_in_any_pieces(rt: HostRuntime) -> Result<(), Fail> {
@@ -147,9 +152,7 @@ fn sessions_show_the_same_in_any_pieces(rt: HostRuntime) -> Result<(), Fail> {
             };
             let seen = run(rt.alloc(), words, row, &outside)?;
             assert_eq!(rt; seen.shown.as_str(), *wanted, "{row}");
-            assert_eq!(rt; seen.status, Status::DONE, "{row}");
-            assert_eq!(rt; seen.taken, row.len(), "{row}");
-            assert_eq!(rt; seen.calls, 0, "{row}");
+            assert!(rt; is_whole(&seen, row), "{row}");
         }
     }
     Ok(())
@@ -260,15 +263,23 @@ fn sessions_of_long_lines_and_many_words_show_the_same(rt: HostRuntime) -> Resul
     Ok(())
 }
 
+// Nothing was taken, shown or asked of a disk.
+fn is_untouched(seen: &Seen) -> bool {
+    seen.shown.is_empty() && seen.taken == 0 && seen.calls == 0
+}
+
 #[test]
-fn words_are_judged_before_anything_is_taken_or_shown(rt: HostRuntime) -> Result<(), Fail> {
+fn wrong_words_are_refused_before_anything_is_taken_or_shown(rt: HostRuntime) -> Result<(), Fail> {
     for words in &WRONG_WORDS {
         let seen = run(rt.alloc(), words, "mkdir a;", &SOUND)?;
         assert_eq!(rt; seen.status, Status::Usage, "{words:?}");
-        assert_eq!(rt; seen.shown.as_str(), "", "{words:?}");
-        assert_eq!(rt; seen.taken, 0, "{words:?}");
-        assert_eq!(rt; seen.calls, 0, "{words:?}");
+        assert!(rt; is_untouched(&seen), "{words:?}");
     }
+    Ok(())
+}
+
+#[test]
+fn right_words_are_carried_out(rt: HostRuntime) -> Result<(), Fail> {
     for words in &RIGHT_WORDS {
         let seen = run(rt.alloc(), words, "mkdir a;", &SOUND)?;
         assert_eq!(rt; seen.status, Status::DONE, "{words:?}");
@@ -290,6 +301,11 @@ fn a_failing_show_ends_behind_a_front_of_the_replies(rt: HostRuntime) -> Result<
         assert_eq!(rt; seen.shown.as_str(), *shown, "the call {show_fails}");
         assert_eq!(rt; seen.status, *status, "the call {show_fails}");
     }
+    Ok(())
+}
+
+#[test]
+fn a_failing_show_ends_with_its_fault(rt: HostRuntime) -> Result<(), Fail> {
     let outside = Outside {
         show_fails: 2,
         ..SOUND
@@ -320,28 +336,36 @@ fn go_on(
     })
 }
 
-// What a session left is seen by the replies to a second one on the same state.
-#[test]
-fn a_cut_session_leaves_what_it_had_carried_out(rt: HostRuntime) -> Result<(), Fail> {
+// A session that is cut, and a second one on the state that it left.
+fn seen_both(alloc: Global, case: &Cut) -> Result<(Seen, Seen), Fail> {
     let limits = Limits {
         files: 64,
         props: 64,
         blocks: 8,
         version: 1,
     };
-    for (limit, step, fail_at, (row, shown, status), (then, then_shown)) in &CUT_SESSIONS {
-        let mut plain = Plain::new(rt.alloc(), &limits)?;
-        let outside = Outside {
-            step: *step,
-            fail_at: *fail_at,
-            ..SOUND
-        };
-        let seen = go_on(rt.alloc(), &mut plain, *limit, row, &outside)?;
+    let (limit, step, fail_at, (row, _, _), (then, _)) = case;
+    let mut plain = Plain::new(alloc, &limits)?;
+    let outside = Outside {
+        step: *step,
+        fail_at: *fail_at,
+        ..SOUND
+    };
+    let first = go_on(alloc, &mut plain, *limit, row, &outside)?;
+    let second = go_on(alloc, &mut plain, 99, then, &SOUND)?;
+    Ok((first, second))
+}
+
+// What a session left is seen by the replies to a second one on the same state.
+#[test]
+fn a_cut_session_leaves_what_it_had_carried_out(rt: HostRuntime) -> Result<(), Fail> {
+    for case in &CUT_SESSIONS {
+        let (_, _, _, (row, shown, status), (then, then_shown)) = case;
+        let (seen, behind) = seen_both(rt.alloc(), case)?;
         assert_eq!(rt; seen.status, *status, "{row}");
         assert_eq!(rt; seen.shown.as_str(), *shown, "{row}");
-        let seen = go_on(rt.alloc(), &mut plain, 99, then, &SOUND)?;
-        assert_eq!(rt; seen.status, Status::DONE, "{then} after {row}");
-        assert_eq!(rt; seen.shown.as_str(), *then_shown, "{then} after {row}");
+        assert_eq!(rt; behind.status, Status::DONE, "{then} after {row}");
+        assert_eq!(rt; behind.shown.as_str(), *then_shown, "{then} after {row}");
     }
     Ok(())
 }

@@ -3,7 +3,7 @@
 ghost use Rattle.std.specs.Prelude.{◌≡◌, IfOk, IsTrue};
 ghost use Rattle.lis_memdisk.specs.MemStation.{meaning_of};
 
-use crate::images::{bytes_of, made, run, session, shown_behind};
+use crate::images::{bytes_of, made, run, run_all, session, shown_behind, used};
 use crate::tests::tables::LARGE_FILES;
 use crate::tests::{SOUND, call, files_row, push_file, row_of};
 use lis_memdisk::MemStation;
@@ -123,22 +123,29 @@ fn files_of_images_are_as_large_as_there_are_blocks(rt: HostRuntime) -> Result<(
     Ok(())
 }
 
-// It reads no input and shows nothing, and neither does the next one, which finds an image of version 2.
+// Neither upgrade reads input or shows anything; the second finds an image of version 2.
+fn upgrade_twice(alloc: Global, station: &mut MemStation) -> Result<(), Fail> {
+    for _ in 0..2 {
+        let (status, taken) = upgrade(alloc, station)?;
+        if status != Status::DONE || taken != 0 || !station.shown().is_empty() {
+            return Err("the image was not upgraded in silence".into());
+        }
+    }
+    Ok(())
+}
+
+// What a session shows on an image that was upgraded twice.
+fn shown_upgraded(alloc: Global, row: &str) -> Result<String, Fail> {
+    let mut station = MemStation::new(alloc, &refused(alloc)?, 0)?;
+    upgrade_twice(alloc, &mut station)?;
+    run_all(alloc, &[row], &mut station)?;
+    shown_behind(alloc, &station, 0)
+}
+
 #[test]
 fn an_upgraded_image_takes_larger_files(rt: HostRuntime) -> Result<(), Fail> {
-    let alloc = rt.alloc();
-    let mut station = MemStation::new(alloc, &refused(alloc)?, 0)?;
-    for _ in 0..2 {
-        let (status, taken) = upgrade(alloc, &mut station)?;
-        assert_eq!(rt; status, Status::DONE);
-        assert_eq!(rt; taken, 0);
-        assert!(rt; station.shown().is_empty());
-    }
-    let mut row = String::new(alloc);
-    push_file(&mut row, "add a 65537;", 65_537)?;
-    row.push_str("stat;")?;
-    assert_eq!(rt; run(alloc, row.as_str(), &mut station)?, Status::DONE);
-    let shown = shown_behind(alloc, &station, 0)?;
+    let row = files_row(rt.alloc(), &[("a", 65_537)], "stat;")?;
+    let shown = shown_upgraded(rt.alloc(), row.as_str())?;
     assert_eq!(rt;
         shown.as_str(),
         "ok;s files 1;s known 2;s axioms 0;s free 22;ok;"
@@ -195,14 +202,8 @@ fn a_crash_of_an_upgrade_leaves_an_image_that_opens(rt: HostRuntime) -> Result<(
 // The bytes of an image of version 2 with a file above 65,536 bytes and a small one. It has nothing left to bring home.
 fn with_files(alloc: Global) -> Result<Vec<u8>, Fail> {
     let words = ["make", "i", "64", "64", "40", "v2"];
-    let mut station = MemStation::new(alloc, &made(alloc, &words)?, 0)?;
     let row = files_row(alloc, &[("a", 65_537), ("b", 1)], "")?;
-    for row in [row.as_str(), ""] {
-        if run(alloc, row, &mut station)? != Status::DONE {
-            return Err("the session did not end".into());
-        }
-    }
-    bytes_of(alloc, &mut station)
+    used(alloc, &made(alloc, &words)?, &[row.as_str(), ""])
 }
 
 // The two bytes there; zeros where there are none.

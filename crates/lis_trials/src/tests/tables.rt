@@ -369,7 +369,7 @@ pub static FAILING_SHOWS: [(u64, &str, Status); 6] = [
 
 /// The limit, the bytes of a piece and the failing place; a session that they cut off, what it shows and how it ends; and
 /// another session on the state that the first one left.
-type Cut = (
+pub type Cut = (
     u64,
     usize,
     Option<usize>,
