@@ -1,33 +1,16 @@
 -- Reads of blocks one by one, each into its part of a buffer.
-use Rattle.std.proofs.Common.{◌≡◌, ◌⊎◌, ℕ, ◌+◌, ◌-◌, ◌*◌, ◌<◌, ◌≤◌, min, List, [], ◌∷◌, ◌++◌, length, take, drop, get_or, IsTrue, refl, sym, ◌∙◌, ap, inl, inr, arith, length-append}
+use Rattle.std.proofs.Common.{◌≡◌, ◌⊎◌, ℕ, ◌+◌, ◌-◌, ◌*◌, ◌<◌, ◌≤◌, min, List, [], ◌∷◌, ◌++◌, length, take, drop, get_or, sym, ◌∙◌, ap, inl, inr, arith, length-append}
 use Rattle.std.specs.List.{flat_map}
 use Rattle.std.proofs.Math.Seq.{take-append-add}
 use Rattle.std.proofs.lemmas.Bool.{cases_lt}
 use Rattle.std.proofs.lemmas.Grind.{flat_map-append}
 use Rattle.std.proofs.lemmas.List.{append-nil, take_all, take_at, take_more, drop_all, drop-drop, length-take-le}
 use Rattle.lis_ports.specs.Meaning.{Meaning}
-use Rattle.lis_ports.specs.Runs.{IsDiskRun, Leaves}
-use Rattle.lis_ports.specs.Calls.{DiskFaultEnds, IsUnchanged}
+use Rattle.lis_ports.specs.Calls.{DiskFaultEnds, OnlyReads}
 use Rattle.lis_model.specs.State.{blocks_needed}
 use Rattle.lis_journal.specs.Journal.{Held}
 use Rattle.lis_journal.specs.Images.{Fits}
 use Rattle.lis_journal.specs.Phases.{looked}
-
--- ---- what reads leave alone
-pub unchanged_none : (m : Meaning) → IsUnchanged m m
-unchanged_none m = record {
-  bytes = refl;
-  images = record { only = λ image is. is; each = λ told image is. is };
-}
-
-pub unchanged_then : {a b c : Meaning} → IsDiskRun b c → IsUnchanged a b → IsUnchanged b c → IsUnchanged a c
-unchanged_then {a} {b} {c} run ab bc = record {
-  bytes = bc.bytes ∙ ab.bytes;
-  images = record {
-    only = λ image is. ab.images.only image (bc.images.only image is);
-    each = λ told image is. bc.images.each told image (ab.images.each (sym run.recorded ∙ told) image is);
-  };
-}
 
 -- the parts of a file so far, by what its blocks hold
 pub record IsFilled (at : ℕ → List ℕ) (ns : List ℕ) (k size : ℕ) (buf : List ℕ) : Type 0 where
@@ -35,11 +18,9 @@ pub record IsFilled (at : ℕ → List ℕ) (ns : List ℕ) (k size : ℕ) (buf 
   pub front : take (4096 * k) buf ≡ take size (flat_map at (take k ns))
 
 pub record SoFar (old now : Meaning) (journal : Held) (base : ℕ) (ns : List ℕ) (k size : ℕ) (buf : List ℕ) : Type 0 where
-  pub run : IsDiskRun old now
+  pub reads : OnlyReads old now
   pub faults : now.disk_faults ≡ old.disk_faults
   pub first_fault : DiskFaultEnds old now
-  pub same : IsTrue old.is_honest → IsUnchanged old now
-  pub moments : IsTrue old.is_honest → Leaves old now old.images
   pub fits : (kept : ℕ → List ℕ) → Fits journal old kept → Fits journal now kept
   pub filled : (kept : ℕ → List ℕ) → Fits journal old kept → IsFilled (λ b. looked journal.staged kept (base + b)) ns k size buf
 

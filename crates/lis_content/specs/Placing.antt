@@ -1,9 +1,9 @@
 -- How a placing of a file's bytes ends.
-use Rattle.std.specs.Prelude.{◌≡◌, ℕ, ◌+◌, ◌*◌, ◌<◌, ◌≤◌, Bool, true, false, if◌then◌else◌, List, ◌∷◌, ◌++◌, length, take, drop, map, IsTrue, Result, Ok, Err}
+use Rattle.std.specs.Prelude.{◌≡◌, ℕ, ◌+◌, ◌*◌, ◌<◌, ◌≤◌, Bool, true, false, if◌then◌else◌, List, ◌++◌, length, take, drop, map, IsTrue, Result, Ok, Err}
 use Rattle.std.specs.List.{range_with_len}
 use Rattle.lis_ports.specs.Meaning.{Meaning}
-use Rattle.lis_ports.specs.Runs.{IsDiskRun, Leaves}
-use Rattle.lis_ports.specs.Calls.{Rose, IsUnchanged}
+use Rattle.lis_ports.specs.Runs.{Leaves}
+use Rattle.lis_ports.specs.Calls.{Rose, OnlyReads}
 use Rattle.lis_model.specs.State.{blocks_needed, blocks_taken}
 use Rattle.lis_journal.specs.Record.{HomeBlock}
 use Rattle.lis_journal.specs.Journal.{Held}
@@ -115,9 +115,7 @@ pub record IsLaid (base : ℕ) (bytes : List ℕ) (taken now_taken : List Bool) 
   pub lays : Lays base taken now_taken before now old new blocks (λ at. content base blocks (length bytes) at ≡ bytes)
   pub count : length blocks ≡ blocks_needed (length bytes)
 
--- A run that asks the disk alone: the bytes and the images stay, and so does what a journal fits.
+-- A run that only reads, and what a journal fits stays.
 pub record Asks (journal : Held) (old new : Meaning) : Type 0 where
-  pub run : IsDiskRun old new
-  pub same : IsTrue old.is_honest → IsUnchanged old new
-  pub moments : IsTrue old.is_honest → Leaves old new old.images
+  pub reads : OnlyReads old new
   pub fits : (kept : ℕ → List ℕ) → Fits journal old kept → Fits journal new kept

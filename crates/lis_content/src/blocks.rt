@@ -1,9 +1,8 @@
 //! One data block, or its front.
 
-ghost use Rattle.std.specs.Prelude.{◌≡◌, ◌⊎◌, ◌+◌, ◌*◌, ◌<◌, ◌≤◌, ◌==◌, if◌then◌else◌, ℕ, List, false, length, take, IsTrue, OnOk};
-ghost use Rattle.lis_ports.specs.Runs.{IsDiskRun, Leaves};
-ghost use Rattle.lis_ports.specs.Calls.{HasCause, IsUnchanged, DiskFaultEnds};
-ghost use Rattle.lis_journal.specs.Images.{Fits, look, is_among};
+ghost use Rattle.std.specs.Prelude.{◌≡◌, ◌⊎◌, ◌+◌, ◌<◌, ◌≤◌, ◌==◌, if◌then◌else◌, ℕ, List, false, length, take, IsTrue, OnOk};
+ghost use Rattle.lis_ports.specs.Calls.{ReadsDisk};
+ghost use Rattle.lis_journal.specs.Images.{Fits, look, is_among, JournalIsUsable};
 ghost use Rattle.lis_journal.specs.Staging.{with_entry, has_entry};
 ghost use Rattle.lis_content.specs.Content.{padded};
 
@@ -28,18 +27,12 @@ pub fn read_front<D: Disk>(
     requires home { 578 ≤ n }
     requires within { n < journal.now.blocks }
     requires few { length buf.old ≤ 4096 }
-    requires unbroken { journal.now.is_broken ≡ false }
-    requires long { 4096 * journal.now.blocks ≤ (D.meaning disk.old).len }
+    requires usable { JournalIsUsable journal.now (D.meaning disk.old) }
     ensures front { OnOk result ((kept : ℕ → List ℕ) → Fits journal.now (D.meaning disk.old) kept
         → buf.new ≡ take (length buf.old) (look journal.now.staged n (kept n))) }
     ensures whole { OnOk result ((kept : ℕ → List ℕ) → Fits journal.now (D.meaning disk.old) kept
         → length (look journal.now.staged n (kept n)) ≡ 4096) }
-    ensures run { IsDiskRun (D.meaning disk.old) (D.meaning disk.new) }
-    ensures cause { HasCause (D.meaning disk.old).disk_faults (D.meaning disk.new).disk_faults result }
-    ensures first_fault { DiskFaultEnds (D.meaning disk.old) (D.meaning disk.new) }
-    ensures same { IsTrue (D.meaning disk.old).is_honest → IsUnchanged (D.meaning disk.old) (D.meaning disk.new) }
-    ensures any_moment { IsTrue (D.meaning disk.old).is_honest
-        → Leaves (D.meaning disk.old) (D.meaning disk.new) (D.meaning disk.old).images }
+    ensures disk { ReadsDisk (D.meaning disk.old) (D.meaning disk.new) result }
     ensures fits { (kept : ℕ → List ℕ) → Fits journal.now (D.meaning disk.old) kept
         → Fits journal.now (D.meaning disk.new) kept }
 {

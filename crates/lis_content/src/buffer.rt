@@ -1,9 +1,8 @@
 //! The bytes of a file, in memory that is taken once.
 
-ghost use Rattle.std.specs.Prelude.{◌≡◌, ◌*◌, ◌≤◌, ℕ, List, [], false, length, take, IsTrue, IfOk, OnOk};
-ghost use Rattle.lis_ports.specs.Runs.{IsDiskRun, Leaves};
-ghost use Rattle.lis_ports.specs.Calls.{HasCause, IsUnchanged, DiskFaultEnds};
-ghost use Rattle.lis_journal.specs.Images.{Fits};
+ghost use Rattle.std.specs.Prelude.{◌≡◌, ◌≤◌, ℕ, List, [], length, take, IsTrue, IfOk, OnOk};
+ghost use Rattle.lis_ports.specs.Calls.{ReadsDisk};
+ghost use Rattle.lis_journal.specs.Images.{Fits, JournalIsUsable};
 ghost use Rattle.lis_journal.specs.Phases.{looked};
 ghost use Rattle.lis_content.specs.Content.{are_within};
 ghost use Rattle.lis_content.specs.Large.{slot_count, content_blocks, file_content};
@@ -52,17 +51,11 @@ fn read_front<D: Disk>(
     requires count { length blocks.now ≡ slot_count size }
     requires home { 578 ≤ base }
     requires within { IsTrue (are_within base journal.now.blocks blocks.now) }
-    requires unbroken { journal.now.is_broken ≡ false }
-    requires long { 4096 * journal.now.blocks ≤ (D.meaning disk.old).len }
+    requires usable { JournalIsUsable journal.now (D.meaning disk.old) }
     ensures read { OnOk result ((kept : ℕ → List ℕ) → Fits journal.now (D.meaning disk.old) kept
         → IsTrue (are_within base journal.now.blocks (content_blocks base blocks.now size (looked journal.now.staged kept)))
         → take size items.new ≡ file_content base blocks.now size (looked journal.now.staged kept)) }
-    ensures run { IsDiskRun (D.meaning disk.old) (D.meaning disk.new) }
-    ensures cause { HasCause (D.meaning disk.old).disk_faults (D.meaning disk.new).disk_faults result }
-    ensures first_fault { DiskFaultEnds (D.meaning disk.old) (D.meaning disk.new) }
-    ensures same { IsTrue (D.meaning disk.old).is_honest → IsUnchanged (D.meaning disk.old) (D.meaning disk.new) }
-    ensures any_moment { IsTrue (D.meaning disk.old).is_honest
-        → Leaves (D.meaning disk.old) (D.meaning disk.new) (D.meaning disk.old).images }
+    ensures disk { ReadsDisk (D.meaning disk.old) (D.meaning disk.new) result }
     ensures fits { (kept : ℕ → List ℕ) → Fits journal.now (D.meaning disk.old) kept
         → Fits journal.now (D.meaning disk.new) kept }
 {
@@ -90,18 +83,12 @@ fn read_frame<D: Disk>(
     requires count { length blocks.now ≡ slot_count size }
     requires home { 578 ≤ base }
     requires within { IsTrue (are_within base journal.now.blocks blocks.now) }
-    requires unbroken { journal.now.is_broken ≡ false }
-    requires long { 4096 * journal.now.blocks ≤ (D.meaning disk.old).len }
+    requires usable { JournalIsUsable journal.now (D.meaning disk.old) }
     ensures kept { IsKept region.new frame.now size }
     ensures read { OnOk result ((kept : ℕ → List ℕ) → Fits journal.now (D.meaning disk.old) kept
         → IsTrue (are_within base journal.now.blocks (content_blocks base blocks.now size (looked journal.now.staged kept)))
         → kept_bytes region.new frame.now size ≡ file_content base blocks.now size (looked journal.now.staged kept)) }
-    ensures run { IsDiskRun (D.meaning disk.old) (D.meaning disk.new) }
-    ensures cause { HasCause (D.meaning disk.old).disk_faults (D.meaning disk.new).disk_faults result }
-    ensures first_fault { DiskFaultEnds (D.meaning disk.old) (D.meaning disk.new) }
-    ensures same { IsTrue (D.meaning disk.old).is_honest → IsUnchanged (D.meaning disk.old) (D.meaning disk.new) }
-    ensures any_moment { IsTrue (D.meaning disk.old).is_honest
-        → Leaves (D.meaning disk.old) (D.meaning disk.new) (D.meaning disk.old).images }
+    ensures disk { ReadsDisk (D.meaning disk.old) (D.meaning disk.new) result }
     ensures fits { (kept : ℕ → List ℕ) → Fits journal.now (D.meaning disk.old) kept
         → Fits journal.now (D.meaning disk.new) kept }
 {
@@ -146,18 +133,12 @@ impl Buffer {
         requires count { length blocks.now ≡ slot_count size }
         requires home { 578 ≤ base }
         requires within { IsTrue (are_within base journal.now.blocks blocks.now) }
-        requires unbroken { journal.now.is_broken ≡ false }
-        requires long { 4096 * journal.now.blocks ≤ (D.meaning disk.old).len }
+        requires usable { JournalIsUsable journal.now (D.meaning disk.old) }
         ensures read { OnOk result ((kept : ℕ → List ℕ) → Fits journal.now (D.meaning disk.old) kept
             → IsTrue (are_within base journal.now.blocks (content_blocks base blocks.now size (looked journal.now.staged kept)))
             → self.new ≡ file_content base blocks.now size (looked journal.now.staged kept)) }
         ensures size { OnOk result (length self.new ≡ size) }
-        ensures run { IsDiskRun (D.meaning disk.old) (D.meaning disk.new) }
-        ensures cause { HasCause (D.meaning disk.old).disk_faults (D.meaning disk.new).disk_faults result }
-        ensures first_fault { DiskFaultEnds (D.meaning disk.old) (D.meaning disk.new) }
-        ensures same { IsTrue (D.meaning disk.old).is_honest → IsUnchanged (D.meaning disk.old) (D.meaning disk.new) }
-        ensures any_moment { IsTrue (D.meaning disk.old).is_honest
-            → Leaves (D.meaning disk.old) (D.meaning disk.new) (D.meaning disk.old).images }
+        ensures disk { ReadsDisk (D.meaning disk.old) (D.meaning disk.new) result }
         ensures fits { (kept : ℕ → List ℕ) → Fits journal.now (D.meaning disk.old) kept
             → Fits journal.now (D.meaning disk.new) kept }
     {

@@ -1,10 +1,9 @@
 //! The bytes of a file: put into data blocks, read from them, and dropped.
 
-ghost use Rattle.std.specs.Prelude.{◌≡◌, ◌+◌, ◌*◌, ◌<◌, ◌≤◌, ℕ, List, [], false, length, IsTrue, OnOk, MatchResult};
-ghost use Rattle.lis_ports.specs.Runs.{IsDiskRun, Leaves};
-ghost use Rattle.lis_ports.specs.Calls.{HasCause, IsUnchanged, DiskFaultEnds};
+ghost use Rattle.std.specs.Prelude.{◌≡◌, ◌+◌, ◌≤◌, ℕ, List, [], false, length, IsTrue, OnOk, MatchResult};
+ghost use Rattle.lis_ports.specs.Calls.{ReadsDisk};
 ghost use Rattle.lis_model.specs.State.{blocks_needed};
-ghost use Rattle.lis_journal.specs.Images.{Fits};
+ghost use Rattle.lis_journal.specs.Images.{Fits, JournalIsUsable};
 ghost use Rattle.lis_journal.specs.Phases.{looked};
 ghost use Rattle.lis_blockmap.specs.Bitmap.{free_count};
 ghost use Rattle.lis_content.specs.Content.{content, given, are_taken, are_within};
@@ -33,10 +32,9 @@ pub fn put<D: Disk>(
     requires taken { IsTrue (are_taken map.old old.now) }
     requires home { 578 ≤ base }
     requires within { base + length map.old ≤ journal.old.blocks }
-    requires unbroken { journal.old.is_broken ≡ false }
+    requires usable { JournalIsUsable journal.old (D.meaning disk.old) }
     requires unplaced { journal.old.placed ≡ [] }
     requires room { length journal.old.staged + 16 ≤ 575 }
-    requires long { 4096 * journal.old.blocks ≤ (D.meaning disk.old).len }
     ensures ended { MatchResult result
         (λ blocks. IsPut base old.now bytes.now map.old map.new journal.old journal.new blocks.items)
         (λ fault. IsRefused old.now bytes.now map.old map.new journal.old journal.new fault) }
@@ -91,16 +89,10 @@ pub fn read<D: Disk>(
     requires count { length blocks.now ≡ blocks_needed size }
     requires home { 578 ≤ base }
     requires within { IsTrue (are_within base journal.now.blocks blocks.now) }
-    requires unbroken { journal.now.is_broken ≡ false }
-    requires long { 4096 * journal.now.blocks ≤ (D.meaning disk.old).len }
+    requires usable { JournalIsUsable journal.now (D.meaning disk.old) }
     ensures read { OnOk result ((kept : ℕ → List ℕ) → Fits journal.now (D.meaning disk.old) kept
         → buf.new ≡ content base blocks.now size (looked journal.now.staged kept)) }
-    ensures run { IsDiskRun (D.meaning disk.old) (D.meaning disk.new) }
-    ensures cause { HasCause (D.meaning disk.old).disk_faults (D.meaning disk.new).disk_faults result }
-    ensures first_fault { DiskFaultEnds (D.meaning disk.old) (D.meaning disk.new) }
-    ensures same { IsTrue (D.meaning disk.old).is_honest → IsUnchanged (D.meaning disk.old) (D.meaning disk.new) }
-    ensures any_moment { IsTrue (D.meaning disk.old).is_honest
-        → Leaves (D.meaning disk.old) (D.meaning disk.new) (D.meaning disk.old).images }
+    ensures disk { ReadsDisk (D.meaning disk.old) (D.meaning disk.new) result }
     ensures fits { (kept : ℕ → List ℕ) → Fits journal.now (D.meaning disk.old) kept
         → Fits journal.now (D.meaning disk.new) kept }
 {

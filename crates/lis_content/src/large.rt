@@ -1,15 +1,13 @@
 //! The bytes of a file with an index block where a slot has too few numbers: read, and dropped.
 
-ghost use Rattle.std.specs.Prelude.{◌≡◌, ◌+◌, ◌*◌, ◌<◌, ◌≤◌, ◌==◌, ℕ, List, None, true, false, length, slice_index, slice_set, IsTrue, IfOk, IfSome, OnOk, OnErr};
+ghost use Rattle.std.specs.Prelude.{◌≡◌, ◌<◌, ◌≤◌, ◌==◌, ℕ, List, None, true, false, length, slice_index, slice_set, IsTrue, IfOk, IfSome, OnOk, OnErr};
 ghost use Rattle.std.specs.List.{list_all};
-ghost use Rattle.lis_ports.specs.Runs.{IsDiskRun, Leaves};
-ghost use Rattle.lis_ports.specs.Calls.{HasCause, IsUnchanged, DiskFaultEnds};
+ghost use Rattle.lis_ports.specs.Calls.{ReadsDisk};
 ghost use Rattle.lis_model.specs.State.{blocks_needed, blocks_taken};
-ghost use Rattle.lis_journal.specs.Images.{Fits, look, held_in};
+ghost use Rattle.lis_journal.specs.Images.{Fits, look, held_in, JournalIsUsable};
 ghost use Rattle.lis_journal.specs.Phases.{looked};
 ghost use Rattle.lis_content.specs.Content.{given, are_within};
 ghost use Rattle.lis_content.specs.Large.{index_bytes, is_large, slot_count, index_home, number_at, numbers_in, content_blocks, file_blocks, file_content, block_within};
-ghost use Rattle.lis_content.specs.Placing.{Asks};
 
 use crate::blocks::{fill, home};
 use crate::content::read;
@@ -47,15 +45,14 @@ fn read_home<D: Disk>(journal: &Journal, disk: &mut D, n: u32, buf: &mut [u8]) -
     requires home { 578 ≤ n }
     requires within { n < journal.now.blocks }
     requires whole { length buf.old ≡ 4096 }
-    requires unbroken { journal.now.is_broken ≡ false }
-    requires long { 4096 * journal.now.blocks ≤ (D.meaning disk.old).len }
+    requires usable { JournalIsUsable journal.now (D.meaning disk.old) }
     ensures read { OnOk result ((kept : ℕ → List ℕ) → Fits journal.now (D.meaning disk.old) kept
         → buf.new ≡ look journal.now.staged n (kept n)) }
     ensures held { OnOk result (IsTrue (D.meaning disk.old).is_honest
         → buf.new ≡ held_in journal.now (D.meaning disk.old).bytes n) }
-    ensures asks { Asks journal.now (D.meaning disk.old) (D.meaning disk.new) }
-    ensures cause { HasCause (D.meaning disk.old).disk_faults (D.meaning disk.new).disk_faults result }
-    ensures first_fault { DiskFaultEnds (D.meaning disk.old) (D.meaning disk.new) }
+    ensures disk { ReadsDisk (D.meaning disk.old) (D.meaning disk.new) result }
+    ensures fits { (kept : ℕ → List ℕ) → Fits journal.now (D.meaning disk.old) kept
+        → Fits journal.now (D.meaning disk.new) kept }
 {
     journal.read(disk, n, buf)
 }
@@ -74,13 +71,12 @@ pub fn read_index_block<D: Disk>(
     requires home { 578 ≤ base }
     requires within { IsTrue (are_within base journal.now.blocks blocks.now) }
     requires whole { length buf.old ≡ 4096 }
-    requires unbroken { journal.now.is_broken ≡ false }
-    requires long { 4096 * journal.now.blocks ≤ (D.meaning disk.old).len }
+    requires usable { JournalIsUsable journal.now (D.meaning disk.old) }
     ensures held { OnOk result (IsTrue (D.meaning disk.old).is_honest → is_large size ≡ true
         → buf.new ≡ held_in journal.now (D.meaning disk.old).bytes (index_home base blocks.now)) }
-    ensures asks { Asks journal.now (D.meaning disk.old) (D.meaning disk.new) }
-    ensures cause { HasCause (D.meaning disk.old).disk_faults (D.meaning disk.new).disk_faults result }
-    ensures first_fault { DiskFaultEnds (D.meaning disk.old) (D.meaning disk.new) }
+    ensures disk { ReadsDisk (D.meaning disk.old) (D.meaning disk.new) result }
+    ensures fits { (kept : ℕ → List ℕ) → Fits journal.now (D.meaning disk.old) kept
+        → Fits journal.now (D.meaning disk.new) kept }
 {
     if !is_large(size) {
         return Ok(());
@@ -123,13 +119,12 @@ fn read_within<D: Disk>(
     requires whole { length buf.old ≡ 4096 }
     requires home { 578 ≤ base }
     requires within { base ≤ journal.now.blocks }
-    requires unbroken { journal.now.is_broken ≡ false }
-    requires long { 4096 * journal.now.blocks ≤ (D.meaning disk.old).len }
+    requires usable { JournalIsUsable journal.now (D.meaning disk.old) }
     ensures read { OnOk result ((kept : ℕ → List ℕ) → Fits journal.now (D.meaning disk.old) kept
         → buf.new ≡ block_within base journal.now.blocks (looked journal.now.staged kept) number) }
-    ensures asks { Asks journal.now (D.meaning disk.old) (D.meaning disk.new) }
-    ensures cause { HasCause (D.meaning disk.old).disk_faults (D.meaning disk.new).disk_faults result }
-    ensures first_fault { DiskFaultEnds (D.meaning disk.old) (D.meaning disk.new) }
+    ensures disk { ReadsDisk (D.meaning disk.old) (D.meaning disk.new) result }
+    ensures fits { (kept : ℕ → List ℕ) → Fits journal.now (D.meaning disk.old) kept
+        → Fits journal.now (D.meaning disk.new) kept }
 {
     if u32::from(number) >= journal.blocks() - base {
         fill(buf, &[]);
@@ -157,18 +152,12 @@ pub fn read_block_by<D: Disk>(
     requires inside { n < blocks_needed size }
     requires index { length index.now ≡ 4096 }
     requires whole { length buf.old ≡ 4096 }
-    requires unbroken { journal.now.is_broken ≡ false }
-    requires long { 4096 * journal.now.blocks ≤ (D.meaning disk.old).len }
+    requires usable { JournalIsUsable journal.now (D.meaning disk.old) }
     ensures read { OnOk result ((kept : ℕ → List ℕ) → Fits journal.now (D.meaning disk.old) kept
         → (is_large size ≡ true → index.now ≡ looked journal.now.staged kept (index_home base blocks.now))
         → buf.new ≡ block_within base journal.now.blocks (looked journal.now.staged kept)
         (slice_index (content_blocks base blocks.now size (looked journal.now.staged kept)) n)) }
-    ensures run { IsDiskRun (D.meaning disk.old) (D.meaning disk.new) }
-    ensures cause { HasCause (D.meaning disk.old).disk_faults (D.meaning disk.new).disk_faults result }
-    ensures first_fault { DiskFaultEnds (D.meaning disk.old) (D.meaning disk.new) }
-    ensures same { IsTrue (D.meaning disk.old).is_honest → IsUnchanged (D.meaning disk.old) (D.meaning disk.new) }
-    ensures any_moment { IsTrue (D.meaning disk.old).is_honest
-        → Leaves (D.meaning disk.old) (D.meaning disk.new) (D.meaning disk.old).images }
+    ensures disk { ReadsDisk (D.meaning disk.old) (D.meaning disk.new) result }
     ensures fits { (kept : ℕ → List ℕ) → Fits journal.now (D.meaning disk.old) kept
         → Fits journal.now (D.meaning disk.new) kept }
 {
@@ -193,17 +182,11 @@ pub fn read_block<D: Disk>(
     requires within { IsTrue (are_within base journal.now.blocks blocks.now) }
     requires inside { n < blocks_needed size }
     requires whole { length buf.old ≡ 4096 }
-    requires unbroken { journal.now.is_broken ≡ false }
-    requires long { 4096 * journal.now.blocks ≤ (D.meaning disk.old).len }
+    requires usable { JournalIsUsable journal.now (D.meaning disk.old) }
     ensures read { OnOk result ((kept : ℕ → List ℕ) → Fits journal.now (D.meaning disk.old) kept
         → buf.new ≡ block_within base journal.now.blocks (looked journal.now.staged kept)
         (slice_index (content_blocks base blocks.now size (looked journal.now.staged kept)) n)) }
-    ensures run { IsDiskRun (D.meaning disk.old) (D.meaning disk.new) }
-    ensures cause { HasCause (D.meaning disk.old).disk_faults (D.meaning disk.new).disk_faults result }
-    ensures first_fault { DiskFaultEnds (D.meaning disk.old) (D.meaning disk.new) }
-    ensures same { IsTrue (D.meaning disk.old).is_honest → IsUnchanged (D.meaning disk.old) (D.meaning disk.new) }
-    ensures any_moment { IsTrue (D.meaning disk.old).is_honest
-        → Leaves (D.meaning disk.old) (D.meaning disk.new) (D.meaning disk.old).images }
+    ensures disk { ReadsDisk (D.meaning disk.old) (D.meaning disk.new) result }
     ensures fits { (kept : ℕ → List ℕ) → Fits journal.now (D.meaning disk.old) kept
         → Fits journal.now (D.meaning disk.new) kept }
 {
@@ -254,14 +237,13 @@ fn read_index<D: Disk>(
     requires home { 578 ≤ n }
     requires within { n < journal.now.blocks }
     requires few { count ≤ 256 }
-    requires unbroken { journal.now.is_broken ≡ false }
-    requires long { 4096 * journal.now.blocks ≤ (D.meaning disk.old).len }
+    requires usable { JournalIsUsable journal.now (D.meaning disk.old) }
     ensures numbers { IfOk result (λ numbers. (kept : ℕ → List ℕ) → Fits journal.now (D.meaning disk.old) kept
         → numbers.items ≡ numbers_in count (look journal.now.staged n (kept n))) }
     ensures count { IfOk result (λ numbers. length numbers.items ≡ count) }
-    ensures asks { Asks journal.now (D.meaning disk.old) (D.meaning disk.new) }
-    ensures cause { HasCause (D.meaning disk.old).disk_faults (D.meaning disk.new).disk_faults result }
-    ensures first_fault { DiskFaultEnds (D.meaning disk.old) (D.meaning disk.new) }
+    ensures disk { ReadsDisk (D.meaning disk.old) (D.meaning disk.new) result }
+    ensures fits { (kept : ℕ → List ℕ) → Fits journal.now (D.meaning disk.old) kept
+        → Fits journal.now (D.meaning disk.new) kept }
 {
     let mut block = [0; BLOCK_LEN];
     read_home(journal, disk, n, &mut block)?;
@@ -314,17 +296,11 @@ pub fn read_content<D: Disk>(
     requires count { length slot.now ≡ slot_count size }
     requires home { 578 ≤ base }
     requires within { IsTrue (are_within base journal.now.blocks slot.now) }
-    requires unbroken { journal.now.is_broken ≡ false }
-    requires long { 4096 * journal.now.blocks ≤ (D.meaning disk.old).len }
+    requires usable { JournalIsUsable journal.now (D.meaning disk.old) }
     ensures read { OnOk result ((kept : ℕ → List ℕ) → Fits journal.now (D.meaning disk.old) kept
         → IsTrue (are_within base journal.now.blocks (content_blocks base slot.now size (looked journal.now.staged kept)))
         → buf.new ≡ file_content base slot.now size (looked journal.now.staged kept)) }
-    ensures run { IsDiskRun (D.meaning disk.old) (D.meaning disk.new) }
-    ensures cause { HasCause (D.meaning disk.old).disk_faults (D.meaning disk.new).disk_faults result }
-    ensures first_fault { DiskFaultEnds (D.meaning disk.old) (D.meaning disk.new) }
-    ensures same { IsTrue (D.meaning disk.old).is_honest → IsUnchanged (D.meaning disk.old) (D.meaning disk.new) }
-    ensures any_moment { IsTrue (D.meaning disk.old).is_honest
-        → Leaves (D.meaning disk.old) (D.meaning disk.new) (D.meaning disk.old).images }
+    ensures disk { ReadsDisk (D.meaning disk.old) (D.meaning disk.new) result }
     ensures fits { (kept : ℕ → List ℕ) → Fits journal.now (D.meaning disk.old) kept
         → Fits journal.now (D.meaning disk.new) kept }
 {
@@ -354,19 +330,13 @@ pub fn drop_large<D: Disk>(
     requires count { length blocks.now ≡ slot_count size }
     requires home { 578 ≤ base }
     requires within { IsTrue (are_within base journal.now.blocks blocks.now) }
-    requires unbroken { journal.now.is_broken ≡ false }
-    requires long { 4096 * journal.now.blocks ≤ (D.meaning disk.old).len }
+    requires usable { JournalIsUsable journal.now (D.meaning disk.old) }
     ensures given { OnOk result ((kept : ℕ → List ℕ) → Fits journal.now (D.meaning disk.old) kept
         → map.new ≡ given map.old (file_blocks base blocks.now size (looked journal.now.staged kept))) }
     ensures small { OnOk result (is_large size ≡ false → map.new ≡ given map.old blocks.now) }
     ensures len { length map.new ≡ length map.old }
     ensures stays { OnErr result (map.new ≡ map.old) }
-    ensures run { IsDiskRun (D.meaning disk.old) (D.meaning disk.new) }
-    ensures cause { HasCause (D.meaning disk.old).disk_faults (D.meaning disk.new).disk_faults result }
-    ensures first_fault { DiskFaultEnds (D.meaning disk.old) (D.meaning disk.new) }
-    ensures same { IsTrue (D.meaning disk.old).is_honest → IsUnchanged (D.meaning disk.old) (D.meaning disk.new) }
-    ensures any_moment { IsTrue (D.meaning disk.old).is_honest
-        → Leaves (D.meaning disk.old) (D.meaning disk.new) (D.meaning disk.old).images }
+    ensures disk { ReadsDisk (D.meaning disk.old) (D.meaning disk.new) result }
     ensures fits { (kept : ℕ → List ℕ) → Fits journal.now (D.meaning disk.old) kept
         → Fits journal.now (D.meaning disk.new) kept }
 {

@@ -1,10 +1,11 @@
 //! The bytes of a file, placed in free blocks without a record.
 
-ghost use Rattle.std.specs.Prelude.{◌≡◌, ◌+◌, ◌*◌, ◌/◌, ◌<◌, ◌≤◌, ◌++◌, ℕ, [], false, true, length, slice_set, IsTrue, IfOk, Err, MatchResult};
+ghost use Rattle.std.specs.Prelude.{◌≡◌, ◌+◌, ◌/◌, ◌<◌, ◌≤◌, ◌++◌, [], false, true, length, slice_set, IsTrue, IfOk, Err, MatchResult};
 ghost use Rattle.std.specs.List.{flat_map, range_with_len};
 ghost use Rattle.byteorder.specs.Endian.{little_bytes};
 ghost use Rattle.lis_ports.specs.Runs.{IsDiskRun};
-ghost use Rattle.lis_ports.specs.Calls.{HasCause, DiskFaultEnds};
+ghost use Rattle.lis_ports.specs.Calls.{DiskFaultEnds, UsesDisk};
+ghost use Rattle.lis_journal.specs.Images.{JournalIsUsable};
 ghost use Rattle.lis_model.specs.State.{blocks_needed, blocks_taken};
 ghost use Rattle.lis_blockmap.specs.Bitmap.{free_count, is_taken};
 ghost use Rattle.lis_content.specs.Large.{are_short};
@@ -79,17 +80,14 @@ fn place_row<D: Disk>(
     requires some { 0 < free_count map.old }
     requires home { 578 ≤ base }
     requires within { base + length map.old ≤ journal.old.blocks }
-    requires unbroken { journal.old.is_broken ≡ false }
+    requires usable { JournalIsUsable journal.old (D.meaning disk.old) }
     requires unstaged { AreUnstaged base map.old journal.old.staged }
     requires room { length journal.old.placed + length bytes.now / 4096 ≤ 257 }
-    requires long { 4096 * journal.old.blocks ≤ (D.meaning disk.old).len }
     ensures ended { MatchResult result
         (λ row. RowOf base bytes.now map.old map.new journal.old journal.new (D.meaning disk.old) (D.meaning disk.new) row.first row.count)
         (λ _. RowTorn base map.old map.new journal.old journal.new (D.meaning disk.old) (D.meaning disk.new)) }
     ensures narrow { IfOk result (λ row. row.first + row.count ≤ 65536) }
-    ensures run { IsDiskRun (D.meaning disk.old) (D.meaning disk.new) }
-    ensures cause { HasCause (D.meaning disk.old).disk_faults (D.meaning disk.new).disk_faults result }
-    ensures first_fault { DiskFaultEnds (D.meaning disk.old) (D.meaning disk.new) }
+    ensures disk { UsesDisk (D.meaning disk.old) (D.meaning disk.new) result }
 {
     let row = take_row(map, (bytes.len() / BLOCK_LEN) as u32);
     let first = home(journal.blocks(), base, row.first);
@@ -110,16 +108,13 @@ fn place_block<D: Disk>(
     requires some { 0 < free_count map.old }
     requires home { 578 ≤ base }
     requires within { base + length map.old ≤ journal.old.blocks }
-    requires unbroken { journal.old.is_broken ≡ false }
+    requires usable { JournalIsUsable journal.old (D.meaning disk.old) }
     requires unstaged { AreUnstaged base map.old journal.old.staged }
     requires room { length journal.old.placed < 257 }
-    requires long { 4096 * journal.old.blocks ≤ (D.meaning disk.old).len }
     ensures ended { MatchResult result
         (λ n. OnePlaced base bytes.now map.old map.new journal.old journal.new (D.meaning disk.old) (D.meaning disk.new) n)
         (λ _. RowTorn base map.old map.new journal.old journal.new (D.meaning disk.old) (D.meaning disk.new)) }
-    ensures run { IsDiskRun (D.meaning disk.old) (D.meaning disk.new) }
-    ensures cause { HasCause (D.meaning disk.old).disk_faults (D.meaning disk.new).disk_faults result }
-    ensures first_fault { DiskFaultEnds (D.meaning disk.old) (D.meaning disk.new) }
+    ensures disk { UsesDisk (D.meaning disk.old) (D.meaning disk.new) result }
 {
     let mut block = [0; BLOCK_LEN];
     fill(&mut block, bytes);
@@ -150,16 +145,13 @@ fn place_bytes<D: Disk>(
     requires enough { blocks_needed (length bytes.now) ≤ free_count map.old }
     requires home { 578 ≤ base }
     requires within { base + length map.old ≤ journal.old.blocks }
-    requires unbroken { journal.old.is_broken ≡ false }
+    requires usable { JournalIsUsable journal.old (D.meaning disk.old) }
     requires unplaced { journal.old.placed ≡ [] }
     requires unstaged { AreUnstaged base map.old journal.old.staged }
-    requires long { 4096 * journal.old.blocks ≤ (D.meaning disk.old).len }
     ensures ended { MatchResult result
         (λ blocks. IsLaid base bytes.now map.old map.new journal.old journal.new (D.meaning disk.old) (D.meaning disk.new) blocks.items)
         (λ _. IsTornOff base map.old map.new journal.old journal.new (D.meaning disk.old) (D.meaning disk.new)) }
-    ensures run { IsDiskRun (D.meaning disk.old) (D.meaning disk.new) }
-    ensures cause { HasCause (D.meaning disk.old).disk_faults (D.meaning disk.new).disk_faults result }
-    ensures first_fault { DiskFaultEnds (D.meaning disk.old) (D.meaning disk.new) }
+    ensures disk { UsesDisk (D.meaning disk.old) (D.meaning disk.new) result }
 {
     let mut taken = ArrayVec::new();
     let mut rest = bytes;
@@ -189,18 +181,15 @@ fn place_index<D: Disk>(
     requires some { 0 < free_count map.old }
     requires home { 578 ≤ base }
     requires within { base + length map.old ≤ journal.old.blocks }
-    requires unbroken { journal.old.is_broken ≡ false }
+    requires usable { JournalIsUsable journal.old (D.meaning disk.old) }
     requires unstaged { AreUnstaged base map.old journal.old.staged }
     requires room { length journal.old.placed < 257 }
-    requires long { 4096 * journal.old.blocks ≤ (D.meaning disk.old).len }
     ensures ended { MatchResult result
         (λ n. OnePlaced base (flat_map (little_bytes 2) numbers.now) map.old map.new journal.old journal.new
         (D.meaning disk.old) (D.meaning disk.new) n)
         (λ _. RowTorn base map.old map.new journal.old journal.new (D.meaning disk.old) (D.meaning disk.new)) }
     ensures short { IsTrue (are_short numbers.now) }
-    ensures run { IsDiskRun (D.meaning disk.old) (D.meaning disk.new) }
-    ensures cause { HasCause (D.meaning disk.old).disk_faults (D.meaning disk.new).disk_faults result }
-    ensures first_fault { DiskFaultEnds (D.meaning disk.old) (D.meaning disk.new) }
+    ensures disk { UsesDisk (D.meaning disk.old) (D.meaning disk.new) result }
 {
     let mut held = [0; 512];
     let (used, _) = held.split_at_mut(2 * numbers.len());
@@ -230,16 +219,13 @@ fn place_all<D: Disk>(
     requires enough { blocks_taken 2 (length bytes.now) ≤ free_count map.old }
     requires home { 578 ≤ base }
     requires within { base + length map.old ≤ journal.old.blocks }
-    requires unbroken { journal.old.is_broken ≡ false }
+    requires usable { JournalIsUsable journal.old (D.meaning disk.old) }
     requires unplaced { journal.old.placed ≡ [] }
     requires unstaged { AreUnstaged base map.old journal.old.staged }
-    requires long { 4096 * journal.old.blocks ≤ (D.meaning disk.old).len }
     ensures ended { MatchResult result
         (λ slot. IsPlaced base bytes.now map.old map.new journal.old journal.new (D.meaning disk.old) (D.meaning disk.new) slot.items)
         (λ _. IsTornOff base map.old map.new journal.old journal.new (D.meaning disk.old) (D.meaning disk.new)) }
-    ensures run { IsDiskRun (D.meaning disk.old) (D.meaning disk.new) }
-    ensures cause { HasCause (D.meaning disk.old).disk_faults (D.meaning disk.new).disk_faults result }
-    ensures first_fault { DiskFaultEnds (D.meaning disk.old) (D.meaning disk.new) }
+    ensures disk { UsesDisk (D.meaning disk.old) (D.meaning disk.new) result }
 {
     let numbers = place_bytes(map, journal, disk, base, bytes)?;
     if !is_large(bytes.len() as u32) {
@@ -261,10 +247,9 @@ pub fn place_file<D: Disk>(
     requires few { length bytes.now ≤ 1048576 }
     requires home { 578 ≤ base }
     requires within { base + length map.old ≤ journal.old.blocks }
-    requires unbroken { journal.old.is_broken ≡ false }
+    requires usable { JournalIsUsable journal.old (D.meaning disk.old) }
     requires unplaced { journal.old.placed ≡ [] }
     requires unstaged { AreUnstaged base map.old journal.old.staged }
-    requires long { 4096 * journal.old.blocks ≤ (D.meaning disk.old).len }
     ensures ended { MatchResult result
         (λ slot. IsPlaced base bytes.now map.old map.new journal.old journal.new (D.meaning disk.old) (D.meaning disk.new) slot.items)
         (λ fault. IsUnplaced base bytes.now map.old map.new journal.old journal.new (D.meaning disk.old) (D.meaning disk.new) fault) }

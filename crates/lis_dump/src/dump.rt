@@ -1,9 +1,9 @@
 //! The whole dump.
 
-ghost use Rattle.std.specs.Prelude.{◌≡◌, ◌*◌, ◌≤◌, List, [], false};
+ghost use Rattle.std.specs.Prelude.{List, []};
 ghost use Rattle.lis_grammar.specs.Formula.{Formula};
 ghost use Rattle.lis_replay.specs.Dump.{dump_of};
-ghost use Rattle.lis_store.specs.Stored.{IsSound, StoreFits};
+ghost use Rattle.lis_store.specs.Stored.{IsSound, StoreFits, IsUsable};
 ghost use Rattle.lis_session.specs.Item.{Does};
 ghost use Rattle.lis_session.specs.Parts.{only_shows, Ends};
 
@@ -18,8 +18,7 @@ use lis_store::Store;
 /// no memory.
 pub fn dump_state<T: Station>(store: &Store, station: &mut T) -> Result<(), End>
     requires sound { IsSound store.now }
-    requires unbroken { store.now.is_broken ≡ false }
-    requires long { 4096 * store.now.journal.blocks ≤ (T.meaning station.old).len }
+    requires usable { IsUsable store.now (T.meaning station.old) }
     ensures shows { Does {P = List Formula} (λ now. only_shows (dump_of now.state) now) (StoreFits store.now (T.meaning station.old)) []
         (T.meaning station.old) (T.meaning station.new) result (StoreFits store.now (T.meaning station.new)) [] }
     ensures ends { Ends (T.meaning station.old) (T.meaning station.new) result }

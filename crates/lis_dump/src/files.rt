@@ -1,11 +1,11 @@
 //! The files of a dump, with their bytes.
 
-ghost use Rattle.std.specs.Prelude.{◌≡◌, ◌*◌, ◌≤◌, false, Some, slice_get, option_to_list};
+ghost use Rattle.std.specs.Prelude.{◌≡◌, Some, slice_get, option_to_list};
 ghost use Rattle.std.specs.List.{flat_map};
 ghost use Rattle.lis_catalog.specs.Catalog.{slot_of};
 ghost use Rattle.lis_model.specs.Changes.{file_of};
 ghost use Rattle.lis_replay.specs.Dump.{file_lines};
-ghost use Rattle.lis_store.specs.Stored.{IsSound};
+ghost use Rattle.lis_store.specs.Stored.{IsSound, IsUsable};
 ghost use Rattle.lis_session.specs.Showing.{Shows};
 
 use crate::lines::{add_line, mv_line};
@@ -24,8 +24,7 @@ const MAX_ADDED: usize = 8;
 fn show_file<T: Station>(store: &Store, name: &Name, slot: u16, station: &mut T) -> Result<(), End>
     requires sound { IsSound store.now }
     requires slot { slot_of store.now.parts.catalog name.now ≡ Some slot }
-    requires unbroken { store.now.is_broken ≡ false }
-    requires long { 4096 * store.now.journal.blocks ≤ (T.meaning station.old).len }
+    requires usable { IsUsable store.now (T.meaning station.old) }
     ensures { Shows store.now (λ state. file_lines (file_of state.files name.now)) (T.meaning station.old) (T.meaning station.new) result }
 {
     let size = store.file_size(slot);
@@ -39,8 +38,7 @@ fn show_file<T: Station>(store: &Store, name: &Name, slot: u16, station: &mut T)
 // Shows the k-th file, if there is one.
 fn show_file_at<T: Station>(store: &Store, k: u32, station: &mut T) -> Result<(), End>
     requires sound { IsSound store.now }
-    requires unbroken { store.now.is_broken ≡ false }
-    requires long { 4096 * store.now.journal.blocks ≤ (T.meaning station.old).len }
+    requires usable { IsUsable store.now (T.meaning station.old) }
     ensures { Shows store.now (λ state. flat_map file_lines (option_to_list (slice_get state.files k))) (T.meaning station.old) (T.meaning station.new) result }
 {
     let Some((name, slot)) = store.file_at(k) else {
@@ -52,8 +50,7 @@ fn show_file_at<T: Station>(store: &Store, k: u32, station: &mut T) -> Result<()
 /// Shows the files, one by one.
 pub fn show_files<T: Station>(store: &Store, station: &mut T) -> Result<(), End>
     requires sound { IsSound store.now }
-    requires unbroken { store.now.is_broken ≡ false }
-    requires long { 4096 * store.now.journal.blocks ≤ (T.meaning station.old).len }
+    requires usable { IsUsable store.now (T.meaning station.old) }
     ensures { Shows store.now (λ state. flat_map file_lines state.files) (T.meaning station.old) (T.meaning station.new) result }
 {
     for k in 0..store.limits().files {

@@ -3,10 +3,10 @@ use Rattle.std.proofs.Common.{◌≡◌, ℕ, ◌+◌, ◌≤◌, Bool, cond, tr
 use Rattle.std.specs.Option.{IfSome}
 use Rattle.lis_ports.specs.Meaning.{Meaning}
 use Rattle.lis_ports.specs.Runs.{IsDiskRun, Leaves}
-use Rattle.lis_ports.specs.Calls.{Rose, HasCause, DiskFaultEnds}
+use Rattle.lis_ports.specs.Calls.{UsesDisk}
 use Rattle.lis_ports.specs.declared.disk.Failed.{Failed}
-use Rattle.lis_ports.proofs.Ending.{ends_none, ends_then}
-use Rattle.lis_ports.proofs.Moments.{run_none, run_then, leaves_none, leaves_weaken, leaves_then}
+use Rattle.lis_ports.proofs.Ending.{uses_none, uses_then, uses_as, fails_as}
+use Rattle.lis_ports.proofs.Moments.{leaves_none, leaves_weaken, leaves_then}
 use Rattle.lis_grammar.specs.Formula.{Formula}
 use Rattle.lis_model.specs.Step.{Situation, Item, step, situation_after}
 use Rattle.lis_model.specs.State.{State}
@@ -105,9 +105,7 @@ sums_none start m sum unbroken sound none = record {
   image = refl;
   unbroken = unbroken;
   sound = sound;
-  run = run_none m;
-  cause = record { later = omega arith; stays = refl; rose = tt };
-  first_fault = ends_none m;
+  disk = uses_none m sum;
   at = λ state fitting. refl;
   summed = λ state fitting. record {
     moments = leaves_none m _;
@@ -126,9 +124,7 @@ pub record Called {T : Type 0} (now next : Situated) (mid m : Meaning) (result :
   pub limits : next.store.parts.limits ≡ now.store.parts.limits
   pub image : next.store.journal.blocks ≡ now.store.journal.blocks
   pub sound : IsSound next.store
-  pub run : IsDiskRun mid m
-  pub cause : HasCause mid.disk_faults m.disk_faults result
-  pub first_fault : DiskFaultEnds mid m
+  pub disk : UsesDisk mid m result
 
 module _ {start now next : Situated} {entry mid m : Meaning} {first : List Item} {sum : Sum} {Same : Type 0} (done : Sums start entry first now sum mid) (same : Same) where
   -- the item at the place where the first ones led
@@ -151,13 +147,11 @@ module _ {start now next : Situated} {entry mid m : Meaning} {first : List Item}
       image = called.image ∙ done.image;
       unbroken = unbroken;
       sound = called.sound;
-      run = run_then done.run called.run;
-      cause = record { later = omega (arith, called.cause.later, done.cause.later); stays = called.cause.stays ∙ done.cause.stays; rose = tt };
-      first_fault = ends_then done.first_fault done.cause.stays called.first_fault;
+      disk = uses_as after (uses_then done.disk called.disk);
       at = λ state fitting.
           (next_here item (Ok tally) state fitting tallies).made.ended.at ∙ ap (λ (s : Situation). s.place) (sym (last_situation step (situation_at start state) first item));
       summed = λ state fitting.
-          summed_more (situation_at start state) first item entry mid m (StoreFits now.store mid) (StoreFits next.store m) next.place sum (done.summed state fitting) tally after called.run
+          summed_more (situation_at start state) first item entry mid m (StoreFits now.store mid) (StoreFits next.store m) next.place sum (done.summed state fitting) tally after called.disk.run
           (next_here item (Ok tally) state fitting tallies) adds;
     },
     same,
@@ -174,12 +168,10 @@ module _ {start now next : Situated} {entry mid m : Meaning} {first : List Item}
       image = called.image ∙ done.image;
       unbroken = tt;
       sound = called.sound;
-      run = run_then done.run called.run;
-      cause = record { later = omega (arith, called.cause.later, done.cause.later); stays = tt; rose = subst (λ n. Rose n m.disk_faults) done.cause.stays called.cause.rose };
-      first_fault = ends_then done.first_fault done.cause.stays called.first_fault;
+      disk = fails_as failed (uses_then done.disk called.disk);
       at = λ state fitting. tt;
       summed = λ state fitting.
-          summed_into (situation_at start state) first item entry mid m (StoreFits now.store mid) (StoreFits next.store m) next.place sum (done.summed state fitting) failed called.run
+          summed_into (situation_at start state) first item entry mid m (StoreFits now.store mid) (StoreFits next.store m) next.place sum (done.summed state fitting) failed called.disk.run
           (next_here item (Err failed) state fitting tallies);
     },
     same,

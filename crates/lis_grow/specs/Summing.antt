@@ -1,13 +1,12 @@
 -- A session that is carried out with nothing shown: what it has come to since a start, and the sum of its replies.
 -- No public clause cites this module.
-use Rattle.std.specs.Prelude.{◌≡◌, ℕ, ◌+◌, ◌*◌, ◌^◌, ◌≤◌, ◌<◌, List, [], ◌∷◌, ◌++◌, Result, Ok, Err, IfOk, false}
+use Rattle.std.specs.Prelude.{◌≡◌, ℕ, ◌+◌, ◌*◌, ◌^◌, ◌<◌, List, [], ◌∷◌, ◌++◌, Result, Ok, Err, IfOk, false}
 use Rattle.lis_ports.specs.Meaning.{Meaning}
-use Rattle.lis_ports.specs.Runs.{IsDiskRun}
-use Rattle.lis_ports.specs.Calls.{HasCause, DiskFaultEnds}
+use Rattle.lis_ports.specs.Calls.{UsesDisk}
 use Rattle.lis_ports.specs.declared.disk.Failed.{Failed}
 use Rattle.lis_model.specs.State.{State}
 use Rattle.lis_model.specs.Step.{Item, situation_after}
-use Rattle.lis_store.specs.Stored.{IsSound, StoreFits}
+use Rattle.lis_store.specs.Stored.{IsSound, IsUsable, StoreFits}
 use Rattle.lis_session.specs.Item.{FitsAt}
 use Rattle.lis_session.specs.Served.{situation_at}
 use Rattle.lis_session.specs.Session.{Situated}
@@ -17,8 +16,7 @@ use Rattle.lis_grow.specs.declared.summary.Sum.{Sum}
 -- The session can be carried on, and so many replies more can be summed: none lists more than 12,288 words and files.
 pub record CanSum (session : Situated) (sum : Sum) (m : Meaning) (more : ℕ) : Type 0 where
   pub sound : IsSound session.store
-  pub unbroken : session.store.is_broken ≡ false
-  pub long : 4096 * session.store.journal.blocks ≤ m.len
+  pub usable : IsUsable session.store m
   pub replies : sum.replies + more < 2 ^ 32
   pub refused : sum.refused + more < 2 ^ 32
   pub listed : sum.listed + 12288 * more < 2 ^ 64
@@ -29,9 +27,7 @@ pub record SumsTo (start : Situated) (entry : Meaning) (items : List Item) (now 
   pub image : now.store.journal.blocks ≡ start.store.journal.blocks
   pub unbroken : IfOk result (λ sum. now.store.is_broken ≡ false)
   pub sound : IsSound now.store
-  pub run : IsDiskRun entry m
-  pub cause : HasCause entry.disk_faults m.disk_faults result
-  pub first_fault : DiskFaultEnds entry m
+  pub disk : UsesDisk entry m result
   pub at : (state : State) → FitsAt (StoreFits start.store entry) entry state → IfOk result (λ sum. now.place ≡ (situation_after (situation_at start state) items).place)
   pub summed : (state : State) → FitsAt (StoreFits start.store entry) entry state → Summed (situation_at start state) items entry m result (StoreFits now.store m)
 

@@ -1,11 +1,10 @@
 //! The session carried out.
 
-ghost use Rattle.std.specs.Prelude.{◌≡◌, ◌≢◌, ◌*◌, ◌≤◌, ◌<◌, ◌^◌, false, Err, IfOk};
+ghost use Rattle.std.specs.Prelude.{◌≡◌, false, IfOk};
 ghost use Rattle.lis_ports.specs.Runs.{IsDiskRun};
 ghost use Rattle.lis_ports.specs.Calls.{HasCause, DiskFaultEnds, StationFaultEnds};
 ghost use Rattle.lis_model.specs.State.{State};
-ghost use Rattle.lis_store.specs.Stored.{IsSound, StoreFits};
-ghost use Rattle.lis_session.specs.declared.end.End.TheVariants.{DiskFault};
+ghost use Rattle.lis_store.specs.Stored.{IsSound, StoreFits, IsUsable};
 ghost use Rattle.lis_session.specs.Item.{HasEndCause, IsSameStation, StoreLeft};
 ghost use Rattle.lis_grow.specs.Session.{grow_items, Summed, Grows, GrowEnded};
 
@@ -29,8 +28,7 @@ fn carry_out<T: Station>(
     n: u32,
 ) -> Result<Sum, Failed>
     requires sound { IsSound session.old.store }
-    requires unbroken { session.old.store.is_broken ≡ false }
-    requires long { 4096 * session.old.store.journal.blocks ≤ (T.meaning station.old).len }
+    requires usable { IsUsable session.old.store (T.meaning station.old) }
     ensures carries { (state : State) → StoreFits session.old.store (T.meaning station.old) state
         → Summed (record { state = state; place = session.old.place }) (grow_items n) (T.meaning station.old) (T.meaning station.new) result (StoreFits session.new.store (T.meaning station.new)) }
     ensures run { IsDiskRun (T.meaning station.old) (T.meaning station.new) }
@@ -64,8 +62,7 @@ pub fn grow_session<T: Station>(
     n: u32,
 ) -> Result<(), End>
     requires sound { IsSound session.old.store }
-    requires unbroken { session.old.store.is_broken ≡ false }
-    requires long { 4096 * session.old.store.journal.blocks ≤ (T.meaning station.old).len }
+    requires usable { IsUsable session.old.store (T.meaning station.old) }
     ensures grows { (state : State) → StoreFits session.old.store (T.meaning station.old) state
         → Grows (record { state = state; place = session.old.place }) (grow_items n) (T.meaning station.old) (T.meaning station.new)
         (GrowEnded (record { state = state; place = session.old.place }) (grow_items n) (T.meaning station.old).shown (T.meaning station.new) result) }

@@ -10,7 +10,7 @@ use Rattle.lis_ports.proofs.Moments.{run_then, leaves_none, leaves_call, leaves_
 use Rattle.lis_journal.specs.Record.{block, word, words, count_of, homes_of, rises, is_header, record_end, is_record, entries_from, recorded, first_bad, all_recorded, behind}
 use Rattle.lis_journal.specs.Images.{look}
 use Rattle.lis_journal.specs.Staging.{Staging}
-use Rattle.lis_journal.specs.Spreads.{OnlyReads}
+use Rattle.lis_journal.specs.Spreads.{IsQuiet}
 use Rattle.lis_journal.specs.Phases.{Absorbs}
 use Rattle.lis_journal.proofs.Headers.{words-snoc, IsForm, length-words}
 use Rattle.lis_journal.proofs.Places.{rise_parts}
@@ -18,18 +18,18 @@ use Rattle.lis_journal.proofs.Series.{behind-more, entries-more, form-more, form
 use Rattle.lis_journal.proofs.Absorbing.{absorbs_put, absorbs_then}
 
 -- ---- reads in a row
-pub reads_none : (m : Meaning) → OnlyReads m m
-reads_none m = record { bytes = refl; images = λ image is. is; moments = leaves_none m m.images }
+pub quiet_none : (m : Meaning) → IsQuiet m m
+quiet_none m = record { bytes = refl; images = λ image is. is; moments = leaves_none m m.images }
 
-pub reads_call : {a b : Meaning} → IsDiskRun a b → Elapses a b → IsUnchanged a b → OnlyReads a b
-reads_call {a} run time same = record {
+pub quiet_call : {a b : Meaning} → IsDiskRun a b → Elapses a b → IsUnchanged a b → IsQuiet a b
+quiet_call {a} run time same = record {
   bytes = same.bytes;
   images = same.images.only;
   moments = leaves_call a.images run time same.images.only;
 }
 
-pub reads_then : {a b c : Meaning} → OnlyReads a b → OnlyReads b c → OnlyReads a c
-reads_then {a} one two = record {
+pub quiet_then : {a b c : Meaning} → IsQuiet a b → IsQuiet b c → IsQuiet a c
+quiet_then {a} one two = record {
   bytes = two.bytes ∙ one.bytes;
   images = λ image is. one.images image (two.images image is);
   moments = leaves_then one.moments (leaves_weaken a.images two.moments one.images);
@@ -76,14 +76,14 @@ pub record Loaded (old now : Meaning) (before after : Staging) (h : List ℕ) (b
   pub run : IsDiskRun old now
   pub faults : now.disk_faults ≡ old.disk_faults
   pub first_fault : DiskFaultEnds old now
-  pub quiet : IsTrue old.is_honest → OnlyReads old now
+  pub quiet : IsTrue old.is_honest → IsQuiet old now
   pub blocks_are : after.blocks ≡ before.blocks
   pub few : length after.entries ≤ length before.entries + k
   pub loaded : IsTrue old.is_honest → Absorbs before.entries (entries_from (b + 1) (words 1 k h) old.bytes) after.entries
 
-pub quiet_on : {old now next : Meaning} → IsDiskRun old now → (IsTrue old.is_honest → OnlyReads old now) → IsDiskRun now next → Elapses now next → (IsTrue now.is_honest → IsUnchanged now next) → IsTrue old.is_honest → OnlyReads old next
+pub quiet_on : {old now next : Meaning} → IsDiskRun old now → (IsTrue old.is_honest → IsQuiet old now) → IsDiskRun now next → Elapses now next → (IsTrue now.is_honest → IsUnchanged now next) → IsTrue old.is_honest → IsQuiet old next
 quiet_on run quiet run_next time unchanged honest =
-    reads_then (quiet honest) (reads_call run_next time (unchanged (run.honest ∙ honest)))
+    quiet_then (quiet honest) (quiet_call run_next time (unchanged (run.honest ∙ honest)))
 
 pub load_on : {old now next : Meaning} (b k home : ℕ) (before s t : Staging) (h buf : List ℕ) → Loaded old now before s h b k → home ≡ word (k + 1) h → IsDiskRun now next → Elapses now next → next.disk_faults ≡ now.disk_faults → DiskFaultEnds now next → (IsTrue now.is_honest → IsUnchanged now next) → (IsTrue now.is_honest → buf ≡ part (4096 * (b + 1 + k)) 4096 now.bytes) → t.blocks ≡ s.blocks → length t.entries ≤ length s.entries + 1 → ((m : ℕ) (old : List ℕ) → look t.entries m old ≡ cond (m == home) buf (look s.entries m old)) → Loaded old next before t h b (k + 1)
 load_on {old} {now} {next} b k home before s t h buf so_far is_home run time faults ends unchanged read blocks few looks =
@@ -147,7 +147,7 @@ pub record Through (old now : Meaning) (before after : Staging) (first k : ℕ) 
   pub run : IsDiskRun old now
   pub faults : now.disk_faults ≡ old.disk_faults
   pub first_fault : DiskFaultEnds old now
-  pub quiet : IsTrue old.is_honest → OnlyReads old now
+  pub quiet : IsTrue old.is_honest → IsQuiet old now
   pub blocks_are : after.blocks ≡ before.blocks
   pub room : length after.entries + 2 ≤ first
   pub within : first ≤ 578
@@ -155,14 +155,14 @@ pub record Through (old now : Meaning) (before after : Staging) (first k : ℕ) 
   pub ends : IsTrue old.is_honest → first ≡ behind 2 k old.bytes
   pub latest : IsTrue old.is_honest → Absorbs [] (all_recorded 2 k old.bytes) after.entries
 
-pub through_on : {old now next : Meaning} (before s t : Staging) (first last k : ℕ) → Through old now before s first k → IsDiskRun now next → next.disk_faults ≡ now.disk_faults → DiskFaultEnds now next → (IsTrue now.is_honest → OnlyReads now next) → t.blocks ≡ s.blocks → length t.entries + 2 ≤ last → last ≤ 578 → (IsTrue now.is_honest → (is_record s.blocks first now.bytes ≡ true) × (last ≡ record_end first now.bytes) × Absorbs s.entries (recorded first now.bytes) t.entries) → Through old next before t last (k + 1)
+pub through_on : {old now next : Meaning} (before s t : Staging) (first last k : ℕ) → Through old now before s first k → IsDiskRun now next → next.disk_faults ≡ now.disk_faults → DiskFaultEnds now next → (IsTrue now.is_honest → IsQuiet now next) → t.blocks ≡ s.blocks → length t.entries + 2 ≤ last → last ≤ 578 → (IsTrue now.is_honest → (is_record s.blocks first now.bytes ≡ true) × (last ≡ record_end first now.bytes) × Absorbs s.entries (recorded first now.bytes) t.entries) → Through old next before t last (k + 1)
 through_on {old} {now} {next} before s t first last k so_far run faults ends quiet blocks room within read =
     let one : suc k ≡ k + 1 = omega arith in
     record {
       run = run_then so_far.run run;
       faults = faults ∙ so_far.faults;
       first_fault = ends_then so_far.first_fault so_far.faults ends;
-      quiet = λ honest. reads_then (so_far.quiet honest) (quiet (so_far.run.honest ∙ honest));
+      quiet = λ honest. quiet_then (so_far.quiet honest) (quiet (so_far.run.honest ∙ honest));
       blocks_are = blocks ∙ so_far.blocks_are;
       room = room;
       within = within;

@@ -11,7 +11,7 @@ use Rattle.lis_ports.proofs.Moments.{leaves_call, leaves_then, leaves_weaken}
 use Rattle.lis_journal.specs.Record.{block, gates, is_open, has_open, open_count, behind_gates, gates_closed, HomeBlock, first_bad, all_recorded, behind, apply, bad_record, replayed, recovered_as, recovered}
 use Rattle.lis_journal.specs.Journal.{records_of, no_records}
 use Rattle.lis_journal.specs.Images.{look, StandsFor, StandsBut, IsAtRest, FitsAt, KeepsPast}
-use Rattle.lis_journal.specs.Spreads.{Spreads, OnlyReads, SameAround}
+use Rattle.lis_journal.specs.Spreads.{Spreads, IsQuiet, SameAround}
 use Rattle.lis_journal.specs.Phases.{Opened, IsOpened, Shut, IsLoaded, Closes}
 use Rattle.lis_journal.specs.Recovery.{StandsForReplayed, InRecovery, LeftOrRecovering, Recovers}
 use Rattle.lis_journal.proofs.Entries.{Within, block-apply, apply_alike}
@@ -39,7 +39,7 @@ after_sync {old} {m} honest run time synced = record {
   leaves = leaves_call old.images run time (λ image is. (synced.images.only image is).0);
 }
 
-pub reading_on : {old m n : Meaning} → Reading old m → IsDiskRun m n → OnlyReads m n → Reading old n
+pub reading_on : {old m n : Meaning} → Reading old m → IsDiskRun m n → IsQuiet m n → Reading old n
 reading_on {old} {m} {n} reading run quiet = record {
   honest = run.honest ∙ reading.honest;
   reads = quiet.bytes ∙ reading.reads;

@@ -22,6 +22,11 @@ pub record KeepsBut (blocks : ℕ) (placed : List ℕ) (kept : ℕ → List ℕ)
   pub long : 4096 * blocks ≤ length image
   pub same : (n : ℕ) → IsOutside n → is_among placed n ≡ false → block n image ≡ kept n
 
+-- A journal may be used on this disk: it is not broken, and the disk has all its blocks.
+pub record JournalIsUsable (journal : Held) (m : Meaning) : Type 0 where
+  pub unbroken : journal.is_broken ≡ false
+  pub long : 4096 * journal.blocks ≤ m.len
+
 -- It is long enough itself, and has a replayed image, which keeps these blocks.
 unfoldable pub StandsFor : ℕ → (ℕ → List ℕ) → List ℕ → Type 0
 StandsFor blocks kept image = (4096 * blocks ≤ length image) × IsSomeAnd (replayed blocks image) (Keeps blocks kept)

@@ -12,7 +12,7 @@ pub record Spreads (old new : Meaning) (R : List ℕ → List ℕ → Type 0) : 
   pub reads : (from : List ℕ) × (old.images from ⊎ (from ≡ old.bytes)) × R from new.bytes
 
 -- A run that reads: the bytes stay, and each image, at each moment and at the end, is one of before.
-pub record OnlyReads (old new : Meaning) : Type 0 where
+pub record IsQuiet (old new : Meaning) : Type 0 where
   pub bytes : new.bytes ≡ old.bytes
   pub images : (image : List ℕ) → new.images image → old.images image
   pub moments : Leaves old new old.images

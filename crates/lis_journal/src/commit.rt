@@ -2,8 +2,8 @@
 
 ghost use Rattle.std.specs.Prelude.{[], ◌∷◌, ◌≡◌, ◌+◌, ◌*◌, ◌<◌, ◌≤◌, ℕ, List, length, replicate, true, IsTrue, OnOk, slice_index_or};
 ghost use Rattle.lis_ports.specs.Bytes.{put, Torn};
-ghost use Rattle.lis_ports.specs.Runs.{IsDiskRun, Leaves, IsSettled};
-ghost use Rattle.lis_ports.specs.Calls.{HasCause, DiskFaultEnds};
+ghost use Rattle.lis_ports.specs.Runs.{Leaves, IsSettled};
+ghost use Rattle.lis_ports.specs.Calls.{UsesDisk};
 ghost use Rattle.lis_journal.specs.Record.{HomeBlock, gates_closed, apply, homes, homes_of, is_header};
 ghost use Rattle.lis_journal.specs.Journal.{records_of, no_records};
 ghost use Rattle.lis_journal.specs.Images.{StandsBut, StandsForAllOrNone, FitsAt};
@@ -51,9 +51,7 @@ fn write_blocks<D: Disk>(disk: &mut D, stage: &Stage, target: Target) -> Result<
     requires blocks { 578 < stage.now.blocks }
     requires long { 4096 * stage.now.blocks ≤ (D.meaning disk.old).len }
     requires room { FitsTarget target (length stage.now.entries) }
-    ensures run { IsDiskRun (D.meaning disk.old) (D.meaning disk.new) }
-    ensures cause { HasCause (D.meaning disk.old).disk_faults (D.meaning disk.new).disk_faults result }
-    ensures first_fault { DiskFaultEnds (D.meaning disk.old) (D.meaning disk.new) }
+    ensures disk { UsesDisk (D.meaning disk.old) (D.meaning disk.new) result }
     ensures staging { IsStaging stage.now }
     ensures spreads { IsTrue (D.meaning disk.old).is_honest
         → Spreads (D.meaning disk.old) (D.meaning disk.new) (Touched (at_target target stage.now.entries)) }
@@ -71,9 +69,7 @@ fn write_synced<D: Disk>(disk: &mut D, stage: &Stage, target: Target) -> Result<
     requires blocks { 578 < stage.now.blocks }
     requires long { 4096 * stage.now.blocks ≤ (D.meaning disk.old).len }
     requires room { FitsTarget target (length stage.now.entries) }
-    ensures run { IsDiskRun (D.meaning disk.old) (D.meaning disk.new) }
-    ensures cause { HasCause (D.meaning disk.old).disk_faults (D.meaning disk.new).disk_faults result }
-    ensures first_fault { DiskFaultEnds (D.meaning disk.old) (D.meaning disk.new) }
+    ensures disk { UsesDisk (D.meaning disk.old) (D.meaning disk.new) result }
     ensures staging { IsStaging stage.now }
     ensures spreads { IsTrue (D.meaning disk.old).is_honest
         → Spreads (D.meaning disk.old) (D.meaning disk.new) (Touched (at_target target stage.now.entries)) }
@@ -88,9 +84,7 @@ fn write_synced<D: Disk>(disk: &mut D, stage: &Stage, target: Target) -> Result<
 fn write_gate<D: Disk>(disk: &mut D, gate: u32, value: u8) -> Result<(), Failed>
     requires gate { gate < 64 }
     requires long { 8192 ≤ (D.meaning disk.old).len }
-    ensures run { IsDiskRun (D.meaning disk.old) (D.meaning disk.new) }
-    ensures cause { HasCause (D.meaning disk.old).disk_faults (D.meaning disk.new).disk_faults result }
-    ensures first_fault { DiskFaultEnds (D.meaning disk.old) (D.meaning disk.new) }
+    ensures disk { UsesDisk (D.meaning disk.old) (D.meaning disk.new) result }
     ensures spreads { IsTrue (D.meaning disk.old).is_honest
         → Spreads (D.meaning disk.old) (D.meaning disk.new) (Torn (4096 + gate) 1) }
     ensures settled { OnOk result (IsTrue (D.meaning disk.old).is_honest
@@ -103,9 +97,7 @@ fn write_gate<D: Disk>(disk: &mut D, gate: u32, value: u8) -> Result<(), Failed>
 /// Closes the gates 1 to 63 in one write, and syncs. Gate 0 has to be closed on the disk.
 pub fn close_others<D: Disk>(disk: &mut D) -> Result<(), Failed>
     requires { 8192 ≤ (D.meaning disk.old).len }
-    ensures run { IsDiskRun (D.meaning disk.old) (D.meaning disk.new) }
-    ensures cause { HasCause (D.meaning disk.old).disk_faults (D.meaning disk.new).disk_faults result }
-    ensures first_fault { DiskFaultEnds (D.meaning disk.old) (D.meaning disk.new) }
+    ensures disk { UsesDisk (D.meaning disk.old) (D.meaning disk.new) result }
     ensures spreads { IsTrue (D.meaning disk.old).is_honest
         → Spreads (D.meaning disk.old) (D.meaning disk.new) (Torn 4097 63) }
     ensures settled { OnOk result (IsTrue (D.meaning disk.old).is_honest
@@ -126,9 +118,7 @@ fn write_record<D: Disk>(
     requires long { 4096 * stage.now.blocks ≤ (D.meaning disk.old).len }
     requires header { length header.now ≡ 4096 }
     requires room { first + length stage.now.entries + 1 ≤ 578 }
-    ensures run { IsDiskRun (D.meaning disk.old) (D.meaning disk.new) }
-    ensures cause { HasCause (D.meaning disk.old).disk_faults (D.meaning disk.new).disk_faults result }
-    ensures first_fault { DiskFaultEnds (D.meaning disk.old) (D.meaning disk.new) }
+    ensures disk { UsesDisk (D.meaning disk.old) (D.meaning disk.new) result }
     ensures spreads { IsTrue (D.meaning disk.old).is_honest
         → Spreads (D.meaning disk.old) (D.meaning disk.new) (Torn (4096 * first) (4096 * (length stage.now.entries + 1))) }
     ensures settled { OnOk result (IsTrue (D.meaning disk.old).is_honest → IsSettled (D.meaning disk.new)
@@ -154,9 +144,7 @@ pub fn append<D: Disk>(
     requires homes { homes_of header.now ≡ homes stage.now.entries }
     requires few { count < 64 }
     requires room { next + length stage.now.entries + 1 ≤ 578 }
-    ensures run { IsDiskRun (D.meaning disk.old) (D.meaning disk.new) }
-    ensures cause { HasCause (D.meaning disk.old).disk_faults (D.meaning disk.new).disk_faults result }
-    ensures first_fault { DiskFaultEnds (D.meaning disk.old) (D.meaning disk.new) }
+    ensures disk { UsesDisk (D.meaning disk.old) (D.meaning disk.new) result }
     ensures any_moment { (latest : List HomeBlock) (placed : List ℕ) (kept : ℕ → List ℕ)
         → FitsAt stage.now.blocks (records_of count next latest) placed (D.meaning disk.old) kept
         → Leaves (D.meaning disk.old) (D.meaning disk.new)
@@ -177,9 +165,7 @@ pub fn append<D: Disk>(
 pub fn checkpoint<D: Disk>(disk: &mut D, latest: &Stage) -> Result<(), Failed>
     requires blocks { 578 < latest.now.blocks }
     requires long { 4096 * latest.now.blocks ≤ (D.meaning disk.old).len }
-    ensures run { IsDiskRun (D.meaning disk.old) (D.meaning disk.new) }
-    ensures cause { HasCause (D.meaning disk.old).disk_faults (D.meaning disk.new).disk_faults result }
-    ensures first_fault { DiskFaultEnds (D.meaning disk.old) (D.meaning disk.new) }
+    ensures disk { UsesDisk (D.meaning disk.old) (D.meaning disk.new) result }
     ensures staging { IsStaging latest.now }
     ensures any_moment { (count next : ℕ) (placed : List ℕ) (kept : ℕ → List ℕ)
         → IsOpened latest.now.blocks (records_of count next latest.now.entries) placed (D.meaning disk.old) kept

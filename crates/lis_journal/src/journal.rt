@@ -3,9 +3,9 @@
 ghost use Rattle.std.specs.Prelude.{[], ◌≡◌, ◌⊎◌, ◌+◌, ◌*◌, ◌^◌, ◌<◌, ◌≤◌, ◌∷◌, ◌++◌, ℕ, List, length, vec_capacity, true, false, IsTrue, IfOk, IfSome, IfNone, OnOk, OnErr, Ok, Err, if◌then◌else◌, ◌==◌};
 ghost use Rattle.std.specs.List.{range_with_len};
 ghost use Rattle.lis_ports.specs.Runs.{IsDiskRun, Leaves, IsSettled};
-ghost use Rattle.lis_ports.specs.Calls.{HasCause, IsUnchanged, DiskFaultEnds};
+ghost use Rattle.lis_ports.specs.Calls.{DiskFaultEnds, UsesDisk, ReadsDisk};
 ghost use Rattle.lis_journal.specs.Record.{recovered};
-ghost use Rattle.lis_journal.specs.Images.{StandsBut, StandsForAllOrNone, Fits, KeepsPast, look, held_in, is_among, with_placed, with_kept, with_run};
+ghost use Rattle.lis_journal.specs.Images.{StandsBut, StandsForAllOrNone, Fits, KeepsPast, look, held_in, is_among, with_placed, with_kept, with_run, JournalIsUsable};
 ghost use Rattle.lis_journal.specs.Staging.{with_entry, has_entry, are_whole, HasNone};
 
 use crate::header::write_header;
@@ -188,18 +188,12 @@ impl Journal {
         requires home { 578 ≤ n }
         requires within { n < self.now.blocks }
         requires whole { length buf.old ≡ 4096 }
-        requires unbroken { self.now.is_broken ≡ false }
-        requires long { 4096 * self.now.blocks ≤ (D.meaning disk.old).len }
+        requires usable { JournalIsUsable self.now (D.meaning disk.old) }
         ensures read { OnOk result ((kept : ℕ → List ℕ) → Fits self.now (D.meaning disk.old) kept
             → buf.new ≡ look self.now.staged n (kept n)) }
         ensures held { OnOk result (IsTrue (D.meaning disk.old).is_honest
             → buf.new ≡ held_in self.now (D.meaning disk.old).bytes n) }
-        ensures run { IsDiskRun (D.meaning disk.old) (D.meaning disk.new) }
-        ensures cause { HasCause (D.meaning disk.old).disk_faults (D.meaning disk.new).disk_faults result }
-        ensures first_fault { DiskFaultEnds (D.meaning disk.old) (D.meaning disk.new) }
-        ensures same { IsTrue (D.meaning disk.old).is_honest → IsUnchanged (D.meaning disk.old) (D.meaning disk.new) }
-        ensures any_moment { IsTrue (D.meaning disk.old).is_honest
-            → Leaves (D.meaning disk.old) (D.meaning disk.new) (D.meaning disk.old).images }
+        ensures disk { ReadsDisk (D.meaning disk.old) (D.meaning disk.new) result }
         ensures fits { (kept : ℕ → List ℕ) → Fits self.now (D.meaning disk.old) kept
             → Fits self.now (D.meaning disk.new) kept }
     {
@@ -236,8 +230,7 @@ impl Journal {
 
     /// Makes the staged blocks kept, all or none of them. With nothing staged it makes no call of the disk.
     pub fn commit<D: Disk>(&mut self, disk: &mut D) -> Result<(), Failed>
-        requires unbroken { self.old.is_broken ≡ false }
-        requires long { 4096 * self.old.blocks ≤ (D.meaning disk.old).len }
+        requires usable { JournalIsUsable self.old (D.meaning disk.old) }
         ensures idle { self.old.staged ≡ [] → (result ≡ Ok _) × (disk.new ≡ disk.old) × (self.new ≡ self.old) }
 
         // A crash at any moment of the call leaves an image that stands for the blocks as before, but for the placed ones,
@@ -249,9 +242,7 @@ impl Journal {
             → Fits self.new (D.meaning disk.new) (λ n. look self.old.staged n (kept n))) }
         ensures past { (kept : ℕ → List ℕ) → Fits self.old (D.meaning disk.old) kept
             → KeepsPast self.old.blocks (D.meaning disk.old) (D.meaning disk.new) }
-        ensures run { IsDiskRun (D.meaning disk.old) (D.meaning disk.new) }
-        ensures cause { HasCause (D.meaning disk.old).disk_faults (D.meaning disk.new).disk_faults result }
-        ensures first_fault { DiskFaultEnds (D.meaning disk.old) (D.meaning disk.new) }
+        ensures disk { UsesDisk (D.meaning disk.old) (D.meaning disk.new) result }
         ensures done { OnOk result (self.new
             ≡ record self.old { staged = []; records = self.new.records; placed = self.new.placed }) }
         ensures none_placed { OnOk result (0 < length self.old.staged → self.new.placed ≡ []) }
@@ -294,10 +285,9 @@ impl Journal {
         requires home { 578 ≤ n }
         requires within { n < self.old.blocks }
         requires whole { length bytes.now ≡ 4096 }
-        requires unbroken { self.old.is_broken ≡ false }
+        requires usable { JournalIsUsable self.old (D.meaning disk.old) }
         requires unstaged { has_entry self.old.staged n ≡ false }
         requires room { IsTrue (is_among self.old.placed n) ⊎ (length self.old.placed < 257) }
-        requires long { 4096 * self.old.blocks ≤ (D.meaning disk.old).len }
 
         // A crash at any moment of the call leaves an image that stands for the blocks as before, but for this and the
         // placed ones.
@@ -307,9 +297,7 @@ impl Journal {
             → Fits self.new (D.meaning disk.new) (with_kept n bytes.now kept)) }
         ensures past { (kept : ℕ → List ℕ) → Fits self.old (D.meaning disk.old) kept
             → KeepsPast self.old.blocks (D.meaning disk.old) (D.meaning disk.new) }
-        ensures run { IsDiskRun (D.meaning disk.old) (D.meaning disk.new) }
-        ensures cause { HasCause (D.meaning disk.old).disk_faults (D.meaning disk.new).disk_faults result }
-        ensures first_fault { DiskFaultEnds (D.meaning disk.old) (D.meaning disk.new) }
+        ensures disk { UsesDisk (D.meaning disk.old) (D.meaning disk.new) result }
         ensures done { OnOk result (self.new
             ≡ record self.old { records = self.new.records; placed = with_placed self.old.placed n }) }
         ensures broken { OnErr result (self.new ≡ record self.old { records = self.new.records; is_broken = true }) }
@@ -338,10 +326,9 @@ impl Journal {
         requires within { first + count ≤ self.old.blocks }
         requires wide { first + count ≤ 2 ^ 32 }
         requires whole { length bytes.now ≡ 4096 * count }
-        requires unbroken { self.old.is_broken ≡ false }
+        requires usable { JournalIsUsable self.old (D.meaning disk.old) }
         requires unstaged { HasNone self.old.staged first count }
         requires room { length self.old.placed + count ≤ 257 }
-        requires long { 4096 * self.old.blocks ≤ (D.meaning disk.old).len }
 
         // A crash at any moment of the call leaves an image that stands for the blocks as before, but for these and the
         // placed ones.
@@ -352,9 +339,7 @@ impl Journal {
             → Fits self.new (D.meaning disk.new) (with_run first count bytes.now kept)) }
         ensures past { (kept : ℕ → List ℕ) → Fits self.old (D.meaning disk.old) kept
             → KeepsPast self.old.blocks (D.meaning disk.old) (D.meaning disk.new) }
-        ensures run { IsDiskRun (D.meaning disk.old) (D.meaning disk.new) }
-        ensures cause { HasCause (D.meaning disk.old).disk_faults (D.meaning disk.new).disk_faults result }
-        ensures first_fault { DiskFaultEnds (D.meaning disk.old) (D.meaning disk.new) }
+        ensures disk { UsesDisk (D.meaning disk.old) (D.meaning disk.new) result }
         ensures done { OnOk result (self.new
             ≡ record self.old { records = self.new.records; placed = self.old.placed ++ range_with_len first count }) }
         ensures broken { OnErr result (self.new ≡ record self.old { records = self.new.records; is_broken = true }) }

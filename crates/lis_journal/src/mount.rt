@@ -1,12 +1,11 @@
 //! Mounting a journal: the open records are brought home first, and all gates are closed.
 
-ghost use Rattle.std.specs.Prelude.{[], ◌∷◌, ◌≡◌, ◌+◌, ◌*◌, ◌<◌, ◌≤◌, ◌==◌, ℕ, List, Option, None, length, true, false, IsTrue, IfOk, IfSome, OnOk, MatchOption};
+ghost use Rattle.std.specs.Prelude.{[], ◌≡◌, ◌+◌, ◌*◌, ◌<◌, ◌≤◌, ◌==◌, ℕ, List, None, length, true, false, IsTrue, IfOk, IfSome, OnOk, MatchOption};
 ghost use Rattle.std.specs.List.{list_any, prefix_len};
-ghost use Rattle.lis_ports.specs.Runs.{IsDiskRun};
-ghost use Rattle.lis_ports.specs.Calls.{HasCause, DiskFaultEnds};
+ghost use Rattle.lis_ports.specs.Calls.{UsesDisk};
 ghost use Rattle.lis_journal.specs.Record.{gates, is_header, is_record, record_end, recorded, homes_of, entries_from, first_bad, all_recorded};
 ghost use Rattle.lis_journal.specs.Images.{look};
-ghost use Rattle.lis_journal.specs.Spreads.{OnlyReads};
+ghost use Rattle.lis_journal.specs.Spreads.{IsQuiet};
 ghost use Rattle.lis_journal.specs.Phases.{Absorbs, IsLoaded, Closes};
 ghost use Rattle.lis_journal.specs.Recovery.{Recovers};
 
@@ -19,10 +18,8 @@ use lis_ports::{Disk, Failed};
 // Reads all gates.
 fn read_gates<D: Disk>(disk: &mut D) -> Result<[u8; 64], Failed>
     requires { 8192 ≤ (D.meaning disk.old).len }
-    ensures run { IsDiskRun (D.meaning disk.old) (D.meaning disk.new) }
-    ensures cause { HasCause (D.meaning disk.old).disk_faults (D.meaning disk.new).disk_faults result }
-    ensures first_fault { DiskFaultEnds (D.meaning disk.old) (D.meaning disk.new) }
-    ensures quiet { IsTrue (D.meaning disk.old).is_honest → OnlyReads (D.meaning disk.old) (D.meaning disk.new) }
+    ensures disk { UsesDisk (D.meaning disk.old) (D.meaning disk.new) result }
+    ensures quiet { IsTrue (D.meaning disk.old).is_honest → IsQuiet (D.meaning disk.old) (D.meaning disk.new) }
     ensures gates { IfOk result (λ found. IsTrue (D.meaning disk.old).is_honest → found ≡ gates (D.meaning disk.old).bytes) }
 {
     let mut gates = [0; 64];
@@ -68,10 +65,8 @@ fn load<D: Disk>(
     requires fits { first + length (homes_of header.now) + 1 ≤ 578 }
     requires room { length latest.old.entries + 2 ≤ first }
     requires whole { length block.old ≡ 4096 }
-    ensures run { IsDiskRun (D.meaning disk.old) (D.meaning disk.new) }
-    ensures cause { HasCause (D.meaning disk.old).disk_faults (D.meaning disk.new).disk_faults result }
-    ensures first_fault { DiskFaultEnds (D.meaning disk.old) (D.meaning disk.new) }
-    ensures quiet { IsTrue (D.meaning disk.old).is_honest → OnlyReads (D.meaning disk.old) (D.meaning disk.new) }
+    ensures disk { UsesDisk (D.meaning disk.old) (D.meaning disk.new) result }
+    ensures quiet { IsTrue (D.meaning disk.old).is_honest → IsQuiet (D.meaning disk.old) (D.meaning disk.new) }
     ensures blocks { latest.new.blocks ≡ latest.old.blocks }
     ensures few { length latest.new.entries ≤ length latest.old.entries + length (homes_of header.now) }
     ensures loaded { OnOk result (IsTrue (D.meaning disk.old).is_honest
@@ -103,10 +98,8 @@ fn read_record<D: Disk>(
     requires within { first ≤ 578 }
     requires header { length header.old ≡ 4096 }
     requires whole { length block.old ≡ 4096 }
-    ensures run { IsDiskRun (D.meaning disk.old) (D.meaning disk.new) }
-    ensures cause { HasCause (D.meaning disk.old).disk_faults (D.meaning disk.new).disk_faults result }
-    ensures first_fault { DiskFaultEnds (D.meaning disk.old) (D.meaning disk.new) }
-    ensures quiet { IsTrue (D.meaning disk.old).is_honest → OnlyReads (D.meaning disk.old) (D.meaning disk.new) }
+    ensures disk { UsesDisk (D.meaning disk.old) (D.meaning disk.new) result }
+    ensures quiet { IsTrue (D.meaning disk.old).is_honest → IsQuiet (D.meaning disk.old) (D.meaning disk.new) }
     ensures blocks { latest.new.blocks ≡ latest.old.blocks }
     ensures form { IfOk result (λ end. IsTrue (D.meaning disk.old).is_honest → MatchOption end
         (is_record latest.old.blocks first (D.meaning disk.old).bytes ≡ false)
@@ -140,10 +133,8 @@ fn load_records<D: Disk>(
     requires long { 4096 * latest.old.blocks ≤ (D.meaning disk.old).len }
     requires header { length header.old ≡ 4096 }
     requires whole { length block.old ≡ 4096 }
-    ensures run { IsDiskRun (D.meaning disk.old) (D.meaning disk.new) }
-    ensures cause { HasCause (D.meaning disk.old).disk_faults (D.meaning disk.new).disk_faults result }
-    ensures first_fault { DiskFaultEnds (D.meaning disk.old) (D.meaning disk.new) }
-    ensures quiet { IsTrue (D.meaning disk.old).is_honest → OnlyReads (D.meaning disk.old) (D.meaning disk.new) }
+    ensures disk { UsesDisk (D.meaning disk.old) (D.meaning disk.new) result }
+    ensures quiet { IsTrue (D.meaning disk.old).is_honest → IsQuiet (D.meaning disk.old) (D.meaning disk.new) }
     ensures blocks { latest.new.blocks ≡ latest.old.blocks }
     ensures form { IfOk result (λ bad. IsTrue (D.meaning disk.old).is_honest
         → bad ≡ first_bad latest.old.blocks 2 count (D.meaning disk.old).bytes) }
@@ -164,9 +155,7 @@ fn load_records<D: Disk>(
 fn close_gates<D: Disk>(disk: &mut D, count: u32, latest: &Stage) -> Result<(), Failed>
     requires blocks { 578 < latest.now.blocks }
     requires long { 4096 * latest.now.blocks ≤ (D.meaning disk.old).len }
-    ensures run { IsDiskRun (D.meaning disk.old) (D.meaning disk.new) }
-    ensures cause { HasCause (D.meaning disk.old).disk_faults (D.meaning disk.new).disk_faults result }
-    ensures first_fault { DiskFaultEnds (D.meaning disk.old) (D.meaning disk.new) }
+    ensures disk { UsesDisk (D.meaning disk.old) (D.meaning disk.new) result }
     ensures closes { IsLoaded latest.now.blocks count latest.now.entries (D.meaning disk.old)
         → Closes latest.now.blocks count (D.meaning disk.old) (D.meaning disk.new) result }
 {
@@ -189,9 +178,7 @@ pub fn recover<D: Disk>(
     requires long { 4096 * latest.old.blocks ≤ (D.meaning disk.old).len }
     requires header { length header.old ≡ 4096 }
     requires whole { length block.old ≡ 4096 }
-    ensures run { IsDiskRun (D.meaning disk.old) (D.meaning disk.new) }
-    ensures cause { HasCause (D.meaning disk.old).disk_faults (D.meaning disk.new).disk_faults result }
-    ensures first_fault { DiskFaultEnds (D.meaning disk.old) (D.meaning disk.new) }
+    ensures disk { UsesDisk (D.meaning disk.old) (D.meaning disk.new) result }
     ensures blocks { latest.new.blocks ≡ latest.old.blocks }
     ensures recovers { IsTrue (D.meaning disk.old).is_honest
         → Recovers latest.old.blocks (D.meaning disk.old) (D.meaning disk.new) result }

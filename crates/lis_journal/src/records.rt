@@ -1,9 +1,9 @@
 //! The open records of a journal, with their latest contents in memory.
 
-ghost use Rattle.std.specs.Prelude.{[], ◌++◌, ◌≡◌, ◌⊎◌, ◌+◌, ◌*◌, ◌^◌, ◌<◌, ◌≤◌, ℕ, List, length, true, false, IsTrue, OnOk, OnErr, IfSome, IfNone};
+ghost use Rattle.std.specs.Prelude.{[], ◌++◌, ◌≡◌, ◌+◌, ◌*◌, ◌^◌, ◌<◌, ◌≤◌, ℕ, List, length, false, IsTrue, OnOk, OnErr, IfSome, IfNone};
 ghost use Rattle.std.specs.List.{range_with_len};
-ghost use Rattle.lis_ports.specs.Runs.{IsDiskRun, Leaves};
-ghost use Rattle.lis_ports.specs.Calls.{HasCause, DiskFaultEnds};
+ghost use Rattle.lis_ports.specs.Runs.{Leaves};
+ghost use Rattle.lis_ports.specs.Calls.{UsesDisk};
 ghost use Rattle.lis_journal.specs.Record.{homes, homes_of, is_header};
 ghost use Rattle.lis_journal.specs.Images.{StandsBut, StandsForAllOrNone, FitsAt, with_run, look};
 ghost use Rattle.lis_journal.specs.Spreads.{Spreads, SamePast};
@@ -106,9 +106,7 @@ impl Records {
     fn clear<D: Disk>(&mut self, disk: &mut D) -> Result<(), Failed>
         requires long { 4096 * self.old.blocks ≤ (D.meaning disk.old).len }
         requires some { 0 < self.old.records.count }
-        ensures run { IsDiskRun (D.meaning disk.old) (D.meaning disk.new) }
-        ensures cause { HasCause (D.meaning disk.old).disk_faults (D.meaning disk.new).disk_faults result }
-        ensures first_fault { DiskFaultEnds (D.meaning disk.old) (D.meaning disk.new) }
+        ensures disk { UsesDisk (D.meaning disk.old) (D.meaning disk.new) result }
         ensures any_moment { (placed : List ℕ) (kept : ℕ → List ℕ)
             → FitsAt self.old.blocks self.old.records placed (D.meaning disk.old) kept
             → Leaves (D.meaning disk.old) (D.meaning disk.new) (StandsBut self.old.blocks placed kept) }
@@ -131,9 +129,7 @@ impl Records {
     fn make_room<D: Disk>(&mut self, disk: &mut D, blocks: usize) -> Result<(), Failed>
         requires long { 4096 * self.old.blocks ≤ (D.meaning disk.old).len }
         requires few { blocks ≤ 575 }
-        ensures run { IsDiskRun (D.meaning disk.old) (D.meaning disk.new) }
-        ensures cause { HasCause (D.meaning disk.old).disk_faults (D.meaning disk.new).disk_faults result }
-        ensures first_fault { DiskFaultEnds (D.meaning disk.old) (D.meaning disk.new) }
+        ensures disk { UsesDisk (D.meaning disk.old) (D.meaning disk.new) result }
         ensures any_moment { (placed : List ℕ) (kept : ℕ → List ℕ)
             → FitsAt self.old.blocks self.old.records placed (D.meaning disk.old) kept
             → Leaves (D.meaning disk.old) (D.meaning disk.new) (StandsBut self.old.blocks placed kept) }
@@ -161,9 +157,7 @@ impl Records {
         requires homes { homes_of header.now ≡ homes stage.now.entries }
         requires few { self.old.records.count < 64 }
         requires room { self.old.records.next + length stage.now.entries + 1 ≤ 578 }
-        ensures run { IsDiskRun (D.meaning disk.old) (D.meaning disk.new) }
-        ensures cause { HasCause (D.meaning disk.old).disk_faults (D.meaning disk.new).disk_faults result }
-        ensures first_fault { DiskFaultEnds (D.meaning disk.old) (D.meaning disk.new) }
+        ensures disk { UsesDisk (D.meaning disk.old) (D.meaning disk.new) result }
         ensures any_moment { (placed : List ℕ) (kept : ℕ → List ℕ)
             → FitsAt self.old.blocks self.old.records placed (D.meaning disk.old) kept
             → Leaves (D.meaning disk.old) (D.meaning disk.new)
@@ -195,9 +189,7 @@ impl Records {
         requires header { length header.now ≡ 4096 }
         requires form { IsTrue (is_header stage.now.blocks header.now) }
         requires homes { homes_of header.now ≡ homes stage.now.entries }
-        ensures run { IsDiskRun (D.meaning disk.old) (D.meaning disk.new) }
-        ensures cause { HasCause (D.meaning disk.old).disk_faults (D.meaning disk.new).disk_faults result }
-        ensures first_fault { DiskFaultEnds (D.meaning disk.old) (D.meaning disk.new) }
+        ensures disk { UsesDisk (D.meaning disk.old) (D.meaning disk.new) result }
         ensures any_moment { (placed : List ℕ) (kept : ℕ → List ℕ)
             → FitsAt self.old.blocks self.old.records placed (D.meaning disk.old) kept
             → Leaves (D.meaning disk.old) (D.meaning disk.new)
@@ -217,9 +209,7 @@ impl Records {
     fn free_homes<D: Disk>(&mut self, disk: &mut D, first: u32, count: u32) -> Result<(), Failed>
         requires within { first + count ≤ 2 ^ 32 }
         requires long { 4096 * self.old.blocks ≤ (D.meaning disk.old).len }
-        ensures run { IsDiskRun (D.meaning disk.old) (D.meaning disk.new) }
-        ensures cause { HasCause (D.meaning disk.old).disk_faults (D.meaning disk.new).disk_faults result }
-        ensures first_fault { DiskFaultEnds (D.meaning disk.old) (D.meaning disk.new) }
+        ensures disk { UsesDisk (D.meaning disk.old) (D.meaning disk.new) result }
         ensures any_moment { (placed : List ℕ) (kept : ℕ → List ℕ)
             → FitsAt self.old.blocks self.old.records placed (D.meaning disk.old) kept
             → Leaves (D.meaning disk.old) (D.meaning disk.new) (StandsBut self.old.blocks placed kept) }
@@ -251,9 +241,7 @@ impl Records {
         requires within { first + count ≤ self.old.blocks }
         requires wide { first + count ≤ 2 ^ 32 }
         requires whole { length bytes.now ≡ 4096 * count }
-        ensures run { IsDiskRun (D.meaning disk.old) (D.meaning disk.new) }
-        ensures cause { HasCause (D.meaning disk.old).disk_faults (D.meaning disk.new).disk_faults result }
-        ensures first_fault { DiskFaultEnds (D.meaning disk.old) (D.meaning disk.new) }
+        ensures disk { UsesDisk (D.meaning disk.old) (D.meaning disk.new) result }
         ensures any_moment { (placed : List ℕ) (kept : ℕ → List ℕ)
             → FitsAt self.old.blocks self.old.records placed (D.meaning disk.old) kept
             → Leaves (D.meaning disk.old) (D.meaning disk.new) (StandsBut self.old.blocks (range_with_len first count ++ placed) kept) }

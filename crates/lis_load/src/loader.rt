@@ -1,11 +1,11 @@
 //! A session whose changes are held back, with the answers that wait for their commit.
 
-ghost use Rattle.std.specs.Prelude.{◌≡◌, ℕ, ◌<◌, List, [], ◌∷◌, ◌++◌, length, true, Ok, Err, IfOk};
+ghost use Rattle.std.specs.Prelude.{◌≡◌, ◌<◌, List, [], ◌∷◌, ◌++◌, length, true, Ok, Err, IfOk};
 ghost use Rattle.std.specs.List.{flat_map};
 ghost use Rattle.lis_model.specs.Step.{Item as Asked};
 ghost use Rattle.lis_model.specs.Step.Item.{Do};
 ghost use Rattle.lis_session.specs.Parts.{Answers, is_change};
-ghost use Rattle.lis_session.specs.Served.{IsReady};
+ghost use Rattle.lis_store.specs.Stored.{IsUsable};
 ghost use Rattle.lis_load.specs.declared.loader.Loader.{Loader as Loading};
 ghost use Rattle.lis_load.specs.Load.{lag};
 ghost use Rattle.lis_load.specs.Loading.{answer, HasLoaded, HoldsNothing};
@@ -69,8 +69,8 @@ impl Loader {
 
     // Where as many answers wait as may, settles.
     fn make_room<T: Station>(&mut self, station: &mut T) -> Result<(), End>
-        requires ready { IsReady self.old.session (T.meaning station.old) }
-        ensures ready { IfOk result (λ _. IsReady self.new.session (T.meaning station.new)) }
+        requires ready { IsUsable self.old.session.store (T.meaning station.old) }
+        ensures ready { IfOk result (λ _. IsUsable self.new.session.store (T.meaning station.new)) }
         ensures room { IfOk result (λ _. length self.new.held.items < lag) }
         ensures done { (start : Loading) (entry : T) (first : List Asked) → HasLoaded start (T.meaning entry) first self.old (T.meaning station.old) (Ok _)
             → HasLoaded start (T.meaning entry) first self.new (T.meaning station.new) result }
@@ -89,9 +89,9 @@ impl Loader {
         station: &mut T,
     ) -> Result<(), End>
         requires change { is_change command.now ≡ true }
-        requires ready { IsReady self.old.session (T.meaning station.old) }
+        requires ready { IsUsable self.old.session.store (T.meaning station.old) }
         requires room { length self.old.held.items < lag }
-        ensures ready { IfOk result (λ _. IsReady self.new.session (T.meaning station.new)) }
+        ensures ready { IfOk result (λ _. IsUsable self.new.session.store (T.meaning station.new)) }
         ensures held { (start : Loading) (entry : T) (first : List Asked) → HasLoaded start (T.meaning entry) first self.old (T.meaning station.old) (Ok _)
             → HasLoaded start (T.meaning entry) (first ++ Do command.now payload.now ∷ []) self.new (T.meaning station.new) result }
     {
@@ -108,7 +108,7 @@ impl Loader {
 impl Holder for Loader {
     type Fault = End;
 
-    ghost is_ready = { λ loader m more. IsReady loader.session m };
+    ghost is_ready = { λ loader m more. IsUsable loader.session.store m };
 
     ghost is_settled = { HoldsNothing };
 

@@ -1,12 +1,12 @@
 //! The items of an input, loaded on an image.
 
-ghost use Rattle.std.specs.Prelude.{◌≡◌, ℕ, ◌*◌, ◌≤◌, ◌^◌, List, [], Some, false};
+ghost use Rattle.std.specs.Prelude.{◌≡◌, ℕ, ◌≤◌, ◌^◌, List, [], Some};
 ghost use Rattle.lis_ports.specs.Calls.{FaultEnds};
 ghost use Rattle.lis_line.specs.Endings.{HasHaltCause};
 ghost use Rattle.lis_line.specs.Taking.{TakesFew};
 ghost use Rattle.lis_model.specs.Script.{script};
 ghost use Rattle.lis_model.specs.State.{State};
-ghost use Rattle.lis_store.specs.Stored.{IsSound, StoreFits};
+ghost use Rattle.lis_store.specs.Stored.{IsSound, StoreFits, IsUsable};
 ghost use Rattle.lis_session.specs.Ending.{result_of, InputRead};
 ghost use Rattle.lis_session.specs.Served.{SessionKeeps, situation_at};
 ghost use Rattle.lis_load.specs.Load.{Loads, LoadServed, FullLoadHeadline};
@@ -33,8 +33,7 @@ pub fn serve_load<S: Source, T: Station>(
     requires limit { limit ≤ 2 ^ 40 }
     requires idle { loader.old.held.items ≡ [] }
     requires sound { IsSound loader.old.session.store }
-    requires unbroken { loader.old.session.store.is_broken ≡ false }
-    requires long { 4096 * loader.old.session.store.journal.blocks ≤ (T.meaning station.old).len }
+    requires usable { IsUsable loader.old.session.store (T.meaning station.old) }
     ensures keeps { SessionKeeps loader.old.session (T.meaning station.old) loader.new.session (T.meaning station.new) (result_of result) }
     ensures input_cause { HasHaltCause (S.faults input.old) (S.faults input.new) result }
     ensures input_first_fault { FaultEnds (S.faults input.old) (S.behind input.old) (S.behind input.new) }

@@ -20,7 +20,8 @@ use Rattle.lis_kept.proofs.TestLinks.{linked_by}
 use Rattle.lis_open.specs.declared.blocks.LastBlock.{LastBlock}
 use Rattle.lis_open.specs.declared.axioms.Axioms.{Axioms}
 use Rattle.lis_open.specs.Checks.{AreAxioms, AxiomFails, IsAxiom, AreFirstAxiomSlots, declared_by, axioms_by, AxiomFault, HasAxiomFault, AreProperties}
-use Rattle.lis_open.specs.Reading.{OnlyReads, Recalls, IsReadAs}
+use Rattle.lis_ports.specs.Calls.{OnlyReads}
+use Rattle.lis_open.specs.Reading.{Recalls, IsReadAs}
 use Rattle.lis_open.proofs.BlocksRead.{StillRecalls}
 use Rattle.lis_open.proofs.WordsRead.{nothing_at, told_properties, number_within, word_at_told, declared_told, told_word, word_told, axioms_told, are_told}
 use Rattle.lis_open.proofs.Descriptions.{Sides, sides, left_word, right_word, bare_numbered, one_number, among_pair, pair_among, chain_numbered, chain_named}

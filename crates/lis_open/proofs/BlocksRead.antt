@@ -1,11 +1,10 @@
 -- The blocks of a file as they are read: those that its slot numbers, and those that its index block does.
 use Rattle.std.proofs.Common.{rules}
-use Rattle.lis_open.proofs.Common.{◌∙◌, ℕ, List, IsTrue, ◌≡◌, sym, ap, ◌^◌, ◌<◌, ◌≤◌, Bool, Option, Some, None, [], arith, IfSome, subst, true, false, ◌++◌, length, option_map, Meaning, IsSettled, Held, Fits, leaves_weaken, leaves_then, Slots, slot, PropSlot, FileSlot, prop_once, Limits, are_in_range, image_blocks, few_properties, list_all-append, are_free, are_distinct, is_large, index_bytes, numbers_in, index_home, FileRecord, is_record, data_start, blocks_needed, and_parts, both_ways}
-use Rattle.lis_ports.proofs.Moments.{run_none, run_then, leaves_none}
+use Rattle.lis_open.proofs.Common.{◌∙◌, ℕ, List, IsTrue, ◌≡◌, sym, ap, ◌^◌, ◌<◌, ◌≤◌, Bool, Option, Some, None, [], arith, IfSome, subst, true, false, ◌++◌, length, option_map, Meaning, IsSettled, Held, Fits, Slots, slot, PropSlot, FileSlot, prop_once, Limits, are_in_range, image_blocks, few_properties, list_all-append, are_free, are_distinct, is_large, index_bytes, numbers_in, index_home, FileRecord, is_record, data_start, blocks_needed, and_parts, both_ways}
 use Rattle.lis_journal.proofs.Fitting.{fits_unchanged}
-use Rattle.lis_content.proofs.Reading.{unchanged_none, unchanged_then}
 use Rattle.lis_open.specs.declared.blocks.LastBlock.{LastBlock}
-use Rattle.lis_open.specs.Reading.{OnlyReads, Recalls, IsReadAs}
+use Rattle.lis_ports.specs.Calls.{OnlyReads}
+use Rattle.lis_open.specs.Reading.{Recalls, IsReadAs}
 use Rattle.std.proofs.Math.Nat.{mul-le-mul_left}
 use Rattle.lis_journal.specs.Record.{HomeBlock}
 use Rattle.lis_journal.specs.Phases.{looked}
@@ -19,12 +18,6 @@ use Rattle.lis_content.proofs.Numbers.{below_from_free, within_if_below}
 use Rattle.lis_fields.proofs.Parts.{record_tests, few_blocks as few_in_form, size_fits}
 use Rattle.lis_kept.proofs.Contents.{slot_blocks_counted}
 use Rattle.lis_open.specs.ReadFiles.{HasBlocks, AreIndexed, AreReadBlocks}
-
-pub reads_none : (m : Meaning) → OnlyReads m m
-reads_none m = search (rules, run_none, unchanged_none, leaves_none)
-
-pub reads_then : {a b c : Meaning} → OnlyReads a b → OnlyReads b c → OnlyReads a c
-reads_then {a} first second = search (rules, run_then, unchanged_then, leaves_then, leaves_weaken)
 
 pub fits_after : {a b : Meaning} (journal : Held) (kept : ℕ → List ℕ) → OnlyReads a b → Fits journal a kept → Fits journal b kept
 fits_after journal kept reads fits = fits_unchanged journal reads.run (reads.same fits.honest) fits

@@ -14,7 +14,8 @@ use Rattle.lis_open.specs.declared.words.Words.{Words}
 use Rattle.lis_open.specs.declared.axioms.Axioms.{Axioms}
 use Rattle.lis_open.specs.declared.files.Files.{Files}
 use Rattle.lis_open.specs.declared.blocks.LastBlock.{LastBlock}
-use Rattle.lis_open.specs.Reading.{OnlyReads, Recalls, IsReadAs, IsFirst}
+use Rattle.lis_ports.specs.Calls.{OnlyReads}
+use Rattle.lis_open.specs.Reading.{Recalls, IsReadAs, IsFirst}
 use Rattle.lis_open.specs.ReadWords.{AreWords, AreFirstWords, AreFirstAxioms, WordsAreSpelled, AxiomsAreSpelled, declared_words, kept_words}
 use Rattle.lis_open.specs.ReadFiles.{no_files, described, found_words, is_numbered, own_numbers, HasNumbers, AreNumbers, is_assignable_by, is_assignable_number, may_file, AreTold, TakesNumbers, TakesRecord, TakesFile, AreFirstFiles, FilesAreSpelled, FilesAreNumbered, FilesHaveBlocks, may_describe, HasBlocks, RecordFault, HasSlotFault}
 use Rattle.lis_open.proofs.BlocksRead.{StillRecalls, one_file}

@@ -8,19 +8,19 @@ use Rattle.lis_slots.specs.Slots.{home, place}
 use Rattle.lis_blockmap.specs.Bitmap.{bitmap_bytes}
 use Rattle.lis_content.specs.Large.{content_blocks}
 use Rattle.lis_store.specs.Stands.{all_blocks, Spells, Stands}
-use Rattle.lis_ports.specs.Calls.{IsUnchanged}
+use Rattle.lis_ports.specs.Calls.{IsUnchanged, OnlyReads}
 use Rattle.lis_ports.specs.Runs.{IsDiskRun}
 use Rattle.lis_journal.specs.Record.{has_open, bad_record, recovered_as, recovered}
 use Rattle.lis_journal.specs.Recovery.{HasMountCause, StandsForReplayed, InRecovery, MountEnded, IsSettledPast}
 use Rattle.lis_journal.specs.declared.journal.JournalFault.{JournalFault}
 use Rattle.lis_journal.specs.declared.journal.JournalFault.TheVariants.{DiskFault as JournalDisk, BadRecord as JournalRecord, NoMemory as JournalMemory}
-use Rattle.lis_content.proofs.Reading.{unchanged_then}
+use Rattle.lis_ports.proofs.OnlyReading.{unchanged_then}
 use Rattle.lis_store.proofs.Spelled.{tells_spells}
 use Rattle.lis_open.specs.declared.mounting.OpenFault.{OpenFault}
 use Rattle.lis_open.specs.declared.mounting.OpenFault.TheVariants.{TooShort, Damaged, DiskFault, NoMemory}
 use Rattle.lis_open.specs.Opens.{HasOpenCause, HasSuper, IsNeeded, IsLongEnough, OpenEnded, Recovers, OpenLeft, InOpening, journal_fault}
 use Rattle.lis_open.specs.Checks.{Fails, FailsReplayed, RecordFails, FailsIn, IsBefore, FailsFirst}
-use Rattle.lis_open.specs.Reading.{OnlyReads, IsFirstOfAll, Opened}
+use Rattle.lis_open.specs.Reading.{IsFirstOfAll, Opened}
 use Rattle.lis_open.specs.ReadAll.{StoreEnded}
 use Rattle.lis_open.proofs.SpotKinds.{behind}
 use Rattle.lis_open.proofs.BlocksRead.{fits_after, settled_after}

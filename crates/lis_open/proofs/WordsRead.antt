@@ -13,7 +13,8 @@ use Rattle.lis_store.proofs.Spelled.{word_by, declared_by as declared_by_slot}
 use Rattle.lis_open.specs.declared.blocks.LastBlock.{LastBlock}
 use Rattle.lis_open.specs.declared.words.Words.{Words}
 use Rattle.lis_open.specs.Checks.{IsProperty, HasWord, HasWordBefore, PropertyFails, AreProperties, declared_by, axioms_by}
-use Rattle.lis_open.specs.Reading.{OnlyReads, Recalls, IsReadAs, IsFirst, Passes}
+use Rattle.lis_ports.specs.Calls.{OnlyReads}
+use Rattle.lis_open.specs.Reading.{Recalls, IsReadAs, IsFirst, Passes}
 use Rattle.lis_open.specs.ReadWords.{no_words, with_word, may_take_property, with_property, AreWords, AreFirstWords, WordsAreSpelled, declared_words, kept_words}
 use Rattle.lis_open.proofs.SpotKinds.{none_before, none_fails}
 use Rattle.lis_open.proofs.BlocksRead.{StillRecalls, one_property}

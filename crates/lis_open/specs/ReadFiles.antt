@@ -140,6 +140,13 @@ AreItsBlocks limits at taken rec None = HasBlocks limits at taken rec → ⊥
 AreItsBlocks limits at taken rec (Some blocks) = HasIndex limits at rec × (blocks ≡ blocks_told limits at rec)
 
 -- ---- one file
+-- the slot is there for a file: it has none, and no numbers
+pub record IsFreeSlot (files : Files) (slot : ℕ) : Type 0 where
+  pub below : slot < files.catalog.files
+  pub empty : rec_at files.catalog slot ≡ None
+  pub within : slot < length files.ext.sets
+  pub undescribed : set_of files.ext slot ≡ []
+
 -- the file is in the slot, its blocks are taken, and the slot has these numbers
 pub record TakesNumbers (slot : ℕ) (rec : FileRecord) (blocks numbers : List ℕ) (old new : Files) : Type 0 where
   pub catalog : new.catalog ≡ with_filed old.catalog slot rec

@@ -1,10 +1,13 @@
 -- How the parts of an image are read: what every reader owes. No public clause cites this module.
-use Rattle.std.specs.Prelude.{◌≡◌, ℕ, ◌<◌, Bool, Option, Some, None, Result, Ok, Err, List, IsTrue, IfSome}
+use Rattle.std.specs.Prelude.{◌≡◌, ℕ, ◌<◌, Bool, Option, Some, None, Result, Ok, Err, List, [], IsTrue, IfSome}
 use Rattle.lis_ports.specs.Meaning.{Meaning}
-use Rattle.lis_ports.specs.Runs.{IsDiskRun, Leaves}
-use Rattle.lis_ports.specs.Calls.{Rose, IsUnchanged}
+use Rattle.lis_ports.specs.Calls.{Rose, DiskFaultEnds, OnlyReads}
+use Rattle.lis_journal.specs.Journal.{Held}
+use Rattle.lis_journal.specs.Images.{JournalIsUsable}
 use Rattle.lis_slots.specs.Slots.{Slots}
 use Rattle.lis_model.specs.declared.limits.Limits.{Limits}
+use Rattle.lis_model.specs.Image.{image_blocks}
+use Rattle.lis_model.specs.Ranges.{are_in_range}
 use Rattle.lis_model.specs.declared.spot.Spot.{Spot}
 use Rattle.lis_store.specs.Stored.{Stored}
 use Rattle.lis_open.specs.declared.mounting.OpenFault.{OpenFault}
@@ -13,12 +16,14 @@ use Rattle.lis_open.specs.declared.blocks.LastBlock.{LastBlock}
 use Rattle.lis_open.specs.Opens.{HasSuper, OpenEnded, OpenLeft}
 use Rattle.lis_open.specs.Checks.{IsSlot, Fails, rank, place, IsBefore, FailsFirst}
 
--- ---- runs that only read
-pub record OnlyReads (old new : Meaning) : Type 0 where
-  pub run : IsDiskRun old new
-  pub same : IsTrue old.is_honest → IsUnchanged old new
-  pub moments : IsTrue old.is_honest → Leaves old new old.images
+-- An image may be read: its limits are in range, and its journal is as long as they say, holds nothing back and may be used on this disk.
+pub record IsReadable (limits : Limits) (journal : Held) (m : Meaning) : Type 0 where
+  pub range : IsTrue (are_in_range limits)
+  pub image : journal.blocks ≡ image_blocks limits
+  pub clean : journal.staged ≡ []
+  pub usable : JournalIsUsable journal m
 
+-- ---- what readers owe
 -- The cause of an answer of a reader, which takes no memory and finds no disk too short.
 abbrev pub HasPartCause : {T : Type 0} → ℕ → ℕ → Result T OpenFault → Type 0
 HasPartCause before now (Ok done) = now ≡ before
@@ -26,6 +31,12 @@ HasPartCause before now (Err (TooShort len need)) = ⊥
 HasPartCause before now (Err (Damaged spot)) = now ≡ before
 HasPartCause before now (Err DiskFault) = Rose before now
 HasPartCause before now (Err NoMemory) = ⊥
+
+-- what a reader of parts owes
+pub record ReadsPart {T : Type 0} (old new : Meaning) (result : Result T OpenFault) : Type 0 where
+  pub reads : OnlyReads old new
+  pub cause : HasPartCause old.disk_faults new.disk_faults result
+  pub first_fault : DiskFaultEnds old new
 
 -- the block that was read last, if one was, is what is kept of it
 abbrev pub Recalls : LastBlock → (ℕ → List ℕ) → Type 0

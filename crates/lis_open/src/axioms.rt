@@ -1,17 +1,16 @@
 //! The axioms of an image: its axiom slots, and the links that its words have.
 
-ghost use Rattle.std.specs.Prelude.{◌≡◌, ◌≢◌, ◌*◌, ◌<◌, ◌≤◌, ℕ, List, [], length, false, Some, None, IsTrue, IfOk, IfSome, OnOk};
+ghost use Rattle.std.specs.Prelude.{◌≡◌, ◌≢◌, ◌<◌, ℕ, List, false, Some, IsTrue, IfOk, IfSome, OnOk};
 ghost use Rattle.std.specs.Bool.{OnTrue, OnFalse};
-ghost use Rattle.lis_ports.specs.Calls.{HasCause, DiskFaultEnds};
+ghost use Rattle.lis_ports.specs.Calls.{ReadsDisk};
 ghost use Rattle.lis_journal.specs.Images.{Fits};
 ghost use Rattle.lis_dict.specs.Dict.{word_of};
 ghost use Rattle.lis_taxonomy.specs.Taxonomy.{has_edge, empty_taxonomy};
 ghost use Rattle.lis_fields.specs.Layouts.{axiom_bytes, is_axiom};
 ghost use Rattle.lis_model.specs.Ranges.{are_in_range};
-ghost use Rattle.lis_model.specs.Image.{image_blocks};
 ghost use Rattle.lis_kept.specs.Areas.{axiom_slots};
 ghost use Rattle.lis_kept.specs.Edges.{with_edge_to};
-ghost use Rattle.lis_open.specs.Reading.{OnlyReads, HasPartCause, Recalls, IsReadAs, Ends};
+ghost use Rattle.lis_open.specs.Reading.{Recalls, IsReadAs, Ends, ReadsPart, IsReadable};
 ghost use Rattle.lis_open.specs.ReadWords.{AreNoAxioms, AreWords, AreFirstWords, WordsAreSpelled, head_by, LinksHeads, LinksTests, LinksSomeTests, are_sides, TakesPair, TakesAxiom, RefusesPair, RefusesAxiom, AreFirstAxioms, AxiomsAreSpelled};
 
 use crate::blocks::LastBlock;
@@ -127,15 +126,9 @@ fn read_axiom_slot<D: Disk>(
     limits: &Limits,
     k: u32,
 ) -> Result<Option<AxiomSlot>, Failed>
-    requires range { IsTrue (are_in_range limits.now) }
+    requires readable { IsReadable limits.now journal.now (D.meaning disk.old) }
     requires k { k < (axiom_slots limits.now).count }
-    requires image { journal.now.blocks ≡ image_blocks limits.now }
-    requires clean { journal.now.staged ≡ [] }
-    requires unbroken { journal.now.is_broken ≡ false }
-    requires long { 4096 * journal.now.blocks ≤ (D.meaning disk.old).len }
-    ensures reads { OnlyReads (D.meaning disk.old) (D.meaning disk.new) }
-    ensures cause { HasCause (D.meaning disk.old).disk_faults (D.meaning disk.new).disk_faults result }
-    ensures first_fault { DiskFaultEnds (D.meaning disk.old) (D.meaning disk.new) }
+    ensures disk { ReadsDisk (D.meaning disk.old) (D.meaning disk.new) result }
     ensures form { IfOk result (λ found. IfSome found (λ value. IsTrue (is_axiom value))) }
     ensures recalls { (kept : ℕ → List ℕ) → Fits journal.now (D.meaning disk.old) kept → Recalls last.old kept → Recalls last.new kept }
     ensures read { IfOk result (λ found. (kept : ℕ → List ℕ) → Fits journal.now (D.meaning disk.old) kept → Recalls last.old kept
@@ -214,16 +207,10 @@ pub fn read_axioms<D: Disk>(
     words: &Words,
     axioms: &mut Axioms,
 ) -> Result<(), OpenFault>
-    requires range { IsTrue (are_in_range limits.now) }
+    requires readable { IsReadable limits.now journal.now (D.meaning disk.old) }
     requires words { AreFirstWords limits.now words.now limits.now.props }
     requires none { AreNoAxioms limits.now axioms.old }
-    requires image { journal.now.blocks ≡ image_blocks limits.now }
-    requires clean { journal.now.staged ≡ [] }
-    requires unbroken { journal.now.is_broken ≡ false }
-    requires long { 4096 * journal.now.blocks ≤ (D.meaning disk.old).len }
-    ensures reads { OnlyReads (D.meaning disk.old) (D.meaning disk.new) }
-    ensures cause { HasPartCause (D.meaning disk.old).disk_faults (D.meaning disk.new).disk_faults result }
-    ensures first_fault { DiskFaultEnds (D.meaning disk.old) (D.meaning disk.new) }
+    ensures disk { ReadsPart (D.meaning disk.old) (D.meaning disk.new) result }
     ensures read { OnOk result (AreFirstAxioms limits.now words.now axioms.new (axiom_slots limits.now).count) }
     ensures recalls { (kept : ℕ → List ℕ) → Fits journal.now (D.meaning disk.old) kept → Recalls last.old kept → Recalls last.new kept }
     ensures ended { (kept : ℕ → List ℕ) → Fits journal.now (D.meaning disk.old) kept → Recalls last.old kept

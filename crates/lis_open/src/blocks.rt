@@ -1,10 +1,10 @@
 //! Slots of an image, each block read once.
 
-ghost use Rattle.std.specs.Prelude.{◌≡◌, ◌+◌, ◌*◌, ◌/◌, ◌%◌, ◌^◌, ◌<◌, ◌≤◌, ℕ, List, [], None, Some, false, length, OnOk};
-ghost use Rattle.lis_ports.specs.Calls.{HasCause, DiskFaultEnds};
-ghost use Rattle.lis_journal.specs.Images.{Fits};
+ghost use Rattle.std.specs.Prelude.{◌≡◌, ◌+◌, ◌/◌, ◌%◌, ◌^◌, ◌<◌, ◌≤◌, ℕ, List, [], None, Some, length, OnOk};
+ghost use Rattle.lis_ports.specs.Calls.{ReadsDisk};
+ghost use Rattle.lis_journal.specs.Images.{Fits, JournalIsUsable};
 ghost use Rattle.lis_slots.specs.Slots.{slot};
-ghost use Rattle.lis_open.specs.Reading.{OnlyReads, Recalls};
+ghost use Rattle.lis_open.specs.Reading.{Recalls};
 
 use lis_journal::{BLOCK_LEN, Journal};
 use lis_ports::{Disk, Failed};
@@ -33,11 +33,8 @@ impl LastBlock {
         requires home { 578 ≤ n }
         requires within { n < journal.now.blocks }
         requires clean { journal.now.staged ≡ [] }
-        requires unbroken { journal.now.is_broken ≡ false }
-        requires long { 4096 * journal.now.blocks ≤ (D.meaning disk.old).len }
-        ensures reads { OnlyReads (D.meaning disk.old) (D.meaning disk.new) }
-        ensures cause { HasCause (D.meaning disk.old).disk_faults (D.meaning disk.new).disk_faults result }
-        ensures first_fault { DiskFaultEnds (D.meaning disk.old) (D.meaning disk.new) }
+        requires usable { JournalIsUsable journal.now (D.meaning disk.old) }
+        ensures disk { ReadsDisk (D.meaning disk.old) (D.meaning disk.new) result }
         ensures number { OnOk result (self.new.number ≡ Some n) }
         ensures recalls { (kept : ℕ → List ℕ) → Fits journal.now (D.meaning disk.old) kept
             → Recalls self.old kept → Recalls self.new kept }
@@ -66,11 +63,8 @@ impl LastBlock {
         requires within { first + k / (4096 / length buf.old) < journal.now.blocks }
         requires few { journal.now.blocks < 2 ^ 32 }
         requires clean { journal.now.staged ≡ [] }
-        requires unbroken { journal.now.is_broken ≡ false }
-        requires long { 4096 * journal.now.blocks ≤ (D.meaning disk.old).len }
-        ensures reads { OnlyReads (D.meaning disk.old) (D.meaning disk.new) }
-        ensures cause { HasCause (D.meaning disk.old).disk_faults (D.meaning disk.new).disk_faults result }
-        ensures first_fault { DiskFaultEnds (D.meaning disk.old) (D.meaning disk.new) }
+        requires usable { JournalIsUsable journal.now (D.meaning disk.old) }
+        ensures disk { ReadsDisk (D.meaning disk.old) (D.meaning disk.new) result }
         ensures len { length buf.new ≡ length buf.old }
         ensures read { OnOk result ((kept : ℕ → List ℕ) → Fits journal.now (D.meaning disk.old) kept → Recalls self.old kept
             → (count : ℕ) → buf.new ≡ slot (record { first = first; count = count; width = length buf.old }) kept k) }

@@ -1,8 +1,8 @@
 //! What else must hold of an image: that each word is in use, what the bitmap tells, and what the rows tell.
 
-ghost use Rattle.std.specs.Prelude.{◌≡◌, ◌↔◌, ◌*◌, ◌/◌, ◌<◌, ◌≤◌, ◌||◌, ◌&&◌, not, is_some, ℕ, Bool, List, [], length, false, Some, slice_get, IsTrue, IfOk};
+ghost use Rattle.std.specs.Prelude.{◌≡◌, ◌↔◌, ◌/◌, ◌<◌, ◌≤◌, ◌||◌, ◌&&◌, not, is_some, ℕ, Bool, List, length, false, Some, slice_get, IsTrue, IfOk};
 ghost use Rattle.std.specs.List.{list_any};
-ghost use Rattle.lis_ports.specs.Calls.{HasCause, DiskFaultEnds};
+ghost use Rattle.lis_ports.specs.Calls.{ReadsDisk};
 ghost use Rattle.lis_journal.specs.Images.{Fits};
 ghost use Rattle.lis_bits.specs.Rows.{HasShape, get};
 ghost use Rattle.lis_blockmap.specs.Bitmap.{is_taken};
@@ -10,11 +10,11 @@ ghost use Rattle.lis_dict.specs.Dict.{word_of};
 ghost use Rattle.lis_ext.specs.Ext.{has};
 ghost use Rattle.lis_fields.specs.declared.slots.AxiomSlot.TheVariants.{Pair};
 ghost use Rattle.lis_model.specs.Ranges.{are_in_range};
-ghost use Rattle.lis_model.specs.Image.{bitmap_start, image_blocks};
+ghost use Rattle.lis_model.specs.Image.{bitmap_start};
 ghost use Rattle.lis_kept.specs.Areas.{axiom_slots, row_slots};
 ghost use Rattle.lis_kept.specs.Rows.{row_bytes};
 ghost use Rattle.lis_kept.specs.Telling.{is_had, is_left_of, is_left_head_of};
-ghost use Rattle.lis_open.specs.Reading.{OnlyReads, HasPartCause, Recalls};
+ghost use Rattle.lis_open.specs.Reading.{Recalls, ReadsPart, IsReadable};
 ghost use Rattle.lis_open.specs.ReadWords.{AreWords, AreFirstWords, AreFirstAxioms};
 ghost use Rattle.lis_open.specs.ReadFiles.{AreFirstFiles};
 ghost use Rattle.lis_open.specs.ReadAll.{kept_in, WordsChecked, BitmapChecked, IsRowSpelled, RowsChecked};
@@ -125,14 +125,8 @@ pub fn check_bitmap<D: Disk>(
     limits: &Limits,
     map: &BlockMap,
 ) -> Result<(), OpenFault>
-    requires range { IsTrue (are_in_range limits.now) }
-    requires image { journal.now.blocks ≡ image_blocks limits.now }
-    requires clean { journal.now.staged ≡ [] }
-    requires unbroken { journal.now.is_broken ≡ false }
-    requires long { 4096 * journal.now.blocks ≤ (D.meaning disk.old).len }
-    ensures reads { OnlyReads (D.meaning disk.old) (D.meaning disk.new) }
-    ensures cause { HasPartCause (D.meaning disk.old).disk_faults (D.meaning disk.new).disk_faults result }
-    ensures first_fault { DiskFaultEnds (D.meaning disk.old) (D.meaning disk.new) }
+    requires readable { IsReadable limits.now journal.now (D.meaning disk.old) }
+    ensures disk { ReadsPart (D.meaning disk.old) (D.meaning disk.new) result }
     ensures ended { (kept : ℕ → List ℕ) → Fits journal.now (D.meaning disk.old) kept
         → BitmapChecked (kept (bitmap_start limits.now)) map.now result }
 {
@@ -180,18 +174,12 @@ fn read_row<D: Disk>(
     ext: &Ext,
     p: u32,
 ) -> Result<bool, Failed>
-    requires range { IsTrue (are_in_range limits.now) }
+    requires readable { IsReadable limits.now journal.now (D.meaning disk.old) }
     requires p { p < (row_slots limits.now).count }
     requires props { ext.now.props ≡ limits.now.props }
     requires files { length ext.now.sets ≡ limits.now.files }
     requires rest { (n slot : ℕ) → limits.now.props ≤ n → has ext.now n slot ≡ false }
-    requires image { journal.now.blocks ≡ image_blocks limits.now }
-    requires clean { journal.now.staged ≡ [] }
-    requires unbroken { journal.now.is_broken ≡ false }
-    requires long { 4096 * journal.now.blocks ≤ (D.meaning disk.old).len }
-    ensures reads { OnlyReads (D.meaning disk.old) (D.meaning disk.new) }
-    ensures cause { HasCause (D.meaning disk.old).disk_faults (D.meaning disk.new).disk_faults result }
-    ensures first_fault { DiskFaultEnds (D.meaning disk.old) (D.meaning disk.new) }
+    ensures disk { ReadsDisk (D.meaning disk.old) (D.meaning disk.new) result }
     ensures recalls { (kept : ℕ → List ℕ) → Fits journal.now (D.meaning disk.old) kept → Recalls last.old kept → Recalls last.new kept }
     ensures read { IfOk result (λ is_same. (kept : ℕ → List ℕ) → Fits journal.now (D.meaning disk.old) kept → Recalls last.old kept
         → (IsTrue is_same ↔ IsRowSpelled limits.now kept ext.now p)) }
@@ -210,17 +198,11 @@ pub fn check_rows<D: Disk>(
     limits: &Limits,
     ext: &Ext,
 ) -> Result<(), OpenFault>
-    requires range { IsTrue (are_in_range limits.now) }
+    requires readable { IsReadable limits.now journal.now (D.meaning disk.old) }
     requires props { ext.now.props ≡ limits.now.props }
     requires files { length ext.now.sets ≡ limits.now.files }
     requires rest { (n slot : ℕ) → limits.now.props ≤ n → has ext.now n slot ≡ false }
-    requires image { journal.now.blocks ≡ image_blocks limits.now }
-    requires clean { journal.now.staged ≡ [] }
-    requires unbroken { journal.now.is_broken ≡ false }
-    requires long { 4096 * journal.now.blocks ≤ (D.meaning disk.old).len }
-    ensures reads { OnlyReads (D.meaning disk.old) (D.meaning disk.new) }
-    ensures cause { HasPartCause (D.meaning disk.old).disk_faults (D.meaning disk.new).disk_faults result }
-    ensures first_fault { DiskFaultEnds (D.meaning disk.old) (D.meaning disk.new) }
+    ensures disk { ReadsPart (D.meaning disk.old) (D.meaning disk.new) result }
     ensures recalls { (kept : ℕ → List ℕ) → Fits journal.now (D.meaning disk.old) kept → Recalls last.old kept → Recalls last.new kept }
     ensures ended { (kept : ℕ → List ℕ) → Fits journal.now (D.meaning disk.old) kept → Recalls last.old kept
         → RowsChecked limits.now kept ext.now result }

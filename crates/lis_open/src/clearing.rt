@@ -1,9 +1,9 @@
 //! What making an image writes: its first byte in a write of its own, and the blocks that are not left as they are.
 
-ghost use Rattle.std.specs.Prelude.{[], ◌∷◌, ◌≡◌, ◌+◌, ◌-◌, ◌*◌, ◌≤◌, length, drop, IsTrue, IfOk, OnOk};
+ghost use Rattle.std.specs.Prelude.{[], ◌∷◌, ◌≡◌, ◌-◌, ◌*◌, ◌≤◌, IsTrue, IfOk, OnOk};
 ghost use Rattle.lis_ports.specs.Bytes.{put, Torn};
-ghost use Rattle.lis_ports.specs.Runs.{IsDiskRun, Leaves, Always, IsSettled};
-ghost use Rattle.lis_ports.specs.Calls.{HasCause, DiskFaultEnds};
+ghost use Rattle.lis_ports.specs.Runs.{Leaves, Always, IsSettled};
+ghost use Rattle.lis_ports.specs.Calls.{UsesDisk};
 ghost use Rattle.lis_journal.specs.Spreads.{Spreads};
 ghost use Rattle.lis_model.specs.Ranges.{are_in_range};
 ghost use Rattle.lis_model.specs.Image.{image_blocks};
@@ -23,9 +23,7 @@ const GATE_BLOCK: u32 = 1;
 // Syncs, and reads the first byte.
 fn read_first<D: Disk>(disk: &mut D) -> Result<u8, Failed>
     requires { 1 ≤ (D.meaning disk.old).len }
-    ensures run { IsDiskRun (D.meaning disk.old) (D.meaning disk.new) }
-    ensures cause { HasCause (D.meaning disk.old).disk_faults (D.meaning disk.new).disk_faults result }
-    ensures first_fault { DiskFaultEnds (D.meaning disk.old) (D.meaning disk.new) }
+    ensures disk { UsesDisk (D.meaning disk.old) (D.meaning disk.new) result }
     ensures quiet { IsTrue (D.meaning disk.old).is_honest → Spreads (D.meaning disk.old) (D.meaning disk.new) Same }
     ensures read { IfOk result (λ first. IsTrue (D.meaning disk.old).is_honest
         → IsSettled (D.meaning disk.new) (D.meaning disk.old).bytes × (first ≡ first_byte (D.meaning disk.old).bytes)) }
@@ -39,9 +37,7 @@ fn read_first<D: Disk>(disk: &mut D) -> Result<u8, Failed>
 /// Writes the first byte, in a write of its own, and syncs.
 pub fn write_first<D: Disk>(disk: &mut D, value: u8) -> Result<(), Failed>
     requires { 1 ≤ (D.meaning disk.old).len }
-    ensures run { IsDiskRun (D.meaning disk.old) (D.meaning disk.new) }
-    ensures cause { HasCause (D.meaning disk.old).disk_faults (D.meaning disk.new).disk_faults result }
-    ensures first_fault { DiskFaultEnds (D.meaning disk.old) (D.meaning disk.new) }
+    ensures disk { UsesDisk (D.meaning disk.old) (D.meaning disk.new) result }
     ensures spreads { IsTrue (D.meaning disk.old).is_honest → Spreads (D.meaning disk.old) (D.meaning disk.new) (Torn 0 1) }
     ensures settled { OnOk result (IsTrue (D.meaning disk.old).is_honest
         → IsSettled (D.meaning disk.new) (put (D.meaning disk.old).bytes 0 (value ∷ []))) }
@@ -53,9 +49,7 @@ pub fn write_first<D: Disk>(disk: &mut D, value: u8) -> Result<(), Failed>
 /// Syncs. Where the image begins as one that stands for a state, it then gets another first byte, and this is synced.
 pub fn take_name<D: Disk>(disk: &mut D) -> Result<(), Failed>
     requires { 1 ≤ (D.meaning disk.old).len }
-    ensures run { IsDiskRun (D.meaning disk.old) (D.meaning disk.new) }
-    ensures cause { HasCause (D.meaning disk.old).disk_faults (D.meaning disk.new).disk_faults result }
-    ensures first_fault { DiskFaultEnds (D.meaning disk.old) (D.meaning disk.new) }
+    ensures disk { UsesDisk (D.meaning disk.old) (D.meaning disk.new) result }
     ensures spreads { IsTrue (D.meaning disk.old).is_honest → Spreads (D.meaning disk.old) (D.meaning disk.new) (Torn 0 1) }
     ensures torn { OnOk result (IsTrue (D.meaning disk.old).is_honest
         → Always (D.meaning disk.new) (Torn 0 1 (D.meaning disk.old).bytes)) }
@@ -75,9 +69,7 @@ pub fn take_name<D: Disk>(disk: &mut D) -> Result<(), Failed>
 fn clear_blocks<D: Disk>(disk: &mut D, first: u32, end: u32) -> Result<(), Failed>
     requires order { first ≤ end }
     requires long { 4096 * end ≤ (D.meaning disk.old).len }
-    ensures run { IsDiskRun (D.meaning disk.old) (D.meaning disk.new) }
-    ensures cause { HasCause (D.meaning disk.old).disk_faults (D.meaning disk.new).disk_faults result }
-    ensures first_fault { DiskFaultEnds (D.meaning disk.old) (D.meaning disk.new) }
+    ensures disk { UsesDisk (D.meaning disk.old) (D.meaning disk.new) result }
     ensures spreads { IsTrue (D.meaning disk.old).is_honest
         → Spreads (D.meaning disk.old) (D.meaning disk.new) (Torn (4096 * first) (4096 * (end - first))) }
     ensures torn { OnOk result (IsTrue (D.meaning disk.old).is_honest
@@ -95,9 +87,7 @@ fn clear_blocks<D: Disk>(disk: &mut D, first: u32, end: u32) -> Result<(), Faile
 fn write_rest<D: Disk>(disk: &mut D, limits: &Limits) -> Result<(), Failed>
     requires range { IsTrue (are_in_range limits.now) }
     requires long { 4096 ≤ (D.meaning disk.old).len }
-    ensures run { IsDiskRun (D.meaning disk.old) (D.meaning disk.new) }
-    ensures cause { HasCause (D.meaning disk.old).disk_faults (D.meaning disk.new).disk_faults result }
-    ensures first_fault { DiskFaultEnds (D.meaning disk.old) (D.meaning disk.new) }
+    ensures disk { UsesDisk (D.meaning disk.old) (D.meaning disk.new) result }
     ensures spreads { IsTrue (D.meaning disk.old).is_honest → Spreads (D.meaning disk.old) (D.meaning disk.new) (Torn 1 4095) }
     ensures written { OnOk result (IsTrue (D.meaning disk.old).is_honest
         → (D.meaning disk.new).bytes ≡ put (D.meaning disk.old).bytes 1 (rest_of_super limits.now)) }
@@ -113,9 +103,7 @@ fn write_rest<D: Disk>(disk: &mut D, limits: &Limits) -> Result<(), Failed>
 pub fn wipe<D: Disk>(disk: &mut D, limits: &Limits) -> Result<(), Failed>
     requires range { IsTrue (are_in_range limits.now) }
     requires long { 4096 * image_blocks limits.now ≤ (D.meaning disk.old).len }
-    ensures run { IsDiskRun (D.meaning disk.old) (D.meaning disk.new) }
-    ensures cause { HasCause (D.meaning disk.old).disk_faults (D.meaning disk.new).disk_faults result }
-    ensures first_fault { DiskFaultEnds (D.meaning disk.old) (D.meaning disk.new) }
+    ensures disk { UsesDisk (D.meaning disk.old) (D.meaning disk.new) result }
     ensures spreads { IsTrue (D.meaning disk.old).is_honest
         → Spreads (D.meaning disk.old) (D.meaning disk.new) (IsWiping limits.now) }
     ensures wiped { OnOk result (IsTrue (D.meaning disk.old).is_honest → Always (D.meaning disk.new) (IsWiped limits.now)) }

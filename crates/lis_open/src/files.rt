@@ -1,30 +1,27 @@
 //! The files of an image: its file slots, and the descriptions that they have.
 
-ghost use Rattle.std.specs.Prelude.{◌≡◌, ◌*◌, ◌<◌, ◌≤◌, ◌&&◌, ◌||◌, not, nat_lt, ℕ, List, [], length, All, true, false, Some, None, IsTrue, IfOk, IfSome, OnOk, MatchOption};
+ghost use Rattle.std.specs.Prelude.{◌≡◌, ◌<◌, ◌≤◌, ◌&&◌, nat_lt, ℕ, List, length, All, Some, None, IsTrue, IfOk, IfSome, OnOk};
 ghost use Rattle.std.specs.Bool.{OnTrue, OnFalse};
 ghost use Rattle.std.specs.List.{list_all};
 ghost use Rattle.std.specs.List.Sorted.{IsStrictlyIncreasing};
 ghost use Rattle.std.specs.Option.{option_map};
-ghost use Rattle.lis_ports.specs.Calls.{HasCause, DiskFaultEnds};
+ghost use Rattle.lis_ports.specs.Calls.{ReadsDisk};
 ghost use Rattle.lis_journal.specs.Images.{Fits};
 ghost use Rattle.lis_bits.specs.Rows.{HasShape, get};
-ghost use Rattle.lis_blockmap.specs.Bitmap.{is_taken};
 ghost use Rattle.lis_content.specs.Content.{marked, are_free};
 ghost use Rattle.lis_dict.specs.Dict.{number_of};
-ghost use Rattle.lis_catalog.specs.Catalog.{slot_of, rec_at};
-ghost use Rattle.lis_ext.specs.Ext.{set_of};
+ghost use Rattle.lis_catalog.specs.Catalog.{slot_of};
 ghost use Rattle.lis_ext.specs.Numbers.{numbers_where};
 ghost use Rattle.lis_fields.specs.Layouts.{file_bytes, is_file, is_record};
 ghost use Rattle.lis_words.specs.Words.{test_of};
 ghost use Rattle.lis_model.specs.Tests.{is_met, met_tests};
 ghost use Rattle.lis_model.specs.Ranges.{are_in_range};
-ghost use Rattle.lis_model.specs.Image.{image_blocks};
 ghost use Rattle.lis_kept.specs.Areas.{file_slots, axiom_slots};
 ghost use Rattle.lis_kept.specs.Telling.{bit_of, bytes_told};
 ghost use Rattle.lis_store.specs.Contents.{AreContentsWithin};
-ghost use Rattle.lis_open.specs.Reading.{OnlyReads, HasPartCause, Recalls, IsReadAs, Ends};
+ghost use Rattle.lis_open.specs.Reading.{Recalls, IsReadAs, Ends, ReadsPart, IsReadable};
 ghost use Rattle.lis_open.specs.ReadWords.{AreWords, declared_words, AreFirstWords, AreFirstAxioms, WordsAreSpelled, AxiomsAreSpelled};
-ghost use Rattle.lis_open.specs.ReadFiles.{no_files, Gathered, AreListed, found_words, numbers_of, is_numbered, AreDescribed, may_file, TakesNumbers, TakesRecord, TakesFile, RecordFault, HasSlotFault, AreFirstFiles, FilesAreTold};
+ghost use Rattle.lis_open.specs.ReadFiles.{no_files, Gathered, AreListed, found_words, numbers_of, is_numbered, AreDescribed, may_file, TakesNumbers, TakesRecord, TakesFile, RecordFault, HasSlotFault, AreFirstFiles, FilesAreTold, IsFreeSlot};
 ghost use Rattle.lis_model.specs.Sets.{are_distinct};
 
 use crate::axioms::Axioms;
@@ -85,15 +82,9 @@ fn read_slot<D: Disk>(
     limits: &Limits,
     slot: u32,
 ) -> Result<Option<FileSlot>, Failed>
-    requires range { IsTrue (are_in_range limits.now) }
+    requires readable { IsReadable limits.now journal.now (D.meaning disk.old) }
     requires slot { slot < limits.now.files }
-    requires image { journal.now.blocks ≡ image_blocks limits.now }
-    requires clean { journal.now.staged ≡ [] }
-    requires unbroken { journal.now.is_broken ≡ false }
-    requires long { 4096 * journal.now.blocks ≤ (D.meaning disk.old).len }
-    ensures reads { OnlyReads (D.meaning disk.old) (D.meaning disk.new) }
-    ensures cause { HasCause (D.meaning disk.old).disk_faults (D.meaning disk.new).disk_faults result }
-    ensures first_fault { DiskFaultEnds (D.meaning disk.old) (D.meaning disk.new) }
+    ensures disk { ReadsDisk (D.meaning disk.old) (D.meaning disk.new) result }
     ensures form { IfOk result (λ found. IfSome found (λ file. IsTrue (is_file limits.now.version file))) }
     ensures recalls { (kept : ℕ → List ℕ) → Fits journal.now (D.meaning disk.old) kept → Recalls last.old kept → Recalls last.new kept }
     ensures read { IfOk result (λ found. (kept : ℕ → List ℕ) → Fits journal.now (D.meaning disk.old) kept → Recalls last.old kept
@@ -235,10 +226,7 @@ fn file(files: &mut Files, slot: u16, rec: FileRec, blocks: &[u16], numbers: &[u
     requires distinct { IsTrue (are_distinct blocks.now) }
     requires name { slot_of files.old.catalog rec.name ≡ None }
     requires free { IsTrue (are_free files.old.map blocks.now) }
-    requires below { slot < files.old.catalog.files }
-    requires empty { rec_at files.old.catalog slot ≡ None }
-    requires undescribed { set_of files.old.ext slot ≡ [] }
-    requires within { slot < length files.old.ext.sets }
+    requires slot { IsFreeSlot files.old slot }
     requires rise { IsStrictlyIncreasing numbers.now }
     requires in_range { All (λ n. n < files.old.ext.props) numbers.now }
     ensures { TakesNumbers slot rec blocks.now numbers.now files.old files.new }
@@ -249,13 +237,13 @@ fn file(files: &mut Files, slot: u16, rec: FileRec, blocks: &[u16], numbers: &[u
     files.ext.settle();
 }
 
-// What the reader of a file only looks at.
+/// What the reader of files only looks at.
 #[derive(Clone, Copy)]
-struct Known<'a> {
-    journal: &'a Journal,
-    limits: &'a Limits,
-    words: &'a Words,
-    axioms: &'a Axioms,
+pub struct Known<'a> {
+    pub journal: &'a Journal,
+    pub limits: &'a Limits,
+    pub words: &'a Words,
+    pub axioms: &'a Axioms,
 }
 
 // Reads the bytes of a record's file.
@@ -266,16 +254,10 @@ fn read_bytes<D: Disk>(
     rec: &FileRec,
     bytes: &mut Buffer,
 ) -> Result<(), Failed>
-    requires range { IsTrue (are_in_range limits.now) }
+    requires readable { IsReadable limits.now journal.now (D.meaning disk.old) }
     requires form { IsTrue (is_record limits.now.version rec.now) }
     requires below { IsTrue (list_all (λ n. nat_lt n limits.now.blocks) rec.now.blocks) }
-    requires image { journal.now.blocks ≡ image_blocks limits.now }
-    requires clean { journal.now.staged ≡ [] }
-    requires unbroken { journal.now.is_broken ≡ false }
-    requires long { 4096 * journal.now.blocks ≤ (D.meaning disk.old).len }
-    ensures reads { OnlyReads (D.meaning disk.old) (D.meaning disk.new) }
-    ensures cause { HasCause (D.meaning disk.old).disk_faults (D.meaning disk.new).disk_faults result }
-    ensures first_fault { DiskFaultEnds (D.meaning disk.old) (D.meaning disk.new) }
+    ensures disk { ReadsDisk (D.meaning disk.old) (D.meaning disk.new) result }
     ensures size { OnOk result (length bytes.new ≡ rec.now.size) }
     ensures read { OnOk result ((kept : ℕ → List ℕ) → Fits journal.now (D.meaning disk.old) kept
         → AreContentsWithin limits.now kept rec.now → bytes.new ≡ bytes_told limits.now kept rec.now) }
@@ -300,24 +282,15 @@ fn take_record<D: Disk>(
     slot: u16,
     rec: FileRec,
 ) -> Result<bool, Failed>
-    requires range { IsTrue (are_in_range known.limits.now) }
-    requires image { known.journal.now.blocks ≡ image_blocks known.limits.now }
-    requires clean { known.journal.now.staged ≡ [] }
-    requires unbroken { known.journal.now.is_broken ≡ false }
-    requires long { 4096 * known.journal.now.blocks ≤ (D.meaning disk.old).len }
+    requires readable { IsReadable known.limits.now known.journal.now (D.meaning disk.old) }
     requires are { AreWords known.words.now }
     requires form { IsTrue (is_record known.limits.now.version rec) }
     requires props { known.axioms.now.taxonomy.props ≡ known.words.now.dict.props }
     requires ext { files.old.ext.props ≡ known.words.now.dict.props }
     requires map { length files.old.map ≡ known.limits.now.blocks }
     requires shape { HasShape row.old 2 known.axioms.now.taxonomy.props }
-    requires below { slot < files.old.catalog.files }
-    requires free { rec_at files.old.catalog slot ≡ None }
-    requires undescribed { set_of files.old.ext slot ≡ [] }
-    requires within { slot < length files.old.ext.sets }
-    ensures reads { OnlyReads (D.meaning disk.old) (D.meaning disk.new) }
-    ensures cause { HasCause (D.meaning disk.old).disk_faults (D.meaning disk.new).disk_faults result }
-    ensures first_fault { DiskFaultEnds (D.meaning disk.old) (D.meaning disk.new) }
+    requires slot { IsFreeSlot files.old slot }
+    ensures disk { ReadsDisk (D.meaning disk.old) (D.meaning disk.new) result }
     ensures shape { HasShape row.new 2 known.entry.axioms.now.taxonomy.props }
     ensures taken { IfOk result (λ taken. OnTrue taken
         (TakesRecord known.entry.limits.now (Fits known.entry.journal.now (D.meaning disk.old)) known.entry.words.now known.entry.axioms.now.taxonomy slot rec files.old files.new)) }
@@ -357,24 +330,15 @@ fn take_file<D: Disk>(
     slot: u16,
     found: Option<FileSlot>,
 ) -> Result<bool, Failed>
-    requires range { IsTrue (are_in_range known.limits.now) }
-    requires image { known.journal.now.blocks ≡ image_blocks known.limits.now }
-    requires clean { known.journal.now.staged ≡ [] }
-    requires unbroken { known.journal.now.is_broken ≡ false }
-    requires long { 4096 * known.journal.now.blocks ≤ (D.meaning disk.old).len }
+    requires readable { IsReadable known.limits.now known.journal.now (D.meaning disk.old) }
     requires are { AreWords known.words.now }
     requires form { IfSome found (λ file. IsTrue (is_file known.limits.now.version file)) }
     requires props { known.axioms.now.taxonomy.props ≡ known.words.now.dict.props }
     requires ext { files.old.ext.props ≡ known.words.now.dict.props }
     requires map { length files.old.map ≡ known.limits.now.blocks }
     requires shape { HasShape row.old 2 known.axioms.now.taxonomy.props }
-    requires below { slot < files.old.catalog.files }
-    requires free { rec_at files.old.catalog slot ≡ None }
-    requires undescribed { set_of files.old.ext slot ≡ [] }
-    requires within { slot < length files.old.ext.sets }
-    ensures reads { OnlyReads (D.meaning disk.old) (D.meaning disk.new) }
-    ensures cause { HasCause (D.meaning disk.old).disk_faults (D.meaning disk.new).disk_faults result }
-    ensures first_fault { DiskFaultEnds (D.meaning disk.old) (D.meaning disk.new) }
+    requires slot { IsFreeSlot files.old slot }
+    ensures disk { ReadsDisk (D.meaning disk.old) (D.meaning disk.new) result }
     ensures shape { HasShape row.new 2 known.entry.axioms.now.taxonomy.props }
     ensures taken { IfOk result (λ taken. OnTrue taken
         (TakesFile known.entry.limits.now (Fits known.entry.journal.now (D.meaning disk.old)) known.entry.words.now known.entry.axioms.now.taxonomy slot found files.old files.new)) }
@@ -393,42 +357,27 @@ fn take_file<D: Disk>(
 pub fn read_files<D: Disk>(
     last: &mut LastBlock,
     disk: &mut D,
-    journal: &Journal,
-    limits: &Limits,
-    words: &Words,
-    axioms: &Axioms,
+    known: Known,
     files: &mut Files,
     row: &mut Rows,
     bytes: &mut Buffer,
 ) -> Result<(), OpenFault>
-    requires range { IsTrue (are_in_range limits.now) }
-    requires words { AreFirstWords limits.now words.now limits.now.props }
-    requires axioms { AreFirstAxioms limits.now words.now axioms.now (axiom_slots limits.now).count }
-    requires none { files.old ≡ no_files limits.now }
-    requires shape { HasShape row.old 2 limits.now.props }
-    requires image { journal.now.blocks ≡ image_blocks limits.now }
-    requires clean { journal.now.staged ≡ [] }
-    requires unbroken { journal.now.is_broken ≡ false }
-    requires long { 4096 * journal.now.blocks ≤ (D.meaning disk.old).len }
-    ensures shape { HasShape row.new 2 limits.now.props }
-    ensures reads { OnlyReads (D.meaning disk.old) (D.meaning disk.new) }
-    ensures cause { HasPartCause (D.meaning disk.old).disk_faults (D.meaning disk.new).disk_faults result }
-    ensures first_fault { DiskFaultEnds (D.meaning disk.old) (D.meaning disk.new) }
-    ensures read { OnOk result (AreFirstFiles limits.now words.now axioms.now files.new limits.now.files) }
-    ensures recalls { (kept : ℕ → List ℕ) → Fits journal.now (D.meaning disk.old) kept → Recalls last.old kept → Recalls last.new kept }
-    ensures ended { (kept : ℕ → List ℕ) → Fits journal.now (D.meaning disk.old) kept → Recalls last.old kept
-        → WordsAreSpelled limits.now kept words.now limits.now.props
-        → AxiomsAreSpelled limits.now kept axioms.now (axiom_slots limits.now).count
-        → Ends limits.now kept 4 (FilesAreTold limits.now kept words.now axioms.now files.new) result }
+    requires readable { IsReadable known.limits.now known.journal.now (D.meaning disk.old) }
+    requires words { AreFirstWords known.limits.now known.words.now known.limits.now.props }
+    requires axioms { AreFirstAxioms known.limits.now known.words.now known.axioms.now (axiom_slots known.limits.now).count }
+    requires none { files.old ≡ no_files known.limits.now }
+    requires shape { HasShape row.old 2 known.limits.now.props }
+    ensures shape { HasShape row.new 2 known.entry.limits.now.props }
+    ensures disk { ReadsPart (D.meaning disk.old) (D.meaning disk.new) result }
+    ensures read { OnOk result (AreFirstFiles known.entry.limits.now known.entry.words.now known.entry.axioms.now files.new known.entry.limits.now.files) }
+    ensures recalls { (kept : ℕ → List ℕ) → Fits known.entry.journal.now (D.meaning disk.old) kept → Recalls last.old kept → Recalls last.new kept }
+    ensures ended { (kept : ℕ → List ℕ) → Fits known.entry.journal.now (D.meaning disk.old) kept → Recalls last.old kept
+        → WordsAreSpelled known.entry.limits.now kept known.entry.words.now known.entry.limits.now.props
+        → AxiomsAreSpelled known.entry.limits.now kept known.entry.axioms.now (axiom_slots known.entry.limits.now).count
+        → Ends known.entry.limits.now kept 4 (FilesAreTold known.entry.limits.now kept known.entry.words.now known.entry.axioms.now files.new) result }
 {
-    let known = Known {
-        journal,
-        limits,
-        words,
-        axioms,
-    };
-    for slot in 0..limits.files {
-        let found = read_slot(last, disk, journal, limits, slot)?;
+    for slot in 0..known.limits.files {
+        let found = read_slot(last, disk, known.journal, known.limits, slot)?;
         let is_taken = take_file(disk, known, files, row, bytes, slot as u16, found)?;
         if !is_taken {
             return Err(OpenFault::Damaged(Spot::File(slot)));

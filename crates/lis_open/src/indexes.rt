@@ -1,17 +1,16 @@
 //! The blocks of files: those that a slot numbers, and those that an index block does.
 
-ghost use Rattle.std.specs.Prelude.{◌≡◌, ◌+◌, ◌*◌, ◌<◌, ◌≤◌, ℕ, List, [], ◌++◌, nat_lt, not, ◌&&◌, false, length, IsTrue, IfOk, IfSome};
+ghost use Rattle.std.specs.Prelude.{◌≡◌, ◌+◌, ◌<◌, ◌≤◌, ℕ, List, [], ◌++◌, nat_lt, not, ◌&&◌, length, IsTrue, IfOk, IfSome};
 ghost use Rattle.std.specs.Option.{option_map};
-ghost use Rattle.lis_ports.specs.Calls.{HasCause, DiskFaultEnds};
-ghost use Rattle.lis_journal.specs.Images.{Fits};
+ghost use Rattle.lis_ports.specs.Calls.{ReadsDisk};
+ghost use Rattle.lis_journal.specs.Images.{Fits, JournalIsUsable};
 ghost use Rattle.lis_blockmap.specs.Bitmap.{is_taken};
 ghost use Rattle.lis_content.specs.Content.{are_free, are_within};
 ghost use Rattle.lis_content.specs.Large.{slot_count};
 ghost use Rattle.lis_fields.specs.Layouts.{is_record};
-ghost use Rattle.lis_model.specs.Ranges.{are_in_range};
 ghost use Rattle.lis_model.specs.Image.{data_start, image_blocks};
 ghost use Rattle.lis_model.specs.State.{blocks_needed};
-ghost use Rattle.lis_open.specs.Reading.{OnlyReads};
+ghost use Rattle.lis_open.specs.Reading.{IsReadable};
 ghost use Rattle.lis_open.specs.ReadFiles.{AreIndexed, AreReadBlocks, AreUsable, AreItsBlocks};
 ghost use Rattle.lis_model.specs.Sets.{are_distinct, has_number};
 
@@ -72,11 +71,8 @@ fn read_numbers<D: Disk>(
     requires home { 578 ≤ home }
     requires within { home < journal.now.blocks }
     requires clean { journal.now.staged ≡ [] }
-    requires unbroken { journal.now.is_broken ≡ false }
-    requires long { 4096 * journal.now.blocks ≤ (D.meaning disk.old).len }
-    ensures reads { OnlyReads (D.meaning disk.old) (D.meaning disk.new) }
-    ensures cause { HasCause (D.meaning disk.old).disk_faults (D.meaning disk.new).disk_faults result }
-    ensures first_fault { DiskFaultEnds (D.meaning disk.old) (D.meaning disk.new) }
+    requires usable { JournalIsUsable journal.now (D.meaning disk.old) }
+    ensures disk { ReadsDisk (D.meaning disk.old) (D.meaning disk.new) result }
     ensures count { IfOk result (λ found. IfSome found (λ numbers. length numbers.items ≡ blocks_needed size)) }
     ensures found { IfOk result (λ found. (kept : ℕ → List ℕ) → Fits journal.now (D.meaning disk.old) kept
         → AreIndexed size (kept home) (option_map (λ numbers. numbers.items) found)) }
@@ -105,17 +101,11 @@ fn all_blocks<D: Disk>(
     slot: &[u16],
     size: u32,
 ) -> Result<Option<ArrayVec<u16, MOST_BLOCKS>>, Failed>
-    requires range { IsTrue (are_in_range limits.now) }
+    requires readable { IsReadable limits.now journal.now (D.meaning disk.old) }
     requires few { size ≤ 1048576 }
     requires count { length slot.now ≡ slot_count size }
     requires within { IsTrue (are_within (data_start limits.now) (image_blocks limits.now) slot.now) }
-    requires image { journal.now.blocks ≡ image_blocks limits.now }
-    requires clean { journal.now.staged ≡ [] }
-    requires unbroken { journal.now.is_broken ≡ false }
-    requires long { 4096 * journal.now.blocks ≤ (D.meaning disk.old).len }
-    ensures reads { OnlyReads (D.meaning disk.old) (D.meaning disk.new) }
-    ensures cause { HasCause (D.meaning disk.old).disk_faults (D.meaning disk.new).disk_faults result }
-    ensures first_fault { DiskFaultEnds (D.meaning disk.old) (D.meaning disk.new) }
+    ensures disk { ReadsDisk (D.meaning disk.old) (D.meaning disk.new) result }
     ensures found { IfOk result (λ found. (kept : ℕ → List ℕ) → Fits journal.now (D.meaning disk.old) kept
         → AreReadBlocks (data_start limits.now) slot.now size kept (option_map (λ blocks. blocks.items) found)) }
 {
@@ -138,16 +128,10 @@ pub fn free_blocks<D: Disk>(
     map: &BlockMap,
     rec: &FileRec,
 ) -> Result<Option<ArrayVec<u16, MOST_BLOCKS>>, Failed>
-    requires range { IsTrue (are_in_range limits.now) }
+    requires readable { IsReadable limits.now journal.now (D.meaning disk.old) }
     requires form { IsTrue (is_record limits.now.version rec.now) }
     requires map { length map.now ≡ limits.now.blocks }
-    requires image { journal.now.blocks ≡ image_blocks limits.now }
-    requires clean { journal.now.staged ≡ [] }
-    requires unbroken { journal.now.is_broken ≡ false }
-    requires long { 4096 * journal.now.blocks ≤ (D.meaning disk.old).len }
-    ensures reads { OnlyReads (D.meaning disk.old) (D.meaning disk.new) }
-    ensures cause { HasCause (D.meaning disk.old).disk_faults (D.meaning disk.new).disk_faults result }
-    ensures first_fault { DiskFaultEnds (D.meaning disk.old) (D.meaning disk.new) }
+    ensures disk { ReadsDisk (D.meaning disk.old) (D.meaning disk.new) result }
     ensures usable { IfOk result (λ found. IfSome found (λ blocks. AreUsable map.now rec.now.blocks blocks.items)) }
     ensures found { IfOk result (λ found. (kept : ℕ → List ℕ) → Fits journal.now (D.meaning disk.old) kept
         → AreItsBlocks limits.now kept map.now rec.now (option_map (λ blocks. blocks.items) found)) }

@@ -2,7 +2,7 @@
 
 ghost use Rattle.std.specs.Prelude.{◌≡◌, ◌*◌, ◌≤◌, ℕ, IsTrue, OnOk, OnErr, Err};
 ghost use Rattle.lis_ports.specs.Runs.{IsDiskRun, Leaves, Always, IsSettled};
-ghost use Rattle.lis_ports.specs.Calls.{HasCause, DiskFaultEnds};
+ghost use Rattle.lis_ports.specs.Calls.{DiskFaultEnds, UsesDisk};
 ghost use Rattle.lis_journal.specs.Record.{block};
 ghost use Rattle.lis_model.specs.Ranges.{are_in_range};
 ghost use Rattle.lis_model.specs.Image.{image_blocks};
@@ -43,9 +43,7 @@ impl From<Failed> for MakeFault {
 fn write_image<D: Disk>(disk: &mut D, limits: &Limits) -> Result<(), Failed>
     requires range { IsTrue (are_in_range limits.now) }
     requires long { 4096 * image_blocks limits.now ≤ (D.meaning disk.old).len }
-    ensures run { IsDiskRun (D.meaning disk.old) (D.meaning disk.new) }
-    ensures cause { HasCause (D.meaning disk.old).disk_faults (D.meaning disk.new).disk_faults result }
-    ensures first_fault { DiskFaultEnds (D.meaning disk.old) (D.meaning disk.new) }
+    ensures disk { UsesDisk (D.meaning disk.old) (D.meaning disk.new) result }
     ensures made { OnOk result (IsTrue (D.meaning disk.old).is_honest
         → Always (D.meaning disk.new) (λ image. Stands image (empty_state limits.now))) }
     ensures any_moment { IsTrue (D.meaning disk.old).is_honest → IsSettled (D.meaning disk.old) (D.meaning disk.old).bytes

@@ -1,7 +1,7 @@
 //! Opening an image.
 
-ghost use Rattle.std.specs.Prelude.{◌≡◌, ◌⊎◌, ◌*◌, ◌≤◌, ◌<◌, ℕ, List, false, IsTrue, IfOk, Err, Ok};
-ghost use Rattle.lis_ports.specs.Calls.{DiskFaultEnds};
+ghost use Rattle.std.specs.Prelude.{◌≡◌, ◌⊎◌, ◌*◌, ◌≤◌, ◌<◌, ℕ, false, IsTrue, IfOk, Err};
+ghost use Rattle.lis_ports.specs.Calls.{DiskFaultEnds, OnlyReads};
 ghost use Rattle.lis_ports.specs.Runs.{IsDiskRun, Leaves};
 ghost use Rattle.lis_journal.specs.Images.{KeepsPast};
 ghost use Rattle.lis_journal.specs.Recovery.{IsSettledPast};
@@ -13,7 +13,7 @@ ghost use Rattle.lis_store.specs.Stands.{Stands};
 ghost use Rattle.lis_store.specs.Stored.{IsSound};
 ghost use Rattle.lis_open.specs.Opens.{HasOpenCause, HasSuper, OpenEnded, OpenLeft, InOpening};
 ghost use Rattle.lis_open.specs.Checks.{FailsFirst};
-ghost use Rattle.lis_open.specs.Reading.{OnlyReads, Opened, LimitsRead};
+ghost use Rattle.lis_open.specs.Reading.{Opened, LimitsRead};
 ghost use Rattle.lis_open.specs.declared.mounting.OpenFault.TheVariants.{TooShort, Damaged, DiskFault as DiskFailed};
 ghost use Rattle.lis_model.specs.declared.spot.Spot.{Spot as SpotOf};
 

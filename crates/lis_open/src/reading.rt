@@ -1,27 +1,20 @@
 //! A store out of an image, behind its journal.
 
-ghost use Rattle.std.specs.Prelude.{◌≡◌, ◌*◌, ◌≤◌, ℕ, List, Bool, [], None, false, IsTrue, IfOk, OnOk};
-ghost use Rattle.lis_ports.specs.Calls.{DiskFaultEnds};
+ghost use Rattle.std.specs.Prelude.{◌≡◌, ℕ, List, Bool, [], false, IfOk, OnOk};
 ghost use Rattle.lis_bits.specs.Rows.{HasShape};
 ghost use Rattle.lis_journal.specs.Images.{Fits};
 ghost use Rattle.lis_fields.specs.Layouts.{SpellsSuper};
-ghost use Rattle.lis_model.specs.Ranges.{are_in_range};
-ghost use Rattle.lis_model.specs.Image.{image_blocks};
 ghost use Rattle.lis_store.specs.Stored.{IsSound};
-ghost use Rattle.lis_open.specs.Reading.{OnlyReads, HasPartCause, Recalls};
-ghost use Rattle.lis_open.specs.ReadWords.{no_words, AreNoAxioms};
-ghost use Rattle.lis_open.specs.ReadFiles.{no_files};
+ghost use Rattle.lis_open.specs.Reading.{Recalls, ReadsPart, IsReadable};
 ghost use Rattle.lis_open.specs.ReadAll.{kept_in, is_stray, IsEmptyRoom, AreSlotsRead, ArePassed, SlotsEnded, AreRead, PartsEnded, StoreEnded};
 
-use crate::axioms::{Axioms, read_axioms};
+use crate::axioms::read_axioms;
 use crate::blocks::LastBlock;
 use crate::checks::{check_bitmap, check_rows, check_words};
-use crate::files::{Files, read_files};
+use crate::files::{Known, read_files};
 use crate::mounting::OpenFault;
 use crate::room::Room;
-use crate::words::{Words, read_words};
-use lis_bits::Rows;
-use lis_content::Buffer;
+use crate::words::read_words;
 use lis_journal::Journal;
 use lis_kept::{Fields, Parts};
 use lis_model::limits::Limits;
@@ -34,34 +27,33 @@ fn read_slots<D: Disk>(
     disk: &mut D,
     journal: &Journal,
     limits: &Limits,
-    words: &mut Words,
-    axioms: &mut Axioms,
-    files: &mut Files,
-    row: &mut Rows,
-    bytes: &mut Buffer,
+    room: &mut Room,
 ) -> Result<(), OpenFault>
-    requires range { IsTrue (are_in_range limits.now) }
-    requires image { journal.now.blocks ≡ image_blocks limits.now }
-    requires clean { journal.now.staged ≡ [] }
-    requires unbroken { journal.now.is_broken ≡ false }
-    requires long { 4096 * journal.now.blocks ≤ (D.meaning disk.old).len }
-    requires no_words { words.old ≡ no_words limits.now }
-    requires no_axioms { AreNoAxioms limits.now axioms.old }
-    requires no_files { files.old ≡ no_files limits.now }
-    requires shape { HasShape row.old 2 limits.now.props }
-    ensures shape { OnOk result (HasShape row.new 2 limits.now.props) }
-    ensures reads { OnlyReads (D.meaning disk.old) (D.meaning disk.new) }
-    ensures cause { HasPartCause (D.meaning disk.old).disk_faults (D.meaning disk.new).disk_faults result }
-    ensures first_fault { DiskFaultEnds (D.meaning disk.old) (D.meaning disk.new) }
-    ensures read { OnOk result (AreSlotsRead limits.now words.new axioms.new files.new) }
+    requires readable { IsReadable limits.now journal.now (D.meaning disk.old) }
+    requires room { IsEmptyRoom limits.now room.old }
+    ensures shape { OnOk result (HasShape room.new.row 2 limits.now.props) }
+    ensures marks { room.new.marks ≡ room.old.marks }
+    ensures disk { ReadsPart (D.meaning disk.old) (D.meaning disk.new) result }
+    ensures read { OnOk result (AreSlotsRead limits.now room.new.words room.new.axioms room.new.files) }
     ensures recalls { OnOk result ((kept : ℕ → List ℕ) → Fits journal.now (D.meaning disk.old) kept → Recalls last.old kept → Recalls last.new kept) }
     ensures ended { (kept : ℕ → List ℕ) → Fits journal.now (D.meaning disk.old) kept → Recalls last.old kept
-        → SlotsEnded limits.now kept words.new axioms.new files.new result }
+        → SlotsEnded limits.now kept room.new.words room.new.axioms room.new.files result }
 {
-    read_words(last, disk, journal, limits, words)?;
-    read_axioms(last, disk, journal, limits, words, axioms)?;
+    read_words(last, disk, journal, limits, &mut room.words)?;
+    read_axioms(last, disk, journal, limits, &room.words, &mut room.axioms)?;
+    let known = Known {
+        journal,
+        limits,
+        words: &room.words,
+        axioms: &room.axioms,
+    };
     read_files(
-        last, disk, journal, limits, words, axioms, files, row, bytes,
+        last,
+        disk,
+        known,
+        &mut room.files,
+        &mut room.row,
+        &mut room.bytes,
     )?;
     Ok(())
 }
@@ -72,28 +64,28 @@ fn check_parts<D: Disk>(
     disk: &mut D,
     journal: &Journal,
     limits: &Limits,
-    words: &Words,
-    axioms: &Axioms,
-    files: &Files,
-    row: &mut Rows,
+    room: &mut Room,
 ) -> Result<(), OpenFault>
-    requires range { IsTrue (are_in_range limits.now) }
-    requires image { journal.now.blocks ≡ image_blocks limits.now }
-    requires clean { journal.now.staged ≡ [] }
-    requires unbroken { journal.now.is_broken ≡ false }
-    requires long { 4096 * journal.now.blocks ≤ (D.meaning disk.old).len }
-    requires read { AreSlotsRead limits.now words.now axioms.now files.now }
-    requires shape { HasShape row.old 2 limits.now.props }
-    ensures reads { OnlyReads (D.meaning disk.old) (D.meaning disk.new) }
-    ensures cause { HasPartCause (D.meaning disk.old).disk_faults (D.meaning disk.new).disk_faults result }
-    ensures first_fault { DiskFaultEnds (D.meaning disk.old) (D.meaning disk.new) }
-    ensures used { OnOk result ((marks : List Bool) (n : ℕ) → is_stray (kept_in limits.now words.now axioms.now files.now marks) n ≡ false) }
+    requires readable { IsReadable limits.now journal.now (D.meaning disk.old) }
+    requires read { AreSlotsRead limits.now room.old.words room.old.axioms room.old.files }
+    requires shape { HasShape room.old.row 2 limits.now.props }
+    ensures same { room.new ≡ record room.old { row = room.new.row } }
+    ensures disk { ReadsPart (D.meaning disk.old) (D.meaning disk.new) result }
+    ensures used { OnOk result ((marks : List Bool) (n : ℕ)
+        → is_stray (kept_in limits.now room.old.words room.old.axioms room.old.files marks) n ≡ false) }
     ensures ended { (kept : ℕ → List ℕ) → Fits journal.now (D.meaning disk.old) kept → Recalls last.old kept
-        → ArePassed limits.now kept words.now axioms.now files.now → PartsEnded limits.now kept words.now axioms.now files.now result }
+        → ArePassed limits.now kept room.old.words room.old.axioms room.old.files
+        → PartsEnded limits.now kept room.old.words room.old.axioms room.old.files result }
 {
-    check_words(limits, words, axioms, files, row)?;
-    check_bitmap(disk, journal, limits, &files.map)?;
-    check_rows(last, disk, journal, limits, &files.ext)
+    check_words(
+        limits,
+        &room.words,
+        &room.axioms,
+        &room.files,
+        &mut room.row,
+    )?;
+    check_bitmap(disk, journal, limits, &room.files.map)?;
+    check_rows(last, disk, journal, limits, &room.files.ext)
 }
 
 // Reads and checks all parts in their order.
@@ -101,33 +93,19 @@ fn read_parts<D: Disk>(
     disk: &mut D,
     journal: &Journal,
     limits: &Limits,
-    words: &mut Words,
-    axioms: &mut Axioms,
-    files: &mut Files,
-    row: &mut Rows,
-    bytes: &mut Buffer,
+    room: &mut Room,
 ) -> Result<(), OpenFault>
-    requires range { IsTrue (are_in_range limits.now) }
-    requires image { journal.now.blocks ≡ image_blocks limits.now }
-    requires clean { journal.now.staged ≡ [] }
-    requires unbroken { journal.now.is_broken ≡ false }
-    requires long { 4096 * journal.now.blocks ≤ (D.meaning disk.old).len }
-    requires no_words { words.old ≡ no_words limits.now }
-    requires no_axioms { AreNoAxioms limits.now axioms.old }
-    requires no_files { files.old ≡ no_files limits.now }
-    requires shape { HasShape row.old 2 limits.now.props }
-    ensures reads { OnlyReads (D.meaning disk.old) (D.meaning disk.new) }
-    ensures cause { HasPartCause (D.meaning disk.old).disk_faults (D.meaning disk.new).disk_faults result }
-    ensures first_fault { DiskFaultEnds (D.meaning disk.old) (D.meaning disk.new) }
-    ensures read { OnOk result ((marks : List Bool) → AreRead limits.now words.new axioms.new files.new marks) }
+    requires readable { IsReadable limits.now journal.now (D.meaning disk.old) }
+    requires room { IsEmptyRoom limits.now room.old }
+    ensures marks { room.new.marks ≡ room.old.marks }
+    ensures disk { ReadsPart (D.meaning disk.old) (D.meaning disk.new) result }
+    ensures read { OnOk result ((marks : List Bool) → AreRead limits.now room.new.words room.new.axioms room.new.files marks) }
     ensures ended { (kept : ℕ → List ℕ) → Fits journal.now (D.meaning disk.old) kept
-        → PartsEnded limits.now kept words.new axioms.new files.new result }
+        → PartsEnded limits.now kept room.new.words room.new.axioms room.new.files result }
 {
     let mut last = LastBlock::new();
-    read_slots(
-        &mut last, disk, journal, limits, words, axioms, files, row, bytes,
-    )?;
-    check_parts(&mut last, disk, journal, limits, words, axioms, files, row)
+    read_slots(&mut last, disk, journal, limits, room)?;
+    check_parts(&mut last, disk, journal, limits, room)
 }
 
 /// Reads all that a store keeps in memory, and checks that the image stands for a state. It takes no memory.
@@ -137,16 +115,10 @@ pub fn read_store<D: Disk>(
     journal: Journal,
     room: Room,
 ) -> Result<Store, OpenFault>
-    requires range { IsTrue (are_in_range limits) }
+    requires readable { IsReadable limits journal (D.meaning disk.old) }
     requires room { IsEmptyRoom limits room }
-    requires image { journal.blocks ≡ image_blocks limits }
-    requires clean { journal.staged ≡ [] }
     requires unplaced { journal.placed ≡ [] }
-    requires unbroken { journal.is_broken ≡ false }
-    requires long { 4096 * journal.blocks ≤ (D.meaning disk.old).len }
-    ensures reads { OnlyReads (D.meaning disk.old) (D.meaning disk.new) }
-    ensures cause { HasPartCause (D.meaning disk.old).disk_faults (D.meaning disk.new).disk_faults result }
-    ensures first_fault { DiskFaultEnds (D.meaning disk.old) (D.meaning disk.new) }
+    ensures disk { ReadsPart (D.meaning disk.old) (D.meaning disk.new) result }
     ensures sound { IfOk result IsSound }
     ensures journal { IfOk result (λ store. store.journal ≡ journal) }
     ensures unbroken { IfOk result (λ store. store.is_broken ≡ false) }
@@ -154,16 +126,7 @@ pub fn read_store<D: Disk>(
         → SpellsSuper limits (kept 0) → StoreEnded limits kept result }
 {
     let mut room = room;
-    read_parts(
-        disk,
-        &journal,
-        &limits,
-        &mut room.words,
-        &mut room.axioms,
-        &mut room.files,
-        &mut room.row,
-        &mut room.bytes,
-    )?;
+    read_parts(disk, &journal, &limits, &mut room)?;
     let parts = Parts::join(Fields {
         limits,
         dict: room.words.dict,

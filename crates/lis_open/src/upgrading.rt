@@ -2,7 +2,7 @@
 
 ghost use Rattle.std.specs.Prelude.{◌≡◌, ◌⊎◌, ℕ, ◌<◌, ◌≤◌, [], ◌∷◌, Err, IsTrue, OnOk};
 ghost use Rattle.lis_ports.specs.Bytes.{put, Torn};
-ghost use Rattle.lis_ports.specs.Calls.{HasCause, DiskFaultEnds};
+ghost use Rattle.lis_ports.specs.Calls.{DiskFaultEnds, UsesDisk};
 ghost use Rattle.lis_ports.specs.Runs.{IsDiskRun, IsSettled, Leaves};
 ghost use Rattle.lis_journal.specs.Images.{KeepsPast};
 ghost use Rattle.lis_journal.specs.Recovery.{IsSettledPast};
@@ -30,9 +30,7 @@ const SECOND: u8 = 2;
 // Writes the gate of version 2, in a write of its own, and syncs.
 fn write_gate<D: Disk>(disk: &mut D) -> Result<(), Failed>
     requires { 25 ≤ (D.meaning disk.old).len }
-    ensures run { IsDiskRun (D.meaning disk.old) (D.meaning disk.new) }
-    ensures cause { HasCause (D.meaning disk.old).disk_faults (D.meaning disk.new).disk_faults result }
-    ensures first_fault { DiskFaultEnds (D.meaning disk.old) (D.meaning disk.new) }
+    ensures disk { UsesDisk (D.meaning disk.old) (D.meaning disk.new) result }
     ensures spreads { IsTrue (D.meaning disk.old).is_honest → Spreads (D.meaning disk.old) (D.meaning disk.new) (Torn 24 1) }
     ensures settled { OnOk result (IsTrue (D.meaning disk.old).is_honest
         → IsSettled (D.meaning disk.new) (put (D.meaning disk.old).bytes 24 (2 ∷ []))) }
@@ -71,7 +69,9 @@ pub fn upgrade<D: Disk>(alloc: Global, disk: &mut D) -> Result<(), OpenFault>
         → KeepsPast (image_blocks limits) (D.meaning disk.old) (D.meaning disk.new) }
 {
     let store = mount(alloc, disk)?;
-    if store.limits().version == 2 {
+    let version = store.limits().version;
+    store.close();
+    if version == 2 {
         return Ok(());
     }
     write_gate(disk)?;

@@ -1,15 +1,14 @@
 //! The words of an image: its property slots.
 
-ghost use Rattle.std.specs.Prelude.{◌≡◌, ◌*◌, ◌<◌, ◌≤◌, ℕ, List, [], length, false, Some, None, IsTrue, IfOk, IfSome, OnOk};
+ghost use Rattle.std.specs.Prelude.{◌≡◌, ◌<◌, ℕ, List, None, IsTrue, IfOk, IfSome, OnOk};
 ghost use Rattle.std.specs.Bool.{OnTrue, OnFalse};
-ghost use Rattle.lis_ports.specs.Calls.{HasCause, DiskFaultEnds};
+ghost use Rattle.lis_ports.specs.Calls.{ReadsDisk};
 ghost use Rattle.lis_journal.specs.Images.{Fits};
 ghost use Rattle.lis_dict.specs.Dict.{word_of};
 ghost use Rattle.lis_fields.specs.Layouts.{prop_bytes, is_prop};
 ghost use Rattle.lis_model.specs.Ranges.{are_in_range};
-ghost use Rattle.lis_model.specs.Image.{image_blocks};
 ghost use Rattle.lis_kept.specs.Areas.{property_slots};
-ghost use Rattle.lis_open.specs.Reading.{OnlyReads, HasPartCause, Recalls, IsReadAs, Ends};
+ghost use Rattle.lis_open.specs.Reading.{Recalls, IsReadAs, Ends, ReadsPart, IsReadable};
 ghost use Rattle.lis_open.specs.ReadWords.{no_words, with_word, is_new_word, may_take_property, with_property, AreWords, AreFirstWords, WordsAreSpelled};
 
 use crate::blocks::LastBlock;
@@ -53,15 +52,9 @@ fn read_property<D: Disk>(
     limits: &Limits,
     number: u32,
 ) -> Result<Option<PropSlot>, Failed>
-    requires range { IsTrue (are_in_range limits.now) }
+    requires readable { IsReadable limits.now journal.now (D.meaning disk.old) }
     requires number { number < limits.now.props }
-    requires image { journal.now.blocks ≡ image_blocks limits.now }
-    requires clean { journal.now.staged ≡ [] }
-    requires unbroken { journal.now.is_broken ≡ false }
-    requires long { 4096 * journal.now.blocks ≤ (D.meaning disk.old).len }
-    ensures reads { OnlyReads (D.meaning disk.old) (D.meaning disk.new) }
-    ensures cause { HasCause (D.meaning disk.old).disk_faults (D.meaning disk.new).disk_faults result }
-    ensures first_fault { DiskFaultEnds (D.meaning disk.old) (D.meaning disk.new) }
+    ensures disk { ReadsDisk (D.meaning disk.old) (D.meaning disk.new) result }
     ensures form { IfOk result (λ found. IfSome found (λ property. IsTrue (is_prop property))) }
     ensures recalls { (kept : ℕ → List ℕ) → Fits journal.now (D.meaning disk.old) kept → Recalls last.old kept → Recalls last.new kept }
     ensures read { IfOk result (λ found. (kept : ℕ → List ℕ) → Fits journal.now (D.meaning disk.old) kept → Recalls last.old kept
@@ -114,15 +107,9 @@ pub fn read_words<D: Disk>(
     limits: &Limits,
     words: &mut Words,
 ) -> Result<(), OpenFault>
-    requires range { IsTrue (are_in_range limits.now) }
+    requires readable { IsReadable limits.now journal.now (D.meaning disk.old) }
     requires none { words.old ≡ no_words limits.now }
-    requires image { journal.now.blocks ≡ image_blocks limits.now }
-    requires clean { journal.now.staged ≡ [] }
-    requires unbroken { journal.now.is_broken ≡ false }
-    requires long { 4096 * journal.now.blocks ≤ (D.meaning disk.old).len }
-    ensures reads { OnlyReads (D.meaning disk.old) (D.meaning disk.new) }
-    ensures cause { HasPartCause (D.meaning disk.old).disk_faults (D.meaning disk.new).disk_faults result }
-    ensures first_fault { DiskFaultEnds (D.meaning disk.old) (D.meaning disk.new) }
+    ensures disk { ReadsPart (D.meaning disk.old) (D.meaning disk.new) result }
     ensures read { OnOk result (AreFirstWords limits.now words.new limits.now.props) }
     ensures recalls { (kept : ℕ → List ℕ) → Fits journal.now (D.meaning disk.old) kept → Recalls last.old kept → Recalls last.new kept }
     ensures ended { (kept : ℕ → List ℕ) → Fits journal.now (D.meaning disk.old) kept → Recalls last.old kept

@@ -1,12 +1,10 @@
 -- The bytes of a file, read block by block into a payload.
-use Rattle.std.proofs.Common.{◌≡◌, ℕ, ◌+◌, ◌-◌, ◌*◌, ◌<◌, ◌≤◌, min, Option, Some, None, IsSomeAnd, IsTrue, List, [], ◌∷◌, length, take, Result, Ok, Err, refl, ap, subst, ◌∙◌, arith, le-leb}
+use Rattle.std.proofs.Common.{◌≡◌, ℕ, ◌+◌, ◌-◌, ◌*◌, ◌<◌, ◌≤◌, min, Option, Some, None, IsSomeAnd, List, [], ◌∷◌, length, take, Result, Ok, Err, refl, ap, subst, ◌∙◌, arith, le-leb}
 use Rattle.std.proofs.lemmas.List.{length-take-le, take_all}
 use Rattle.lis_ports.specs.Meaning.{Meaning}
-use Rattle.lis_ports.specs.Runs.{IsDiskRun, Leaves}
-use Rattle.lis_ports.specs.Calls.{HasCause, DiskFaultEnds, IsUnchanged}
-use Rattle.lis_ports.proofs.Moments.{run_none, run_then, leaves_none, leaves_weaken, leaves_then}
-use Rattle.lis_ports.proofs.Ending.{ends_none, ends_then}
-use Rattle.lis_content.proofs.Reading.{unchanged_none, unchanged_then}
+use Rattle.lis_ports.specs.Calls.{HasCause, ReadsDisk}
+use Rattle.lis_ports.proofs.OnlyReading.{reads_then}
+use Rattle.lis_ports.proofs.Ending.{ends_then}
 use Rattle.lis_catalog.specs.Catalog.{slot_of, rec_at}
 use Rattle.lis_fields.specs.Records.{FileRecord}
 use Rattle.lis_fields.proofs.Parts.{size_fits}
@@ -31,20 +29,16 @@ use Rattle.lis_session.proofs.Shown.{as_shown, shown_same, shown_then, shown_fro
 -- ---- what reads do
 -- A run that only reads, and how it ends.
 pub record Reading {E : Type 0} (k : Stored) (old new : Meaning) (result : Result (Unit {0}) E) : Type 0 where
-  pub run : IsDiskRun old new
-  pub cause : HasCause old.disk_faults new.disk_faults result
-  pub first_fault : DiskFaultEnds old new
-  pub same : IsTrue old.is_honest → IsUnchanged old new
-  pub any_moment : IsTrue old.is_honest → Leaves old new old.images
+  pub disk : ReadsDisk old new result
   pub fits : (s : State) → StoreFits k old s → StoreFits k new s
 
 pub reading_then : {E : Type 0} {k : Stored} {a b c : Meaning} (u : Unit {0}) (result : Result (Unit {0}) E) → Reading {E = E} k a b (Ok u) → Reading k b c result → Reading k a c result
-reading_then {a = a} {c = c} u result first second = record {
-  run = run_then first.run second.run;
-  cause = subst (λ n. HasCause n c.disk_faults result) first.cause.stays second.cause;
-  first_fault = ends_then first.first_fault first.cause.stays second.first_fault;
-  same = λ honest. unchanged_then second.run (first.same honest) (second.same (first.run.honest ∙ honest));
-  any_moment = λ honest. leaves_then (first.any_moment honest) (leaves_weaken a.images (second.any_moment (first.run.honest ∙ honest)) (first.same honest).images.only);
+reading_then {c = c} u result first second = record {
+  disk = record {
+    reads = reads_then first.disk.reads second.disk.reads;
+    cause = subst (λ n. HasCause n c.disk_faults result) first.disk.cause.stays second.disk.cause;
+    first_fault = ends_then first.disk.first_fault first.disk.cause.stays second.disk.first_fault;
+  };
   fits = λ s fits. second.fits s (first.fits s fits);
 }
 
@@ -55,20 +49,20 @@ as_end (Err failed) = Err DiskFault
 
 reading_ends : {E : Type 0} {k : Stored} {old new : Meaning} (result : Result (Unit {0}) E) → Reading k old new result → Ends old new (as_end result)
 reading_ends (Ok u) reading =
-    let run = reading.run in
-    record { cause = (reading.cause.stays, run.show_faults); first_fault = reading.first_fault.ends; same = record { honest = run.honest; len = run.len; recorded = run.recorded } }
+    let run = reading.disk.reads.run in
+    record { cause = (reading.disk.cause.stays, run.show_faults); first_fault = reading.disk.first_fault.ends; same = record { honest = run.honest; len = run.len; recorded = run.recorded } }
 reading_ends (Err e) reading =
-    let run = reading.run in
-    record { cause = (reading.cause.rose, run.show_faults); first_fault = reading.first_fault.ends; same = record { honest = run.honest; len = run.len; recorded = run.recorded } }
+    let run = reading.disk.reads.run in
+    record { cause = (reading.disk.cause.rose, run.show_faults); first_fault = reading.disk.first_fault.ends; same = record { honest = run.honest; len = run.len; recorded = run.recorded } }
 
 -- Nothing is shown where a file is loaded.
 pub load_shows : {E : Type 0} {k : Stored} {old new : Meaning} (result : Result (Unit {0}) E) → Reading k old new result → Shows k (λ state. []) old new (as_end result)
 load_shows {new = new} (Ok u) reading = record {
-  shows = λ state fitting. block_item [] fitting (reading.any_moment fitting.honest) (reading.same fitting.honest) (Ok tt) (reading.fits state fitting.own) (answers_none new);
+  shows = λ state fitting. block_item [] fitting (reading.disk.reads.moments fitting.honest) (reading.disk.reads.same fitting.honest) (Ok tt) (reading.fits state fitting.own) (answers_none new);
   ends = reading_ends (Ok u) reading;
 }
 load_shows (Err e) reading = record {
-  shows = λ state fitting. block_broke [] fitting (reading.any_moment fitting.honest) (reading.same fitting.honest);
+  shows = λ state fitting. block_broke [] fitting (reading.disk.reads.moments fitting.honest) (reading.disk.reads.same fitting.honest);
   ends = reading_ends (Err e) reading;
 }
 

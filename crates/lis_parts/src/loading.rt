@@ -1,13 +1,12 @@
 //! The bytes of a file, read into memory.
 
-ghost use Rattle.std.specs.Prelude.{◌≡◌, ◌*◌, ◌≤◌, ℕ, List, false, Some, length, OnOk, IsSomeAnd, IsTrue};
-ghost use Rattle.lis_ports.specs.Runs.{IsDiskRun, Leaves};
-ghost use Rattle.lis_ports.specs.Calls.{HasCause, DiskFaultEnds, IsUnchanged};
+ghost use Rattle.std.specs.Prelude.{◌≡◌, ℕ, List, Some, length, OnOk, IsSomeAnd, IsTrue};
+ghost use Rattle.lis_ports.specs.Calls.{ReadsDisk};
 ghost use Rattle.lis_catalog.specs.Catalog.{slot_of, rec_at};
 ghost use Rattle.lis_fields.specs.Records.{FileRecord};
 ghost use Rattle.lis_model.specs.Changes.{file_of};
 ghost use Rattle.lis_model.specs.State.{State};
-ghost use Rattle.lis_store.specs.Stored.{IsSound, StoreFits, IsIndex};
+ghost use Rattle.lis_store.specs.Stored.{IsSound, StoreFits, IsIndex, IsUsable};
 
 use lis_line::reader::Payload;
 use lis_ports::{Disk, Failed};
@@ -26,16 +25,10 @@ fn read_index<D: Disk>(
 ) -> Result<(), Failed>
     requires size { IsSomeAnd (rec_at store.now.parts.catalog slot) (λ (rec : FileRecord). size ≡ rec.size) }
     requires whole { length index.old ≡ 4096 }
-    requires unbroken { store.now.is_broken ≡ false }
-    requires long { 4096 * store.now.journal.blocks ≤ (D.meaning disk.old).len }
+    requires usable { IsUsable store.now (D.meaning disk.old) }
     ensures held { OnOk result (IsTrue (D.meaning disk.old).is_honest → IsIndex store.now (D.meaning disk.old).bytes slot index.new) }
     ensures len { length index.new ≡ 4096 }
-    ensures run { IsDiskRun (D.meaning disk.old) (D.meaning disk.new) }
-    ensures cause { HasCause (D.meaning disk.old).disk_faults (D.meaning disk.new).disk_faults result }
-    ensures first_fault { DiskFaultEnds (D.meaning disk.old) (D.meaning disk.new) }
-    ensures same { IsTrue (D.meaning disk.old).is_honest → IsUnchanged (D.meaning disk.old) (D.meaning disk.new) }
-    ensures any_moment { IsTrue (D.meaning disk.old).is_honest
-        → Leaves (D.meaning disk.old) (D.meaning disk.new) (D.meaning disk.old).images }
+    ensures disk { ReadsDisk (D.meaning disk.old) (D.meaning disk.new) result }
     ensures fits { (s : State) → StoreFits store.now (D.meaning disk.old) s → StoreFits store.now (D.meaning disk.new) s }
 {
     if size == 0 {
@@ -54,16 +47,10 @@ pub fn load<D: Disk>(
 ) -> Result<(), Failed>
     requires sound { IsSound store.now }
     requires size { IsSomeAnd (rec_at store.now.parts.catalog slot) (λ (rec : FileRecord). size ≡ rec.size) }
-    requires unbroken { store.now.is_broken ≡ false }
-    requires long { 4096 * store.now.journal.blocks ≤ (D.meaning disk.old).len }
+    requires usable { IsUsable store.now (D.meaning disk.old) }
     ensures loads { OnOk result ((s : State) (name : List ℕ) → StoreFits store.now (D.meaning disk.old) s → slot_of store.now.parts.catalog name ≡ Some slot
         → bytes.new.bytes ≡ (file_of s.files name).bytes) }
-    ensures run { IsDiskRun (D.meaning disk.old) (D.meaning disk.new) }
-    ensures cause { HasCause (D.meaning disk.old).disk_faults (D.meaning disk.new).disk_faults result }
-    ensures first_fault { DiskFaultEnds (D.meaning disk.old) (D.meaning disk.new) }
-    ensures same { IsTrue (D.meaning disk.old).is_honest → IsUnchanged (D.meaning disk.old) (D.meaning disk.new) }
-    ensures any_moment { IsTrue (D.meaning disk.old).is_honest
-        → Leaves (D.meaning disk.old) (D.meaning disk.new) (D.meaning disk.old).images }
+    ensures disk { ReadsDisk (D.meaning disk.old) (D.meaning disk.new) result }
     ensures fits { (s : State) → StoreFits store.now (D.meaning disk.old) s → StoreFits store.now (D.meaning disk.new) s }
 {
     bytes.clear();

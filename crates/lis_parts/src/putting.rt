@@ -1,8 +1,7 @@
 //! Putting an edited view of a file back.
 
-ghost use Rattle.std.specs.Prelude.{◌≡◌, ◌*◌, ◌≤◌, ℕ, List, [], Some, length, false, IfOk, IsTrue};
-ghost use Rattle.lis_ports.specs.Runs.{IsDiskRun, Leaves};
-ghost use Rattle.lis_ports.specs.Calls.{HasCause, FaultEnds, DiskFaultEnds, IsUnchanged};
+ghost use Rattle.std.specs.Prelude.{◌≡◌, ◌≤◌, ℕ, List, [], Some, length, IfOk};
+ghost use Rattle.lis_ports.specs.Calls.{FaultEnds, ReadsDisk};
 ghost use Rattle.lis_line.specs.Endings.{HasHaltCause};
 ghost use Rattle.lis_line.specs.Taking.{TakesFew};
 ghost use Rattle.lis_eval.specs.Room.{HasRoom};
@@ -12,7 +11,7 @@ ghost use Rattle.lis_model.specs.Changes.{file_of};
 ghost use Rattle.lis_model.specs.Step.{Situation};
 ghost use Rattle.lis_views.specs.Edits.{Back, back_of};
 ghost use Rattle.lis_cuts.specs.Returns.{Returns};
-ghost use Rattle.lis_store.specs.Stored.{IsSound, StoreFits};
+ghost use Rattle.lis_store.specs.Stored.{IsSound, StoreFits, IsUsable};
 ghost use Rattle.lis_session.specs.Ending.{result_of, InputRead};
 ghost use Rattle.lis_session.specs.Item.{Does, StoreLeft};
 ghost use Rattle.lis_session.specs.Parts.{Ends};
@@ -47,16 +46,10 @@ fn make_new<D: Disk>(
     requires sound { IsSound store.now }
     requires named { (name : List ℕ) × (slot_of store.now.parts.catalog name ≡ Some slot) }
     requires short { length edited.now ≤ view_limit }
-    requires unbroken { store.now.is_broken ≡ false }
-    requires long { 4096 * store.now.journal.blocks ≤ (D.meaning disk.old).len }
+    requires usable { IsUsable store.now (D.meaning disk.old) }
     ensures makes { IfOk result (λ returned. (s : State) (name : List ℕ) → StoreFits store.now (D.meaning disk.old) s
         → slot_of store.now.parts.catalog name ≡ Some slot → Returns (back_of (file_of s.files name).bytes place.now edited.now) returned made.new) }
-    ensures run { IsDiskRun (D.meaning disk.old) (D.meaning disk.new) }
-    ensures cause { HasCause (D.meaning disk.old).disk_faults (D.meaning disk.new).disk_faults result }
-    ensures first_fault { DiskFaultEnds (D.meaning disk.old) (D.meaning disk.new) }
-    ensures same { IsTrue (D.meaning disk.old).is_honest → IsUnchanged (D.meaning disk.old) (D.meaning disk.new) }
-    ensures any_moment { IsTrue (D.meaning disk.old).is_honest
-        → Leaves (D.meaning disk.old) (D.meaning disk.new) (D.meaning disk.old).images }
+    ensures disk { ReadsDisk (D.meaning disk.old) (D.meaning disk.new) result }
     ensures fits { (s : State) → StoreFits store.now (D.meaning disk.old) s → StoreFits store.now (D.meaning disk.new) s }
 {
     let size = store.file_size(slot);
@@ -75,8 +68,7 @@ fn carry_back<T: Station>(
 ) -> Result<(), End>
     requires scratch { HasRoom scratch.old store.old.parts.limits }
     requires sound { IsSound store.old }
-    requires unbroken { store.old.is_broken ≡ false }
-    requires long { 4096 * store.old.journal.blocks ≤ (T.meaning station.old).len }
+    requires usable { IsUsable store.old (T.meaning station.old) }
     ensures puts { (back : Back) → Returns back returned made.now
         → Does (λ (now : Situation). put_as now name.now back) (StoreFits store.old (T.meaning station.old)) []
         (T.meaning station.old) (T.meaning station.new) result (StoreFits store.new (T.meaning station.new)) [] }
@@ -110,8 +102,7 @@ fn put_back_file<T: Station>(
     requires scratch { HasRoom scratch.old store.old.parts.limits }
     requires short { length edited.now ≤ view_limit }
     requires sound { IsSound store.old }
-    requires unbroken { store.old.is_broken ≡ false }
-    requires long { 4096 * store.old.journal.blocks ≤ (T.meaning station.old).len }
+    requires usable { IsUsable store.old (T.meaning station.old) }
     ensures puts { Does (λ (now : Situation). put now name.now text.now edited.now) (StoreFits store.old (T.meaning station.old)) []
         (T.meaning station.old) (T.meaning station.new) result (StoreFits store.new (T.meaning station.new)) [] }
     ensures ends { Ends (T.meaning station.old) (T.meaning station.new) result }
@@ -148,8 +139,7 @@ pub fn put_file<S: Source, T: Station>(
 ) -> Halt<End>
     requires limits { parts.old ≡ store.old.parts.limits }
     requires sound { IsSound store.old }
-    requires unbroken { store.old.is_broken ≡ false }
-    requires long { 4096 * store.old.journal.blocks ≤ (T.meaning station.old).len }
+    requires usable { IsUsable store.old (T.meaning station.old) }
     ensures puts { (bytes : List ℕ) → S.left input.old ≡ Some bytes
         → Does (λ (now : Situation). put_by result now name.now text.now bytes) (StoreFits store.old (T.meaning station.old)) []
         (T.meaning station.old) (T.meaning station.new) (result_of result) (StoreFits store.new (T.meaning station.new)) [] }

@@ -1,11 +1,11 @@
 //! Showing the view of a file.
 
-ghost use Rattle.std.specs.Prelude.{◌≡◌, ℕ, ◌+◌, ◌*◌, ◌<◌, ◌≤◌, ◌^◌, List, [], ◌++◌, false, Some, option_copied};
+ghost use Rattle.std.specs.Prelude.{◌≡◌, ℕ, ◌+◌, ◌<◌, ◌^◌, List, [], ◌++◌, Some, option_copied};
 ghost use Rattle.lis_catalog.specs.Catalog.{slot_of};
 ghost use Rattle.lis_model.specs.Changes.{file_of};
 ghost use Rattle.lis_model.specs.Step.{Situation};
 ghost use Rattle.lis_views.specs.Views.{view_of};
-ghost use Rattle.lis_store.specs.Stored.{IsSound, StoreFits};
+ghost use Rattle.lis_store.specs.Stored.{IsSound, StoreFits, IsUsable};
 ghost use Rattle.lis_session.specs.Item.{Does};
 ghost use Rattle.lis_session.specs.Parts.{Answers, Ends};
 ghost use Rattle.lis_session.specs.Showing.{Shows};
@@ -128,8 +128,7 @@ fn view_slot<T: Station>(
 ) -> Result<(), End>
     requires sound { IsSound store.now }
     requires slot { (name : List ℕ) × (slot_of store.now.parts.catalog name ≡ Some slot) }
-    requires unbroken { store.now.is_broken ≡ false }
-    requires long { 4096 * store.now.journal.blocks ≤ (T.meaning station.old).len }
+    requires usable { IsUsable store.now (T.meaning station.old) }
     ensures shows { (name : List ℕ) → slot_of store.now.parts.catalog name ≡ Some slot
         → Shows store.now (λ state. view_of (file_of state.files name).bytes place.now) (T.meaning station.old) (T.meaning station.new) result }
     ensures limits { parts.new ≡ parts.old }
@@ -151,8 +150,7 @@ pub fn view_file<T: Station>(
     text: &[u8],
 ) -> Result<(), End>
     requires sound { IsSound store.now }
-    requires unbroken { store.now.is_broken ≡ false }
-    requires long { 4096 * store.now.journal.blocks ≤ (T.meaning station.old).len }
+    requires usable { IsUsable store.now (T.meaning station.old) }
     ensures shows { Does (λ (now : Situation). view now name.now text.now) (StoreFits store.now (T.meaning station.old)) []
         (T.meaning station.old) (T.meaning station.new) result (StoreFits store.now (T.meaning station.new)) [] }
     ensures ends { Ends (T.meaning station.old) (T.meaning station.new) result }

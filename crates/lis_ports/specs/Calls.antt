@@ -2,7 +2,7 @@
 use Rattle.std.specs.Prelude.{◌≡◌, ◌⊎◌, ℕ, ◌+◌, ◌-◌, ◌^◌, ◌≤◌, min, max, List, length, IsTrue, Result, OnOk, OnErr}
 use Rattle.lis_ports.specs.Meaning.{Meaning, Now, failed}
 use Rattle.lis_ports.specs.Bytes.{put, Torn}
-use Rattle.lis_ports.specs.Runs.{Adds, IsDiskRun}
+use Rattle.lis_ports.specs.Runs.{Adds, IsDiskRun, Leaves}
 
 -- A count of faults rose: it is greater, or it stands at its last value, 2^64 - 1.
 abbrev pub Rose : ℕ → ℕ → Type 0
@@ -39,6 +39,12 @@ pub record DiskFaultEnds (old new : Meaning) : Type 0 where
   pub shows : new.show_faults ≡ old.show_faults
   pub ends : StationFaultEnds old new
 
+-- what a run of calls of a disk owes where it ends with one answer: it fails only where a call failed, and that one was the last
+pub record UsesDisk {T E : Type 0} (old new : Meaning) (result : Result T E) : Type 0 where
+  pub run : IsDiskRun old new
+  pub cause : HasCause old.disk_faults new.disk_faults result
+  pub first_fault : DiskFaultEnds old new
+
 -- The images of new are those with P. That each of these is one is told by a disk that tells its moments.
 pub record Images (new : Meaning) (P : List ℕ → Type 0) : Type 0 where
   pub only : (image : List ℕ) → new.images image → P image
@@ -47,6 +53,18 @@ pub record Images (new : Meaning) (P : List ℕ → Type 0) : Type 0 where
 pub record IsUnchanged (old new : Meaning) : Type 0 where
   pub bytes : new.bytes ≡ old.bytes
   pub images : Images new old.images
+
+-- a run that only reads: on an honest disk the bytes and the images stay, at each moment too
+pub record OnlyReads (old new : Meaning) : Type 0 where
+  pub run : IsDiskRun old new
+  pub same : IsTrue old.is_honest → IsUnchanged old new
+  pub moments : IsTrue old.is_honest → Leaves old new old.images
+
+-- what such a run owes where it ends with one answer
+pub record ReadsDisk {T E : Type 0} (old new : Meaning) (result : Result T E) : Type 0 where
+  pub reads : OnlyReads old new
+  pub cause : HasCause old.disk_faults new.disk_faults result
+  pub first_fault : DiskFaultEnds old new
 
 -- After a write, failed or not: the range may read as any bytes, now and after a crash.
 pub record IsTorn (at n : ℕ) (old new : Meaning) : Type 0 where

@@ -1,6 +1,7 @@
 //! Rooms carry out the items of an input, one after another.
 
-ghost use Rattle.lis_session.specs.Served.{IsReady, HasDone, HasStopped};
+ghost use Rattle.lis_session.specs.Served.{HasDone, HasStopped};
+ghost use Rattle.lis_store.specs.Stored.{IsUsable};
 ghost use Rattle.lis_rooms.specs.Rooms.{room_step};
 
 use crate::rooms::Rooms;
@@ -15,7 +16,7 @@ impl Carrier for Rooms {
 
     type Fault = End;
 
-    ghost is_ready = { λ rooms m more. IsReady rooms m };
+    ghost is_ready = { λ rooms m more. IsUsable rooms.store m };
 
     ghost has_done = { HasDone room_step };
 

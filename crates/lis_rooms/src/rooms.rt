@@ -1,9 +1,9 @@
 //! The rooms over an image: a store, a place for each of them, and one tagged item after another.
 
-ghost use Rattle.std.specs.Prelude.{◌≡◌, ◌*◌, ◌<◌, ◌≤◌, [], false, slice_index_or, IfOk, IfSome, IsSome};
+ghost use Rattle.std.specs.Prelude.{◌≡◌, ◌<◌, [], slice_index_or, IfOk, IfSome, IsSome};
 ghost use Rattle.lis_line.specs.Reading.{asked_by};
 ghost use Rattle.lis_line.specs.Spoken.{tagged_by, IsTagged};
-ghost use Rattle.lis_store.specs.Stored.{IsSound, StoreFits};
+ghost use Rattle.lis_store.specs.Stored.{IsSound, StoreFits, IsUsable};
 ghost use Rattle.lis_session.specs.Item.{CarriesOut};
 ghost use Rattle.lis_session.specs.Parts.{Answers};
 ghost use Rattle.lis_session.specs.Served.{SessionKeeps};
@@ -119,8 +119,7 @@ impl Rooms {
     ) -> Result<(), End>
         requires asked { IsSome (tagged_by tagged.now payload.now) }
         requires said { IsTagged tagged.now }
-        requires unbroken { self.old.store.is_broken ≡ false }
-        requires long { 4096 * self.old.store.journal.blocks ≤ (T.meaning station.old).len }
+        requires usable { IsUsable self.old.store (T.meaning station.old) }
         ensures carries { IfSome (asked_by tagged.now.item payload.now)
             (CarriesOut (λ now item. done_in now tagged.now.room item) (StoreFits self.old.store (T.meaning station.old)) self.old.place
             (T.meaning station.old) (T.meaning station.new) result (StoreFits self.new.store (T.meaning station.new)) self.new.place) }
@@ -149,8 +148,7 @@ impl Rooms {
     ) -> Result<(), End>
         requires asked { IsSome (tagged_by tagged.now payload.now) }
         requires said { IsTagged tagged.now }
-        requires unbroken { self.old.store.is_broken ≡ false }
-        requires long { 4096 * self.old.store.journal.blocks ≤ (T.meaning station.old).len }
+        requires usable { IsUsable self.old.store (T.meaning station.old) }
         ensures carries { IfSome (tagged_by tagged.now payload.now)
             (CarriesOut room_step (StoreFits self.old.store (T.meaning station.old)) self.old.place
             (T.meaning station.old) (T.meaning station.new) result (StoreFits self.new.store (T.meaning station.new)) self.new.place) }

@@ -1,13 +1,13 @@
 //! The session of all rooms over an image.
 
-ghost use Rattle.std.specs.Prelude.{◌≡◌, ℕ, ◌*◌, ◌≤◌, ◌^◌, List, Some, false};
+ghost use Rattle.std.specs.Prelude.{◌≡◌, ℕ, ◌≤◌, ◌^◌, List, Some};
 ghost use Rattle.lis_ports.specs.Calls.{FaultEnds};
 ghost use Rattle.lis_line.specs.Endings.{HasHaltCause};
 ghost use Rattle.lis_line.specs.Taking.{TakesFew};
 ghost use Rattle.lis_line.specs.Tagged.{tagged_cut, room_script};
 ghost use Rattle.lis_model.specs.State.{State};
 ghost use Rattle.lis_model.specs.Step.{after_by};
-ghost use Rattle.lis_store.specs.Stored.{IsSound, StoreFits};
+ghost use Rattle.lis_store.specs.Stored.{IsSound, StoreFits, IsUsable};
 ghost use Rattle.lis_session.specs.Ending.{result_of, InputRead, GoesOn, Served};
 ghost use Rattle.lis_session.specs.Runs.{Serves};
 ghost use Rattle.lis_session.specs.Served.{SessionKeeps, situation_at};
@@ -34,8 +34,7 @@ pub fn serve_rooms<S: Source, T: Station>(
 ) -> Halt<End>
     requires limit { limit ≤ 2 ^ 40 }
     requires sound { IsSound rooms.old.store }
-    requires unbroken { rooms.old.store.is_broken ≡ false }
-    requires long { 4096 * rooms.old.store.journal.blocks ≤ (T.meaning station.old).len }
+    requires usable { IsUsable rooms.old.store (T.meaning station.old) }
     ensures keeps { SessionKeeps rooms.old (T.meaning station.old) rooms.new (T.meaning station.new) (result_of result) }
     ensures input_cause { HasHaltCause (S.faults input.old) (S.faults input.new) result }
     ensures input_first_fault { FaultEnds (S.faults input.old) (S.behind input.old) (S.behind input.new) }

@@ -13,13 +13,13 @@ use Rattle.lis_model.specs.declared.limits.Limits.{Limits}
 use Rattle.lis_model.specs.Image.{image_blocks}
 use Rattle.lis_model.specs.State.{State}
 use Rattle.lis_model.specs.Step.{SituationOf, OutcomeOf, replies_by, after_by}
-use Rattle.lis_store.specs.Stored.{StoreFits, IsSound}
+use Rattle.lis_store.specs.Stored.{IsUsable, StoreFits, IsSound}
 use Rattle.lis_session.specs.declared.end.End.{End}
 use Rattle.lis_session.specs.declared.end.End.TheVariants.{DiskFault, OutputFault}
 use Rattle.lis_session.specs.Session.{SituatedOf}
 use Rattle.lis_session.specs.Item.{Replied, OneItem, CarriesOut, HasEndCause}
 use Rattle.lis_session.specs.Parts.{Ends}
-use Rattle.lis_session.specs.Served.{IsReady, SessionKeeps, LastEnded, HasGone, HasDone, HasStopped, situation_at}
+use Rattle.lis_session.specs.Served.{SessionKeeps, LastEnded, HasGone, HasDone, HasStopped, situation_at}
 use Rattle.lis_session.proofs.Fitting.{same_then}
 use Rattle.lis_laws.proofs.Regular.{AreRegular, limits_after, last_reply, last_situation}
 use Rattle.lis_session.proofs.Moments.{moment_in, session_on}
@@ -45,9 +45,9 @@ keeps_then first second = record {
 }
 
 -- it can carry out the next one
-pub is_ready_after : {P : Type 0} {now next : SituatedOf P} {mid m : Meaning} (result : Result (Unit {0}) End) → SessionKeeps now mid next m result → IsReady now mid → IfOk result (λ _. IsReady next m)
-is_ready_after (Ok u) keeps ready = record { unbroken = keeps.left.unbroken (λ e. cc e); long = omega (arith, keeps.left.image, keeps.ends.same.len, ready.long) }
-is_ready_after (Err fault) keeps ready = tt
+pub is_usable_after : {P : Type 0} {now next : SituatedOf P} {mid m : Meaning} (result : Result (Unit {0}) End) → SessionKeeps now mid next m result → IsUsable now.store mid → IfOk result (λ _. IsUsable next.store m)
+is_usable_after (Ok u) keeps usable = record { unbroken = keeps.left.unbroken (λ e. cc e); long = omega (arith, keeps.left.image, keeps.ends.same.len, usable.long) }
+is_usable_after (Err fault) keeps usable = tt
 
 -- ---- item by item
 module _ {P I : Type 0} (by : SituationOf P → I → OutcomeOf P) where

@@ -1,5 +1,5 @@
 -- What a session over an image has come to since a start, where it carries out the items of an input.
-use Rattle.std.specs.Prelude.{◌≡◌, ◌*◌, ◌≤◌, List, [], ◌∷◌, ◌++◌, Result, Ok, Err, false}
+use Rattle.std.specs.Prelude.{List, [], ◌∷◌, ◌++◌, Result, Ok, Err}
 use Rattle.lis_ports.specs.Meaning.{Meaning}
 use Rattle.lis_model.specs.State.{State}
 use Rattle.lis_model.specs.Step.{SituationOf, OutcomeOf, replies_by, after_by}
@@ -9,11 +9,6 @@ use Rattle.lis_session.specs.Session.{SituatedOf}
 use Rattle.lis_session.specs.Item.{FitsAt, Replied, StoreLeft}
 use Rattle.lis_session.specs.Parts.{Ends}
 use Rattle.lis_session.specs.Runs.{StoppedAt, Serves}
-
--- The store is not broken, and the station is long enough for its image.
-pub record IsReady {P : Type 0} (session : SituatedOf P) (m : Meaning) : Type 0 where
-  pub unbroken : session.store.is_broken ≡ false
-  pub long : 4096 * session.store.journal.blocks ≤ m.len
 
 -- a state, at the place of the session
 abbrev pub situation_at : {P : Type 0} → SituatedOf P → State → SituationOf P

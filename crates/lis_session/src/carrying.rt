@@ -1,7 +1,8 @@
 //! A session carries out the items of an input, one after another.
 
 ghost use Rattle.lis_model.specs.Step.{step};
-ghost use Rattle.lis_session.specs.Served.{IsReady, HasDone, HasStopped};
+ghost use Rattle.lis_session.specs.Served.{HasDone, HasStopped};
+ghost use Rattle.lis_store.specs.Stored.{IsUsable};
 
 use crate::end::End;
 use crate::session::Session;
@@ -14,7 +15,7 @@ impl Carrier for Session {
 
     type Fault = End;
 
-    ghost is_ready = { λ session m more. IsReady session m };
+    ghost is_ready = { λ session m more. IsUsable session.store m };
 
     ghost has_done = { HasDone step };
 

@@ -1,12 +1,10 @@
 //! Commands that change the store.
 
-ghost use Rattle.std.specs.Prelude.{◌≡◌, ◌*◌, ◌≤◌, true, false};
-ghost use Rattle.lis_ports.specs.Runs.{IsDiskRun};
-ghost use Rattle.lis_ports.specs.Calls.{DiskFaultEnds};
+ghost use Rattle.std.specs.Prelude.{◌≡◌, true};
 ghost use Rattle.lis_eval.specs.Room.{HasRoom};
 ghost use Rattle.lis_model.specs.Step.{done};
-ghost use Rattle.lis_store.specs.Changes.{ChangeLeft, HasChangeCause};
-ghost use Rattle.lis_store.specs.Stored.{IsSound};
+ghost use Rattle.lis_store.specs.Changes.{ChangeLeft, ChangesDisk};
+ghost use Rattle.lis_store.specs.Stored.{IsSound, IsUsable};
 ghost use Rattle.lis_session.specs.Parts.{Makes, MakesHeld, is_change};
 
 use lis_eval::Scratch;
@@ -41,17 +39,14 @@ pub(crate) fn change<D: Disk>(
 ) -> Result<(), Change>
     requires change { is_change command.now ≡ true }
     requires scratch { HasRoom scratch.old store.old.parts.limits }
-    requires unbroken { store.old.is_broken ≡ false }
-    requires long { 4096 * store.old.journal.blocks ≤ (D.meaning disk.old).len }
+    requires usable { IsUsable store.old (D.meaning disk.old) }
     ensures scratch { HasRoom scratch.new store.old.parts.limits }
     ensures makes { Makes (λ now. done now command.now payload.now) place.now store.old store.new (D.meaning disk.old) (D.meaning disk.new) result }
     ensures limits { store.new.parts.limits ≡ store.old.parts.limits }
     ensures image { store.new.journal.blocks ≡ store.old.journal.blocks }
     ensures left { ChangeLeft store.old store.new result }
     ensures sound { IsSound store.new }
-    ensures run { IsDiskRun (D.meaning disk.old) (D.meaning disk.new) }
-    ensures cause { HasChangeCause (D.meaning disk.old).disk_faults (D.meaning disk.new).disk_faults result }
-    ensures first_fault { DiskFaultEnds (D.meaning disk.old) (D.meaning disk.new) }
+    ensures disk { ChangesDisk (D.meaning disk.old) (D.meaning disk.new) result }
 {
     let bytes = payload.bytes();
     let size = payload.size();
@@ -86,17 +81,14 @@ pub(crate) fn hold<D: Disk>(
 ) -> Result<(), Change>
     requires change { is_change command.now ≡ true }
     requires scratch { HasRoom scratch.old store.old.parts.limits }
-    requires unbroken { store.old.is_broken ≡ false }
-    requires long { 4096 * store.old.journal.blocks ≤ (D.meaning disk.old).len }
+    requires usable { IsUsable store.old (D.meaning disk.old) }
     ensures scratch { HasRoom scratch.new store.old.parts.limits }
     ensures holds { MakesHeld (λ now. done now command.now payload.now) place.now store.old store.new (D.meaning disk.old) (D.meaning disk.new) result }
     ensures limits { store.new.parts.limits ≡ store.old.parts.limits }
     ensures image { store.new.journal.blocks ≡ store.old.journal.blocks }
     ensures left { ChangeLeft store.old store.new result }
     ensures sound { IsSound store.new }
-    ensures run { IsDiskRun (D.meaning disk.old) (D.meaning disk.new) }
-    ensures cause { HasChangeCause (D.meaning disk.old).disk_faults (D.meaning disk.new).disk_faults result }
-    ensures first_fault { DiskFaultEnds (D.meaning disk.old) (D.meaning disk.new) }
+    ensures disk { ChangesDisk (D.meaning disk.old) (D.meaning disk.new) result }
 {
     let bytes = payload.bytes();
     let size = payload.size();

@@ -1,6 +1,6 @@
 //! Showing the bytes of files.
 
-ghost use Rattle.std.specs.Prelude.{◌≡◌, ℕ, ◌*◌, ◌≤◌, ◌<◌, List, [], length, false, Some, IsTrue, IsSomeAnd};
+ghost use Rattle.std.specs.Prelude.{◌≡◌, ℕ, ◌*◌, ◌<◌, List, [], length, Some, IsTrue, IsSomeAnd};
 ghost use Rattle.lis_ports.specs.Bytes.{part};
 ghost use Rattle.lis_eval.specs.Room.{HasRoom};
 ghost use Rattle.lis_catalog.specs.Catalog.{slot_of, rec_at};
@@ -8,7 +8,7 @@ ghost use Rattle.lis_fields.specs.Records.{FileRecord};
 ghost use Rattle.lis_model.specs.Changes.{file_of};
 ghost use Rattle.lis_model.specs.Replies.{content_lines};
 ghost use Rattle.lis_model.specs.Step.{Situation, shown, cat};
-ghost use Rattle.lis_store.specs.Stored.{IsSound, StoreFits, IsIndex};
+ghost use Rattle.lis_store.specs.Stored.{IsSound, StoreFits, IsIndex, IsUsable};
 ghost use Rattle.lis_session.specs.Item.{Does};
 ghost use Rattle.lis_session.specs.Parts.{only_shows, Ends};
 
@@ -39,8 +39,7 @@ fn show_block<T: Station>(
     requires within { 4096 * n < size }
     requires index { length index.now ≡ 4096 }
     requires whole { length block.old ≡ 4096 }
-    requires unbroken { store.now.is_broken ≡ false }
-    requires long { 4096 * store.now.journal.blocks ≤ (T.meaning station.old).len }
+    requires usable { IsUsable store.now (T.meaning station.old) }
     ensures shows { IsIndex store.now (T.meaning station.old).bytes slot index.now
         → (name : List ℕ) → slot_of store.now.parts.catalog name ≡ Some slot
         → Does (λ (now : Situation). only_shows (part (4096 * n) 4096 (file_of now.state.files name).bytes) now) (StoreFits store.now (T.meaning station.old)) []
@@ -67,8 +66,7 @@ fn show_blocks<T: Station>(
     requires sound { IsSound store.now }
     requires size { IsSomeAnd (rec_at store.now.parts.catalog slot) (λ (rec : FileRecord). size ≡ rec.size) }
     requires index { length index.now ≡ 4096 }
-    requires unbroken { store.now.is_broken ≡ false }
-    requires long { 4096 * store.now.journal.blocks ≤ (T.meaning station.old).len }
+    requires usable { IsUsable store.now (T.meaning station.old) }
     ensures shows { IsIndex store.now (T.meaning station.old).bytes slot index.now
         → (name : List ℕ) → slot_of store.now.parts.catalog name ≡ Some slot
         → Does (λ (now : Situation). only_shows (file_of now.state.files name).bytes now) (StoreFits store.now (T.meaning station.old)) []
@@ -91,8 +89,7 @@ pub fn show_content<T: Station>(
 ) -> Result<(), End>
     requires sound { IsSound store.now }
     requires size { IsSomeAnd (rec_at store.now.parts.catalog slot) (λ (rec : FileRecord). size ≡ rec.size) }
-    requires unbroken { store.now.is_broken ≡ false }
-    requires long { 4096 * store.now.journal.blocks ≤ (T.meaning station.old).len }
+    requires usable { IsUsable store.now (T.meaning station.old) }
     ensures shows { (name : List ℕ) → slot_of store.now.parts.catalog name ≡ Some slot
         → Does (λ (now : Situation). only_shows (file_of now.state.files name).bytes now) (StoreFits store.now (T.meaning station.old)) []
         (T.meaning station.old) (T.meaning station.new) result (StoreFits store.now (T.meaning station.new)) [] }
@@ -112,8 +109,7 @@ pub fn show_content<T: Station>(
 fn show_file<T: Station>(store: &Store, slot: u16, station: &mut T) -> Result<(), End>
     requires sound { IsSound store.now }
     requires slot { (name : List ℕ) × (slot_of store.now.parts.catalog name ≡ Some slot) }
-    requires unbroken { store.now.is_broken ≡ false }
-    requires long { 4096 * store.now.journal.blocks ≤ (T.meaning station.old).len }
+    requires usable { IsUsable store.now (T.meaning station.old) }
     ensures shows { (name : List ℕ) → slot_of store.now.parts.catalog name ≡ Some slot
         → Does (λ (now : Situation). shown now (content_lines (file_of now.state.files name).bytes)) (StoreFits store.now (T.meaning station.old)) []
         (T.meaning station.old) (T.meaning station.new) result (StoreFits store.now (T.meaning station.new)) [] }
@@ -135,8 +131,7 @@ pub fn cat<T: Station>(
 ) -> Result<(), End>
     requires sound { IsSound store.now }
     requires scratch { HasRoom scratch.old store.now.parts.limits }
-    requires unbroken { store.now.is_broken ≡ false }
-    requires long { 4096 * store.now.journal.blocks ≤ (T.meaning station.old).len }
+    requires usable { IsUsable store.now (T.meaning station.old) }
     ensures scratch { HasRoom scratch.new store.now.parts.limits }
     ensures carries { Does (λ now. cat now name.now) (StoreFits store.now (T.meaning station.old)) place.now
         (T.meaning station.old) (T.meaning station.new) result (StoreFits store.now (T.meaning station.new)) place.now }

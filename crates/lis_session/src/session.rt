@@ -1,14 +1,13 @@
 //! A session over an image: its store, a place, and one item after another.
 
-ghost use Rattle.std.specs.Prelude.{◌≡◌, ◌+◌, ◌*◌, ◌≤◌, [], false, true, IfOk, IfSome, IsSome};
-ghost use Rattle.lis_ports.specs.Runs.{IsDiskRun};
-ghost use Rattle.lis_ports.specs.Calls.{HasCause, DiskFaultEnds};
+ghost use Rattle.std.specs.Prelude.{◌≡◌, ◌+◌, ◌≤◌, [], false, true, IfOk, IfSome, IsSome};
+ghost use Rattle.lis_ports.specs.Calls.{UsesDisk};
 ghost use Rattle.lis_eval.specs.Room.{HasRoom};
 ghost use Rattle.lis_line.specs.Reading.{asked_by};
 ghost use Rattle.lis_model.specs.Step.{done, step};
 ghost use Rattle.lis_model.specs.State.{State};
 ghost use Rattle.lis_store.specs.Changes.{Commits, CommitLeft};
-ghost use Rattle.lis_store.specs.Stored.{IsSound, StoreFits, StoreHolds};
+ghost use Rattle.lis_store.specs.Stored.{IsSound, StoreFits, StoreHolds, IsUsable};
 ghost use Rattle.lis_session.specs.Item.{CarriesOut, Does, StoreLeft};
 ghost use Rattle.lis_session.specs.Parts.{Ends, MakesHeld, is_change, kept_up};
 ghost use Rattle.lis_session.specs.Served.{SessionKeeps};
@@ -105,8 +104,7 @@ fn carry_command<T: Station>(
 ) -> Result<(), End>
     requires sound { IsSound store.old }
     requires scratch { HasRoom scratch.old store.old.parts.limits }
-    requires unbroken { store.old.is_broken ≡ false }
-    requires long { 4096 * store.old.journal.blocks ≤ (T.meaning station.old).len }
+    requires usable { IsUsable store.old (T.meaning station.old) }
     ensures sound { IsSound store.new }
     ensures scratch { HasRoom scratch.new store.old.parts.limits }
     ensures carries { Does (λ now. done now command.now payload.now) (StoreFits store.old (T.meaning station.old)) place.old
@@ -150,8 +148,7 @@ pub fn carry_out<T: Station>(
     requires asked { IsSome (asked_by item.now payload.now) }
     requires sound { IsSound store.old }
     requires scratch { HasRoom scratch.old store.old.parts.limits }
-    requires unbroken { store.old.is_broken ≡ false }
-    requires long { 4096 * store.old.journal.blocks ≤ (T.meaning station.old).len }
+    requires usable { IsUsable store.old (T.meaning station.old) }
     ensures carries { IfSome (asked_by item.now payload.now)
         (CarriesOut step (StoreFits store.old (T.meaning station.old)) place.old (T.meaning station.old) (T.meaning station.new) result
         (StoreFits store.new (T.meaning station.new)) place.new) }
@@ -176,8 +173,7 @@ impl Session {
         station: &mut T,
     ) -> Result<(), End>
         requires asked { IsSome (asked_by item.now payload.now) }
-        requires unbroken { self.old.store.is_broken ≡ false }
-        requires long { 4096 * self.old.store.journal.blocks ≤ (T.meaning station.old).len }
+        requires usable { IsUsable self.old.store (T.meaning station.old) }
         ensures carries { IfSome (asked_by item.now payload.now)
             (CarriesOut step (StoreFits self.old.store (T.meaning station.old)) self.old.place (T.meaning station.old) (T.meaning station.new) result
             (StoreFits self.new.store (T.meaning station.new)) self.new.place) }
@@ -201,14 +197,11 @@ impl Session {
         disk: &mut D,
     ) -> Result<Tally, Failed>
         requires asked { IsSome (asked_by item.now payload.now) }
-        requires unbroken { self.old.store.is_broken ≡ false }
-        requires long { 4096 * self.old.store.journal.blocks ≤ (D.meaning disk.old).len }
+        requires usable { IsUsable self.old.store (D.meaning disk.old) }
         ensures tallies { IfSome (asked_by item.now payload.now)
             (TalliesItem (StoreFits self.old.store (D.meaning disk.old)) self.old.place (D.meaning disk.old) (D.meaning disk.new) result
             (StoreFits self.new.store (D.meaning disk.new)) self.new.place) }
-        ensures run { IsDiskRun (D.meaning disk.old) (D.meaning disk.new) }
-        ensures cause { HasCause (D.meaning disk.old).disk_faults (D.meaning disk.new).disk_faults result }
-        ensures first_fault { DiskFaultEnds (D.meaning disk.old) (D.meaning disk.new) }
+        ensures disk { UsesDisk (D.meaning disk.old) (D.meaning disk.new) result }
         ensures limits { self.new.store.parts.limits ≡ self.old.store.parts.limits }
         ensures image { self.new.store.journal.blocks ≡ self.old.store.journal.blocks }
         ensures unbroken { IfOk result (λ _. self.new.store.is_broken ≡ false) }
@@ -240,8 +233,7 @@ impl Session {
         disk: &mut D,
     ) -> Result<(), Change>
         requires change { is_change command.now ≡ true }
-        requires unbroken { self.old.store.is_broken ≡ false }
-        requires long { 4096 * self.old.store.journal.blocks ≤ (D.meaning disk.old).len }
+        requires usable { IsUsable self.old.store (D.meaning disk.old) }
         ensures holds { MakesHeld (λ now. done now command.now payload.now) self.old.place self.old.store self.new.store (D.meaning disk.old) (D.meaning disk.new) result }
         ensures place { self.new.place ≡ self.old.place }
         ensures keeps { SessionKeeps self.old (D.meaning disk.old) self.new (D.meaning disk.new) (kept_up result) }
@@ -258,8 +250,7 @@ impl Session {
 
     /// Commits all changes that are held back.
     pub fn commit<D: Disk>(&mut self, disk: &mut D) -> Result<(), Change>
-        requires unbroken { self.old.store.is_broken ≡ false }
-        requires long { 4096 * self.old.store.journal.blocks ≤ (D.meaning disk.old).len }
+        requires usable { IsUsable self.old.store (D.meaning disk.old) }
         ensures commits { (base state : State) → StoreHolds self.old.store (D.meaning disk.old) base state
             → Commits base state self.new.store (D.meaning disk.old) (D.meaning disk.new) result }
         ensures left { CommitLeft self.new.store result }

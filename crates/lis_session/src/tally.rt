@@ -1,14 +1,13 @@
 //! Carrying out a command without showing its reply.
 
-ghost use Rattle.std.specs.Prelude.{◌≡◌, ◌+◌, ◌*◌, ◌≤◌, ◌<◌, ◌^◌, length, false, not, IfOk};
-ghost use Rattle.lis_ports.specs.Runs.{IsDiskRun};
-ghost use Rattle.lis_ports.specs.Calls.{HasCause, DiskFaultEnds};
+ghost use Rattle.std.specs.Prelude.{◌≡◌, ◌+◌, ◌≤◌, ◌<◌, ◌^◌, length, false, not, IfOk};
+ghost use Rattle.lis_ports.specs.Calls.{UsesDisk};
 ghost use Rattle.lis_eval.specs.Room.{HasRoom};
 ghost use Rattle.lis_model.specs.Listing.{increments, locals};
 ghost use Rattle.lis_model.specs.Step.{done};
 ghost use Rattle.lis_store.specs.Seen.{table_of};
 ghost use Rattle.lis_store.specs.Judging.{is_among};
-ghost use Rattle.lis_store.specs.Stored.{IsSound, StoreFits};
+ghost use Rattle.lis_store.specs.Stored.{IsSound, StoreFits, IsUsable};
 ghost use Rattle.lis_session.specs.Tally.{lines_listed, Concluded, Tallies};
 
 use crate::changes::change;
@@ -110,15 +109,12 @@ pub(crate) fn tally_command<D: Disk>(
 ) -> Result<Tally, Failed>
     requires sound { IsSound store.old }
     requires scratch { HasRoom scratch.old store.old.parts.limits }
-    requires unbroken { store.old.is_broken ≡ false }
-    requires long { 4096 * store.old.journal.blocks ≤ (D.meaning disk.old).len }
+    requires usable { IsUsable store.old (D.meaning disk.old) }
     ensures sound { IsSound store.new }
     ensures scratch { HasRoom scratch.new store.old.parts.limits }
     ensures tallies { Tallies (λ now. done now command.now payload.now) (λ now. lines_listed now command.now) (StoreFits store.old (D.meaning disk.old)) place.old
         (D.meaning disk.old) (D.meaning disk.new) result (StoreFits store.new (D.meaning disk.new)) place.new }
-    ensures run { IsDiskRun (D.meaning disk.old) (D.meaning disk.new) }
-    ensures cause { HasCause (D.meaning disk.old).disk_faults (D.meaning disk.new).disk_faults result }
-    ensures first_fault { DiskFaultEnds (D.meaning disk.old) (D.meaning disk.new) }
+    ensures disk { UsesDisk (D.meaning disk.old) (D.meaning disk.new) result }
     ensures limits { store.new.parts.limits ≡ store.old.parts.limits }
     ensures image { store.new.journal.blocks ≡ store.old.journal.blocks }
     ensures unbroken { IfOk result (λ _. store.new.is_broken ≡ false) }

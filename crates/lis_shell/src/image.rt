@@ -1,11 +1,11 @@
 //! An image that is opened, and the one work that a word does on it.
 
-ghost use Rattle.std.specs.Prelude.{◌≡◌, ℕ, ◌*◌, ◌≤◌, ◌^◌, List, [], Some, false, IfOk, IfErr};
+ghost use Rattle.std.specs.Prelude.{◌≡◌, ℕ, ◌^◌, List, [], Some, false, IfOk, IfErr};
 ghost use Rattle.lis_ports.specs.Calls.{StationFaultEnds, FaultEnds};
 ghost use Rattle.lis_line.specs.Taking.{TakesFew};
 ghost use Rattle.lis_model.specs.State.{State};
 ghost use Rattle.lis_store.specs.Stands.{Stands};
-ghost use Rattle.lis_store.specs.Stored.{IsSound, StoreFits};
+ghost use Rattle.lis_store.specs.Stored.{IsSound, StoreFits, IsUsable};
 ghost use Rattle.lis_session.specs.Item.{IsSameStation};
 ghost use Rattle.lis_session.specs.Runs.{Goes};
 ghost use Rattle.lis_shell.specs.Causes.{counts, HasStatusCause};
@@ -35,8 +35,7 @@ pub trait ImageWork {
         station: &mut T,
     ) -> Result<Halt<End>, AllocError>
         requires sound { IsSound store }
-        requires unbroken { store.is_broken ≡ false }
-        requires long { 4096 * store.journal.blocks ≤ (T.meaning station.old).len }
+        requires usable { IsUsable store (T.meaning station.old) }
         ensures same { IsSameStation (T.meaning station.old) (T.meaning station.new) }
         ensures cause { HasStatusCause (counts (T.meaning station.old) (S.faults input.old)) (counts (T.meaning station.new) (S.faults input.new)) (status_of result) }
         ensures first_fault { StationFaultEnds (T.meaning station.old) (T.meaning station.new) }

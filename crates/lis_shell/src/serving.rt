@@ -1,12 +1,12 @@
 //! A session over an image.
 
-ghost use Rattle.std.specs.Prelude.{◌≡◌, ℕ, ◌*◌, ◌≤◌, ◌^◌, List, Some, false};
+ghost use Rattle.std.specs.Prelude.{◌≡◌, ℕ, ◌≤◌, ◌^◌, List, Some};
 ghost use Rattle.lis_ports.specs.Calls.{FaultEnds};
 ghost use Rattle.lis_line.specs.Taking.{TakesFew};
 ghost use Rattle.lis_model.specs.State.{State};
 ghost use Rattle.lis_model.specs.Step.{step, situation_after};
 ghost use Rattle.lis_model.specs.Script.{script, session_cut};
-ghost use Rattle.lis_store.specs.Stored.{IsSound, StoreFits};
+ghost use Rattle.lis_store.specs.Stored.{IsSound, StoreFits, IsUsable};
 ghost use Rattle.lis_session.specs.Ending.{result_of, InputRead, GoesOn, Served};
 ghost use Rattle.lis_session.specs.Served.{SessionKeeps};
 ghost use Rattle.lis_session.specs.Runs.{Serves};
@@ -42,8 +42,7 @@ pub fn serve<S: Source, T: Station>(
 ) -> Halt<End>
     requires limit { limit ≤ 2 ^ 40 }
     requires sound { IsSound session.old.store }
-    requires unbroken { session.old.store.is_broken ≡ false }
-    requires long { 4096 * session.old.store.journal.blocks ≤ (T.meaning station.old).len }
+    requires usable { IsUsable session.old.store (T.meaning station.old) }
     ensures keeps { SessionKeeps session.old (T.meaning station.old) session.new (T.meaning station.new) (result_of result) }
     ensures cause { HasStatusCause (counts (T.meaning station.old) (S.faults input.old)) (counts (T.meaning station.new) (S.faults input.new)) (Ended result) }
     ensures input_first_fault { FaultEnds (S.faults input.old) (S.behind input.old) (S.behind input.new) }

@@ -1,10 +1,9 @@
 //! Slots of equal width in a row of blocks.
 
-ghost use Rattle.std.specs.Prelude.{◌≡◌, ◌⊎◌, ◌+◌, ◌-◌, ◌*◌, ◌/◌, ◌%◌, ◌<◌, ◌≤◌, ℕ, List, false, length, IsTrue, OnOk};
+ghost use Rattle.std.specs.Prelude.{◌≡◌, ◌⊎◌, ◌+◌, ◌*◌, ◌%◌, ◌<◌, ◌≤◌, ℕ, List, false, length, IsTrue, OnOk};
 ghost use Rattle.lis_ports.specs.Bytes.{put};
-ghost use Rattle.lis_ports.specs.Runs.{IsDiskRun, Leaves};
-ghost use Rattle.lis_ports.specs.Calls.{HasCause, IsUnchanged, DiskFaultEnds};
-ghost use Rattle.lis_journal.specs.Images.{Fits, is_among};
+ghost use Rattle.lis_ports.specs.Calls.{ReadsDisk};
+ghost use Rattle.lis_journal.specs.Images.{Fits, is_among, JournalIsUsable};
 ghost use Rattle.lis_journal.specs.Phases.{looked};
 ghost use Rattle.lis_journal.specs.Staging.{has_entry};
 
@@ -102,16 +101,10 @@ impl Slots {
         requires whole { length buf.old ≡ self.now.width }
         requires home { 578 ≤ self.now.first }
         requires within { home self.now k < journal.now.blocks }
-        requires unbroken { journal.now.is_broken ≡ false }
-        requires long { 4096 * journal.now.blocks ≤ (D.meaning disk.old).len }
+        requires usable { JournalIsUsable journal.now (D.meaning disk.old) }
         ensures read { OnOk result ((kept : ℕ → List ℕ) → Fits journal.now (D.meaning disk.old) kept
             → buf.new ≡ slot self.now (looked journal.now.staged kept) k) }
-        ensures run { IsDiskRun (D.meaning disk.old) (D.meaning disk.new) }
-        ensures cause { HasCause (D.meaning disk.old).disk_faults (D.meaning disk.new).disk_faults result }
-        ensures first_fault { DiskFaultEnds (D.meaning disk.old) (D.meaning disk.new) }
-        ensures same { IsTrue (D.meaning disk.old).is_honest → IsUnchanged (D.meaning disk.old) (D.meaning disk.new) }
-        ensures any_moment { IsTrue (D.meaning disk.old).is_honest
-            → Leaves (D.meaning disk.old) (D.meaning disk.new) (D.meaning disk.old).images }
+        ensures disk { ReadsDisk (D.meaning disk.old) (D.meaning disk.new) result }
         ensures fits { (kept : ℕ → List ℕ) → Fits journal.now (D.meaning disk.old) kept
             → Fits journal.now (D.meaning disk.new) kept }
     {
@@ -134,17 +127,11 @@ impl Slots {
         requires whole { length bytes.now ≡ self.now.width }
         requires home { 578 ≤ self.now.first }
         requires within { home self.now k < journal.old.blocks }
-        requires unbroken { journal.old.is_broken ≡ false }
-        requires long { 4096 * journal.old.blocks ≤ (D.meaning disk.old).len }
+        requires usable { JournalIsUsable journal.old (D.meaning disk.old) }
         requires unplaced { is_among journal.old.placed (home self.now k) ≡ false }
         requires room { IsTrue (has_entry journal.old.staged (home self.now k)) ⊎ (length journal.old.staged < 575) }
         ensures ended { PutEnded self.now k bytes.now journal.old journal.new (D.meaning disk.old) result }
-        ensures run { IsDiskRun (D.meaning disk.old) (D.meaning disk.new) }
-        ensures cause { HasCause (D.meaning disk.old).disk_faults (D.meaning disk.new).disk_faults result }
-        ensures first_fault { DiskFaultEnds (D.meaning disk.old) (D.meaning disk.new) }
-        ensures same { IsTrue (D.meaning disk.old).is_honest → IsUnchanged (D.meaning disk.old) (D.meaning disk.new) }
-        ensures any_moment { IsTrue (D.meaning disk.old).is_honest
-            → Leaves (D.meaning disk.old) (D.meaning disk.new) (D.meaning disk.old).images }
+        ensures disk { ReadsDisk (D.meaning disk.old) (D.meaning disk.new) result }
         ensures fits { (kept : ℕ → List ℕ) → Fits journal.old (D.meaning disk.old) kept
             → Fits journal.old (D.meaning disk.new) kept }
     {

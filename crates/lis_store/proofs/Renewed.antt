@@ -81,10 +81,10 @@ module _ (p q : Kept) (ts ms : List Bool) (rec : FileRecord) (bytes numbers : Li
 
   pub first_moments : (kept : ℕ → List ℕ) → Fits old before kept → Leaves before after (StandsBut old.blocks new.placed kept)
   first_moments kept fits =
-      leaves_then (leaves_weaken (StandsBut old.blocks new.placed kept) (asks.moments fits.honest) (unplaced_stands old new.placed unplaced fits)) (puts.moments kept (asks.fits kept fits))
+      leaves_then (leaves_weaken (StandsBut old.blocks new.placed kept) (asks.reads.moments fits.honest) (unplaced_stands old new.placed unplaced fits)) (puts.moments kept (asks.fits kept fits))
 
   pub first_past : (kept : ℕ → List ℕ) → Fits old before kept → KeepsPast old.blocks before after
-  first_past kept fits n le = puts.fills.past kept (asks.fits kept fits) n le ∙ ap (block n) (asks.same fits.honest).bytes
+  first_past kept fits n le = puts.fills.past kept (asks.fits kept fits) n le ∙ ap (block n) (asks.reads.same fits.honest).bytes
 
   first_renewed : (kept : ℕ → List ℕ) → Fits old before kept → IsRenewed bytes numbers puts.blocks (Some rec) p q kept old new after
   first_renewed kept fits =
@@ -133,10 +133,10 @@ module _ (p : Kept) (ts ms : List Bool) (bytes numbers : List ℕ) (old new : He
 
   last_moments : (kept : ℕ → List ℕ) → Fits old before kept → Leaves before after (StandsBut old.blocks new.placed kept)
   last_moments kept fits =
-      leaves_then (puts.moments kept fits) (leaves_weaken (StandsBut old.blocks new.placed kept) (asks.moments (puts.lands kept fits).fits.honest) (asked_stands kept fits))
+      leaves_then (puts.moments kept fits) (leaves_weaken (StandsBut old.blocks new.placed kept) (asks.reads.moments (puts.lands kept fits).fits.honest) (asked_stands kept fits))
 
   last_past : (kept : ℕ → List ℕ) → Fits old before kept → KeepsPast old.blocks before after
-  last_past kept fits n le = ap (block n) (asks.same (puts.lands kept fits).fits.honest).bytes ∙ puts.fills.past kept fits n le
+  last_past kept fits n le = ap (block n) (asks.reads.same (puts.lands kept fits).fits.honest).bytes ∙ puts.fills.past kept fits n le
 
   -- blocks that are not given back then
   pub torn_last : ContentTorn bytes p put old new before after

@@ -51,11 +51,11 @@ module _ (old : Stored) (base s : State) (before : Meaning) (sound : IsSound old
   module _ (after : Meaning) (asks : Asks old.journal before after) where
     pub asks_stand : Leaves before after (λ image. Stands image base)
     asks_stand =
-        leaves_weaken (λ image. Stands image base) (asks.moments holds.journal.honest)
+        leaves_weaken (λ image. Stands image base) (asks.reads.moments holds.journal.honest)
         (λ image is. holds.stands image ((fits_stand old.journal (sound.placed holds.unbroken) holds.journal).leaves image is))
 
     pub asks_past : KeepsPast (image_blocks base.limits) before after
-    asks_past n le = ap (block n) (asks.same holds.journal.honest).bytes
+    asks_past n le = ap (block n) (asks.reads.same holds.journal.honest).bytes
 
   -- What an image keeps but for spare blocks stands for the base, where none is placed or nothing is held back.
   module _ (blocks spare : List ℕ) (free : are_free old.parts.taken spare ≡ true) (among : (n : ℕ) → is_among blocks n ≡ true → has_home (data_start old.parts.limits) spare n ≡ true)

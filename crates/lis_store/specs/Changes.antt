@@ -1,9 +1,9 @@
 -- How a call that changes a store ends.
-use Rattle.std.specs.Prelude.{◌≡◌, ◌⊎◌, ℕ, ◌+◌, ◌≤◌, Bool, true, false, if◌then◌else◌, Option, Some, None, Result, Ok, Err, List, [], ◌∷◌, length, map, sum, MatchResult}
+use Rattle.std.specs.Prelude.{◌≡◌, ◌⊎◌, ℕ, ◌+◌, ◌≤◌, Bool, true, false, Some, None, Result, Ok, Err, List, [], length, map, sum, MatchResult}
 use Rattle.std.specs.List.{range_with_len}
 use Rattle.lis_ports.specs.Meaning.{Meaning}
-use Rattle.lis_ports.specs.Runs.{Leaves}
-use Rattle.lis_ports.specs.Calls.{Rose}
+use Rattle.lis_ports.specs.Runs.{IsDiskRun, Leaves}
+use Rattle.lis_ports.specs.Calls.{Rose, DiskFaultEnds}
 use Rattle.lis_journal.specs.Images.{KeepsPast}
 use Rattle.lis_ext.specs.Ext.{Ext, set_of}
 use Rattle.lis_ext.specs.Numbers.{differs, numbers_where}
@@ -72,6 +72,12 @@ abbrev pub HasChangeCause : {T : Type 0} → ℕ → ℕ → Result T Change →
 HasChangeCause before now (Ok done) = now ≡ before
 HasChangeCause before now (Err (Refused refusal)) = now ≡ before
 HasChangeCause before now (Err Disk) = Rose before now
+
+-- What a change, or a part of one, does to a disk: a fault of the disk ends it.
+pub record ChangesDisk {T : Type 0} (old new : Meaning) (result : Result T Change) : Type 0 where
+  pub run : IsDiskRun old new
+  pub cause : HasChangeCause old.disk_faults new.disk_faults result
+  pub first_fault : DiskFaultEnds old new
 
 -- What an answer says of a store on any disk: a refusal changes nothing, and a fault of the disk breaks it.
 abbrev pub ChangeLeft : {T : Type 0} → Stored → Stored → Result T Change → Type 0

@@ -5,7 +5,7 @@ use Rattle.arrayvec.specs.ArrayVec.{ArrayVec}
 use Rattle.lis_ports.specs.Meaning.{Meaning}
 use Rattle.lis_ports.specs.Runs.{Leaves}
 use Rattle.lis_journal.specs.Journal.{Held}
-use Rattle.lis_journal.specs.Images.{StandsBut, Fits, KeepsPast, is_among}
+use Rattle.lis_journal.specs.Images.{StandsBut, Fits, KeepsPast, JournalIsUsable, is_among}
 use Rattle.lis_journal.specs.Phases.{looked}
 use Rattle.lis_content.specs.Content.{given, marked, are_free, has_home}
 use Rattle.lis_content.specs.Large.{is_large}
@@ -13,7 +13,7 @@ use Rattle.lis_content.specs.Placing.{Asks, homes_of}
 use Rattle.lis_fields.specs.Records.{FileRecord}
 use Rattle.lis_fields.specs.Layouts.{are_blocks}
 use Rattle.lis_model.specs.declared.limits.Limits.{Limits}
-use Rattle.lis_model.specs.Image.{bitmap_start, data_start}
+use Rattle.lis_model.specs.Image.{bitmap_start, data_start, image_blocks}
 use Rattle.lis_kept.specs.Kept.{Kept}
 use Rattle.lis_kept.specs.Areas.{is_marked}
 use Rattle.lis_kept.specs.Telling.{blocks_told}
@@ -25,6 +25,13 @@ use Rattle.lis_model.specs.Sets.{are_distinct}
 -- the blocks of the file are blocks of the image
 abbrev pub AreContentsWithin : Limits → (ℕ → List ℕ) → FileRecord → Type 0
 AreContentsWithin limits at rec = IsTrue (list_all (λ n. nat_lt n limits.blocks) (blocks_told limits at rec))
+
+-- A content may be put: the journal is as long as the image and may be used, nothing is placed, and one more content can be staged.
+pub record IsReadyForContent (parts : Kept) (journal : Held) (m : Meaning) : Type 0 where
+  pub image : journal.blocks ≡ image_blocks parts.limits
+  pub usable : JournalIsUsable journal m
+  pub unplaced : journal.placed ≡ []
+  pub room : length journal.staged + 16 ≤ 575
 
 -- It breaks the store exactly at a fault of the disk, and refuses nothing.
 abbrev pub ContentEnded : {T : Type 0} → Bool → Result T Change → Type 0

@@ -1,5 +1,5 @@
 -- A store: what memory keeps of an image, with its journal, and when it fits a disk.
-use Rattle.std.specs.Prelude.{◌≡◌, ℕ, ◌≤◌, Bool, true, false, Some, is_some, List, [], length, replicate, slice_get, IsTrue}
+use Rattle.std.specs.Prelude.{◌≡◌, ℕ, ◌*◌, ◌≤◌, Bool, true, false, Some, is_some, List, [], length, replicate, slice_get, IsTrue}
 use Rattle.lis_ports.specs.Meaning.{Meaning}
 use Rattle.lis_journal.specs.Journal.{Held, no_records}
 use Rattle.lis_journal.specs.Images.{StandsFor, Fits, held_in}
@@ -30,6 +30,11 @@ pub record Stored : Type 0 where
   pub journal : Held
   -- a call of the disk failed: only what is on the disk counts
   pub is_broken : Bool
+
+-- A store may be used on this disk: it is not broken, and the disk has all its blocks.
+pub record IsUsable (k : Stored) (m : Meaning) : Type 0 where
+  pub unbroken : k.is_broken ≡ false
+  pub long : 4096 * k.journal.blocks ≤ m.len
 
 -- a file that has a number has all numbers to which it is linked
 abbrev pub AreClosed : Kept → Type 0

@@ -1,8 +1,7 @@
 //! Contents of files that are put on the disk, put in the place of others, and given back. A fault of the disk breaks the store.
 
-ghost use Rattle.std.specs.Prelude.{◌≡◌, ◌+◌, ◌*◌, ◌≤◌, ℕ, List, Bool, Some, true, false, [], length, IsSome, IfSome, IsTrue, OnOk, OnErr, Ok};
-ghost use Rattle.lis_ports.specs.Calls.{DiskFaultEnds};
-ghost use Rattle.lis_ports.specs.Runs.{IsDiskRun};
+ghost use Rattle.std.specs.Prelude.{◌≡◌, ◌≤◌, Some, true, false, [], length, IsSome, IfSome, OnErr};
+ghost use Rattle.lis_journal.specs.Images.{JournalIsUsable};
 ghost use Rattle.lis_blockmap.specs.Bitmap.{free_count};
 ghost use Rattle.lis_catalog.specs.Catalog.{rec_at};
 ghost use Rattle.lis_content.specs.Large.{is_large};
@@ -12,8 +11,8 @@ ghost use Rattle.lis_model.specs.State.{blocks_taken, file_limit};
 ghost use Rattle.lis_kept.specs.Sound.{AreSound};
 ghost use Rattle.lis_store.specs.Instead.{free_instead, free_for};
 ghost use Rattle.lis_store.specs.ReplacingIn.{record_in};
-ghost use Rattle.lis_store.specs.Changes.{HasChangeCause};
-ghost use Rattle.lis_store.specs.Contents.{ContentPut, ContentGiven, ContentRenewed, ContentEnded};
+ghost use Rattle.lis_store.specs.Changes.{ChangesDisk};
+ghost use Rattle.lis_store.specs.Contents.{IsReadyForContent, ContentPut, ContentGiven, ContentRenewed, ContentEnded};
 
 use crate::change::Change;
 use arrayvec::ArrayVec;
@@ -31,20 +30,14 @@ fn put_content<D: Disk>(
 ) -> Result<ArrayVec<u16, 16>, Change>
     requires short { length payload.now ≤ file_limit parts.old.limits.version }
     requires enough { blocks_taken parts.old.limits.version (length payload.now) ≤ free_count parts.old.taken }
-    requires image { journal.old.blocks ≡ image_blocks parts.old.limits }
-    requires unbroken { journal.old.is_broken ≡ false }
+    requires ready { IsReadyForContent parts.old journal.old (D.meaning disk.old) }
     requires whole { is_broken.old ≡ false }
-    requires unplaced { journal.old.placed ≡ [] }
     requires unstaged { is_large (length payload.now) ≡ true → journal.old.staged ≡ [] }
-    requires room { length journal.old.staged + 16 ≤ 575 }
-    requires long { 4096 * journal.old.blocks ≤ (D.meaning disk.old).len }
     ensures put { ContentPut payload.now parts.old parts.new journal.old journal.new (D.meaning disk.old) (D.meaning disk.new) result }
     ensures ended { ContentEnded is_broken.new result }
     ensures sound { AreSound parts.new }
     ensures torn { OnErr result (is_large (length payload.now) ≡ true) }
-    ensures run { IsDiskRun (D.meaning disk.old) (D.meaning disk.new) }
-    ensures cause { HasChangeCause (D.meaning disk.old).disk_faults (D.meaning disk.new).disk_faults result }
-    ensures first_fault { DiskFaultEnds (D.meaning disk.old) (D.meaning disk.new) }
+    ensures disk { ChangesDisk (D.meaning disk.old) (D.meaning disk.new) result }
 {
     match parts.put_content(journal, disk, payload) {
         Ok(numbers) => Ok(numbers),
@@ -65,16 +58,13 @@ pub(crate) fn free_content<D: Disk>(
 ) -> Result<(), Change>
     requires there { IsSome (rec_at parts.old.catalog slot) }
     requires image { journal.now.blocks ≡ image_blocks parts.old.limits }
-    requires unbroken { journal.now.is_broken ≡ false }
+    requires usable { JournalIsUsable journal.now (D.meaning disk.old) }
     requires whole { is_broken.old ≡ false }
-    requires long { 4096 * journal.now.blocks ≤ (D.meaning disk.old).len }
     ensures given { (rec : FileRecord) → rec_at parts.old.catalog slot ≡ Some rec
         → ContentGiven rec parts.old parts.new journal.now (D.meaning disk.old) (D.meaning disk.new) result }
     ensures ended { ContentEnded is_broken.new result }
     ensures sound { AreSound parts.new }
-    ensures run { IsDiskRun (D.meaning disk.old) (D.meaning disk.new) }
-    ensures cause { HasChangeCause (D.meaning disk.old).disk_faults (D.meaning disk.new).disk_faults result }
-    ensures first_fault { DiskFaultEnds (D.meaning disk.old) (D.meaning disk.new) }
+    ensures disk { ChangesDisk (D.meaning disk.old) (D.meaning disk.new) result }
 {
     match parts.give_blocks(journal, disk, slot) {
         Ok(()) => Ok(()),
@@ -114,20 +104,14 @@ fn put_instead<D: Disk>(
     requires short { length payload.now ≤ file_limit parts.old.limits.version }
     requires enough { (rec : FileRecord) → rec_at parts.old.catalog slot ≡ Some rec
         → blocks_taken parts.old.limits.version (length payload.now) ≤ free_instead parts.old rec }
-    requires image { journal.old.blocks ≡ image_blocks parts.old.limits }
-    requires unbroken { journal.old.is_broken ≡ false }
+    requires ready { IsReadyForContent parts.old journal.old (D.meaning disk.old) }
     requires whole { is_broken.old ≡ false }
-    requires unplaced { journal.old.placed ≡ [] }
     requires unstaged { is_large (length payload.now) ≡ true → journal.old.staged ≡ [] }
-    requires room { length journal.old.staged + 16 ≤ 575 }
-    requires long { 4096 * journal.old.blocks ≤ (D.meaning disk.old).len }
     ensures renewed { (rec : FileRecord) → rec_at parts.old.catalog slot ≡ Some rec
         → ContentRenewed payload.now (Some rec) parts.old parts.new journal.old journal.new (D.meaning disk.old) (D.meaning disk.new) result }
     ensures ended { ContentEnded is_broken.new result }
     ensures sound { AreSound parts.new }
-    ensures run { IsDiskRun (D.meaning disk.old) (D.meaning disk.new) }
-    ensures cause { HasChangeCause (D.meaning disk.old).disk_faults (D.meaning disk.new).disk_faults result }
-    ensures first_fault { DiskFaultEnds (D.meaning disk.old) (D.meaning disk.new) }
+    ensures disk { ChangesDisk (D.meaning disk.old) (D.meaning disk.new) result }
 {
     if parts.limits().version == 2 {
         let numbers = put_content(parts, journal, is_broken, disk, payload)?;
@@ -151,20 +135,14 @@ pub(crate) fn put_anew<D: Disk>(
     requires there { IfSome slot (λ slot. IsSome (rec_at parts.old.catalog slot)) }
     requires short { length payload.now ≤ file_limit parts.old.limits.version }
     requires enough { blocks_taken parts.old.limits.version (length payload.now) ≤ free_for parts.old (record_in parts.old slot) }
-    requires image { journal.old.blocks ≡ image_blocks parts.old.limits }
-    requires unbroken { journal.old.is_broken ≡ false }
+    requires ready { IsReadyForContent parts.old journal.old (D.meaning disk.old) }
     requires whole { is_broken.old ≡ false }
-    requires unplaced { journal.old.placed ≡ [] }
     requires unstaged { is_large (length payload.now) ≡ true → journal.old.staged ≡ [] }
-    requires room { length journal.old.staged + 16 ≤ 575 }
-    requires long { 4096 * journal.old.blocks ≤ (D.meaning disk.old).len }
     ensures renewed { ContentRenewed payload.now (record_in parts.old slot) parts.old parts.new journal.old journal.new
         (D.meaning disk.old) (D.meaning disk.new) result }
     ensures ended { ContentEnded is_broken.new result }
     ensures sound { AreSound parts.new }
-    ensures run { IsDiskRun (D.meaning disk.old) (D.meaning disk.new) }
-    ensures cause { HasChangeCause (D.meaning disk.old).disk_faults (D.meaning disk.new).disk_faults result }
-    ensures first_fault { DiskFaultEnds (D.meaning disk.old) (D.meaning disk.new) }
+    ensures disk { ChangesDisk (D.meaning disk.old) (D.meaning disk.new) result }
 {
     match slot {
         None => put_content(parts, journal, is_broken, disk, payload),

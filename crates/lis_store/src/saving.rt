@@ -1,15 +1,14 @@
 //! The end of every change: it is committed, or held back.
 
-ghost use Rattle.std.specs.Prelude.{◌≡◌, ℕ, ◌+◌, ◌*◌, ◌<◌, ◌≤◌, false, [], Ok, length, OnOk};
-ghost use Rattle.lis_ports.specs.Calls.{DiskFaultEnds};
-ghost use Rattle.lis_ports.specs.Runs.{IsDiskRun};
+ghost use Rattle.std.specs.Prelude.{◌≡◌, ◌+◌, ◌<◌, ◌≤◌, false, [], Ok, length, OnOk};
+ghost use Rattle.lis_journal.specs.Images.{JournalIsUsable};
 ghost use Rattle.lis_content.specs.Large.{is_large};
 ghost use Rattle.lis_model.specs.Image.{image_blocks};
 ghost use Rattle.lis_kept.specs.Areas.{marked_count};
 ghost use Rattle.lis_kept.specs.Sound.{AreSound};
 ghost use Rattle.lis_store.specs.Stored.{IsSound};
 ghost use Rattle.lis_kept.specs.Staging.{Stages};
-ghost use Rattle.lis_store.specs.Changes.{HasChangeCause};
+ghost use Rattle.lis_store.specs.Changes.{ChangesDisk};
 ghost use Rattle.lis_store.specs.Saving.{clean, settled, ArePlaced, KeepsStaged, Saves, SaveEnded};
 
 use crate::change::Change;
@@ -53,16 +52,13 @@ pub(crate) fn commit<D: Disk>(
     is_broken: &mut bool,
     disk: &mut D,
 ) -> Result<(), Change>
-    requires unbroken { journal.old.is_broken ≡ false }
+    requires usable { JournalIsUsable journal.old (D.meaning disk.old) }
     requires whole { is_broken.old ≡ false }
-    requires long { 4096 * journal.old.blocks ≤ (D.meaning disk.old).len }
     ensures keeps { KeepsStaged journal.old journal.new (D.meaning disk.old) (D.meaning disk.new) result }
     ensures idle { journal.old.staged ≡ [] → (result ≡ Ok _) × (disk.new ≡ disk.old) × (journal.new ≡ journal.old) }
     ensures ended { SaveEnded is_broken.new result }
     ensures image { journal.new.blocks ≡ journal.old.blocks }
-    ensures run { IsDiskRun (D.meaning disk.old) (D.meaning disk.new) }
-    ensures cause { HasChangeCause (D.meaning disk.old).disk_faults (D.meaning disk.new).disk_faults result }
-    ensures first_fault { DiskFaultEnds (D.meaning disk.old) (D.meaning disk.new) }
+    ensures disk { ChangesDisk (D.meaning disk.old) (D.meaning disk.new) result }
 {
     if let Err(fault) = journal.commit(disk) {
         *is_broken = true;
@@ -81,13 +77,12 @@ pub(crate) fn hold<D: Disk>(
 ) -> Result<(), Change>
     requires sound { AreSound parts.old → IsSound (settled parts.old journal.old) }
     requires image { journal.old.blocks ≡ image_blocks parts.old.limits }
-    requires unbroken { journal.old.is_broken ≡ false }
+    requires usable { JournalIsUsable journal.old (D.meaning disk.old) }
     requires whole { is_broken.old ≡ false }
     requires placed { ArePlaced parts.old journal.old }
     requires unplaced { 0 < most → journal.old.placed ≡ [] }
     requires few { most ≤ 44 }
     requires room { length journal.old.staged + marked_count parts.old ≤ 575 }
-    requires long { 4096 * journal.old.blocks ≤ (D.meaning disk.old).len }
     ensures sound { IsSound (record { parts = parts.new; journal = journal.new; is_broken = is_broken.new }) }
     ensures saves { Saves parts.old journal.old (record { parts = parts.new; journal = journal.new; is_broken = is_broken.new })
         (D.meaning disk.old) (D.meaning disk.new) result }
@@ -95,9 +90,7 @@ pub(crate) fn hold<D: Disk>(
     ensures few { OnOk result (length journal.new.staged ≤ most) }
     ensures parts { parts.new ≡ record parts.old { marks = parts.new.marks } }
     ensures image { journal.new.blocks ≡ journal.old.blocks }
-    ensures run { IsDiskRun (D.meaning disk.old) (D.meaning disk.new) }
-    ensures cause { HasChangeCause (D.meaning disk.old).disk_faults (D.meaning disk.new).disk_faults result }
-    ensures first_fault { DiskFaultEnds (D.meaning disk.old) (D.meaning disk.new) }
+    ensures disk { ChangesDisk (D.meaning disk.old) (D.meaning disk.new) result }
 {
     stage(parts, journal);
     if journal.staged() > most {

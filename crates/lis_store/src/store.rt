@@ -2,8 +2,7 @@
 
 ghost use Rattle.std.specs.Prelude.{◌≡◌, ℕ, ◌*◌, ◌<◌, ◌≤◌, List, true, false, is_some, [], length, take, Some, Ok, Err, IsTrue, OnOk, IfSome, IsSomeAnd};
 ghost use Rattle.lis_ports.specs.Bytes.{part};
-ghost use Rattle.lis_ports.specs.Runs.{IsDiskRun, Leaves};
-ghost use Rattle.lis_ports.specs.Calls.{HasCause, IsUnchanged, DiskFaultEnds};
+ghost use Rattle.lis_ports.specs.Calls.{ReadsDisk};
 ghost use Rattle.lis_catalog.specs.Catalog.{slot_of, rec_at};
 ghost use Rattle.lis_fields.specs.Records.{FileRecord};
 ghost use Rattle.lis_model.specs.declared.refusal.Refusal.{Refusal};
@@ -14,9 +13,9 @@ ghost use Rattle.lis_model.specs.Step.{Situation, changed, add, rm};
 ghost use Rattle.lis_eval.specs.Room.{HasRoom};
 ghost use Rattle.lis_kept.specs.Telling.{is_declared};
 ghost use Rattle.lis_store.specs.declared.change.Change.TheVariants.{Refused};
-ghost use Rattle.lis_store.specs.Stored.{IsSound, StoreFits, StoreHolds, IsIndex};
+ghost use Rattle.lis_store.specs.Stored.{IsSound, StoreFits, StoreHolds, IsIndex, IsUsable};
 ghost use Rattle.lis_store.specs.Judging.{is_among};
-ghost use Rattle.lis_store.specs.Changes.{Changes, Holds, Commits, CommitLeft, HasChangeCause, ChangeLeft, EditsFew};
+ghost use Rattle.lis_store.specs.Changes.{Changes, Holds, Commits, CommitLeft, ChangeLeft, EditsFew, ChangesDisk};
 ghost use Rattle.lis_store.specs.Saving.{SaveEnded};
 ghost use Rattle.lis_store.specs.ReplacingIn.{MayPutBytes, record_in, file_gone};
 
@@ -96,8 +95,7 @@ impl Store {
 
     /// Commits all changes that are held back. Where there are none it makes no call of the disk.
     pub fn commit<D: Disk>(&mut self, disk: &mut D) -> Result<(), Change>
-        requires unbroken { self.old.is_broken ≡ false }
-        requires long { 4096 * self.old.journal.blocks ≤ (D.meaning disk.old).len }
+        requires usable { IsUsable self.old (D.meaning disk.old) }
         ensures commits { (base s : State) → StoreHolds self.old (D.meaning disk.old) base s
             → Commits base s self.new (D.meaning disk.old) (D.meaning disk.new) result }
         ensures idle { self.old.journal.staged ≡ [] → (result ≡ Ok _) × (disk.new ≡ disk.old) × (self.new ≡ self.old) }
@@ -105,9 +103,7 @@ impl Store {
         ensures image { self.new.journal.blocks ≡ self.old.journal.blocks }
         ensures left { CommitLeft self.new result }
         ensures sound { IsSound self.new }
-        ensures run { IsDiskRun (D.meaning disk.old) (D.meaning disk.new) }
-        ensures cause { HasChangeCause (D.meaning disk.old).disk_faults (D.meaning disk.new).disk_faults result }
-        ensures first_fault { DiskFaultEnds (D.meaning disk.old) (D.meaning disk.new) }
+        ensures disk { ChangesDisk (D.meaning disk.old) (D.meaning disk.new) result }
     {
         commit(&mut self.journal, &mut self.is_broken, disk)
     }
@@ -161,17 +157,11 @@ impl Store {
     ) -> Result<(), Failed>
         requires within { IsSomeAnd (rec_at self.now.parts.catalog slot) (λ (rec : FileRecord). 4096 * n < rec.size) }
         requires whole { length buf.old ≡ 4096 }
-        requires unbroken { self.now.is_broken ≡ false }
-        requires long { 4096 * self.now.journal.blocks ≤ (D.meaning disk.old).len }
+        requires usable { IsUsable self.now (D.meaning disk.old) }
         ensures read { OnOk result ((s : State) (name : List ℕ) → StoreFits self.now (D.meaning disk.old) s → slot_of self.now.parts.catalog name ≡ Some slot
             → take (length (part (4096 * n) 4096 (file_of s.files name).bytes)) buf.new ≡ part (4096 * n) 4096 (file_of s.files name).bytes) }
         ensures len { length buf.new ≡ 4096 }
-        ensures run { IsDiskRun (D.meaning disk.old) (D.meaning disk.new) }
-        ensures cause { HasCause (D.meaning disk.old).disk_faults (D.meaning disk.new).disk_faults result }
-        ensures first_fault { DiskFaultEnds (D.meaning disk.old) (D.meaning disk.new) }
-        ensures same { IsTrue (D.meaning disk.old).is_honest → IsUnchanged (D.meaning disk.old) (D.meaning disk.new) }
-        ensures any_moment { IsTrue (D.meaning disk.old).is_honest
-            → Leaves (D.meaning disk.old) (D.meaning disk.new) (D.meaning disk.old).images }
+        ensures disk { ReadsDisk (D.meaning disk.old) (D.meaning disk.new) result }
         ensures fits { (s : State) → StoreFits self.now (D.meaning disk.old) s → StoreFits self.now (D.meaning disk.new) s }
         ensures sound { IsSound self.now }
     {
@@ -194,16 +184,10 @@ impl Store {
     pub fn index<D: Disk>(&self, disk: &mut D, slot: u16, index: &mut [u8]) -> Result<(), Failed>
         requires some { IsSomeAnd (rec_at self.now.parts.catalog slot) (λ (rec : FileRecord). 0 < rec.size) }
         requires whole { length index.old ≡ 4096 }
-        requires unbroken { self.now.is_broken ≡ false }
-        requires long { 4096 * self.now.journal.blocks ≤ (D.meaning disk.old).len }
+        requires usable { IsUsable self.now (D.meaning disk.old) }
         ensures held { OnOk result (IsTrue (D.meaning disk.old).is_honest → IsIndex self.now (D.meaning disk.old).bytes slot index.new) }
         ensures len { length index.new ≡ 4096 }
-        ensures run { IsDiskRun (D.meaning disk.old) (D.meaning disk.new) }
-        ensures cause { HasCause (D.meaning disk.old).disk_faults (D.meaning disk.new).disk_faults result }
-        ensures first_fault { DiskFaultEnds (D.meaning disk.old) (D.meaning disk.new) }
-        ensures same { IsTrue (D.meaning disk.old).is_honest → IsUnchanged (D.meaning disk.old) (D.meaning disk.new) }
-        ensures any_moment { IsTrue (D.meaning disk.old).is_honest
-            → Leaves (D.meaning disk.old) (D.meaning disk.new) (D.meaning disk.old).images }
+        ensures disk { ReadsDisk (D.meaning disk.old) (D.meaning disk.new) result }
         ensures fits { (s : State) → StoreFits self.now (D.meaning disk.old) s → StoreFits self.now (D.meaning disk.new) s }
         ensures sound { IsSound self.now }
     {
@@ -233,18 +217,12 @@ impl Store {
         requires within { IsSomeAnd (rec_at self.now.parts.catalog slot) (λ (rec : FileRecord). 4096 * n < rec.size) }
         requires index { length index.now ≡ 4096 }
         requires whole { length buf.old ≡ 4096 }
-        requires unbroken { self.now.is_broken ≡ false }
-        requires long { 4096 * self.now.journal.blocks ≤ (D.meaning disk.old).len }
+        requires usable { IsUsable self.now (D.meaning disk.old) }
         ensures read { OnOk result ((s : State) (name : List ℕ) → StoreFits self.now (D.meaning disk.old) s → slot_of self.now.parts.catalog name ≡ Some slot
             → IsIndex self.now (D.meaning disk.old).bytes slot index.now
             → take (length (part (4096 * n) 4096 (file_of s.files name).bytes)) buf.new ≡ part (4096 * n) 4096 (file_of s.files name).bytes) }
         ensures len { length buf.new ≡ 4096 }
-        ensures run { IsDiskRun (D.meaning disk.old) (D.meaning disk.new) }
-        ensures cause { HasCause (D.meaning disk.old).disk_faults (D.meaning disk.new).disk_faults result }
-        ensures first_fault { DiskFaultEnds (D.meaning disk.old) (D.meaning disk.new) }
-        ensures same { IsTrue (D.meaning disk.old).is_honest → IsUnchanged (D.meaning disk.old) (D.meaning disk.new) }
-        ensures any_moment { IsTrue (D.meaning disk.old).is_honest
-            → Leaves (D.meaning disk.old) (D.meaning disk.new) (D.meaning disk.old).images }
+        ensures disk { ReadsDisk (D.meaning disk.old) (D.meaning disk.new) result }
         ensures fits { (s : State) → StoreFits self.now (D.meaning disk.old) s → StoreFits self.now (D.meaning disk.new) s }
         ensures sound { IsSound self.now }
     {
@@ -296,8 +274,7 @@ impl Store {
     ) -> Result<(), Change>
         requires whole { size ≤ file_limit self.old.parts.limits.version → length payload.now ≡ size }
         requires scratch { HasRoom scratch.old self.old.parts.limits }
-        requires unbroken { self.old.is_broken ≡ false }
-        requires long { 4096 * self.old.journal.blocks ≤ (D.meaning disk.old).len }
+        requires usable { IsUsable self.old (D.meaning disk.old) }
         ensures scratch { HasRoom scratch.new self.old.parts.limits }
         ensures changes { (s : State) → StoreFits self.old (D.meaning disk.old) s
             → Changes (record { state = s; place = place.now })
@@ -310,9 +287,7 @@ impl Store {
         ensures settled { OnOk result (self.new.journal.staged ≡ []) }
         ensures edits { EditsFew self.old self.new }
         ensures sound { IsSound self.new }
-        ensures run { IsDiskRun (D.meaning disk.old) (D.meaning disk.new) }
-        ensures cause { HasChangeCause (D.meaning disk.old).disk_faults (D.meaning disk.new).disk_faults result }
-        ensures first_fault { DiskFaultEnds (D.meaning disk.old) (D.meaning disk.new) }
+        ensures disk { ChangesDisk (D.meaning disk.old) (D.meaning disk.new) result }
     {
         self.add_file_held(disk, scratch, place, name, tags, payload, size)?;
         self.commit(disk)
@@ -331,8 +306,7 @@ impl Store {
     ) -> Result<(), Change>
         requires whole { size ≤ file_limit self.old.parts.limits.version → length payload.now ≡ size }
         requires scratch { HasRoom scratch.old self.old.parts.limits }
-        requires unbroken { self.old.is_broken ≡ false }
-        requires long { 4096 * self.old.journal.blocks ≤ (D.meaning disk.old).len }
+        requires usable { IsUsable self.old (D.meaning disk.old) }
         ensures scratch { HasRoom scratch.new self.old.parts.limits }
         ensures holds { (base : State) (s : State) → StoreHolds self.old (D.meaning disk.old) base s
             → Holds base (record { state = s; place = place.now })
@@ -345,9 +319,7 @@ impl Store {
         ensures edits { EditsFew self.old self.new }
         ensures entry { IsSound self.old }
         ensures sound { IsSound self.new }
-        ensures run { IsDiskRun (D.meaning disk.old) (D.meaning disk.new) }
-        ensures cause { HasChangeCause (D.meaning disk.old).disk_faults (D.meaning disk.new).disk_faults result }
-        ensures first_fault { DiskFaultEnds (D.meaning disk.old) (D.meaning disk.new) }
+        ensures disk { ChangesDisk (D.meaning disk.old) (D.meaning disk.new) result }
     {
         let assigned = may_add(&self.parts, scratch, place, name, tags, payload, size)?;
         if is_large(payload.len() as u32) {
@@ -369,8 +341,7 @@ impl Store {
         requires may { MayPutBytes self.old.parts slot (new_file name.now assigned.now payload.now) }
         requires alone { is_large (length payload.now) ≡ true → self.old.journal.staged ≡ [] }
         requires scratch { HasRoom scratch.old self.old.parts.limits }
-        requires unbroken { self.old.is_broken ≡ false }
-        requires long { 4096 * self.old.journal.blocks ≤ (D.meaning disk.old).len }
+        requires usable { IsUsable self.old (D.meaning disk.old) }
         ensures scratch { HasRoom scratch.new self.old.parts.limits }
         ensures holds { (base : State) (now : Situation) → StoreHolds self.old (D.meaning disk.old) base now.state
             → Holds base now (changed now (file_added (file_gone now.state (record_in self.old.parts slot)) (new_file name.now assigned.now payload.now)))
@@ -381,9 +352,7 @@ impl Store {
         ensures ended { SaveEnded self.new.is_broken result }
         ensures edits { EditsFew self.old self.new }
         ensures sound { IsSound self.new }
-        ensures run { IsDiskRun (D.meaning disk.old) (D.meaning disk.new) }
-        ensures cause { HasChangeCause (D.meaning disk.old).disk_faults (D.meaning disk.new).disk_faults result }
-        ensures first_fault { DiskFaultEnds (D.meaning disk.old) (D.meaning disk.new) }
+        ensures disk { ChangesDisk (D.meaning disk.old) (D.meaning disk.new) result }
     {
         let blocks = put_anew(
             &mut self.parts,
@@ -420,8 +389,7 @@ impl Store {
         name: &Name,
     ) -> Result<(), Change>
         requires scratch { HasRoom scratch.old self.old.parts.limits }
-        requires unbroken { self.old.is_broken ≡ false }
-        requires long { 4096 * self.old.journal.blocks ≤ (D.meaning disk.old).len }
+        requires usable { IsUsable self.old (D.meaning disk.old) }
         ensures scratch { HasRoom scratch.new self.old.parts.limits }
         ensures changes { (s : State) → StoreFits self.old (D.meaning disk.old) s
             → Changes (record { state = s; place = place.now }) (rm (record { state = s; place = place.now }) name.now)
@@ -433,9 +401,7 @@ impl Store {
         ensures settled { OnOk result (self.new.journal.staged ≡ []) }
         ensures edits { EditsFew self.old self.new }
         ensures sound { IsSound self.new }
-        ensures run { IsDiskRun (D.meaning disk.old) (D.meaning disk.new) }
-        ensures cause { HasChangeCause (D.meaning disk.old).disk_faults (D.meaning disk.new).disk_faults result }
-        ensures first_fault { DiskFaultEnds (D.meaning disk.old) (D.meaning disk.new) }
+        ensures disk { ChangesDisk (D.meaning disk.old) (D.meaning disk.new) result }
     {
         self.remove_held(disk, scratch, place, name)?;
         self.commit(disk)
@@ -450,8 +416,7 @@ impl Store {
         name: &Name,
     ) -> Result<(), Change>
         requires scratch { HasRoom scratch.old self.old.parts.limits }
-        requires unbroken { self.old.is_broken ≡ false }
-        requires long { 4096 * self.old.journal.blocks ≤ (D.meaning disk.old).len }
+        requires usable { IsUsable self.old (D.meaning disk.old) }
         ensures scratch { HasRoom scratch.new self.old.parts.limits }
         ensures holds { (base : State) (s : State) → StoreHolds self.old (D.meaning disk.old) base s
             → Holds base (record { state = s; place = place.now }) (rm (record { state = s; place = place.now }) name.now)
@@ -463,9 +428,7 @@ impl Store {
         ensures edits { EditsFew self.old self.new }
         ensures entry { IsSound self.old }
         ensures sound { IsSound self.new }
-        ensures run { IsDiskRun (D.meaning disk.old) (D.meaning disk.new) }
-        ensures cause { HasChangeCause (D.meaning disk.old).disk_faults (D.meaning disk.new).disk_faults result }
-        ensures first_fault { DiskFaultEnds (D.meaning disk.old) (D.meaning disk.new) }
+        ensures disk { ChangesDisk (D.meaning disk.old) (D.meaning disk.new) result }
     {
         let Some(slot) = self.slot_here(scratch, place, name) else {
             return Err(Change::Refused(Refusal::NoFileHere));

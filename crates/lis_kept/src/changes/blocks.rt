@@ -1,9 +1,8 @@
 //! Blocks that contents take, and give back.
 
-ghost use Rattle.std.specs.Prelude.{◌≡◌, ℕ, ◌+◌, ◌*◌, ◌≤◌, true, false, [], List, Some, length, slice_set, IsSome, IsTrue, OnOk, OnErr, MatchResult};
-ghost use Rattle.lis_ports.specs.Runs.{IsDiskRun, Leaves};
-ghost use Rattle.lis_ports.specs.Calls.{HasCause, IsUnchanged, DiskFaultEnds};
-ghost use Rattle.lis_journal.specs.Images.{Fits};
+ghost use Rattle.std.specs.Prelude.{◌≡◌, ℕ, ◌+◌, ◌≤◌, true, [], List, Some, length, slice_set, IsSome, IsTrue, OnOk, OnErr, MatchResult};
+ghost use Rattle.lis_ports.specs.Calls.{UsesDisk, ReadsDisk};
+ghost use Rattle.lis_journal.specs.Images.{Fits, JournalIsUsable};
 ghost use Rattle.lis_blockmap.specs.Bitmap.{free_count};
 ghost use Rattle.lis_catalog.specs.Catalog.{rec_at};
 ghost use Rattle.lis_content.specs.Large.{is_large};
@@ -44,19 +43,16 @@ impl Parts {
         requires short { length bytes.now ≤ file_limit self.old.limits.version }
         requires enough { blocks_taken self.old.limits.version (length bytes.now) ≤ free_count self.old.taken }
         requires image { journal.old.blocks ≡ image_blocks self.old.limits }
-        requires unbroken { journal.old.is_broken ≡ false }
+        requires usable { JournalIsUsable journal.old (D.meaning disk.old) }
         requires unplaced { journal.old.placed ≡ [] }
         requires unstaged { is_large (length bytes.now) ≡ true → journal.old.staged ≡ [] }
         requires room { length journal.old.staged + 16 ≤ 575 }
-        requires long { 4096 * journal.old.blocks ≤ (D.meaning disk.old).len }
         ensures ended { MatchResult result
             (λ numbers. Puts bytes.now numbers.items self.old self.new journal.old journal.new (D.meaning disk.old) (D.meaning disk.new))
             (λ _. PutTorn self.old self.new journal.old journal.new (D.meaning disk.old) (D.meaning disk.new)) }
         ensures torn { OnErr result (is_large (length bytes.now) ≡ true) }
         ensures sound { AreSound self.new }
-        ensures run { IsDiskRun (D.meaning disk.old) (D.meaning disk.new) }
-        ensures cause { HasCause (D.meaning disk.old).disk_faults (D.meaning disk.new).disk_faults result }
-        ensures first_fault { DiskFaultEnds (D.meaning disk.old) (D.meaning disk.new) }
+        ensures disk { UsesDisk (D.meaning disk.old) (D.meaning disk.new) result }
     {
         let base = data_start(&self.limits);
         mark_bitmap(&mut self.marks, &self.limits);
@@ -81,17 +77,11 @@ impl Parts {
     ) -> Result<(), Failed>
         requires there { IsSome (rec_at self.old.catalog slot) }
         requires image { journal.now.blocks ≡ image_blocks self.old.limits }
-        requires unbroken { journal.now.is_broken ≡ false }
-        requires long { 4096 * journal.now.blocks ≤ (D.meaning disk.old).len }
+        requires usable { JournalIsUsable journal.now (D.meaning disk.old) }
         ensures gives { OnOk result ((rec : FileRecord) → rec_at self.old.catalog slot ≡ Some rec → GivesBack rec self.old self.new journal.now (D.meaning disk.old)) }
         ensures stays { OnErr result (self.new ≡ self.old) }
         ensures sound { AreSound self.new }
-        ensures run { IsDiskRun (D.meaning disk.old) (D.meaning disk.new) }
-        ensures cause { HasCause (D.meaning disk.old).disk_faults (D.meaning disk.new).disk_faults result }
-        ensures first_fault { DiskFaultEnds (D.meaning disk.old) (D.meaning disk.new) }
-        ensures same { IsTrue (D.meaning disk.old).is_honest → IsUnchanged (D.meaning disk.old) (D.meaning disk.new) }
-        ensures any_moment { IsTrue (D.meaning disk.old).is_honest
-            → Leaves (D.meaning disk.old) (D.meaning disk.new) (D.meaning disk.old).images }
+        ensures disk { ReadsDisk (D.meaning disk.old) (D.meaning disk.new) result }
         ensures fits { (kept : ℕ → List ℕ) → Fits journal.now (D.meaning disk.old) kept
             → Fits journal.now (D.meaning disk.new) kept }
     {

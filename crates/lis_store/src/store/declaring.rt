@@ -1,14 +1,12 @@
 //! Words that are declared.
 
-ghost use Rattle.std.specs.Prelude.{◌≡◌, ◌*◌, ◌≤◌, false, [], Err, OnOk};
-ghost use Rattle.lis_ports.specs.Calls.{DiskFaultEnds};
-ghost use Rattle.lis_ports.specs.Runs.{IsDiskRun};
+ghost use Rattle.std.specs.Prelude.{◌≡◌, [], Err, OnOk};
 ghost use Rattle.lis_model.specs.declared.refusal.Refusal.{Refusal};
 ghost use Rattle.lis_model.specs.State.{State};
 ghost use Rattle.lis_model.specs.Step.{mkdir};
 ghost use Rattle.lis_store.specs.declared.change.Change.TheVariants.{Refused};
-ghost use Rattle.lis_store.specs.Stored.{IsSound, StoreFits, StoreHolds};
-ghost use Rattle.lis_store.specs.Changes.{Changes, Holds, HasChangeCause, ChangeLeft, EditsFew};
+ghost use Rattle.lis_store.specs.Stored.{IsSound, StoreFits, StoreHolds, IsUsable};
+ghost use Rattle.lis_store.specs.Changes.{Changes, Holds, ChangeLeft, EditsFew, ChangesDisk};
 
 use crate::change::Change;
 use crate::judging::may_declare;
@@ -27,8 +25,7 @@ impl Store {
         place: &Place,
         word: &Word,
     ) -> Result<(), Change>
-        requires unbroken { self.old.is_broken ≡ false }
-        requires long { 4096 * self.old.journal.blocks ≤ (D.meaning disk.old).len }
+        requires usable { IsUsable self.old (D.meaning disk.old) }
         ensures changes { (s : State) → StoreFits self.old (D.meaning disk.old) s
             → Changes (record { state = s; place = place.now }) (mkdir (record { state = s; place = place.now }) word.now)
             self.new (D.meaning disk.old) (D.meaning disk.new) result }
@@ -39,9 +36,7 @@ impl Store {
         ensures settled { OnOk result (self.new.journal.staged ≡ []) }
         ensures edits { EditsFew self.old self.new }
         ensures sound { IsSound self.new }
-        ensures run { IsDiskRun (D.meaning disk.old) (D.meaning disk.new) }
-        ensures cause { HasChangeCause (D.meaning disk.old).disk_faults (D.meaning disk.new).disk_faults result }
-        ensures first_fault { DiskFaultEnds (D.meaning disk.old) (D.meaning disk.new) }
+        ensures disk { ChangesDisk (D.meaning disk.old) (D.meaning disk.new) result }
     {
         self.declare_held(disk, place, word)?;
         self.commit(disk)
@@ -54,8 +49,7 @@ impl Store {
         place: &Place,
         word: &Word,
     ) -> Result<(), Change>
-        requires unbroken { self.old.is_broken ≡ false }
-        requires long { 4096 * self.old.journal.blocks ≤ (D.meaning disk.old).len }
+        requires usable { IsUsable self.old (D.meaning disk.old) }
         ensures holds { (base : State) (s : State) → StoreHolds self.old (D.meaning disk.old) base s
             → Holds base (record { state = s; place = place.now }) (mkdir (record { state = s; place = place.now }) word.now)
             self.new (D.meaning disk.old) (D.meaning disk.new) result }
@@ -66,9 +60,7 @@ impl Store {
         ensures edits { EditsFew self.old self.new }
         ensures entry { IsSound self.old }
         ensures sound { IsSound self.new }
-        ensures run { IsDiskRun (D.meaning disk.old) (D.meaning disk.new) }
-        ensures cause { HasChangeCause (D.meaning disk.old).disk_faults (D.meaning disk.new).disk_faults result }
-        ensures first_fault { DiskFaultEnds (D.meaning disk.old) (D.meaning disk.new) }
+        ensures disk { ChangesDisk (D.meaning disk.old) (D.meaning disk.new) result }
     {
         let places = may_declare(&self.parts, place, word)?;
         declare_tested(&mut self.parts, word, places.as_slice());

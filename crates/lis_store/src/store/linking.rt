@@ -1,14 +1,12 @@
 //! Axioms of a store.
 
-ghost use Rattle.std.specs.Prelude.{◌≡◌, ◌*◌, ◌≤◌, false, [], Err, OnOk};
-ghost use Rattle.lis_ports.specs.Calls.{DiskFaultEnds};
-ghost use Rattle.lis_ports.specs.Runs.{IsDiskRun};
+ghost use Rattle.std.specs.Prelude.{◌≡◌, [], Err, OnOk};
 ghost use Rattle.lis_model.specs.declared.refusal.Refusal.{Refusal};
 ghost use Rattle.lis_model.specs.Step.{Situation, add_axiom};
 ghost use Rattle.lis_model.specs.State.{State};
 ghost use Rattle.lis_store.specs.declared.change.Change.TheVariants.{Refused};
-ghost use Rattle.lis_store.specs.Stored.{IsSound, StoreFits, StoreHolds};
-ghost use Rattle.lis_store.specs.Changes.{Changes, Holds, HasChangeCause, ChangeLeft, EditsFew};
+ghost use Rattle.lis_store.specs.Stored.{IsSound, StoreFits, StoreHolds, IsUsable};
+ghost use Rattle.lis_store.specs.Changes.{Changes, Holds, ChangeLeft, EditsFew, ChangesDisk};
 
 use crate::change::Change;
 use crate::relating::may_relate;
@@ -21,8 +19,7 @@ use lis_words::Word;
 impl Store {
     /// Adds an axiom: from now on each file that has the left word has all that the right one entails.
     pub fn axiom<D: Disk>(&mut self, disk: &mut D, left: &Word, right: &Word) -> Result<(), Change>
-        requires unbroken { self.old.is_broken ≡ false }
-        requires long { 4096 * self.old.journal.blocks ≤ (D.meaning disk.old).len }
+        requires usable { IsUsable self.old (D.meaning disk.old) }
         ensures changes { (now : Situation) → StoreFits self.old (D.meaning disk.old) now.state
             → Changes now (add_axiom now (left.now, right.now)) self.new (D.meaning disk.old) (D.meaning disk.new) result }
         ensures untouched { (refusal : Refusal) → result ≡ Err (Refused refusal) → disk.new ≡ disk.old }
@@ -32,9 +29,7 @@ impl Store {
         ensures settled { OnOk result (self.new.journal.staged ≡ []) }
         ensures edits { EditsFew self.old self.new }
         ensures sound { IsSound self.new }
-        ensures run { IsDiskRun (D.meaning disk.old) (D.meaning disk.new) }
-        ensures cause { HasChangeCause (D.meaning disk.old).disk_faults (D.meaning disk.new).disk_faults result }
-        ensures first_fault { DiskFaultEnds (D.meaning disk.old) (D.meaning disk.new) }
+        ensures disk { ChangesDisk (D.meaning disk.old) (D.meaning disk.new) result }
     {
         self.axiom_held(disk, left, right)?;
         self.commit(disk)
@@ -47,8 +42,7 @@ impl Store {
         left: &Word,
         right: &Word,
     ) -> Result<(), Change>
-        requires unbroken { self.old.is_broken ≡ false }
-        requires long { 4096 * self.old.journal.blocks ≤ (D.meaning disk.old).len }
+        requires usable { IsUsable self.old (D.meaning disk.old) }
         ensures holds { (base : State) (now : Situation) → StoreHolds self.old (D.meaning disk.old) base now.state
             → Holds base now (add_axiom now (left.now, right.now)) self.new (D.meaning disk.old) (D.meaning disk.new) result }
         ensures untouched { (refusal : Refusal) → result ≡ Err (Refused refusal) → disk.new ≡ disk.old }
@@ -58,9 +52,7 @@ impl Store {
         ensures edits { EditsFew self.old self.new }
         ensures entry { IsSound self.old }
         ensures sound { IsSound self.new }
-        ensures run { IsDiskRun (D.meaning disk.old) (D.meaning disk.new) }
-        ensures cause { HasChangeCause (D.meaning disk.old).disk_faults (D.meaning disk.new).disk_faults result }
-        ensures first_fault { DiskFaultEnds (D.meaning disk.old) (D.meaning disk.new) }
+        ensures disk { ChangesDisk (D.meaning disk.old) (D.meaning disk.new) result }
     {
         may_relate(&self.parts, left, right)?;
         relate(&mut self.parts, left, right);

@@ -1,15 +1,14 @@
 //! Calls that change a file.
 
-ghost use Rattle.std.specs.Prelude.{◌≡◌, ℕ, ◌*◌, ◌≤◌, false, [], length, Err, IsTrue, OnOk};
-ghost use Rattle.lis_ports.specs.Runs.{IsDiskRun};
-ghost use Rattle.lis_ports.specs.Calls.{IsUnchanged, DiskFaultEnds};
+ghost use Rattle.std.specs.Prelude.{◌≡◌, ◌≤◌, [], length, Err, IsTrue, OnOk};
+ghost use Rattle.lis_ports.specs.Calls.{IsUnchanged};
 ghost use Rattle.lis_model.specs.declared.refusal.Refusal.{Refusal};
 ghost use Rattle.lis_model.specs.State.{State, file_limit};
 ghost use Rattle.lis_model.specs.Step.{write, rename, mv};
 ghost use Rattle.lis_eval.specs.Room.{HasRoom};
 ghost use Rattle.lis_store.specs.declared.change.Change.TheVariants.{Refused};
-ghost use Rattle.lis_store.specs.Stored.{IsSound, StoreFits, StoreHolds};
-ghost use Rattle.lis_store.specs.Changes.{Changes, Holds, HasChangeCause, ChangeLeft, EditsFew};
+ghost use Rattle.lis_store.specs.Stored.{IsSound, StoreFits, StoreHolds, IsUsable};
+ghost use Rattle.lis_store.specs.Changes.{Changes, Holds, ChangeLeft, EditsFew, ChangesDisk};
 
 use crate::admitting::file_limit;
 use crate::change::Change;
@@ -41,8 +40,7 @@ impl Store {
     ) -> Result<(), Change>
         requires whole { size ≤ file_limit self.old.parts.limits.version → length payload.now ≡ size }
         requires scratch { HasRoom scratch.old self.old.parts.limits }
-        requires unbroken { self.old.is_broken ≡ false }
-        requires long { 4096 * self.old.journal.blocks ≤ (D.meaning disk.old).len }
+        requires usable { IsUsable self.old (D.meaning disk.old) }
         ensures scratch { HasRoom scratch.new self.old.parts.limits }
         ensures changes { (s : State) → StoreFits self.old (D.meaning disk.old) s
             → Changes (record { state = s; place = place.now })
@@ -55,9 +53,7 @@ impl Store {
         ensures settled { OnOk result (self.new.journal.staged ≡ []) }
         ensures edits { EditsFew self.old self.new }
         ensures sound { IsSound self.new }
-        ensures run { IsDiskRun (D.meaning disk.old) (D.meaning disk.new) }
-        ensures cause { HasChangeCause (D.meaning disk.old).disk_faults (D.meaning disk.new).disk_faults result }
-        ensures first_fault { DiskFaultEnds (D.meaning disk.old) (D.meaning disk.new) }
+        ensures disk { ChangesDisk (D.meaning disk.old) (D.meaning disk.new) result }
     {
         self.write_held(disk, scratch, place, name, payload, size)?;
         self.commit(disk)
@@ -75,8 +71,7 @@ impl Store {
     ) -> Result<(), Change>
         requires whole { size ≤ file_limit self.old.parts.limits.version → length payload.now ≡ size }
         requires scratch { HasRoom scratch.old self.old.parts.limits }
-        requires unbroken { self.old.is_broken ≡ false }
-        requires long { 4096 * self.old.journal.blocks ≤ (D.meaning disk.old).len }
+        requires usable { IsUsable self.old (D.meaning disk.old) }
         ensures scratch { HasRoom scratch.new self.old.parts.limits }
         ensures holds { (base : State) (s : State) → StoreHolds self.old (D.meaning disk.old) base s
             → Holds base (record { state = s; place = place.now })
@@ -89,9 +84,7 @@ impl Store {
         ensures edits { EditsFew self.old self.new }
         ensures entry { IsSound self.old }
         ensures sound { IsSound self.new }
-        ensures run { IsDiskRun (D.meaning disk.old) (D.meaning disk.new) }
-        ensures cause { HasChangeCause (D.meaning disk.old).disk_faults (D.meaning disk.new).disk_faults result }
-        ensures first_fault { DiskFaultEnds (D.meaning disk.old) (D.meaning disk.new) }
+        ensures disk { ChangesDisk (D.meaning disk.old) (D.meaning disk.new) result }
     {
         if size > file_limit(self.parts.limits().version) {
             return Err(Change::Refused(Refusal::LargeFile));
@@ -116,8 +109,7 @@ impl Store {
         new: &Name,
     ) -> Result<(), Change>
         requires scratch { HasRoom scratch.old self.old.parts.limits }
-        requires unbroken { self.old.is_broken ≡ false }
-        requires long { 4096 * self.old.journal.blocks ≤ (D.meaning disk.old).len }
+        requires usable { IsUsable self.old (D.meaning disk.old) }
         ensures scratch { HasRoom scratch.new self.old.parts.limits }
         ensures changes { (s : State) → StoreFits self.old (D.meaning disk.old) s
             → Changes (record { state = s; place = place.now }) (rename (record { state = s; place = place.now }) name.now new.now)
@@ -130,9 +122,7 @@ impl Store {
         ensures settled { OnOk result (self.new.journal.staged ≡ []) }
         ensures edits { EditsFew self.old self.new }
         ensures sound { IsSound self.new }
-        ensures run { IsDiskRun (D.meaning disk.old) (D.meaning disk.new) }
-        ensures cause { HasChangeCause (D.meaning disk.old).disk_faults (D.meaning disk.new).disk_faults result }
-        ensures first_fault { DiskFaultEnds (D.meaning disk.old) (D.meaning disk.new) }
+        ensures disk { ChangesDisk (D.meaning disk.old) (D.meaning disk.new) result }
     {
         self.rename_held(disk, scratch, place, name, new)?;
         self.commit(disk)
@@ -148,8 +138,7 @@ impl Store {
         new: &Name,
     ) -> Result<(), Change>
         requires scratch { HasRoom scratch.old self.old.parts.limits }
-        requires unbroken { self.old.is_broken ≡ false }
-        requires long { 4096 * self.old.journal.blocks ≤ (D.meaning disk.old).len }
+        requires usable { IsUsable self.old (D.meaning disk.old) }
         ensures scratch { HasRoom scratch.new self.old.parts.limits }
         ensures holds { (base : State) (s : State) → StoreHolds self.old (D.meaning disk.old) base s
             → Holds base (record { state = s; place = place.now }) (rename (record { state = s; place = place.now }) name.now new.now)
@@ -162,9 +151,7 @@ impl Store {
         ensures edits { EditsFew self.old self.new }
         ensures entry { IsSound self.old }
         ensures sound { IsSound self.new }
-        ensures run { IsDiskRun (D.meaning disk.old) (D.meaning disk.new) }
-        ensures cause { HasChangeCause (D.meaning disk.old).disk_faults (D.meaning disk.new).disk_faults result }
-        ensures first_fault { DiskFaultEnds (D.meaning disk.old) (D.meaning disk.new) }
+        ensures disk { ChangesDisk (D.meaning disk.old) (D.meaning disk.new) result }
     {
         let Some(slot) = self.slot_here(scratch, place, name) else {
             return Err(Change::Refused(Refusal::NoFileHere));
@@ -206,8 +193,7 @@ impl Store {
         text: &Text,
     ) -> Result<(), Change>
         requires scratch { HasRoom scratch.old self.old.parts.limits }
-        requires unbroken { self.old.is_broken ≡ false }
-        requires long { 4096 * self.old.journal.blocks ≤ (D.meaning disk.old).len }
+        requires usable { IsUsable self.old (D.meaning disk.old) }
         ensures scratch { HasRoom scratch.new self.old.parts.limits }
         ensures changes { (s : State) → StoreFits self.old (D.meaning disk.old) s
             → Changes (record { state = s; place = place.now }) (mv (record { state = s; place = place.now }) name.now text.now)
@@ -219,9 +205,7 @@ impl Store {
         ensures settled { OnOk result (self.new.journal.staged ≡ []) }
         ensures edits { EditsFew self.old self.new }
         ensures sound { IsSound self.new }
-        ensures run { IsDiskRun (D.meaning disk.old) (D.meaning disk.new) }
-        ensures cause { HasChangeCause (D.meaning disk.old).disk_faults (D.meaning disk.new).disk_faults result }
-        ensures first_fault { DiskFaultEnds (D.meaning disk.old) (D.meaning disk.new) }
+        ensures disk { ChangesDisk (D.meaning disk.old) (D.meaning disk.new) result }
     {
         self.retag_held(disk, scratch, place, name, text)?;
         self.commit(disk)
@@ -237,8 +221,7 @@ impl Store {
         text: &Text,
     ) -> Result<(), Change>
         requires scratch { HasRoom scratch.old self.old.parts.limits }
-        requires unbroken { self.old.is_broken ≡ false }
-        requires long { 4096 * self.old.journal.blocks ≤ (D.meaning disk.old).len }
+        requires usable { IsUsable self.old (D.meaning disk.old) }
         ensures scratch { HasRoom scratch.new self.old.parts.limits }
         ensures holds { (base : State) (s : State) → StoreHolds self.old (D.meaning disk.old) base s
             → Holds base (record { state = s; place = place.now }) (mv (record { state = s; place = place.now }) name.now text.now)
@@ -250,9 +233,7 @@ impl Store {
         ensures edits { EditsFew self.old self.new }
         ensures entry { IsSound self.old }
         ensures sound { IsSound self.new }
-        ensures run { IsDiskRun (D.meaning disk.old) (D.meaning disk.new) }
-        ensures cause { HasChangeCause (D.meaning disk.old).disk_faults (D.meaning disk.new).disk_faults result }
-        ensures first_fault { DiskFaultEnds (D.meaning disk.old) (D.meaning disk.new) }
+        ensures disk { ChangesDisk (D.meaning disk.old) (D.meaning disk.new) result }
     {
         // As before each change, no call of the disk has failed.
         prove!(!self.is_broken);

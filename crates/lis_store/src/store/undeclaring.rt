@@ -1,14 +1,12 @@
 //! Words that are declared no more.
 
-ghost use Rattle.std.specs.Prelude.{◌≡◌, ◌*◌, ◌≤◌, false, [], Err, OnOk};
-ghost use Rattle.lis_ports.specs.Calls.{DiskFaultEnds};
-ghost use Rattle.lis_ports.specs.Runs.{IsDiskRun};
+ghost use Rattle.std.specs.Prelude.{◌≡◌, [], Err, OnOk};
 ghost use Rattle.lis_model.specs.declared.refusal.Refusal.{Refusal};
 ghost use Rattle.lis_model.specs.Step.{Situation, rmdir};
 ghost use Rattle.lis_model.specs.State.{State};
 ghost use Rattle.lis_store.specs.declared.change.Change.TheVariants.{Refused};
-ghost use Rattle.lis_store.specs.Stored.{IsSound, StoreFits, StoreHolds};
-ghost use Rattle.lis_store.specs.Changes.{Changes, Holds, HasChangeCause, ChangeLeft, EditsFew};
+ghost use Rattle.lis_store.specs.Stored.{IsSound, StoreFits, StoreHolds, IsUsable};
+ghost use Rattle.lis_store.specs.Changes.{Changes, Holds, ChangeLeft, EditsFew, ChangesDisk};
 
 use crate::change::Change;
 use crate::judging::may_undeclare;
@@ -21,8 +19,7 @@ use lis_words::Word;
 impl Store {
     /// Takes the declaration of a word back: `rmdir`.
     pub fn undeclare<D: Disk>(&mut self, disk: &mut D, word: &Word) -> Result<(), Change>
-        requires unbroken { self.old.is_broken ≡ false }
-        requires long { 4096 * self.old.journal.blocks ≤ (D.meaning disk.old).len }
+        requires usable { IsUsable self.old (D.meaning disk.old) }
         ensures changes { (now : Situation) → StoreFits self.old (D.meaning disk.old) now.state
             → Changes now (rmdir now word.now) self.new (D.meaning disk.old) (D.meaning disk.new) result }
         ensures untouched { (refusal : Refusal) → result ≡ Err (Refused refusal) → disk.new ≡ disk.old }
@@ -32,9 +29,7 @@ impl Store {
         ensures settled { OnOk result (self.new.journal.staged ≡ []) }
         ensures edits { EditsFew self.old self.new }
         ensures sound { IsSound self.new }
-        ensures run { IsDiskRun (D.meaning disk.old) (D.meaning disk.new) }
-        ensures cause { HasChangeCause (D.meaning disk.old).disk_faults (D.meaning disk.new).disk_faults result }
-        ensures first_fault { DiskFaultEnds (D.meaning disk.old) (D.meaning disk.new) }
+        ensures disk { ChangesDisk (D.meaning disk.old) (D.meaning disk.new) result }
     {
         self.undeclare_held(disk, word)?;
         self.commit(disk)
@@ -42,8 +37,7 @@ impl Store {
 
     /// As `undeclare`, and held back: the change is in memory, and its blocks are committed with those of later ones.
     pub fn undeclare_held<D: Disk>(&mut self, disk: &mut D, word: &Word) -> Result<(), Change>
-        requires unbroken { self.old.is_broken ≡ false }
-        requires long { 4096 * self.old.journal.blocks ≤ (D.meaning disk.old).len }
+        requires usable { IsUsable self.old (D.meaning disk.old) }
         ensures holds { (base : State) (now : Situation) → StoreHolds self.old (D.meaning disk.old) base now.state
             → Holds base now (rmdir now word.now) self.new (D.meaning disk.old) (D.meaning disk.new) result }
         ensures untouched { (refusal : Refusal) → result ≡ Err (Refused refusal) → disk.new ≡ disk.old }
@@ -53,9 +47,7 @@ impl Store {
         ensures edits { EditsFew self.old self.new }
         ensures entry { IsSound self.old }
         ensures sound { IsSound self.new }
-        ensures run { IsDiskRun (D.meaning disk.old) (D.meaning disk.new) }
-        ensures cause { HasChangeCause (D.meaning disk.old).disk_faults (D.meaning disk.new).disk_faults result }
-        ensures first_fault { DiskFaultEnds (D.meaning disk.old) (D.meaning disk.new) }
+        ensures disk { ChangesDisk (D.meaning disk.old) (D.meaning disk.new) result }
     {
         let number = may_undeclare(&self.parts, word)?;
         undeclare_unmet(&mut self.parts, number);

@@ -1,14 +1,12 @@
 //! `unaxiom`.
 
-ghost use Rattle.std.specs.Prelude.{◌≡◌, ◌*◌, ◌≤◌, false, [], Err, OnOk};
-ghost use Rattle.lis_ports.specs.Calls.{DiskFaultEnds};
-ghost use Rattle.lis_ports.specs.Runs.{IsDiskRun};
+ghost use Rattle.std.specs.Prelude.{◌≡◌, [], Err, OnOk};
 ghost use Rattle.lis_model.specs.declared.refusal.Refusal.{Refusal};
 ghost use Rattle.lis_model.specs.Step.{Situation, unaxiom};
 ghost use Rattle.lis_model.specs.State.{State};
 ghost use Rattle.lis_store.specs.declared.change.Change.TheVariants.{Refused};
-ghost use Rattle.lis_store.specs.Stored.{IsSound, StoreFits, StoreHolds};
-ghost use Rattle.lis_store.specs.Changes.{Changes, Holds, HasChangeCause, ChangeLeft, EditsFew};
+ghost use Rattle.lis_store.specs.Stored.{IsSound, StoreFits, StoreHolds, IsUsable};
+ghost use Rattle.lis_store.specs.Changes.{Changes, Holds, ChangeLeft, EditsFew, ChangesDisk};
 
 use crate::change::Change;
 use crate::lessening::take_axiom;
@@ -27,8 +25,7 @@ impl Store {
         left: &Word,
         right: &Word,
     ) -> Result<(), Change>
-        requires unbroken { self.old.is_broken ≡ false }
-        requires long { 4096 * self.old.journal.blocks ≤ (D.meaning disk.old).len }
+        requires usable { IsUsable self.old (D.meaning disk.old) }
         ensures changes { (now : Situation) → StoreFits self.old (D.meaning disk.old) now.state
             → Changes now (unaxiom now (left.now, right.now)) self.new (D.meaning disk.old) (D.meaning disk.new) result }
         ensures untouched { (refusal : Refusal) → result ≡ Err (Refused refusal) → disk.new ≡ disk.old }
@@ -38,9 +35,7 @@ impl Store {
         ensures settled { OnOk result (self.new.journal.staged ≡ []) }
         ensures edits { EditsFew self.old self.new }
         ensures sound { IsSound self.new }
-        ensures run { IsDiskRun (D.meaning disk.old) (D.meaning disk.new) }
-        ensures cause { HasChangeCause (D.meaning disk.old).disk_faults (D.meaning disk.new).disk_faults result }
-        ensures first_fault { DiskFaultEnds (D.meaning disk.old) (D.meaning disk.new) }
+        ensures disk { ChangesDisk (D.meaning disk.old) (D.meaning disk.new) result }
     {
         self.unaxiom_held(disk, left, right)?;
         self.commit(disk)
@@ -53,8 +48,7 @@ impl Store {
         left: &Word,
         right: &Word,
     ) -> Result<(), Change>
-        requires unbroken { self.old.is_broken ≡ false }
-        requires long { 4096 * self.old.journal.blocks ≤ (D.meaning disk.old).len }
+        requires usable { IsUsable self.old (D.meaning disk.old) }
         ensures holds { (base : State) (now : Situation) → StoreHolds self.old (D.meaning disk.old) base now.state
             → Holds base now (unaxiom now (left.now, right.now)) self.new (D.meaning disk.old) (D.meaning disk.new) result }
         ensures untouched { (refusal : Refusal) → result ≡ Err (Refused refusal) → disk.new ≡ disk.old }
@@ -64,9 +58,7 @@ impl Store {
         ensures edits { EditsFew self.old self.new }
         ensures entry { IsSound self.old }
         ensures sound { IsSound self.new }
-        ensures run { IsDiskRun (D.meaning disk.old) (D.meaning disk.new) }
-        ensures cause { HasChangeCause (D.meaning disk.old).disk_faults (D.meaning disk.new).disk_faults result }
-        ensures first_fault { DiskFaultEnds (D.meaning disk.old) (D.meaning disk.new) }
+        ensures disk { ChangesDisk (D.meaning disk.old) (D.meaning disk.new) result }
     {
         let Some((from, to)) = axiom_numbers(&self.parts, left, right) else {
             return Err(Change::Refused(Refusal::NoAxiom));

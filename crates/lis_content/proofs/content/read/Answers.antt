@@ -1,10 +1,10 @@
 use Rattle.std.proofs.Common.{◌≡◌, ◌+◌, ◌-◌, ◌*◌, min, length, get_or, sym, ◌∙◌, ap, take, drop, length-drop, arith}
 use Rattle.std.proofs.lemmas.List.{length-take-le}
 use Rattle.lis_ports.proofs.Ending.{ends_then}
-use Rattle.lis_ports.proofs.Moments.{run_then, leaves_then, leaves_weaken}
+use Rattle.lis_ports.proofs.OnlyReading.{reads_then}
 use Rattle.lis_journal.specs.Images.{look}
 use Rattle.lis_journal.specs.Phases.{looked}
-use Rattle.lis_content.proofs.Reading.{unchanged_then, filled_more, filled_all}
+use Rattle.lis_content.proofs.Reading.{filled_more, filled_all}
 use Rattle.lis_content.proofs.content.read.Goals as goal
 
 pub loop-k-preserved : goal.loop-k-preserved
@@ -12,11 +12,9 @@ loop-k-preserved g c =
     let was = c.loop-k.invariant in
     let read = c.in_ok-read_front.ensures in
     record {
-      run = run_then was.run read.run;
-      faults = read.cause.stays ∙ was.faults;
-      first_fault = ends_then was.first_fault was.faults read.first_fault;
-      same = λ honest. unchanged_then read.run (was.same honest) (read.same (was.run.honest ∙ honest));
-      moments = λ honest. leaves_then (was.moments honest) (leaves_weaken _ (read.any_moment (was.run.honest ∙ honest)) (λ image is. (was.same honest).images.only image is));
+      reads = reads_then was.reads read.disk.reads;
+      faults = read.disk.cause.stays ∙ was.faults;
+      first_fault = ends_then was.first_fault was.faults read.disk.first_fault;
       fits = λ kept fits. read.fits kept (was.fits kept fits);
       filled = λ kept fits.
           let staged = c.args.journal.now.staged in

@@ -10,8 +10,11 @@ use Rattle.lis_dump.proofs.files.show_files.Goals as goal
 pub loop-k-init : goal.loop-k-init
 loop-k-init g c = to_none file_lines (λ (state : State). state.files) (g.T.Disk.meaning c.args.station.now)
 
-pub show_file_at-requires-clause-long : goal.show_file_at-requires-clause-long
-show_file_at-requires-clause-long g c = omega (arith, c.requires.long, c.loop-k.invariant.shows.ends.same.len)
+pub show_file_at-requires-clause-usable : goal.show_file_at-requires-clause-usable
+show_file_at-requires-clause-usable g c = record {
+  unbroken = c.requires.usable.unbroken;
+  long = omega (arith, c.requires.usable.long, c.loop-k.invariant.shows.ends.same.len);
+}
 
 pub loop-k-preserved : goal.loop-k-preserved
 loop-k-preserved g c = to_more file_lines (λ (state : State). state.files) c.loop-k.k c.loop-k.invariant c.in_ok-show_file_at.field-0 c.in_ok-show_file_at.ensures

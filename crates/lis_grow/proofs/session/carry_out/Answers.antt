@@ -9,15 +9,14 @@ use Rattle.lis_grow.proofs.session.carry_out.Goals as goal
 pub carry_all-requires-clause-ready : goal.carry_all-requires-clause-ready
 carry_all-requires-clause-ready g c = rw c.none.ensures (record {
   sound = c.requires.sound;
-  unbroken = c.requires.unbroken;
-  long = c.requires.long;
+  usable = c.requires.usable;
   replies = omega arith;
   refused = omega arith;
   listed = omega arith;
 })
 
 pub carry_all-requires-clause-start : goal.carry_all-requires-clause-start
-carry_all-requires-clause-start g c = (sums_none c.args.session.now (g.T.Disk.meaning c.args.station.now) c.none.result c.requires.unbroken c.requires.sound c.none.ensures, refl)
+carry_all-requires-clause-start g c = (sums_none c.args.session.now (g.T.Disk.meaning c.args.station.now) c.none.result c.requires.usable.unbroken c.requires.sound c.none.ensures, refl)
 
 pub unreachable-requires : goal.unreachable-requires
 unreachable-requires g c = elim c.in-Limit.is as (λ _. ⊥) [

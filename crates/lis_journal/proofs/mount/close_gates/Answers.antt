@@ -5,7 +5,7 @@ use Rattle.lis_journal.proofs.mount.close_gates.Goals as goal
 
 pub returns-then-count-eq0-clause-closes : goal.returns-then-count-eq0-clause-closes
 returns-then-count-eq0-clause-closes g c = λ loaded.
-    others_close loaded c.close_others.result (omega (arith, c.if-count-eq0.true)) c.close_others.ensures.run c.close_others.ensures.spreads c.close_others.ensures.settled
+    others_close loaded c.close_others.result (omega (arith, c.if-count-eq0.true)) c.close_others.ensures.disk.run c.close_others.ensures.spreads c.close_others.ensures.settled
 
 pub returns-clause-closes : goal.returns-clause-closes
 returns-clause-closes g c = λ loaded.

@@ -9,5 +9,5 @@ returns-in-None-clause-form g c = λ honest.
 pub loop-k-preserved : goal.loop-k-preserved
 loop-k-preserved g c =
     let room = rw c.in-Some.is at c.in_ok-behind.ensures.room in
-    through_on _ c.loop-k.latest c.read_record.new.latest c.loop-k.first c.in-Some.behind c.loop-k._k c.loop-k.invariant c.read_record.ensures.run c.in_ok-behind.ensures.cause.stays c.read_record.ensures.first_fault c.read_record.ensures.quiet c.read_record.ensures.blocks room.0 room.1
+    through_on _ c.loop-k.latest c.read_record.new.latest c.loop-k.first c.in-Some.behind c.loop-k._k c.loop-k.invariant c.read_record.ensures.disk.run c.in_ok-behind.ensures.disk.cause.stays c.read_record.ensures.disk.first_fault c.read_record.ensures.quiet c.read_record.ensures.blocks room.0 room.1
     (λ still. rw c.in-Some.is at (c.in_ok-behind.ensures.form still))

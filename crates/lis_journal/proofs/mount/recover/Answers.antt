@@ -13,22 +13,22 @@ returns-then-not-is_any_open-clause-recovers g c = λ honest.
     let gated = gates_read synced c.in_ok-gates.ensures.gates c.is_any_open.ensures c.if-not-is_any_open.true in
     let len = g.met.D.Disk.reads_len c.args.disk.now honest in
     quiet_recovers c.args.latest.now.blocks c.requires.blocks (omega (arith, c.requires.long, len))
-    (reading_on synced c.read_gates.ensures.run (c.read_gates.ensures.quiet synced.honest)) gated.opened
+    (reading_on synced c.read_gates.ensures.disk.run (c.read_gates.ensures.quiet synced.honest)) gated.opened
 
 pub returns-in_err-bad-clause-recovers : goal.returns-in_err-bad-clause-recovers
 returns-in_err-bad-clause-recovers g c = λ honest.
     let synced = after_sync honest c.sync.ensures.call.run c.sync.ensures.call.time (c.in_ok-sync.ensures.synced honest) in
-    let gates = reading_on synced c.read_gates.ensures.run (c.read_gates.ensures.quiet synced.honest) in
+    let gates = reading_on synced c.read_gates.ensures.disk.run (c.read_gates.ensures.quiet synced.honest) in
     failed_recovers c.args.latest.now.blocks c.from_residual-in_err-bad.result c.from_residual-in_err-bad.ensures.0
-    (reading_on gates c.load_records.ensures.run (c.load_records.ensures.quiet gates.honest))
+    (reading_on gates c.load_records.ensures.disk.run (c.load_records.ensures.quiet gates.honest))
 
 pub returns-in-Some-clause-recovers : goal.returns-in-Some-clause-recovers
 returns-in-Some-clause-recovers g c = λ honest.
     let synced = after_sync honest c.sync.ensures.call.run c.sync.ensures.call.time (c.in_ok-sync.ensures.synced honest) in
     let gated = gates_read synced c.in_ok-gates.ensures.gates c.is_any_open.ensures c.if-not-is_any_open.false in
-    let gates = reading_on synced c.read_gates.ensures.run (c.read_gates.ensures.quiet synced.honest) in
+    let gates = reading_on synced c.read_gates.ensures.disk.run (c.read_gates.ensures.quiet synced.honest) in
     bad_recovers c.args.latest.now.blocks c.in-Some.bad
-    (reading_on gates c.load_records.ensures.run (c.load_records.ensures.quiet gates.honest)) gated.opened
+    (reading_on gates c.load_records.ensures.disk.run (c.load_records.ensures.quiet gates.honest)) gated.opened
     (bad_found c.args.latest.now.blocks c.count_open-count.result _ _ (gates_counted gated c.count_open-count.ensures.count) gates.reads c.in-Some.is (c.in_ok-bad.ensures.form gates.honest))
 
 pub returns-in_err-close_gates-clause-recovers : goal.returns-in_err-close_gates-clause-recovers
@@ -37,8 +37,8 @@ returns-in_err-close_gates-clause-recovers g c = λ honest.
     let loaded_disk = g.D.Disk.meaning c.load_records.new.disk in
     let synced = after_sync honest c.sync.ensures.call.run c.sync.ensures.call.time (c.in_ok-sync.ensures.synced honest) in
     let gated = gates_read synced c.in_ok-gates.ensures.gates c.is_any_open.ensures c.if-not-is_any_open.false in
-    let gates = reading_on synced c.read_gates.ensures.run (c.read_gates.ensures.quiet synced.honest) in
-    let reading = reading_on gates c.load_records.ensures.run (c.load_records.ensures.quiet gates.honest) in
+    let gates = reading_on synced c.read_gates.ensures.disk.run (c.read_gates.ensures.quiet synced.honest) in
+    let reading = reading_on gates c.load_records.ensures.disk.run (c.load_records.ensures.quiet gates.honest) in
     let len = g.met.D.Disk.reads_len c.args.disk.now honest in
     let loaded = loaded_from _ reading c.requires.blocks (omega (arith, c.requires.long, len)) gated.opened (gates_counted gated c.count_open-count.ensures.count) gates.reads
     (sym c.in_default.is ∙ c.in_ok-bad.ensures.form gates.honest) (c.in_ok-bad.ensures.loaded gates.honest c.in_default.is) in
@@ -52,8 +52,8 @@ returns-clause-recovers g c = λ honest.
     let loaded_disk = g.D.Disk.meaning c.load_records.new.disk in
     let synced = after_sync honest c.sync.ensures.call.run c.sync.ensures.call.time (c.in_ok-sync.ensures.synced honest) in
     let gated = gates_read synced c.in_ok-gates.ensures.gates c.is_any_open.ensures c.if-not-is_any_open.false in
-    let gates = reading_on synced c.read_gates.ensures.run (c.read_gates.ensures.quiet synced.honest) in
-    let reading = reading_on gates c.load_records.ensures.run (c.load_records.ensures.quiet gates.honest) in
+    let gates = reading_on synced c.read_gates.ensures.disk.run (c.read_gates.ensures.quiet synced.honest) in
+    let reading = reading_on gates c.load_records.ensures.disk.run (c.load_records.ensures.quiet gates.honest) in
     let len = g.met.D.Disk.reads_len c.args.disk.now honest in
     let loaded = loaded_from _ reading c.requires.blocks (omega (arith, c.requires.long, len)) gated.opened (gates_counted gated c.count_open-count.ensures.count) gates.reads
     (sym c.in_default.is ∙ c.in_ok-bad.ensures.form gates.honest) (c.in_ok-bad.ensures.loaded gates.honest c.in_default.is) in

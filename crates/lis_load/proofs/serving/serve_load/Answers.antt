@@ -10,10 +10,10 @@ use Rattle.lis_load.proofs.Served.{loaded_none, load_keeps, load_input, loads_so
 use Rattle.lis_load.proofs.serving.serve_load.Goals as goal
 
 pub carry_held-requires-clause-ready : goal.carry_held-requires-clause-ready
-carry_held-requires-clause-ready g c = record { unbroken = c.requires.unbroken; long = c.requires.long }
+carry_held-requires-clause-ready g c = c.requires.usable
 
 pub carry_held-requires-clause-start : goal.carry_held-requires-clause-start
-carry_held-requires-clause-start g c = loaded_none c.args.loader.now (g.T.Disk.meaning c.args.station.now) c.requires.idle c.requires.unbroken c.requires.sound
+carry_held-requires-clause-start g c = loaded_none c.args.loader.now (g.T.Disk.meaning c.args.station.now) c.requires.idle c.requires.usable.unbroken c.requires.sound
 
 pub returns : goal.returns
 returns g c =

@@ -2,7 +2,8 @@ use Rattle.lis_open.proofs.Common.{◌≡◌, refl, subst, ◌∙◌, arith, bel
 use Rattle.lis_open.specs.Checks.{AxiomFails}
 use Rattle.lis_open.specs.ReadWords.{AxiomsAreSpelled}
 use Rattle.lis_open.proofs.SpotKinds.{none_before, none_fails}
-use Rattle.lis_open.proofs.BlocksRead.{reads_none, reads_then, fits_after}
+use Rattle.lis_ports.proofs.OnlyReading.{reads_none, reads_then}
+use Rattle.lis_open.proofs.BlocksRead.{fits_after}
 use Rattle.lis_open.proofs.AxiomsRead.{axiom_on, no_axioms_yet, axiom_fails, axiom_passes}
 use Rattle.lis_open.proofs.axioms.read_axioms.Goals as goal
 
@@ -37,9 +38,9 @@ loop-k-preserved g c =
     let next = c.take_axiom.new.axioms in
     let more = axiom_on limits words c.requires.words l.axioms l.k l.invariant.first c.in_ok-found.found next (omega (arith, c.loop-k-test.true, c.slot_count-k-end.ensures)) c.if-not-take_axiom.ensures.taken in
     record {
-      reads = reads_then l.invariant.reads c.read_axiom_slot.ensures.reads;
-      faults = c.in_ok-found.ensures.cause.stays ∙ l.invariant.faults;
-      first_fault = ends_then l.invariant.first_fault l.invariant.faults c.in_ok-found.ensures.first_fault;
+      reads = reads_then l.invariant.reads c.read_axiom_slot.ensures.disk.reads;
+      faults = c.in_ok-found.ensures.disk.cause.stays ∙ l.invariant.faults;
+      first_fault = ends_then l.invariant.first_fault l.invariant.faults c.in_ok-found.ensures.disk.first_fault;
       first = more.0;
       recalls = λ kept fits recalled.
           c.read_axiom_slot.ensures.recalls kept (fits_after c.args.journal.now kept l.invariant.reads fits) (l.invariant.recalls kept fits recalled);

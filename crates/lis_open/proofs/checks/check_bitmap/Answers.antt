@@ -10,10 +10,10 @@ block_read staged kept n m bytes none same read = read ∙ (ap (λ es. look es n
 
 pub returns-in-None-clause-ended : goal.returns-in-None-clause-ended
 returns-in-None-clause-ended g c = λ kept fits.
-    let read = block_read c.args.journal.now.staged kept c.bitmap_start.result (bitmap_start c.args.limits.now) c.read.new.buf c.requires.clean c.bitmap_start.ensures (c.in_ok-read.ensures.read kept fits) in
+    let read = block_read c.args.journal.now.staged kept c.bitmap_start.result (bitmap_start c.args.limits.now) c.read.new.buf c.requires.readable.clean c.bitmap_start.ensures (c.in_ok-read.ensures.read kept fits) in
     sym read ∙ c.in-None.ensures.same
 
 pub returns-in-Some-clause-ended : goal.returns-in-Some-clause-ended
 returns-in-Some-clause-ended g c = λ kept fits.
-    let read = block_read c.args.journal.now.staged kept c.bitmap_start.result (bitmap_start c.args.limits.now) c.read.new.buf c.requires.clean c.bitmap_start.ensures (c.in_ok-read.ensures.read kept fits) in
+    let read = block_read c.args.journal.now.staged kept c.bitmap_start.result (bitmap_start c.args.limits.now) c.read.new.buf c.requires.readable.clean c.bitmap_start.ensures (c.in_ok-read.ensures.read kept fits) in
     (c.in-Some.n, refl, subst (λ bytes. IsFirstDifference bytes c.args.map.now c.in-Some.n) read c.in-Some.ensures.differs)

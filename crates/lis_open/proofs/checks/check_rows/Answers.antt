@@ -1,5 +1,6 @@
 use Rattle.lis_open.proofs.Common.{◌∙◌, ◌<◌, subst, below_more, ends_then, row_slots}
-use Rattle.lis_open.proofs.BlocksRead.{reads_then, fits_after}
+use Rattle.lis_ports.proofs.OnlyReading.{reads_then}
+use Rattle.lis_open.proofs.BlocksRead.{fits_after}
 use Rattle.lis_open.proofs.Lefts.{first_row}
 use Rattle.lis_open.proofs.checks.check_rows.Goals as goal
 
@@ -17,9 +18,9 @@ loop-p-preserved g c =
     let l = c.loop-p in
     let journal = c.args.journal.now in
     record {
-      reads = reads_then l.invariant.reads c.read_row.ensures.reads;
-      faults = c.in_ok-read_row.ensures.cause.stays ∙ l.invariant.faults;
-      first_fault = ends_then l.invariant.first_fault l.invariant.faults c.in_ok-read_row.ensures.first_fault;
+      reads = reads_then l.invariant.reads c.read_row.ensures.disk.reads;
+      faults = c.in_ok-read_row.ensures.disk.cause.stays ∙ l.invariant.faults;
+      first_fault = ends_then l.invariant.first_fault l.invariant.faults c.in_ok-read_row.ensures.disk.first_fault;
       recalls = λ kept fits recalls. c.read_row.ensures.recalls kept (fits_after journal kept l.invariant.reads fits) (l.invariant.recalls kept fits recalls);
       same = λ kept fits recalls.
           let there = fits_after journal kept l.invariant.reads fits in

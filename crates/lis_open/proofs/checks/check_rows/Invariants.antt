@@ -1,5 +1,6 @@
 use Rattle.lis_open.proofs.Common.{◌≡◌, ℕ, ◌<◌, List, DiskFaultEnds, Fits}
-use Rattle.lis_open.specs.Reading.{OnlyReads, Recalls}
+use Rattle.lis_ports.specs.Calls.{OnlyReads}
+use Rattle.lis_open.specs.Reading.{Recalls}
 use Rattle.lis_open.specs.ReadAll.{IsRowSpelled}
 use Rattle.lis_open.proofs.checks.check_rows.Given as goal
 

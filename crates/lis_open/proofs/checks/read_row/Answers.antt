@@ -5,9 +5,9 @@ use Rattle.lis_open.proofs.Lefts.{row_read}
 use Rattle.lis_open.proofs.checks.read_row.Goals as goal
 
 pub read_slot-requires-clause-few : goal.read_slot-requires-clause-few
-read_slot-requires-clause-few g c = few_blocks c.args.limits.now _ c.requires.range c.requires.image
+read_slot-requires-clause-few g c = few_blocks c.args.limits.now _ c.requires.readable.range c.requires.readable.image
 
 pub returns-clause-read : goal.returns-clause-read
 returns-clause-read g c = λ kept fits recalls.
     row_read c.args.limits.now kept c.args.ext.now c.args.p c.rows_start.result _ c.read_slot.new.buf c.is_row.result c.rows_start.ensures
-    (length-take-le _ _ (let few = few_files c.args.limits.now c.requires.range in omega (arith, few))) (c.in_ok-read_slot.ensures.read kept fits recalls) c.is_row.ensures
+    (length-take-le _ _ (let few = few_files c.args.limits.now c.requires.readable.range in omega (arith, few))) (c.in_ok-read_slot.ensures.read kept fits recalls) c.is_row.ensures

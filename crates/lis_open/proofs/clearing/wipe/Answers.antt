@@ -13,34 +13,34 @@ returns-in_err-write_rest-clause-spreads g c = λ honest. rest_spreads c.args.li
 
 pub returns-in_err-clear_blocks-clause-spreads : goal.returns-in_err-clear_blocks-clause-spreads
 returns-in_err-clear_blocks-clause-spreads g c = λ honest.
-    gate_spreads c.args.limits.now (c.write_rest.ensures.spreads honest) (c.clear_blocks.ensures.spreads (c.write_rest.ensures.run.honest ∙ honest))
+    gate_spreads c.args.limits.now (c.write_rest.ensures.spreads honest) (c.clear_blocks.ensures.spreads (c.write_rest.ensures.disk.run.honest ∙ honest))
 
 pub returns-in_err-clear_blocks-2-clause-spreads :
     goal.returns-in_err-clear_blocks-2-clause-spreads
 returns-in_err-clear_blocks-2-clause-spreads g c = λ honest.
     let limits = c.args.limits.now in
-    let honest1 = c.write_rest.ensures.run.honest ∙ honest in
+    let honest1 = c.write_rest.ensures.disk.run.honest ∙ honest in
     homes_spreads limits (c.image_blocks.result - limits.blocks) (omega (arith, c.image_blocks.ensures.blocks)) (c.write_rest.ensures.spreads honest) (c.clear_blocks.ensures.spreads honest1)
-    (c.clear_blocks-2.ensures.spreads (c.clear_blocks.ensures.run.honest ∙ honest1))
+    (c.clear_blocks-2.ensures.spreads (c.clear_blocks.ensures.disk.run.honest ∙ honest1))
 
 pub returns-clause-spreads : goal.returns-clause-spreads
 returns-clause-spreads g c = λ honest.
     let limits = c.args.limits.now in
-    let honest1 = c.write_rest.ensures.run.honest ∙ honest in
-    let honest2 = c.clear_blocks.ensures.run.honest ∙ honest1 in
+    let honest1 = c.write_rest.ensures.disk.run.honest ∙ honest in
+    let honest2 = c.clear_blocks.ensures.disk.run.honest ∙ honest1 in
     spreads_then (IsWiping limits) (wiping_trans limits)
     (homes_spreads limits (c.image_blocks.result - limits.blocks) (omega (arith, c.image_blocks.ensures.blocks)) (c.write_rest.ensures.spreads honest) (c.clear_blocks.ensures.spreads honest1)
     (c.clear_blocks-2.ensures.spreads honest2))
-    (spreads_sync (IsWiping limits) c.sync.result c.sync.ensures.call.run c.sync.ensures.call.time c.sync.ensures.synced c.sync.ensures.unsynced (wiping_refl limits) (c.clear_blocks-2.ensures.run.honest ∙ honest2))
+    (spreads_sync (IsWiping limits) c.sync.result c.sync.ensures.call.run c.sync.ensures.call.time c.sync.ensures.synced c.sync.ensures.unsynced (wiping_refl limits) (c.clear_blocks-2.ensures.disk.run.honest ∙ honest2))
 
 pub returns-clause-wiped : goal.returns-clause-wiped
 returns-clause-wiped g c = on_ok_weaker c.sync.result (λ synced. λ honest.
     let limits = c.args.limits.now in
     let end = c.image_blocks.result - limits.blocks in
     let is_end : end ≡ data_start limits = omega (arith, c.image_blocks.ensures.blocks) in
-    let honest1 = c.write_rest.ensures.run.honest ∙ honest in
-    let honest2 = c.clear_blocks.ensures.run.honest ∙ honest1 in
-    let honest3 = c.clear_blocks-2.ensures.run.honest ∙ honest2 in
+    let honest1 = c.write_rest.ensures.disk.run.honest ∙ honest in
+    let honest2 = c.clear_blocks.ensures.disk.run.honest ∙ honest1 in
+    let honest3 = c.clear_blocks-2.ensures.disk.run.honest ∙ honest2 in
     let long : 4096 * image_blocks limits ≤ length (g.D.Disk.meaning c.args.disk.now).bytes =
     subst (λ n. 4096 * image_blocks limits ≤ n) (sym (g.met.D.Disk.reads_len c.args.disk.now honest)) c.requires.long in
     always_settled (IsWiped limits) (g.D.Disk.meaning c.clear_blocks-2.new.disk).bytes (settled_synced (synced honest3))

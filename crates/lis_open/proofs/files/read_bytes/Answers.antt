@@ -14,10 +14,7 @@ read-requires-clause-count g c = slot_of_form c.args.limits.now.version c.args.r
 pub read-requires-clause-within : goal.read-requires-clause-within
 read-requires-clause-within g c =
     ap (are_within c.data_start.result c.args.journal.now.blocks) (c.as_slice.ensures.value ∙ ap (λ (r : FileRecord). r.blocks) c.rec.view_is)
-    ∙ within_if_below c.data_start.result c.args.journal.now.blocks c.args.limits.now.blocks c.args.rec.now.blocks (omega (arith, c.data_start.ensures.start, c.requires.image)) c.requires.below
-
-pub returns-clause-reads : goal.returns-clause-reads
-returns-clause-reads g c = record { run = c.read.ensures.run; same = c.read.ensures.same; moments = c.read.ensures.any_moment }
+    ∙ within_if_below c.data_start.result c.args.journal.now.blocks c.args.limits.now.blocks c.args.rec.now.blocks (omega (arith, c.data_start.ensures.start, c.requires.readable.image)) c.requires.below
 
 pub returns-clause-size : goal.returns-clause-size
 returns-clause-size g c = on_ok_weaker c.read.result (λ size. size ∙ ap (λ (r : FileRecord). r.size) c.rec.view_is) c.read.ensures.size
@@ -26,6 +23,6 @@ pub returns-clause-read : goal.returns-clause-read
 returns-clause-read g c =
     on_ok_weaker c.read.result
     (λ read. λ kept fits within.
-    read_told c.args.limits.now c.args.rec.now kept c.read.new.self c.args.journal.now.blocks c.data_start.result c.rec.inside.size c.as_slice.result.now c.requires.image c.data_start.ensures.start
-    (ap (λ (r : FileRecord). r.size) c.rec.view_is) (c.as_slice.ensures.value ∙ ap (λ (r : FileRecord). r.blocks) c.rec.view_is) within (rw c.requires.clean at (read kept fits)))
+    read_told c.args.limits.now c.args.rec.now kept c.read.new.self c.args.journal.now.blocks c.data_start.result c.rec.inside.size c.as_slice.result.now c.requires.readable.image c.data_start.ensures.start
+    (ap (λ (r : FileRecord). r.size) c.rec.view_is) (c.as_slice.ensures.value ∙ ap (λ (r : FileRecord). r.blocks) c.rec.view_is) within (rw c.requires.readable.clean at (read kept fits)))
     c.read.ensures.read

@@ -2,7 +2,8 @@ use Rattle.lis_open.proofs.Common.{◌≡◌, ℕ, List, refl, sym, subst, ◌�
 use Rattle.std.proofs.lemmas.Bool.{OnTrue_at, OnFalse_at}
 use Rattle.lis_open.specs.declared.files.Files.{Files}
 use Rattle.lis_open.specs.ReadFiles.{AreFirstFiles, TakesFile}
-use Rattle.lis_open.proofs.BlocksRead.{reads_none, reads_then, fits_after}
+use Rattle.lis_ports.proofs.OnlyReading.{reads_none, reads_then}
+use Rattle.lis_open.proofs.BlocksRead.{fits_after}
 use Rattle.lis_open.proofs.FilesRead.{files_on, so_far_on, no_files_yet, none_so_far, file_fails, files_pass, slot_described}
 use Rattle.lis_open.proofs.files.read_files.Goals as goal
 
@@ -12,53 +13,72 @@ loop-slot-init g c = record {
   faults = refl;
   first_fault = ends_none (g.D.Disk.meaning c.args.disk.now);
   shape = record { tall = c.requires.shape.tall; wide = c.requires.shape.wide ∙ sym c.requires.axioms.links.props };
-  first = subst (λ (files : Files). AreFirstFiles c.args.limits.now c.args.words.now c.args.axioms.now files 0) (sym c.requires.none) (no_files_yet c.args.limits.now c.args.words.now c.args.axioms.now);
+  first = subst (λ (files : Files). AreFirstFiles c.args.known.limits.now c.args.known.words.now c.args.known.axioms.now files 0) (sym c.requires.none) (no_files_yet c.args.known.limits.now c.args.known.words.now c.args.known.axioms.now);
   recalls = λ kept fits recalls. recalls;
-  so_far = λ kept fits recalls. none_so_far c.args.limits.now c.args.words.now c.args.axioms.now c.args.files.now kept c.requires.none;
+  so_far = λ kept fits recalls. none_so_far c.args.known.limits.now c.args.known.words.now c.args.known.axioms.now c.args.files.now kept c.requires.none;
 }
+
+pub returns-then-not-is_taken-clause-disk : goal.returns-then-not-is_taken-clause-disk
+returns-then-not-is_taken-clause-disk g c =
+    let l = c.loop-slot in
+    let found = c.in_ok-found.ensures.disk in
+    let taken = c.in_ok-is_taken.ensures.disk in
+    let faults = found.cause.stays ∙ l.invariant.faults in
+    record {
+      reads = reads_then (reads_then l.invariant.reads found.reads) taken.reads;
+      cause = taken.cause.stays ∙ faults;
+      first_fault = ends_then (ends_then l.invariant.first_fault l.invariant.faults found.first_fault) faults taken.first_fault;
+    }
+
+pub returns-then-not-is_taken-clause-recalls : goal.returns-then-not-is_taken-clause-recalls
+returns-then-not-is_taken-clause-recalls g c = λ kept fits recalls.
+    let l = c.loop-slot in
+    c.in_ok-found.ensures.recalls kept (fits_after c.args.known.journal.now kept l.invariant.reads fits) (l.invariant.recalls kept fits recalls)
 
 pub returns-then-not-is_taken-clause-ended : goal.returns-then-not-is_taken-clause-ended
 returns-then-not-is_taken-clause-ended g c = λ kept fits recalls told pairs.
     let l = c.loop-slot in
-    let fits_read = fits_after c.args.journal.now kept l.invariant.reads fits in
-    let fits_take = fits_after c.args.journal.now kept c.in_ok-found.ensures.reads fits_read in
+    let fits_read = fits_after c.args.known.journal.now kept l.invariant.reads fits in
+    let fits_take = fits_after c.args.known.journal.now kept c.in_ok-found.ensures.disk.reads fits_read in
     let refused = OnFalse_at c.if-not-is_taken.true c.in_ok-is_taken.ensures.refused in
     let so_far = l.invariant.so_far kept fits recalls in
-    file_fails c.args.limits.now c.args.words.now c.args.axioms.now l.files l.slot c.requires.words c.requires.axioms l.invariant.first kept told pairs so_far.spelled
+    file_fails c.args.known.limits.now c.args.known.words.now c.args.known.axioms.now l.files l.slot c.requires.words c.requires.axioms l.invariant.first kept told pairs so_far.spelled
     so_far.numbered c.in_ok-found.found c.loop-slot-test.true (refused.1 kept fits_take) (c.in_ok-found.ensures.read kept fits_read (l.invariant.recalls kept fits recalls)) so_far.blocks
 
 pub loop-slot-preserved : goal.loop-slot-preserved
 loop-slot-preserved g c =
     let l = c.loop-slot in
-    let limits = c.args.limits.now in
-    let words = c.args.words.now in
-    let axioms = c.args.axioms.now in
+    let limits = c.args.known.limits.now in
+    let words = c.args.known.words.now in
+    let axioms = c.args.known.axioms.now in
     let below = c.loop-slot-test.true in
     let found = c.in_ok-found.found in
     let next = c.take_file.new.files in
     let form = c.in_ok-found.ensures.form in
-    let MayBeKept : (ℕ → List ℕ) → Type 0 = Fits c.args.journal.now (g.D.Disk.meaning c.read_slot.new.disk) in
+    let MayBeKept : (ℕ → List ℕ) → Type 0 = Fits c.args.known.journal.now (g.D.Disk.meaning c.read_slot.new.disk) in
     let taken = OnTrue_at {P = TakesFile limits MayBeKept words axioms.taxonomy l.slot found l.files next} c.if-not-is_taken.false c.in_ok-is_taken.ensures.taken in
-    let to_found = reads_then l.invariant.reads c.in_ok-found.ensures.reads in
+    let read = c.in_ok-found.ensures.disk in
+    let took = c.in_ok-is_taken.ensures.disk in
+    let to_found = reads_then l.invariant.reads read.reads in
+    let faults = read.cause.stays ∙ l.invariant.faults in
     record {
-      reads = reads_then to_found c.in_ok-is_taken.ensures.reads;
-      faults = c.in_ok-is_taken.ensures.cause.stays ∙ (c.in_ok-found.ensures.cause.stays ∙ l.invariant.faults);
-      first_fault = ends_then (ends_then l.invariant.first_fault l.invariant.faults c.in_ok-found.ensures.first_fault)
-          (c.in_ok-found.ensures.cause.stays ∙ l.invariant.faults) c.in_ok-is_taken.ensures.first_fault;
+      reads = reads_then to_found took.reads;
+      faults = took.cause.stays ∙ faults;
+      first_fault = ends_then (ends_then l.invariant.first_fault l.invariant.faults read.first_fault) faults took.first_fault;
       shape = c.in_ok-is_taken.ensures.shape;
       first = files_on limits MayBeKept words axioms l.files l.slot l.invariant.first below found next form taken;
-      recalls = λ kept fits recalls. c.in_ok-found.ensures.recalls kept (fits_after c.args.journal.now kept l.invariant.reads fits) (l.invariant.recalls kept fits recalls);
+      recalls = λ kept fits recalls. c.in_ok-found.ensures.recalls kept (fits_after c.args.known.journal.now kept l.invariant.reads fits) (l.invariant.recalls kept fits recalls);
       so_far = λ kept fits recalls.
-          so_far_on limits MayBeKept words axioms l.files l.slot l.invariant.first below kept (fits_after c.args.journal.now kept to_found fits) (l.invariant.so_far kept fits recalls) found next form taken
-          (c.in_ok-found.ensures.read kept (fits_after c.args.journal.now kept l.invariant.reads fits) (l.invariant.recalls kept fits recalls));
+          so_far_on limits MayBeKept words axioms l.files l.slot l.invariant.first below kept (fits_after c.args.known.journal.now kept to_found fits) (l.invariant.so_far kept fits recalls) found next form taken
+          (c.in_ok-found.ensures.read kept (fits_after c.args.known.journal.now kept l.invariant.reads fits) (l.invariant.recalls kept fits recalls));
     }
 
 pub returns-clause-ended : goal.returns-clause-ended
 returns-clause-ended g c = λ kept fits recalls told pairs.
     let l = c.loop-slot in
-    let limits = c.args.limits.now in
-    let words = c.args.words.now in
-    let axioms = c.args.axioms.now in
+    let limits = c.args.known.limits.now in
+    let words = c.args.known.words.now in
+    let axioms = c.args.known.axioms.now in
     let all : l.slot ≡ limits.files = omega (arith, c.loop-slot-test.false, l.auto.slot-end) in
     let so_far = l.invariant.so_far kept fits recalls in
     record {

@@ -4,10 +4,10 @@ use Rattle.lis_open.proofs.BlocksRead.{few_blocks, read_as}
 use Rattle.lis_open.proofs.files.read_slot.Goals as goal
 
 pub read_slot-requires-clause-within : goal.read_slot-requires-clause-within
-read_slot-requires-clause-within g c = omega (arith, whole_files c.args.limits.now c.requires.range, c.files_start.ensures, c.requires.slot, c.requires.image)
+read_slot-requires-clause-within g c = omega (arith, whole_files c.args.limits.now c.requires.readable.range, c.files_start.ensures, c.requires.slot, c.requires.readable.image)
 
 pub read_slot-requires-clause-few : goal.read_slot-requires-clause-few
-read_slot-requires-clause-few g c = few_blocks c.args.limits.now _ c.requires.range c.requires.image
+read_slot-requires-clause-few g c = few_blocks c.args.limits.now _ c.requires.readable.range c.requires.readable.image
 
 pub returns-clause-read : goal.returns-clause-read
 returns-clause-read g c = λ kept fits recalls.

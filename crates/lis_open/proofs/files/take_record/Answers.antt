@@ -36,7 +36,7 @@ returns-in-None-clause-refused g c =
       λ kept fits.
           let found = rw c.in-Some.is at (c.in_ok-blocks.ensures.found kept fits) in
           let within = ap (are_below limits.blocks) (sym found.1) ∙ free_below limits c.args.files.now.map _ c.requires.map usable.free in
-          let told = c.in_ok-read_bytes.ensures.read kept (fits_after c.args.known.journal.now kept c.in_ok-blocks.ensures.reads fits) within in
+          let told = c.in_ok-read_bytes.ensures.read kept (fits_after c.args.known.journal.now kept c.in_ok-blocks.ensures.disk.reads fits) within in
           NotDescribed (subst (λ bytes. may_describe words c.args.known.axioms.now.taxonomy rec (found_words words rec.name bytes) ≡ false) (c.bytes.ensures.bytes ∙ told) c.in-None.ensures.described),
     )
 
@@ -61,7 +61,7 @@ returns-in-Some-describe-clause-taken g c =
           let found = rw c.in-Some.is at (c.in_ok-blocks.ensures.found kept fits) in
           let within = ap (are_below limits.blocks) (sym found.1) ∙ free_below limits files.map _ c.requires.map usable.free in
           record {
-            bytes_are = c.bytes.ensures.bytes ∙ c.in_ok-read_bytes.ensures.read kept (fits_after c.args.known.journal.now kept c.in_ok-blocks.ensures.reads fits) within;
+            bytes_are = c.bytes.ensures.bytes ∙ c.in_ok-read_bytes.ensures.read kept (fits_after c.args.known.journal.now kept c.in_ok-blocks.ensures.disk.reads fits) within;
             indexed = found.0;
             blocks_are = same ∙ found.1;
           };

@@ -22,7 +22,7 @@ pub returns-in_err-wipe-clause-any_moment : goal.returns-in_err-wipe-clause-any_
 returns-in_err-wipe-clause-any_moment g c = λ honest settled.
     let limits = c.args.limits.now in
     let bytes = (g.D.Disk.meaning c.args.disk.now).bytes in
-    let honest1 = c.take_name.ensures.run.honest ∙ honest in
+    let honest1 = c.take_name.ensures.disk.run.honest ∙ honest in
     moments_spare limits settled
     (leaves_then (spared_moments limits bytes (c.take_name.ensures.any_moment honest settled))
     (wiping_moments limits bytes (c.in_ok-take_name.ensures.nameless honest) (c.wipe.ensures.spreads honest1)))
@@ -31,7 +31,7 @@ returns-in_err-wipe-clause-any_moment g c = λ honest settled.
 pub returns-in_err-wipe-clause-spare : goal.returns-in_err-wipe-clause-spare
 returns-in_err-wipe-clause-spare g c = λ n honest is settled.
     let limits = c.args.limits.now in
-    let honest1 = c.take_name.ensures.run.honest ∙ honest in
+    let honest1 = c.take_name.ensures.disk.run.honest ∙ honest in
     let p = err_from_is_err_and c.from_residual-in_err-wipe.result c.from_residual-in_err-wipe.ensures.1 in
     spare_spreads limits n (wiped_spreads limits (c.take_name.ensures.spreads honest) (c.wipe.ensures.spreads honest1)) is
     (IfErr-at_err (λ _. IsSettledAt (g.D.Disk.meaning c.args.disk.now) n) p.1 settled)
@@ -40,8 +40,8 @@ pub returns : goal.returns
 returns g c =
     let limits = c.args.limits.now in
     let old = g.D.Disk.meaning c.args.disk.now in
-    let one = λ (honest : IsTrue old.is_honest). c.take_name.ensures.run.honest ∙ honest in
-    let two = λ (honest : IsTrue old.is_honest). c.wipe.ensures.run.honest ∙ one honest in
+    let one = λ (honest : IsTrue old.is_honest). c.take_name.ensures.disk.run.honest ∙ honest in
+    let two = λ (honest : IsTrue old.is_honest). c.wipe.ensures.disk.run.honest ∙ one honest in
     let spreads = λ (honest : IsTrue old.is_honest).
     made_spreads limits (c.take_name.ensures.spreads honest) (c.wipe.ensures.spreads (one honest)) (c.write_first.ensures.spreads (two honest)) in
     let made : OnOk c.write_first.result (IsTrue old.is_honest → Always (g.D.Disk.meaning c.write_first.new.disk) (IsMade limits old.bytes)) =
@@ -49,9 +49,7 @@ returns g c =
     made_all limits old.bytes (c.in_ok-take_name.ensures.torn honest) (c.wipe.ensures.spreads (one honest)) (c.in_ok-wipe.ensures.wiped (one honest)) (written (two honest)) (c.write_first.ensures.spreads (two honest)))
     c.write_first.ensures.settled in
     record {
-      run = search rules;
-      cause = search rules;
-      first_fault = search rules;
+      disk = record { run = search rules; cause = search rules; first_fault = search rules };
       made = on_ok_weaker c.write_first.result (λ written. λ honest. named_stands limits c.requires.range (c.in_ok-wipe.ensures.wiped (one honest)) (written (two honest)))
           c.write_first.ensures.settled;
       any_moment = λ honest settled.

@@ -3,7 +3,7 @@ use Rattle.lis_open.proofs.Common.{rules, ◌≡◌, ◌⊎◌, ℕ, List, ◌�
 use Rattle.lis_journal.specs.Recovery.{InRecovery, MountEnded}
 use Rattle.lis_journal.specs.declared.journal.JournalFault.{JournalFault}
 use Rattle.lis_journal.specs.declared.journal.JournalFault.TheVariants.{DiskFault as JournalDisk}
-use Rattle.lis_content.proofs.Reading.{unchanged_none}
+use Rattle.lis_ports.proofs.OnlyReading.{unchanged_none}
 use Rattle.lis_ports.specs.Calls.{IsUnchanged}
 use Rattle.lis_open.specs.declared.mounting.OpenFault.{OpenFault}
 use Rattle.lis_open.proofs.Opening.{one_fault, memory_opened, journal_cause, journal_enough, journal_opened, journal_moments, store_opened, store_moments}
@@ -46,7 +46,7 @@ returns-clause-opened g c = λ honest.
     let ended = subst (λ b. MountEnded b old mid c.mount.result) c.image_blocks.ensures.blocks (c.mount.ensures.ended honest) in
     store_opened old c.args.limits (c.requires.begins honest) c.requires.long (g.met.D.Disk.reads_len c.args.disk.now honest) c.in_ok-journal.journal mid (g.D.Disk.meaning c.read_store.new.disk) c.read_store.result
     (subst (λ (o : Result Held JournalFault). MountEnded (image_blocks c.args.limits) old mid o) c.in_ok-journal.was ended)
-    (subst (λ b. IsSettled mid (recovered b old.bytes)) c.image_blocks.ensures.blocks (c.in_ok-journal.ensures.left honest)) c.read_store.ensures.reads
+    (subst (λ b. IsSettled mid (recovered b old.bytes)) c.image_blocks.ensures.blocks (c.in_ok-journal.ensures.left honest)) c.read_store.ensures.disk.reads
     (λ store is. record {
       sound = subst (λ (o : Result Stored OpenFault). IfOk o IsSound) is c.read_store.ensures.sound;
       over = subst (λ (o : Result Stored OpenFault). IfOk o (λ k. k.journal ≡ c.in_ok-journal.journal)) is c.read_store.ensures.journal;
@@ -62,8 +62,8 @@ returns-clause-any_moment g c = λ honest.
     store_moments old c.args.limits (c.requires.begins honest) c.requires.long mid (g.D.Disk.meaning c.read_store.new.disk)
     (subst (λ b. (image : List ℕ) → mid.images image → old.images image ⊎ InRecovery b old.bytes image) c.image_blocks.ensures.blocks (c.in_ok-journal.ensures.images honest))
     (subst (λ b. Leaves old mid (λ image. old.images image ⊎ InRecovery b old.bytes image)) c.image_blocks.ensures.blocks (c.mount.ensures.any_moment honest))
-    (c.read_store.ensures.reads.moments (c.mount.ensures.run.honest ∙ honest))
+    (c.read_store.ensures.disk.reads.moments (c.mount.ensures.run.honest ∙ honest))
 
 pub returns-clause-past : goal.returns-clause-past
 returns-clause-past g c = λ honest settled n past.
-    ap (block n) (c.read_store.ensures.reads.same (c.mount.ensures.run.honest ∙ honest)).bytes ∙ c.in_ok-journal.ensures.past honest (λ e. absurd (cc)) n (omega (arith, past, c.image_blocks.ensures.blocks))
+    ap (block n) (c.read_store.ensures.disk.reads.same (c.mount.ensures.run.honest ∙ honest)).bytes ∙ c.in_ok-journal.ensures.past honest (λ e. absurd (cc)) n (omega (arith, past, c.image_blocks.ensures.blocks))

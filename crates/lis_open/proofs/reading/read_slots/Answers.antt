@@ -13,7 +13,7 @@ pub returns-in_err-read_axioms-clause-ended : goal.returns-in_err-read_axioms-cl
 returns-in_err-read_axioms-clause-ended g c = λ kept fits recalls.
     let limits = c.args.limits.now in
     let told = c.in_ok-read_words.ensures.ended kept fits recalls in
-    let fits1 = fits_after c.args.journal.now kept c.read_words.ensures.reads fits in
+    let fits1 = fits_after c.args.journal.now kept c.read_words.ensures.disk.reads fits in
     let below = pass_more limits kept 2 (none_below limits kept) told.none in
     let p = err_from_is_err_and c.from_residual-in_err-read_axioms.result c.from_residual-in_err-read_axioms.ensures.1 in
     rw (p.1, p.2) (kind_failed limits kept 3 c.in_err-read_axioms.field-0.0 below (c.in_err-read_axioms.ensures.ended kept fits1 (c.read_words.ensures.recalls kept fits recalls) told.is))
@@ -23,10 +23,10 @@ returns-in_err-read_files-clause-ended g c = λ kept fits recalls.
     let limits = c.args.limits.now in
     let journal = c.args.journal.now in
     let told = c.in_ok-read_words.ensures.ended kept fits recalls in
-    let fits1 = fits_after journal kept c.read_words.ensures.reads fits in
+    let fits1 = fits_after journal kept c.read_words.ensures.disk.reads fits in
     let recalls1 = c.read_words.ensures.recalls kept fits recalls in
     let pairs = c.in_ok-read_axioms.ensures.ended kept fits1 recalls1 told.is in
-    let fits2 = fits_after journal kept c.read_axioms.ensures.reads fits1 in
+    let fits2 = fits_after journal kept c.read_axioms.ensures.disk.reads fits1 in
     let below = pass_more limits kept 3 (pass_more limits kept 2 (none_below limits kept) told.none) pairs.none in
     let p = err_from_is_err_and c.from_residual-in_err-read_files.result c.from_residual-in_err-read_files.ensures.1 in
     rw (p.1, p.2) (kind_failed limits kept 4 c.in_err-read_files.field-0.0 below (c.in_err-read_files.ensures.ended kept fits2 (c.read_axioms.ensures.recalls kept fits1 recalls1) told.is pairs.is))
@@ -34,8 +34,8 @@ returns-in_err-read_files-clause-ended g c = λ kept fits recalls.
 pub returns-clause-recalls : goal.returns-clause-recalls
 returns-clause-recalls g c = λ kept fits recalls.
     let journal = c.args.journal.now in
-    let fits1 = fits_after journal kept c.read_words.ensures.reads fits in
-    let fits2 = fits_after journal kept c.read_axioms.ensures.reads fits1 in
+    let fits1 = fits_after journal kept c.read_words.ensures.disk.reads fits in
+    let fits2 = fits_after journal kept c.read_axioms.ensures.disk.reads fits1 in
     c.read_files.ensures.recalls kept fits2 (c.read_axioms.ensures.recalls kept fits1 (c.read_words.ensures.recalls kept fits recalls))
 
 pub returns-clause-ended : goal.returns-clause-ended
@@ -43,10 +43,10 @@ returns-clause-ended g c = λ kept fits recalls.
     let limits = c.args.limits.now in
     let journal = c.args.journal.now in
     let told = c.in_ok-read_words.ensures.ended kept fits recalls in
-    let fits1 = fits_after journal kept c.read_words.ensures.reads fits in
+    let fits1 = fits_after journal kept c.read_words.ensures.disk.reads fits in
     let recalls1 = c.read_words.ensures.recalls kept fits recalls in
     let pairs = c.in_ok-read_axioms.ensures.ended kept fits1 recalls1 told.is in
-    let fits2 = fits_after journal kept c.read_axioms.ensures.reads fits1 in
+    let fits2 = fits_after journal kept c.read_axioms.ensures.disk.reads fits1 in
     let records = c.in_ok-read_files.ensures.ended kept fits2 (c.read_axioms.ensures.recalls kept fits1 recalls1) told.is pairs.is in
     record {
       read = assumption (told.is, pairs.is, records.is, c.in_ok-read_words.ensures.read, c.in_ok-read_axioms.ensures.read, c.in_ok-read_files.ensures.read);

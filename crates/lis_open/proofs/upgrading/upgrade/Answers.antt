@@ -1,5 +1,6 @@
-use Rattle.lis_open.proofs.Common.{rules, ◌∙◌, sym, ap, subst, arith, err_from_is_err_and, Limits}
+use Rattle.lis_open.proofs.Common.{rules, ◌∙◌, sym, ap, subst, arith, ends_then, err_from_is_err_and, Limits}
 use Rattle.lis_ports.specs.Calls.{Rose}
+use Rattle.lis_ports.proofs.Moments.{run_then}
 use Rattle.lis_store.proofs.FreeAgain.{first_version}
 use Rattle.lis_open.proofs.Upgraded.{fault_of, handed_on, not_refused, opening_moments, second_left, second_stands, first_left, upgrade_moments, upgrade_past, first_stands}
 use Rattle.lis_open.proofs.upgrading.upgrade.Goals as goal
@@ -24,13 +25,13 @@ returns-in_err-store g c =
     }
 
 -- it is of version 2 already
-pub returns-then-limits-eq2 : goal.returns-then-limits-eq2
-returns-then-limits-eq2 g c =
+pub returns-then-version-eq2 : goal.returns-then-version-eq2
+returns-then-version-eq2 g c =
     let old = g.D.Disk.meaning c.args.disk.now in
     let mid = g.D.Disk.meaning c.mount.new.disk in
     let m = c.in_ok-store.ensures in
-    let sound = c.limits.ensures.sound in
-    let two = ap (λ (l : Limits). l.version) (sym c.limits.ensures.value) ∙ c.if-limits-eq2.true in
+    let sound = c.limits-version.ensures.sound in
+    let two = ap (λ (l : Limits). l.version) (sym c.limits-version.ensures.value) ∙ c.if-version-eq2.true in
     record {
       run = search rules;
       cause = search rules;
@@ -46,7 +47,7 @@ returns-then-limits-eq2 g c =
     }
 
 pub write_gate-requires : goal.write_gate-requires
-write_gate-requires g c = omega (arith, c.in_ok-store.ensures.long, c.limits.ensures.sound.image)
+write_gate-requires g c = omega (arith, c.in_ok-store.ensures.long, c.limits-version.ensures.sound.image)
 
 -- the gate is not written, or not synced
 pub returns-in_err-write_gate : goal.returns-in_err-write_gate
@@ -54,13 +55,13 @@ returns-in_err-write_gate g c =
     let old = g.D.Disk.meaning c.args.disk.now in
     let mid = g.D.Disk.meaning c.mount.new.disk in
     let m = c.in_ok-store.ensures in
-    let sound = c.limits.ensures.sound in
-    let one = first_version c.in_ok-store.store.parts.limits sound.parts.range (λ two. c.if-limits-eq2.false (ap (λ (l : Limits). l.version) c.limits.ensures.value ∙ two)) in
+    let sound = c.limits-version.ensures.sound in
+    let one = first_version c.in_ok-store.store.parts.limits sound.parts.range (λ two. c.if-version-eq2.false (ap (λ (l : Limits). l.version) c.limits-version.ensures.value ∙ two)) in
     let p = err_from_is_err_and c.from_residual-in_err-write_gate.result c.from_residual-in_err-write_gate.ensures.1 in
     record {
-      run = search rules;
-      cause = rw (p.1, p.2) (subst (λ before. Rose before (g.D.Disk.meaning c.write_gate.new.disk).disk_faults) m.cause c.in_err-write_gate.ensures.cause.rose);
-      first_fault = search rules;
+      run = run_then m.run c.write_gate.ensures.disk.run;
+      cause = rw (p.1, p.2) (subst (λ before. Rose before (g.D.Disk.meaning c.write_gate.new.disk).disk_faults) m.cause c.in_err-write_gate.ensures.disk.cause.rose);
+      first_fault = ends_then m.first_fault m.cause c.write_gate.ensures.disk.first_fault;
       ended = λ honest. rw (p.1, p.2) tt;
       spot = search rules;
       moments = λ s honest stands.
@@ -79,12 +80,12 @@ returns g c =
     let old = g.D.Disk.meaning c.args.disk.now in
     let mid = g.D.Disk.meaning c.mount.new.disk in
     let m = c.in_ok-store.ensures in
-    let sound = c.limits.ensures.sound in
-    let one = first_version c.in_ok-store.store.parts.limits sound.parts.range (λ two. c.if-limits-eq2.false (ap (λ (l : Limits). l.version) c.limits.ensures.value ∙ two)) in
+    let sound = c.limits-version.ensures.sound in
+    let one = first_version c.in_ok-store.store.parts.limits sound.parts.range (λ two. c.if-version-eq2.false (ap (λ (l : Limits). l.version) c.limits-version.ensures.value ∙ two)) in
     record {
-      run = search rules;
-      cause = search rules;
-      first_fault = search rules;
+      run = run_then m.run c.write_gate.ensures.disk.run;
+      cause = c.in_ok-write_gate.ensures.disk.cause.stays ∙ m.cause;
+      first_fault = ends_then m.first_fault m.cause c.write_gate.ensures.disk.first_fault;
       ended = λ honest.
           let ended = m.ended honest in
           (ended.0, (ended.1.0, ended.1.1, first_stands old mid c.in_ok-store.store sound ended (m.left honest) one (c.in_ok-write_gate.ensures.settled (c.mount.ensures.run.honest ∙ honest))));

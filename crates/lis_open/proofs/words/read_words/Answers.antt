@@ -1,5 +1,6 @@
 use Rattle.lis_open.proofs.Common.{refl, sym, ◌∙◌, arith, ends_none, ends_then}
-use Rattle.lis_open.proofs.BlocksRead.{reads_none, reads_then, fits_after}
+use Rattle.lis_ports.proofs.OnlyReading.{reads_none, reads_then}
+use Rattle.lis_open.proofs.BlocksRead.{fits_after}
 use Rattle.lis_open.proofs.WordsRead.{slot_on, property_fails, words_pass, first_words}
 use Rattle.lis_open.proofs.words.read_words.Goals as goal
 
@@ -8,7 +9,7 @@ loop-number-init g c = record {
   reads = reads_none (g.D.Disk.meaning c.args.disk.now);
   faults = refl;
   first_fault = ends_none (g.D.Disk.meaning c.args.disk.now);
-  first = first_words c.args.limits.now c.args.words.now c.requires.range c.requires.none;
+  first = first_words c.args.limits.now c.args.words.now c.requires.readable.range c.requires.none;
   recalls = λ kept fits recalled. recalled;
   spelled = λ kept fits recalled n lt. absurd (omega (arith, lt));
 }
@@ -26,9 +27,9 @@ loop-number-preserved g c =
     let more = slot_on limits l.words l.number l.invariant.first c.loop-number-test.true c.in_ok-found.found c.take_property.new.words c.in_ok-found.ensures.form (sym c.if-not-take_property.ensures.answer)
     c.if-not-take_property.ensures.taken in
     record {
-      reads = reads_then l.invariant.reads c.read_property.ensures.reads;
-      faults = c.in_ok-found.ensures.cause.stays ∙ l.invariant.faults;
-      first_fault = ends_then l.invariant.first_fault l.invariant.faults c.in_ok-found.ensures.first_fault;
+      reads = reads_then l.invariant.reads c.read_property.ensures.disk.reads;
+      faults = c.in_ok-found.ensures.disk.cause.stays ∙ l.invariant.faults;
+      first_fault = ends_then l.invariant.first_fault l.invariant.faults c.in_ok-found.ensures.disk.first_fault;
       first = more.0;
       recalls = λ kept fits recalled.
           c.read_property.ensures.recalls kept (fits_after c.args.journal.now kept l.invariant.reads fits) (l.invariant.recalls kept fits recalled);

@@ -31,7 +31,7 @@ make_new-requires-clause-named g c = (c.args.name.now, slot_named c.args.store.n
 pub returns-in_default-make_new-clause-puts : goal.returns-in_default-make_new-clause-puts
 returns-in_default-make_new-clause-puts g c = λ state fitting.
     let e = c.make_new.ensures in
-    read_broke (put (root_of state) c.args.name.now c.args.text.now c.args.edited.now) fitting (e.any_moment fitting.honest) (e.same fitting.honest)
+    read_broke (put (root_of state) c.args.name.now c.args.text.now c.args.edited.now) fitting (e.disk.reads.moments fitting.honest) (e.disk.reads.same fitting.honest)
     (StoreFits c.args.store.now (g.T.Disk.meaning c.make_new.new.disk)) []
 
 pub returns-clause-puts : goal.returns-clause-puts
@@ -44,5 +44,5 @@ returns-clause-puts g c = λ state fitting.
     let back = back_of (file_of state.files name).bytes c.in-Ok.place c.args.edited.now in
     let makes = e.makes state name fitting.own (slot_named c.args.store.now name (Some c.in-Some.slot) found) in
     let put_so = c.carry_back.ensures.puts back makes state (store_fits_at c.requires.sound (e.fits state fitting.own)) in
-    read_then (put now name c.args.text.now c.args.edited.now) fitting (e.any_moment fitting.honest) (e.same fitting.honest)
+    read_then (put now name c.args.text.now c.args.edited.now) fitting (e.disk.reads.moments fitting.honest) (e.disk.reads.same fitting.honest)
     (subst (λ (o : Outcome). OneItem now o (g.T.Disk.meaning c.make_new.new.disk) (g.T.Disk.meaning c.carry_back.new.station) c.carry_back.result (StoreFits c.carry_back.new.store (g.T.Disk.meaning c.carry_back.new.station)) []) (sym here) put_so)

@@ -8,10 +8,10 @@ use Rattle.lis_rooms.specs.Rooms.{room_step}
 use Rattle.lis_rooms.proofs.serving.serve_rooms.Goals as goal
 
 pub carry_all-requires-clause-ready : goal.carry_all-requires-clause-ready
-carry_all-requires-clause-ready g c = record { unbroken = c.requires.unbroken; long = c.requires.long }
+carry_all-requires-clause-ready g c = c.requires.usable
 
 pub carry_all-requires-clause-start : goal.carry_all-requires-clause-start
-carry_all-requires-clause-start g c = has_done_none room_step c.args.rooms.now (g.T.Disk.meaning c.args.station.now) c.requires.unbroken c.requires.sound
+carry_all-requires-clause-start g c = has_done_none room_step c.args.rooms.now (g.T.Disk.meaning c.args.station.now) c.requires.usable.unbroken c.requires.sound
 
 pub returns : goal.returns
 returns g c =

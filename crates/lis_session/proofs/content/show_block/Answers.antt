@@ -7,7 +7,7 @@ use Rattle.lis_session.proofs.content.show_block.Goals as goal
 pub returns-in-Err-clause-shows : goal.returns-in-Err-clause-shows
 returns-in-Err-clause-shows g c = λ is_index name is_slot state fitting.
     let e = c.content_by.ensures in
-    block_broke (part (4096 * c.args.n) 4096 (file_of state.files name).bytes) fitting (e.any_moment fitting.honest) (e.same fitting.honest)
+    block_broke (part (4096 * c.args.n) 4096 (file_of state.files name).bytes) fitting (e.disk.reads.moments fitting.honest) (e.disk.reads.same fitting.honest)
 
 pub returns-clause-shows : goal.returns-clause-shows
 returns-clause-shows g c = λ is_index name is_slot state fitting.
@@ -15,4 +15,4 @@ returns-clause-shows g c = λ is_index name is_slot state fitting.
     let bytes = (file_of state.files name).bytes in
     let len = size_is name c.args.slot c.args.size c.requires.sound fitting.own is_slot c.requires.size in
     let is = block_is bytes c.content_by.new.buf c.args.n c.args.size c.min.result len c.min.ensures (c.in_default.ensures.read state name fitting.own is_slot is_index) in
-    block_item (part (4096 * c.args.n) 4096 bytes) fitting (e.any_moment fitting.honest) (e.same fitting.honest) c.answer_bytes.result (e.fits state fitting.own) (rw is at c.answer_bytes.ensures)
+    block_item (part (4096 * c.args.n) 4096 bytes) fitting (e.disk.reads.moments fitting.honest) (e.disk.reads.same fitting.honest) c.answer_bytes.result (e.fits state fitting.own) (rw is at c.answer_bytes.ensures)

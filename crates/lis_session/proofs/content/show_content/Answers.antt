@@ -11,14 +11,14 @@ returns-then-size-eq0-clause-shows g c =
 pub returns-in-Err-clause-shows : goal.returns-in-Err-clause-shows
 returns-in-Err-clause-shows g c = λ name is state fitting.
     let e = c.index.ensures in
-    block_broke (file_of state.files name).bytes fitting (e.any_moment fitting.honest) (e.same fitting.honest)
+    block_broke (file_of state.files name).bytes fitting (e.disk.reads.moments fitting.honest) (e.disk.reads.same fitting.honest)
 
 pub returns-clause-shows : goal.returns-clause-shows
 returns-clause-shows g c = λ name is state fitting.
     let e = c.index.ensures in
     let bytes = (file_of state.files name).bytes in
-    let read = e.any_moment fitting.honest in
-    let same = e.same fitting.honest in
+    let read = e.disk.reads.moments fitting.honest in
+    let same = e.disk.reads.same fitting.honest in
     let fits = e.fits state fitting.own in
     let is_index = subst (λ xs. IsIndex c.args.store.now xs c.args.slot c.index.new.index) (sym same.bytes) (c.in_default.ensures.held fitting.honest) in
     read_then bytes fitting read same c.show_blocks.result fits (c.show_blocks.ensures.shows is_index name is state (read_fits bytes fitting read same fits))

@@ -9,10 +9,10 @@ use Rattle.lis_shell.proofs.Opened.{session_cause}
 use Rattle.lis_shell.proofs.serving.serve.Goals as goal
 
 pub carry_all-requires-clause-ready : goal.carry_all-requires-clause-ready
-carry_all-requires-clause-ready g c = record { unbroken = c.requires.unbroken; long = c.requires.long }
+carry_all-requires-clause-ready g c = c.requires.usable
 
 pub carry_all-requires-clause-start : goal.carry_all-requires-clause-start
-carry_all-requires-clause-start g c = has_done_none step c.args.session.now (g.T.Disk.meaning c.args.station.now) c.requires.unbroken c.requires.sound
+carry_all-requires-clause-start g c = has_done_none step c.args.session.now (g.T.Disk.meaning c.args.station.now) c.requires.usable.unbroken c.requires.sound
 
 pub returns : goal.returns
 returns g c =

@@ -33,7 +33,7 @@ pub returns-in_err-free_content-2-clause-renewed : goal.returns-in_err-free_cont
 returns-in_err-free_content-2-clause-renewed g c = λ rec there.
     let e = err_from_is_err_and c.from_residual-in_err-free_content-2.result c.from_residual-in_err-free_content-2.ensures.1 in
     lost_first ℕ c.args.parts.now c.free_content-2.new.parts rec c.args.payload.now c.args.journal.now (g.D.Disk.meaning c.args.disk.now) (g.D.Disk.meaning c.free_content-2.new.disk)
-    c.in_err-free_content-2.field-0.0 c.from_residual-in_err-free_content-2.result c.requires.unplaced (c.in_err-free_content-2.ensures.given rec there) (e.1 ∙ ap Err e.2)
+    c.in_err-free_content-2.field-0.0 c.from_residual-in_err-free_content-2.result c.requires.ready.unplaced (c.in_err-free_content-2.ensures.given rec there) (e.1 ∙ ap Err e.2)
 
 pub put_content-requires-2-clause-enough : goal.put_content-requires-2-clause-enough
 put_content-requires-2-clause-enough g c =
@@ -50,4 +50,4 @@ returns-clause-renewed g c = λ rec there.
     let one = first_version p.limits c.limits.ensures.sound.range (λ two. c.if-limits-eq2.false (ap (λ (l : Limits). l.version) c.limits.ensures.value ∙ two)) in
     put_last p c.free_content-2.new.parts c.put_content-2.new.parts rec c.args.payload.now c.args.journal.now c.put_content-2.new.journal
     (g.D.Disk.meaning c.args.disk.now) (g.D.Disk.meaning c.free_content-2.new.disk) (g.D.Disk.meaning c.put_content-2.new.disk) c.put_content-2.result
-    c.limits.ensures.sound c.requires.unplaced (small_size (length c.args.payload.now) (omega (arith, c.requires.short, ap file_limit one))) given.0 given.1 c.put_content-2.ensures.put c.put_content-2.ensures.torn
+    c.limits.ensures.sound c.requires.ready.unplaced (small_size (length c.args.payload.now) (omega (arith, c.requires.short, ap file_limit one))) given.0 given.1 c.put_content-2.ensures.put c.put_content-2.ensures.torn

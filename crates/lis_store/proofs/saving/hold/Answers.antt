@@ -7,7 +7,7 @@ returns-then-staged-most-clause-sound g c =
     let staged = c.stage.ensures.staged in
     sound_committed c.args.parts.now c.args.journal.now c.commit.new.journal (c.requires.sound c.stage.ensures.sound) (c.commit.ensures.image ∙ staged.image)
     c.stage.new.journal (g.D.Disk.meaning c.args.disk.now) (g.D.Disk.meaning c.commit.new.disk) c.stage.new.parts c.commit.new.is_broken c.commit.result c.stage.ensures.parts
-    (staged.broken ∙ c.requires.unbroken) (omega arith) c.commit.ensures.keeps c.commit.ensures.ended
+    (staged.broken ∙ c.requires.usable.unbroken) (omega arith) c.commit.ensures.keeps c.commit.ensures.ended
 
 pub returns-then-staged-most-clause-saves : goal.returns-then-staged-most-clause-saves
 returns-then-staged-most-clause-saves g c = λ base now outcome t kept fits limits stood ready is.
@@ -19,7 +19,7 @@ pub returns-clause-sound : goal.returns-clause-sound
 returns-clause-sound g c =
     let staged = c.stage.ensures.staged in
     sound_held c.args.parts.now c.args.journal.now c.stage.new.journal (c.requires.sound c.stage.ensures.sound) staged.image c.stage.new.parts c.args.is_broken.now c.stage.ensures.parts
-    (staged.broken ∙ c.requires.unbroken) (omega (arith, c.requires.few)) c.staged.ensures.whole
+    (staged.broken ∙ c.requires.usable.unbroken) (omega (arith, c.requires.few)) c.staged.ensures.whole
     (none_placed c.args.parts.now c.args.journal.now c.stage.new.journal c.args.most c.requires.placed staged c.requires.unplaced (omega arith))
 
 pub returns-clause-saves : goal.returns-clause-saves

@@ -13,9 +13,7 @@ returns-in_err-tally-clause-carried g c = λ start entry first done.
       limits = c.in_err-tally.ensures.limits;
       image = c.in_err-tally.ensures.image;
       sound = c.in_err-tally.ensures.sound;
-      run = c.in_err-tally.ensures.run;
-      cause = c.in_err-tally.ensures.cause;
-      first_fault = c.in_err-tally.ensures.first_fault;
+      disk = c.in_err-tally.ensures.disk;
     }) c.in_err-tally.ensures.tallies)
 
 pub returns-clause-ready : goal.returns-clause-ready
@@ -24,8 +22,10 @@ returns-clause-ready g c = λ more ready.
     let range = ready.sound.parts.range in
     record {
       sound = c.in_ok-tally.ensures.sound;
-      unbroken = c.in_ok-tally.ensures.unbroken;
-      long = omega (arith, c.in_ok-tally.ensures.image, c.in_ok-tally.ensures.run.len, ready.long);
+      usable = record {
+        unbroken = c.in_ok-tally.ensures.unbroken;
+        long = omega (arith, c.in_ok-tally.ensures.image, c.in_ok-tally.ensures.disk.run.len, ready.usable.long);
+      };
       replies = omega (arith, c.add.ensures.replies, ready.replies);
       refused = omega (arith, c.add.ensures.refused, ready.refused, one_at_most c.in_ok-tally.tally.refused);
       listed = omega (arith, c.add.ensures.listed, ready.listed, c.in_ok-tally.ensures.few, few_properties limits range, few_files limits range);
@@ -37,9 +37,7 @@ returns-clause-carried g c = λ start entry first done.
       limits = c.in_ok-tally.ensures.limits;
       image = c.in_ok-tally.ensures.image;
       sound = c.in_ok-tally.ensures.sound;
-      run = c.in_ok-tally.ensures.run;
-      cause = c.in_ok-tally.ensures.cause;
-      first_fault = c.in_ok-tally.ensures.first_fault;
+      disk = c.in_ok-tally.ensures.disk;
     }) c.in_ok-tally.ensures.unbroken c.in_ok-tally.ensures.tallies (record {
       replies = c.add.ensures.replies;
       refused = c.add.ensures.refused;

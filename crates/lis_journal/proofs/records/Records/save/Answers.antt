@@ -23,4 +23,4 @@ returns-clause-kept g c =
 pub returns-clause-past : goal.returns-clause-past
 returns-clause-past g c = λ honest.
     then_past (c.make_room.ensures.past honest)
-    (subst (λ b. Spreads (g.D.Disk.meaning c.make_room.new.disk) (g.D.Disk.meaning c.append.new.disk) (SamePast b)) c.make_room.ensures.blocks (c.append.ensures.past (c.make_room.ensures.run.honest ∙ honest)))
+    (subst (λ b. Spreads (g.D.Disk.meaning c.make_room.new.disk) (g.D.Disk.meaning c.append.new.disk) (SamePast b)) c.make_room.ensures.blocks (c.append.ensures.past (c.make_room.ensures.disk.run.honest ∙ honest)))

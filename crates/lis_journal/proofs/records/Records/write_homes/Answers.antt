@@ -32,4 +32,4 @@ pub returns-clause-past : goal.returns-clause-past
 returns-clause-past g c = λ honest.
     let at : c.from.result * 4096 ≡ 4096 * c.args.first = omega (arith, c.from.ensures) in
     then_past (c.free_homes.ensures.past honest)
-    (spreads_torn _ (c.from.result * 4096) (length c.args.bytes.now) c.write_at.ensures.call.run c.write_at.ensures.call.time (c.write_at.ensures.torn (c.free_homes.ensures.run.honest ∙ honest)) (home_past c.args.self.now.blocks c.args.first c.args.count (c.from.result * 4096) (length c.args.bytes.now) c.requires.within at c.requires.whole))
+    (spreads_torn _ (c.from.result * 4096) (length c.args.bytes.now) c.write_at.ensures.call.run c.write_at.ensures.call.time (c.write_at.ensures.torn (c.free_homes.ensures.disk.run.honest ∙ honest)) (home_past c.args.self.now.blocks c.args.first c.args.count (c.from.result * 4096) (length c.args.bytes.now) c.requires.within at c.requires.whole))

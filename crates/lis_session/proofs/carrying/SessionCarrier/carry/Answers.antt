@@ -1,17 +1,14 @@
 use Rattle.lis_model.specs.Step.{step}
 use Rattle.lis_line.specs.Reading.{asked_by}
 use Rattle.lis_laws.proofs.Regular.{step_regular}
-use Rattle.lis_session.proofs.Going.{has_carried, is_ready_after}
+use Rattle.lis_session.proofs.Going.{has_carried, is_usable_after}
 use Rattle.lis_session.proofs.carrying.SessionCarrier.carry.Goals as goal
 
-pub step-requires-clause-unbroken : goal.step-requires-clause-unbroken
-step-requires-clause-unbroken g c = c.requires.ready.1.unbroken
-
-pub step-requires-clause-long : goal.step-requires-clause-long
-step-requires-clause-long g c = c.requires.ready.1.long
+pub step-requires-clause-usable : goal.step-requires-clause-usable
+step-requires-clause-usable g c = c.requires.ready.1
 
 pub returns-clause-ready : goal.returns-clause-ready
-returns-clause-ready g c = λ more ready. is_ready_after c.step.result c.step.ensures.keeps ready
+returns-clause-ready g c = λ more ready. is_usable_after c.step.result c.step.ensures.keeps ready
 
 pub returns-clause-carried : goal.returns-clause-carried
 returns-clause-carried g c = λ start entry first done.

@@ -19,5 +19,5 @@ returns-clause-keeps g c =
         unbroken = unbroken_committed c.commit.new.self c.commit.result c.commit.ensures.left;
       };
       sound = c.commit.ensures.sound;
-      ends = kept_ends c.commit.result c.commit.ensures.run c.commit.ensures.cause c.commit.ensures.first_fault;
+      ends = kept_ends c.commit.result c.commit.ensures.disk.run c.commit.ensures.disk.cause c.commit.ensures.disk.first_fault;
     }

@@ -17,8 +17,8 @@ returns-clause-keeps g c =
       left = record {
         limits = rw store at c.hold.ensures.limits;
         image = rw store at c.hold.ensures.image;
-        unbroken = unbroken_held c.args.self.now.store c.hold.new.store c.hold.result c.requires.unbroken left;
+        unbroken = unbroken_held c.args.self.now.store c.hold.new.store c.hold.result c.requires.usable.unbroken left;
       };
       sound = c.hold.ensures.sound;
-      ends = kept_ends c.hold.result c.hold.ensures.run c.hold.ensures.cause c.hold.ensures.first_fault;
+      ends = kept_ends c.hold.result c.hold.ensures.disk.run c.hold.ensures.disk.cause c.hold.ensures.disk.first_fault;
     }

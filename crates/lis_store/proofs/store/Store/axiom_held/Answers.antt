@@ -17,22 +17,22 @@ pub relate-requires-clause-may : goal.relate-requires-clause-may
 relate-requires-clause-may g c = related c.self.invariant.parts c.in_ok-may_relate.ensures.row
 
 pub hold-requires-clause-sound : goal.hold-requires-clause-sound
-hold-requires-clause-sound g c = (axiom_change c.self.invariant (related c.self.invariant.parts c.in_ok-may_relate.ensures.row) c.relate.ensures (whole_view c.self.view_is c.requires.unbroken)).settles
+hold-requires-clause-sound g c = (axiom_change c.self.invariant (related c.self.invariant.parts c.in_ok-may_relate.ensures.row) c.relate.ensures (whole_view c.self.view_is c.requires.usable.unbroken)).settles
 
 pub hold-requires-clause-placed : goal.hold-requires-clause-placed
-hold-requires-clause-placed g c = alone_placed _ c.self.invariant (whole_view c.self.view_is c.requires.unbroken) c.relate.new.parts
+hold-requires-clause-placed g c = alone_placed _ c.self.invariant (whole_view c.self.view_is c.requires.usable.unbroken) c.relate.new.parts
 
 pub hold-requires-clause-room : goal.hold-requires-clause-room
-hold-requires-clause-room g c = (axiom_change c.self.invariant (related c.self.invariant.parts c.in_ok-may_relate.ensures.row) c.relate.ensures (whole_view c.self.view_is c.requires.unbroken)).room
+hold-requires-clause-room g c = (axiom_change c.self.invariant (related c.self.invariant.parts c.in_ok-may_relate.ensures.row) c.relate.ensures (whole_view c.self.view_is c.requires.usable.unbroken)).room
 
 pub returns-clause-holds : goal.returns-clause-holds
 returns-clause-holds g c = λ base now fits.
     let held = held_view c.self.view_is fits in
     let row = c.in_ok-may_relate.ensures.row in
-    axiom_holds c.self.invariant (related c.self.invariant.parts row) c.relate.ensures (whole_view c.self.view_is c.requires.unbroken) c.hold.ensures.saves now held
+    axiom_holds c.self.invariant (related c.self.invariant.parts row) c.relate.ensures (whole_view c.self.view_is c.requires.usable.unbroken) c.hold.ensures.saves now held
     (axiom_fit c.self.invariant now held.tells c.args.left.now c.args.right.now row) (axiom_done c.self.invariant now held.tells c.args.left.now c.args.right.now row)
 
 pub returns-clause-edits : goal.returns-clause-edits
 returns-clause-edits g c =
-    let change = axiom_change c.self.invariant (related c.self.invariant.parts c.in_ok-may_relate.ensures.row) c.relate.ensures (whole_view c.self.view_is c.requires.unbroken) in
+    let change = axiom_change c.self.invariant (related c.self.invariant.parts c.in_ok-may_relate.ensures.row) c.relate.ensures (whole_view c.self.view_is c.requires.usable.unbroken) in
     edits_saved c.relate.new.parts c.self.view_is c.hold.ensures.parts change.edits

@@ -6,7 +6,7 @@ use Rattle.lis_store.proofs.store.Store.commit.Goals as goal
 pub returns-clause-sound : goal.returns-clause-sound
 returns-clause-sound g c =
     let old : Stored = record { parts = c.self.inside.parts; journal = c.self.inside.journal; is_broken = c.self.inside.is_broken } in
-    let unbroken = ap (λ (k : Stored). k.is_broken) c.self.view_is ∙ c.requires.unbroken in
+    let unbroken = ap (λ (k : Stored). k.is_broken) c.self.view_is ∙ c.requires.usable.unbroken in
     committed_sound old c.commit.new.journal c.commit.new.is_broken (g.D.Disk.meaning c.args.disk.now) (g.D.Disk.meaning c.commit.new.disk) c.commit.result c.self.invariant unbroken
     c.commit.ensures.keeps (λ none. (c.commit.ensures.idle none).2) c.commit.ensures.ended
 
@@ -14,6 +14,6 @@ pub returns-clause-commits : goal.returns-clause-commits
 returns-clause-commits g c = λ base s holds.
     let m = g.D.Disk.meaning c.args.disk.now in
     let old : Stored = record { parts = c.self.inside.parts; journal = c.self.inside.journal; is_broken = c.self.inside.is_broken } in
-    let unbroken = ap (λ (k : Stored). k.is_broken) c.self.view_is ∙ c.requires.unbroken in
+    let unbroken = ap (λ (k : Stored). k.is_broken) c.self.view_is ∙ c.requires.usable.unbroken in
     committed old c.commit.new.journal c.commit.new.is_broken m (g.D.Disk.meaning c.commit.new.disk) c.commit.result c.self.invariant unbroken
     c.commit.ensures.keeps (λ none. (c.commit.ensures.idle none).2) c.commit.ensures.ended base s (subst (λ k. StoreHolds k m base s) (sym c.self.view_is) holds)

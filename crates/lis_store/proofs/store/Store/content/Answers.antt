@@ -13,8 +13,7 @@ read_block-requires g c =
       within = block_within_slot has c.data_start-base.result (c.data_start-base.ensures.start ∙ ap data_start c.limits.ensures.value);
       inside = block_inside has;
       whole = search rules;
-      unbroken = search rules;
-      long = search rules;
+      usable = record { unbroken = search rules; long = search rules };
     }
 
 pub returns-clause-read : goal.returns-clause-read

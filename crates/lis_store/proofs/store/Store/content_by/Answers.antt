@@ -14,8 +14,7 @@ read_block_by-requires g c =
       inside = block_inside has;
       index = search rules;
       whole = search rules;
-      unbroken = search rules;
-      long = search rules;
+      usable = record { unbroken = search rules; long = search rules };
     }
 
 pub returns-clause-read : goal.returns-clause-read

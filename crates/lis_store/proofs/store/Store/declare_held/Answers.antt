@@ -23,31 +23,31 @@ declare_tested-requires-clause-may g c = subst (λ (ns : List ℕ). MayDeclare c
 
 pub hold-requires-clause-sound : goal.hold-requires-clause-sound
 hold-requires-clause-sound g c =
-    (declared_change c.self.invariant (whole_view c.self.view_is c.requires.unbroken) c.in_ok-places.ensures.may c.as_slice.ensures.value c.declare_tested.ensures).settles
+    (declared_change c.self.invariant (whole_view c.self.view_is c.requires.usable.unbroken) c.in_ok-places.ensures.may c.as_slice.ensures.value c.declare_tested.ensures).settles
 
 pub hold-requires-clause-image : goal.hold-requires-clause-image
 hold-requires-clause-image g c =
-    let change = declared_change c.self.invariant (whole_view c.self.view_is c.requires.unbroken) c.in_ok-places.ensures.may c.as_slice.ensures.value c.declare_tested.ensures in
+    let change = declared_change c.self.invariant (whole_view c.self.view_is c.requires.usable.unbroken) c.in_ok-places.ensures.may c.as_slice.ensures.value c.declare_tested.ensures in
     c.self.invariant.image ∙ sym (ap image_blocks change.limits)
 
 pub hold-requires-clause-placed : goal.hold-requires-clause-placed
-hold-requires-clause-placed g c = alone_placed _ c.self.invariant (whole_view c.self.view_is c.requires.unbroken) c.declare_tested.new.parts
+hold-requires-clause-placed g c = alone_placed _ c.self.invariant (whole_view c.self.view_is c.requires.usable.unbroken) c.declare_tested.new.parts
 
 pub hold-requires-clause-room : goal.hold-requires-clause-room
 hold-requires-clause-room g c =
-    (declared_change c.self.invariant (whole_view c.self.view_is c.requires.unbroken) c.in_ok-places.ensures.may c.as_slice.ensures.value c.declare_tested.ensures).room
+    (declared_change c.self.invariant (whole_view c.self.view_is c.requires.usable.unbroken) c.in_ok-places.ensures.may c.as_slice.ensures.value c.declare_tested.ensures).room
 
 pub returns-clause-edits : goal.returns-clause-edits
 returns-clause-edits g c =
-    let change = declared_change c.self.invariant (whole_view c.self.view_is c.requires.unbroken) c.in_ok-places.ensures.may c.as_slice.ensures.value c.declare_tested.ensures in
+    let change = declared_change c.self.invariant (whole_view c.self.view_is c.requires.usable.unbroken) c.in_ok-places.ensures.may c.as_slice.ensures.value c.declare_tested.ensures in
     edits_saved c.declare_tested.new.parts c.self.view_is c.hold.ensures.parts change.edits
 
 pub returns-clause-limits : goal.returns-clause-limits
 returns-clause-limits g c =
-    let change = declared_change c.self.invariant (whole_view c.self.view_is c.requires.unbroken) c.in_ok-places.ensures.may c.as_slice.ensures.value c.declare_tested.ensures in
+    let change = declared_change c.self.invariant (whole_view c.self.view_is c.requires.usable.unbroken) c.in_ok-places.ensures.may c.as_slice.ensures.value c.declare_tested.ensures in
     ap (λ (k : Kept). k.limits) c.hold.ensures.parts ∙ (change.limits ∙ ap (λ (k : Stored). k.parts.limits) c.self.view_is)
 
 pub returns-clause-holds : goal.returns-clause-holds
 returns-clause-holds g c = λ base s fits.
-    declared_holds c.self.invariant (whole_view c.self.view_is c.requires.unbroken) c.in_ok-places.ensures.may c.as_slice.ensures.value c.declare_tested.ensures
+    declared_holds c.self.invariant (whole_view c.self.view_is c.requires.usable.unbroken) c.in_ok-places.ensures.may c.as_slice.ensures.value c.declare_tested.ensures
     c.hold.ensures.saves c.args.place.now c.may_declare.ensures.word c.in_ok-places.ensures.told c.in_ok-places.ensures.row s (held_view c.self.view_is fits)

@@ -12,8 +12,7 @@ read_index_block-requires g c =
       home = search rules;
       within = block_within_slot has c.data_start-base.result (c.data_start-base.ensures.start ∙ ap data_start c.limits.ensures.value);
       whole = search rules;
-      unbroken = search rules;
-      long = search rules;
+      usable = record { unbroken = search rules; long = search rules };
     }
 
 pub returns-clause-held : goal.returns-clause-held

@@ -58,19 +58,23 @@ most_held-requires g c =
 
 pub hold-requires-clause-sound : goal.hold-requires-clause-sound
 hold-requires-clause-sound g c =
-    written_sound c.self.view_is c.args.slot c.args.name.now c.args.assigned.now c.args.payload.now c.in_ok-blocks.blocks.items c.self.invariant c.in_ok-blocks.ensures.sound c.requires.may.0 c.in_ok-blocks.ensures.renewed c.replace_record.ensures.refiles c.requires.unbroken
+    written_sound c.self.view_is c.args.slot c.args.name.now c.args.assigned.now c.args.payload.now c.in_ok-blocks.blocks.items c.self.invariant c.in_ok-blocks.ensures.sound c.requires.may.0 c.in_ok-blocks.ensures.renewed c.replace_record.ensures.refiles c.requires.usable.unbroken
 
-pub hold-requires-clause-unbroken : goal.hold-requires-clause-unbroken
-hold-requires-clause-unbroken g c =
-    written_unbroken c.self.view_is c.args.slot c.args.name.now c.args.assigned.now c.args.payload.now c.in_ok-blocks.blocks.items c.self.invariant c.in_ok-blocks.ensures.sound c.requires.may.0 c.in_ok-blocks.ensures.renewed c.replace_record.ensures.refiles c.requires.unbroken
+pub hold-requires-clause-usable : goal.hold-requires-clause-usable
+hold-requires-clause-usable g c = record {
+  unbroken =
+      written_unbroken c.self.view_is c.args.slot c.args.name.now c.args.assigned.now c.args.payload.now c.in_ok-blocks.blocks.items c.self.invariant c.in_ok-blocks.ensures.sound c.requires.may.0 c.in_ok-blocks.ensures.renewed c.replace_record.ensures.refiles c.requires.usable.unbroken;
+  long =
+      omega (arith, c.requires.usable.long, mid_image c.self.view_is c.args.slot c.args.name.now c.args.assigned.now c.args.payload.now c.in_ok-blocks.blocks.items c.self.invariant c.in_ok-blocks.ensures.sound c.requires.may.0 c.in_ok-blocks.ensures.renewed, c.in_ok-blocks.ensures.disk.run.len);
+}
 
 pub hold-requires-clause-placed : goal.hold-requires-clause-placed
 hold-requires-clause-placed g c =
-    written_placed c.self.view_is c.args.slot c.args.name.now c.args.assigned.now c.args.payload.now c.in_ok-blocks.blocks.items c.self.invariant c.in_ok-blocks.ensures.sound c.requires.may.0 c.in_ok-blocks.ensures.renewed c.replace_record.ensures.refiles c.requires.unbroken
+    written_placed c.self.view_is c.args.slot c.args.name.now c.args.assigned.now c.args.payload.now c.in_ok-blocks.blocks.items c.self.invariant c.in_ok-blocks.ensures.sound c.requires.may.0 c.in_ok-blocks.ensures.renewed c.replace_record.ensures.refiles c.requires.usable.unbroken
 
 pub hold-requires-clause-room : goal.hold-requires-clause-room
 hold-requires-clause-room g c =
-    written_room c.self.view_is c.args.slot c.args.name.now c.args.assigned.now c.args.payload.now c.in_ok-blocks.blocks.items c.self.invariant c.in_ok-blocks.ensures.sound c.requires.may.0 c.in_ok-blocks.ensures.renewed c.replace_record.ensures.refiles c.requires.unbroken
+    written_room c.self.view_is c.args.slot c.args.name.now c.args.assigned.now c.args.payload.now c.in_ok-blocks.blocks.items c.self.invariant c.in_ok-blocks.ensures.sound c.requires.may.0 c.in_ok-blocks.ensures.renewed c.replace_record.ensures.refiles c.requires.usable.unbroken
 
 pub hold-requires-clause-image : goal.hold-requires-clause-image
 hold-requires-clause-image g c =
@@ -78,10 +82,6 @@ hold-requires-clause-image g c =
 
 pub hold-requires-clause-unplaced : goal.hold-requires-clause-unplaced
 hold-requires-clause-unplaced g c = λ some. c.in_ok-blocks.ensures.renewed.unplaced (c.most_held.ensures.large some)
-
-pub hold-requires-clause-long : goal.hold-requires-clause-long
-hold-requires-clause-long g c =
-    omega (arith, c.requires.long, mid_image c.self.view_is c.args.slot c.args.name.now c.args.assigned.now c.args.payload.now c.in_ok-blocks.blocks.items c.self.invariant c.in_ok-blocks.ensures.sound c.requires.may.0 c.in_ok-blocks.ensures.renewed, c.in_ok-blocks.ensures.run.len)
 
 pub returns-clause-scratch : goal.returns-clause-scratch
 returns-clause-scratch g c =

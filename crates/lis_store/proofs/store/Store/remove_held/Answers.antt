@@ -79,7 +79,7 @@ hold-requires-clause-sound g c =
     let found = rec_at-slot_of c.self.inside.parts.catalog c.args.name.now c.in-Some.slot c.self.invariant.parts.catalog named in
     let given = c.in_ok-free_content.ensures.given found.0 found.1 in
     let m = g.D.Disk.meaning c.args.disk.now in
-    let unbroken = ap (λ (k : Stored). k.is_broken) c.self.view_is ∙ c.requires.unbroken in
+    let unbroken = ap (λ (k : Stored). k.is_broken) c.self.view_is ∙ c.requires.usable.unbroken in
     let here = ap (λ (k : Stored). is_among k.parts c.args.place.now c.args.name.now) c.self.view_is ∙ sym c.in-Some.ensures.here in
     let out = c.take_out.ensures found.0 (filed_given old c.free_content.new.parts c.in-Some.slot found.0 m given.0 c.self.invariant found.1) in
     removed_sound old c.free_content.new.parts c.in-Some.slot found.0 m given.0 c.self.invariant found.1 c.take_out.new.parts c.args.place.now c.args.name.now out unbroken here named
@@ -91,7 +91,7 @@ hold-requires-clause-image g c =
     let found = rec_at-slot_of c.self.inside.parts.catalog c.args.name.now c.in-Some.slot c.self.invariant.parts.catalog named in
     let given = c.in_ok-free_content.ensures.given found.0 found.1 in
     let m = g.D.Disk.meaning c.args.disk.now in
-    let unbroken = ap (λ (k : Stored). k.is_broken) c.self.view_is ∙ c.requires.unbroken in
+    let unbroken = ap (λ (k : Stored). k.is_broken) c.self.view_is ∙ c.requires.usable.unbroken in
     let here = ap (λ (k : Stored). is_among k.parts c.args.place.now c.args.name.now) c.self.view_is ∙ sym c.in-Some.ensures.here in
     let out = c.take_out.ensures found.0 (filed_given old c.free_content.new.parts c.in-Some.slot found.0 m given.0 c.self.invariant found.1) in
     c.self.invariant.image ∙ ap image_blocks (sym (same_limits old c.free_content.new.parts c.in-Some.slot found.0 m given.0 c.self.invariant found.1 c.take_out.new.parts c.args.place.now c.args.name.now out unbroken here named))
@@ -103,7 +103,7 @@ hold-requires-clause-room g c =
     let found = rec_at-slot_of c.self.inside.parts.catalog c.args.name.now c.in-Some.slot c.self.invariant.parts.catalog named in
     let given = c.in_ok-free_content.ensures.given found.0 found.1 in
     let m = g.D.Disk.meaning c.args.disk.now in
-    let unbroken = ap (λ (k : Stored). k.is_broken) c.self.view_is ∙ c.requires.unbroken in
+    let unbroken = ap (λ (k : Stored). k.is_broken) c.self.view_is ∙ c.requires.usable.unbroken in
     let here = ap (λ (k : Stored). is_among k.parts c.args.place.now c.args.name.now) c.self.view_is ∙ sym c.in-Some.ensures.here in
     let out = c.take_out.ensures found.0 (filed_given old c.free_content.new.parts c.in-Some.slot found.0 m given.0 c.self.invariant found.1) in
     removed_marks old c.free_content.new.parts c.in-Some.slot found.0 m given.0 c.self.invariant found.1 c.take_out.new.parts c.args.place.now c.args.name.now out unbroken here named
@@ -115,7 +115,7 @@ returns-clause-holds g c = λ base s holds.
     let found = rec_at-slot_of c.self.inside.parts.catalog c.args.name.now c.in-Some.slot c.self.invariant.parts.catalog named in
     let given = c.in_ok-free_content.ensures.given found.0 found.1 in
     let m = g.D.Disk.meaning c.args.disk.now in
-    let unbroken = ap (λ (k : Stored). k.is_broken) c.self.view_is ∙ c.requires.unbroken in
+    let unbroken = ap (λ (k : Stored). k.is_broken) c.self.view_is ∙ c.requires.usable.unbroken in
     let here = ap (λ (k : Stored). is_among k.parts c.args.place.now c.args.name.now) c.self.view_is ∙ sym c.in-Some.ensures.here in
     let out = c.take_out.ensures found.0 (filed_given old c.free_content.new.parts c.in-Some.slot found.0 m given.0 c.self.invariant found.1) in
     let new : Stored = record { parts = c.hold.new.parts; journal = c.hold.new.journal; is_broken = c.hold.new.is_broken } in
@@ -130,7 +130,7 @@ returns-clause-limits g c =
     let found = rec_at-slot_of c.self.inside.parts.catalog c.args.name.now c.in-Some.slot c.self.invariant.parts.catalog named in
     let given = c.in_ok-free_content.ensures.given found.0 found.1 in
     let m = g.D.Disk.meaning c.args.disk.now in
-    let unbroken = ap (λ (k : Stored). k.is_broken) c.self.view_is ∙ c.requires.unbroken in
+    let unbroken = ap (λ (k : Stored). k.is_broken) c.self.view_is ∙ c.requires.usable.unbroken in
     let here = ap (λ (k : Stored). is_among k.parts c.args.place.now c.args.name.now) c.self.view_is ∙ sym c.in-Some.ensures.here in
     let out = c.take_out.ensures found.0 (filed_given old c.free_content.new.parts c.in-Some.slot found.0 m given.0 c.self.invariant found.1) in
     ap (λ (k : Kept). k.limits) c.hold.ensures.parts ∙ (same_limits old c.free_content.new.parts c.in-Some.slot found.0 m given.0 c.self.invariant found.1 c.take_out.new.parts c.args.place.now c.args.name.now out unbroken here named ∙ ap (λ (k : Stored). k.parts.limits) c.self.view_is)
@@ -142,7 +142,7 @@ returns-clause-edits g c =
     let found = rec_at-slot_of c.self.inside.parts.catalog c.args.name.now c.in-Some.slot c.self.invariant.parts.catalog named in
     let given = c.in_ok-free_content.ensures.given found.0 found.1 in
     let m = g.D.Disk.meaning c.args.disk.now in
-    let unbroken = ap (λ (k : Stored). k.is_broken) c.self.view_is ∙ c.requires.unbroken in
+    let unbroken = ap (λ (k : Stored). k.is_broken) c.self.view_is ∙ c.requires.usable.unbroken in
     let here = ap (λ (k : Stored). is_among k.parts c.args.place.now c.args.name.now) c.self.view_is ∙ sym c.in-Some.ensures.here in
     let out = c.take_out.ensures found.0 (filed_given old c.free_content.new.parts c.in-Some.slot found.0 m given.0 c.self.invariant found.1) in
     edits_saved c.take_out.new.parts c.self.view_is c.hold.ensures.parts (removed_edits old c.free_content.new.parts c.in-Some.slot found.0 m given.0 c.self.invariant found.1 c.take_out.new.parts c.args.place.now c.args.name.now out unbroken here named)

@@ -23,7 +23,7 @@ read_file-requires-clause-there g c =
 pub returns-in-Err-clause-holds : goal.returns-in-Err-clause-holds
 returns-in-Err-clause-holds g c = λ base s holds.
     read_lost c.self.view_is c.self.invariant c.args.place.now c.args.name.now c.in-Some.ensures.slot c.in-Some.ensures.here c.args.new.now (g.D.Disk.meaning c.args.disk.now) base s holds (g.D.Disk.meaning c.read_file.new.disk)
-    (record { run = c.read_file.ensures.run; same = c.read_file.ensures.same; moments = c.read_file.ensures.any_moment; fits = c.read_file.ensures.fits }) _ _ refl (ap Err c.from.ensures)
+    (record { reads = c.read_file.ensures.disk.reads; fits = c.read_file.ensures.fits }) _ _ refl (ap Err c.from.ensures)
 
 pub may_rename-requires-clause-there : goal.may_rename-requires-clause-there
 may_rename-requires-clause-there g c =
@@ -33,7 +33,7 @@ pub returns-in_err-words-clause-holds : goal.returns-in_err-words-clause-holds
 returns-in_err-words-clause-holds g c = λ base s holds.
     let e = err_from_is_err_and c.from_residual.result c.from_residual.ensures.1 in
     renaming_refused c.self.view_is c.self.invariant c.args.place.now c.args.name.now c.in-Some.ensures.slot c.in-Some.ensures.here c.args.new.now (g.D.Disk.meaning c.args.disk.now) base s holds (g.D.Disk.meaning c.read_file.new.disk)
-    (record { run = c.read_file.ensures.run; same = c.read_file.ensures.same; moments = c.read_file.ensures.any_moment; fits = c.read_file.ensures.fits })
+    (record { reads = c.read_file.ensures.disk.reads; fits = c.read_file.ensures.fits })
     c.in_default-read_file.ensures.read c.bytes.ensures.bytes c.in_err-words.field-0.0 c.from_residual.result (e.1 ∙ ap Err e.2) c.in_err-words.ensures.row
 
 pub replace_record-requires-clause-may : goal.replace_record-requires-clause-may
@@ -42,16 +42,16 @@ replace_record-requires-clause-may g c =
     c.slot_of.ensures.name c.as_slice.ensures.value c.in_ok-words.ensures.words c.in_ok-words.ensures.row
 
 pub hold-requires-clause-sound : goal.hold-requires-clause-sound
-hold-requires-clause-sound g c = refiled_sound c.self.view_is c.self.invariant c.replace_record.ensures.refiles c.requires.unbroken
+hold-requires-clause-sound g c = refiled_sound c.self.view_is c.self.invariant c.replace_record.ensures.refiles c.requires.usable.unbroken
 
 pub hold-requires-clause-image : goal.hold-requires-clause-image
 hold-requires-clause-image g c = refiled_image c.self.view_is c.self.invariant c.replace_record.ensures.refiles
 
 pub hold-requires-clause-placed : goal.hold-requires-clause-placed
-hold-requires-clause-placed g c = refiled_placed c.self.view_is c.self.invariant c.replace_record.ensures.refiles c.requires.unbroken
+hold-requires-clause-placed g c = refiled_placed c.self.view_is c.self.invariant c.replace_record.ensures.refiles c.requires.usable.unbroken
 
 pub hold-requires-clause-room : goal.hold-requires-clause-room
-hold-requires-clause-room g c = refiled_room c.self.view_is c.self.invariant c.replace_record.ensures.refiles c.requires.unbroken
+hold-requires-clause-room g c = refiled_room c.self.view_is c.self.invariant c.replace_record.ensures.refiles c.requires.usable.unbroken
 
 pub returns-clause-edits : goal.returns-clause-edits
 returns-clause-edits g c =
@@ -61,9 +61,9 @@ pub returns-clause-holds : goal.returns-clause-holds
 returns-clause-holds g c = λ base s holds.
     let new : Stored = record { parts = c.hold.new.parts; journal = c.hold.new.journal; is_broken = c.hold.new.is_broken } in
     renaming_holds c.self.view_is c.self.invariant c.args.place.now c.args.name.now c.in-Some.ensures.slot c.in-Some.ensures.here c.args.new.now (g.D.Disk.meaning c.args.disk.now) base s holds (g.D.Disk.meaning c.read_file.new.disk)
-    (record { run = c.read_file.ensures.run; same = c.read_file.ensures.same; moments = c.read_file.ensures.any_moment; fits = c.read_file.ensures.fits })
+    (record { reads = c.read_file.ensures.disk.reads; fits = c.read_file.ensures.fits })
     c.in_default-read_file.ensures.read c.bytes-2.ensures.bytes c.bytes.ensures.bytes c.in_ok-words.ensures.row (λ rec is. c.as_slice.ensures.value ∙ c.in_ok-words.ensures.words rec is)
-    c.replace_record.ensures.refiles c.blocks_in-blocks.ensures c.requires.unbroken new (g.D.Disk.meaning c.hold.new.disk) c.hold.result c.hold.ensures.saves
+    c.replace_record.ensures.refiles c.blocks_in-blocks.ensures c.requires.usable.unbroken new (g.D.Disk.meaning c.hold.new.disk) c.hold.result c.hold.ensures.saves
 
 pub returns-clause-limits : goal.returns-clause-limits
 returns-clause-limits g c =

@@ -56,16 +56,16 @@ pub replace_draft-requires-clause-below : goal.replace_draft-requires-clause-bel
 replace_draft-requires-clause-below g c = still_below c.self.view_is c.self.invariant c.args.name.now c.in-Some.ensures.slot c.blocks_in-blocks.ensures
 
 pub hold-requires-clause-sound : goal.hold-requires-clause-sound
-hold-requires-clause-sound g c = refiled_sound c.self.view_is c.self.invariant c.replace_draft.ensures.refiles c.requires.unbroken
+hold-requires-clause-sound g c = refiled_sound c.self.view_is c.self.invariant c.replace_draft.ensures.refiles c.requires.usable.unbroken
 
 pub hold-requires-clause-image : goal.hold-requires-clause-image
 hold-requires-clause-image g c = refiled_image c.self.view_is c.self.invariant c.replace_draft.ensures.refiles
 
 pub hold-requires-clause-placed : goal.hold-requires-clause-placed
-hold-requires-clause-placed g c = refiled_placed c.self.view_is c.self.invariant c.replace_draft.ensures.refiles c.requires.unbroken
+hold-requires-clause-placed g c = refiled_placed c.self.view_is c.self.invariant c.replace_draft.ensures.refiles c.requires.usable.unbroken
 
 pub hold-requires-clause-room : goal.hold-requires-clause-room
-hold-requires-clause-room g c = refiled_room c.self.view_is c.self.invariant c.replace_draft.ensures.refiles c.requires.unbroken
+hold-requires-clause-room g c = refiled_room c.self.view_is c.self.invariant c.replace_draft.ensures.refiles c.requires.usable.unbroken
 
 pub returns-clause-edits : goal.returns-clause-edits
 returns-clause-edits g c =
@@ -79,4 +79,4 @@ returns-clause-holds g c = λ base s holds.
     let new : Stored = record { parts = c.hold.new.parts; journal = c.hold.new.journal; is_broken = c.hold.new.is_broken } in
     move_holds c.self.view_is c.self.invariant c.args.place.now c.args.name.now c.in-Some.ensures.slot c.in-Some.ensures.here c.args.text.now c.in_ok-next.ensures
     c.in_ok-words.ensures.row c.size_in.ensures (λ rec is. c.as_slice.ensures.value ∙ c.in_ok-words.ensures.words rec is) (c.as_slice-2.ensures.value ∙ c.own_in-own.ensures.own) c.in_ok-may_stand_instead.ensures.row
-    c.replace_draft.ensures.refiles c.blocks_in-blocks.ensures c.requires.unbroken (g.D.Disk.meaning c.args.disk.now) base s holds new (g.D.Disk.meaning c.hold.new.disk) c.hold.result c.hold.ensures.saves
+    c.replace_draft.ensures.refiles c.blocks_in-blocks.ensures c.requires.usable.unbroken (g.D.Disk.meaning c.args.disk.now) base s holds new (g.D.Disk.meaning c.hold.new.disk) c.hold.result c.hold.ensures.saves

@@ -15,19 +15,19 @@ take_axiom-requires-clause-may g c =
     may_go c.self.inside.parts c.self.invariant.pairs c.args.left.now c.args.right.now c.in-Some.from c.in-Some.to c.in-Some.ensures.numbers
 
 pub hold-requires-clause-sound : goal.hold-requires-clause-sound
-hold-requires-clause-sound g c = (unaxiom_change c.self.invariant c.take_axiom.ensures (whole_view c.self.view_is c.requires.unbroken)).settles
+hold-requires-clause-sound g c = (unaxiom_change c.self.invariant c.take_axiom.ensures (whole_view c.self.view_is c.requires.usable.unbroken)).settles
 
 pub hold-requires-clause-placed : goal.hold-requires-clause-placed
-hold-requires-clause-placed g c = alone_placed _ c.self.invariant (whole_view c.self.view_is c.requires.unbroken) c.take_axiom.new.parts
+hold-requires-clause-placed g c = alone_placed _ c.self.invariant (whole_view c.self.view_is c.requires.usable.unbroken) c.take_axiom.new.parts
 
 pub hold-requires-clause-room : goal.hold-requires-clause-room
-hold-requires-clause-room g c = (unaxiom_change c.self.invariant c.take_axiom.ensures (whole_view c.self.view_is c.requires.unbroken)).room
+hold-requires-clause-room g c = (unaxiom_change c.self.invariant c.take_axiom.ensures (whole_view c.self.view_is c.requires.usable.unbroken)).room
 
 pub returns-clause-holds : goal.returns-clause-holds
 returns-clause-holds g c = λ base now fits.
-    unaxiom_holds c.self.invariant c.take_axiom.ensures c.in-Some.ensures.numbers (sym c.in-Some.ensures.there) (whole_view c.self.view_is c.requires.unbroken) c.hold.ensures.saves now (held_view c.self.view_is fits)
+    unaxiom_holds c.self.invariant c.take_axiom.ensures c.in-Some.ensures.numbers (sym c.in-Some.ensures.there) (whole_view c.self.view_is c.requires.usable.unbroken) c.hold.ensures.saves now (held_view c.self.view_is fits)
 
 pub returns-clause-edits : goal.returns-clause-edits
 returns-clause-edits g c =
-    let change = unaxiom_change c.self.invariant c.take_axiom.ensures (whole_view c.self.view_is c.requires.unbroken) in
+    let change = unaxiom_change c.self.invariant c.take_axiom.ensures (whole_view c.self.view_is c.requires.usable.unbroken) in
     edits_saved c.take_axiom.new.parts c.self.view_is c.hold.ensures.parts change.edits

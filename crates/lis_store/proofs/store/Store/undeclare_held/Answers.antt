@@ -20,29 +20,29 @@ undeclare_unmet-requires-clause-number g c = ap is_some (undeclared_named c.self
 
 pub hold-requires-clause-image : goal.hold-requires-clause-image
 hold-requires-clause-image g c =
-    let change = undeclared_change c.self.invariant c.in_ok-number.ensures.may (whole_view c.self.view_is c.requires.unbroken) c.undeclare_unmet.ensures in
+    let change = undeclared_change c.self.invariant c.in_ok-number.ensures.may (whole_view c.self.view_is c.requires.usable.unbroken) c.undeclare_unmet.ensures in
     c.self.invariant.image ∙ sym (ap image_blocks change.limits)
 
 pub hold-requires-clause-placed : goal.hold-requires-clause-placed
-hold-requires-clause-placed g c = alone_placed _ c.self.invariant (whole_view c.self.view_is c.requires.unbroken) c.undeclare_unmet.new.parts
+hold-requires-clause-placed g c = alone_placed _ c.self.invariant (whole_view c.self.view_is c.requires.usable.unbroken) c.undeclare_unmet.new.parts
 
 pub hold-requires-clause-room : goal.hold-requires-clause-room
-hold-requires-clause-room g c = (undeclared_change c.self.invariant c.in_ok-number.ensures.may (whole_view c.self.view_is c.requires.unbroken) c.undeclare_unmet.ensures).room
+hold-requires-clause-room g c = (undeclared_change c.self.invariant c.in_ok-number.ensures.may (whole_view c.self.view_is c.requires.usable.unbroken) c.undeclare_unmet.ensures).room
 
 pub hold-requires-clause-sound : goal.hold-requires-clause-sound
-hold-requires-clause-sound g c = (undeclared_change c.self.invariant c.in_ok-number.ensures.may (whole_view c.self.view_is c.requires.unbroken) c.undeclare_unmet.ensures).settles
+hold-requires-clause-sound g c = (undeclared_change c.self.invariant c.in_ok-number.ensures.may (whole_view c.self.view_is c.requires.usable.unbroken) c.undeclare_unmet.ensures).settles
 
 pub returns-clause-edits : goal.returns-clause-edits
 returns-clause-edits g c =
-    let change = undeclared_change c.self.invariant c.in_ok-number.ensures.may (whole_view c.self.view_is c.requires.unbroken) c.undeclare_unmet.ensures in
+    let change = undeclared_change c.self.invariant c.in_ok-number.ensures.may (whole_view c.self.view_is c.requires.usable.unbroken) c.undeclare_unmet.ensures in
     edits_saved c.undeclare_unmet.new.parts c.self.view_is c.hold.ensures.parts change.edits
 
 pub returns-clause-limits : goal.returns-clause-limits
 returns-clause-limits g c =
-    let change = undeclared_change c.self.invariant c.in_ok-number.ensures.may (whole_view c.self.view_is c.requires.unbroken) c.undeclare_unmet.ensures in
+    let change = undeclared_change c.self.invariant c.in_ok-number.ensures.may (whole_view c.self.view_is c.requires.usable.unbroken) c.undeclare_unmet.ensures in
     ap (λ (k : Kept). k.limits) c.hold.ensures.parts ∙ (change.limits ∙ ap (λ (k : Stored). k.parts.limits) c.self.view_is)
 
 pub returns-clause-holds : goal.returns-clause-holds
 returns-clause-holds g c = λ base now fits.
-    undeclared_holds c.self.invariant c.in_ok-number.ensures.may (whole_view c.self.view_is c.requires.unbroken) c.undeclare_unmet.ensures c.hold.ensures.saves c.in_ok-number.ensures.row now
+    undeclared_holds c.self.invariant c.in_ok-number.ensures.may (whole_view c.self.view_is c.requires.usable.unbroken) c.undeclare_unmet.ensures c.hold.ensures.saves c.in_ok-number.ensures.row now
     (held_view c.self.view_is fits)
