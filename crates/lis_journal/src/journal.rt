@@ -5,6 +5,7 @@ ghost use Rattle.std.specs.List.{range_with_len};
 ghost use Rattle.lis_ports.specs.Runs.{IsDiskRun, Leaves, IsSettled};
 ghost use Rattle.lis_ports.specs.Calls.{DiskFaultEnds, UsesDisk, ReadsDisk};
 ghost use Rattle.lis_journal.specs.Record.{recovered};
+ghost use Rattle.lis_journal.specs.Journal.{no_records};
 ghost use Rattle.lis_journal.specs.Images.{StandsBut, StandsForAllOrNone, Fits, KeepsPast, look, held_in, is_among, with_placed, with_kept, with_run, JournalIsUsable};
 ghost use Rattle.lis_journal.specs.Staging.{with_entry, has_entry, are_whole, HasNone};
 
@@ -75,6 +76,54 @@ fn new_block(alloc: Global) -> Result<Vec<u8>, AllocError>
     vec![in alloc; 0; BLOCK_LEN]
 }
 
+// What a mounted journal keeps of memory, and a block to read into.
+#[derive(Drop)]
+struct Room {
+    placed: Vec<u32>,
+    header: Vec<u8>,
+    block: Vec<u8>,
+    stage: Stage,
+    latest: Stage,
+}
+
+fn take_room(alloc: Global, blocks: u32) -> Result<Room, AllocError>
+    ensures stage { IfOk result (λ room. room.stage ≡ record { blocks = blocks; entries = [] }) }
+    ensures latest { IfOk result (λ room. room.latest ≡ record { blocks = blocks; entries = [] }) }
+    ensures placed { IfOk result (λ room. room.placed.items ≡ []) }
+    ensures many { IfOk result (λ room. 257 ≤ vec_capacity room.placed) }
+    ensures header { IfOk result (λ room. length room.header.items ≡ 4096) }
+    ensures block { IfOk result (λ room. length room.block.items ≡ 4096) }
+{
+    Ok(Room {
+        placed: Vec::with_capacity(alloc, MAX_PLACED as usize)?,
+        header: new_block(alloc)?,
+        block: new_block(alloc)?,
+        stage: Stage::new(alloc, blocks)?,
+        latest: Stage::new(alloc, blocks)?,
+    })
+}
+
+// A journal in this room, with nothing staged and no open record.
+fn idle(room: Room) -> Journal
+    requires blocks { 578 < room.stage.blocks }
+    requires same { room.latest.blocks ≡ room.stage.blocks }
+    requires empty { room.stage.entries ≡ [] }
+    requires placed { room.placed.items ≡ [] }
+    requires many { 257 ≤ vec_capacity room.placed }
+    requires header { length room.header.items ≡ 4096 }
+    ensures { result ≡ record { blocks = room.stage.blocks; staged = []; records = no_records; placed = []; is_broken = false } }
+{
+    let mut latest = room.latest;
+    latest.clear();
+    Journal {
+        stage: room.stage,
+        records: Records::new(latest),
+        placed: room.placed,
+        header: room.header,
+        is_broken: false,
+    }
+}
+
 // Puts so many numbers from this one on behind those that are there.
 fn push_run(placed: &mut Vec<u32>, first: u32, count: u32)
     requires room { length placed.old.items + count ≤ vec_capacity placed.old }
@@ -127,22 +176,9 @@ impl Journal {
         ensures past { IsTrue (D.meaning disk.old).is_honest → (result ≡ Err DiskFault → IsSettledPast blocks (D.meaning disk.old))
             → KeepsPast blocks (D.meaning disk.old) (D.meaning disk.new) }
     {
-        let stage = Stage::new(alloc, blocks)?;
-        let mut latest = Stage::new(alloc, blocks)?;
-        let mut header = new_block(alloc)?;
-        let mut block = new_block(alloc)?;
-        let placed = Vec::with_capacity(alloc, MAX_PLACED as usize)?;
-        match recover(disk, &mut latest, &mut header, &mut block) {
-            Ok(None) => {
-                latest.clear();
-                Ok(Journal {
-                    stage,
-                    records: Records::new(latest),
-                    placed,
-                    header,
-                    is_broken: false,
-                })
-            }
+        let mut room = take_room(alloc, blocks)?;
+        match recover(disk, &mut room.latest, &mut room.header, &mut room.block) {
+            Ok(None) => Ok(idle(room)),
             Ok(Some(first)) => Err(JournalFault::BadRecord(first)),
             Err(Failed) => Err(JournalFault::DiskFault),
         }
