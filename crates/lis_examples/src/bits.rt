@@ -1,11 +1,32 @@
 //! Rows of bits: finding, counting and joining.
 
+ghost use Rattle.std.specs.Prelude.{◌≡◌, ◌*◌, ◌%◌, ◌^◌, ◌≤◌, length, IfOk};
+
 use lis_bits::{Flags, Rows, and_not_row, and_row, copy_row, meets, within};
+use std::alloc::{AllocError, Global};
 use std::test::Fail;
+
+// So many rows of so many bits, of which no more is asked.
+fn new_rows(alloc: Global, rows: u32, bits: u32) -> Result<Rows, AllocError>
+    requires whole_words { bits % 64 ≡ 0 }
+    requires few { rows * bits ≤ 2 ^ 27 }
+    ensures rows { IfOk result (λ made. length made.rows ≡ rows) }
+    ensures bits { IfOk result (λ made. made.bits ≡ bits) }
+{
+    Rows::new(alloc, rows, bits)
+}
+
+fn new_flags(alloc: Global, bits: u32) -> Result<Flags, AllocError>
+    requires whole_words { bits % 64 ≡ 0 }
+    requires few { bits ≤ 2 ^ 27 }
+    ensures { IfOk result (λ made. length made ≡ bits) }
+{
+    Flags::new(alloc, bits)
+}
 
 #[test]
 fn finds_and_counts_true_bits(rt: HostRuntime) -> Result<(), Fail> {
-    let mut rows = Rows::new(rt.alloc(), 2, 128)?;
+    let mut rows = new_rows(rt.alloc(), 2, 128)?;
     rows.put(0, 0, true);
     rows.put(0, 64, true);
     rows.put(0, 100, true);
@@ -26,8 +47,8 @@ fn finds_and_counts_true_bits(rt: HostRuntime) -> Result<(), Fail> {
 
 #[test]
 fn copies_a_row(rt: HostRuntime) -> Result<(), Fail> {
-    let mut rows = Rows::new(rt.alloc(), 2, 128)?;
-    let mut copies = Rows::new(rt.alloc(), 1, 128)?;
+    let mut rows = new_rows(rt.alloc(), 2, 128)?;
+    let mut copies = new_rows(rt.alloc(), 1, 128)?;
     rows.put(0, 0, true);
     rows.put(0, 64, true);
     rows.put(0, 100, true);
@@ -39,7 +60,7 @@ fn copies_a_row(rt: HostRuntime) -> Result<(), Fail> {
 
 #[test]
 fn joins_rows(rt: HostRuntime) -> Result<(), Fail> {
-    let mut rows = Rows::new(rt.alloc(), 3, 64)?;
+    let mut rows = new_rows(rt.alloc(), 3, 64)?;
     rows.put(0, 5, true);
     rows.fill(1, true);
     rows.copy(2, 0);
@@ -56,8 +77,8 @@ fn joins_rows(rt: HostRuntime) -> Result<(), Fail> {
 
 #[test]
 fn joins_rows_across(rt: HostRuntime) -> Result<(), Fail> {
-    let mut low = Rows::new(rt.alloc(), 1, 64)?;
-    let mut both = Rows::new(rt.alloc(), 2, 64)?;
+    let mut low = new_rows(rt.alloc(), 1, 64)?;
+    let mut both = new_rows(rt.alloc(), 2, 64)?;
     low.put(0, 5, true);
     both.fill(1, true);
     assert!(rt; !meets(&low, 0, &both, 0) && meets(&low, 0, &both, 1));
@@ -71,7 +92,7 @@ fn joins_rows_across(rt: HostRuntime) -> Result<(), Fail> {
 
 #[test]
 fn looks_into_some_rows(rt: HostRuntime) -> Result<(), Fail> {
-    let mut rows = Rows::new(rt.alloc(), 4, 192)?;
+    let mut rows = new_rows(rt.alloc(), 4, 192)?;
     rows.put(0, 3, true);
     rows.put(1, 100, true);
     rows.put(3, 100, true);
@@ -84,7 +105,7 @@ fn looks_into_some_rows(rt: HostRuntime) -> Result<(), Fail> {
 
 #[test]
 fn finds_nothing_in_no_rows(rt: HostRuntime) -> Result<(), Fail> {
-    let mut rows = Rows::new(rt.alloc(), 4, 192)?;
+    let mut rows = new_rows(rt.alloc(), 4, 192)?;
     rows.fill(3, true);
     assert_eq!(rt; rows.next_of(&[], 0), None);
     assert_eq!(rt; rows.next_of(&[0, 3], 192), None);
@@ -93,10 +114,10 @@ fn finds_nothing_in_no_rows(rt: HostRuntime) -> Result<(), Fail> {
 
 #[test]
 fn counts_with_other_rows(rt: HostRuntime) -> Result<(), Fail> {
-    let mut rows = Rows::new(rt.alloc(), 4, 192)?;
+    let mut rows = new_rows(rt.alloc(), 4, 192)?;
     rows.put(1, 100, true);
     rows.put(3, 191, true);
-    let mut own = Rows::new(rt.alloc(), 1, 192)?;
+    let mut own = new_rows(rt.alloc(), 1, 192)?;
     own.put(0, 100, true);
     own.put(0, 101, true);
     assert_eq!(rt; own.count_with(0, &rows, &[1, 3]), 3);
@@ -106,7 +127,7 @@ fn counts_with_other_rows(rt: HostRuntime) -> Result<(), Fail> {
 
 #[test]
 fn keeps_flags(rt: HostRuntime) -> Result<(), Fail> {
-    let mut flags = Flags::new(rt.alloc(), 128)?;
+    let mut flags = new_flags(rt.alloc(), 128)?;
     flags.put(100, true);
     assert!(rt; flags.get(100) && !flags.get(99));
     flags.fill(true);

@@ -2,12 +2,12 @@
 
 ghost use Rattle.std.specs.Prelude.{◌≡◌, ◌*◌, ◌<◌, ◌≤◌, [], false, length, IfOk};
 ghost use Rattle.lis_journal.specs.Journal.{no_records};
-ghost use Rattle.lis_memdisk.specs.MemStation.{meaning_of};
 
 use lis_blockmap::BlockMap;
 use lis_content::{PutFault, drop_file, drop_large, place_file, put, read, read_block};
 use lis_journal::Journal;
 use lis_memdisk::MemStation;
+use lis_ports::Disk;
 use std::alloc::{AllocError, Global};
 use std::test::Fail;
 
@@ -29,21 +29,21 @@ fn pattern(alloc: Global, size: usize) -> Result<Vec<u8>, AllocError>
 }
 
 // Whether these bytes, put in the place of two blocks of others, are read as they were put and kept, and then leave all blocks free.
-fn is_read_back(
+fn is_read_back<D: Disk>(
     map: &mut BlockMap,
     journal: &mut Journal,
-    disk: &mut MemStation,
+    disk: &mut D,
     before: &[u8],
     bytes: &[u8],
     buf: &mut [u8],
 ) -> Result<bool, Fail>
     requires map { length map.old ≡ 3 }
     requires journal { journal.old ≡ record { blocks = 581; staged = []; records = no_records; placed = []; is_broken = false } }
-    requires long { 4096 * 581 ≤ (meaning_of disk.old).len }
+    requires long { 4096 * 581 ≤ (D.meaning disk.old).len }
     requires before { length before.now ≡ 4097 }
     requires size { length bytes.now ≤ 12288 }
     requires buf { length buf.old ≡ length bytes.now }
-    ensures { (meaning_of disk.new).len ≡ (meaning_of disk.old).len }
+    ensures { (D.meaning disk.new).len ≡ (D.meaning disk.old).len }
 {
     let old = put(map, journal, disk, BASE, &[], before)?;
     let blocks = put(map, journal, disk, BASE, &old, bytes)?;
@@ -54,10 +54,10 @@ fn is_read_back(
 }
 
 // The same of so many bytes.
-fn reads_back(alloc: Global, disk: &mut MemStation, size: u32) -> Result<bool, Fail>
-    requires long { 4096 * 581 ≤ (meaning_of disk.old).len }
+fn reads_back<D: Disk>(alloc: Global, disk: &mut D, size: u32) -> Result<bool, Fail>
+    requires long { 4096 * 581 ≤ (D.meaning disk.old).len }
     requires size { size ≤ 12288 }
-    ensures { (meaning_of disk.new).len ≡ (meaning_of disk.old).len }
+    ensures { (D.meaning disk.new).len ≡ (D.meaning disk.old).len }
 {
     let before = pattern(alloc, 4_097)?;
     let bytes = pattern(alloc, size as usize)?;
@@ -88,20 +88,20 @@ fn more_zeros(alloc: Global) -> Result<Vec<u8>, AllocError>
 }
 
 // Whether the n-th block of these bytes is read as it was placed, with as many blocks free, and all are free after.
-fn is_block_read_back(
+fn is_block_read_back<D: Disk>(
     map: &mut BlockMap,
     journal: &mut Journal,
-    disk: &mut MemStation,
+    disk: &mut D,
     bytes: &[u8],
     n: u32,
     free: u32,
 ) -> Result<bool, Fail>
     requires map { length map.old ≡ 22 }
     requires journal { journal.old ≡ record { blocks = 600; staged = []; records = no_records; placed = []; is_broken = false } }
-    requires long { 4096 * 600 ≤ (meaning_of disk.old).len }
+    requires long { 4096 * 600 ≤ (D.meaning disk.old).len }
     requires few { length bytes.now ≤ 81920 }
     requires inside { 4096 * n < length bytes.now }
-    ensures { (meaning_of disk.new).len ≡ (meaning_of disk.old).len }
+    ensures { (D.meaning disk.new).len ≡ (D.meaning disk.old).len }
 {
     let size = bytes.len() as u32;
     let blocks = place_file(map, journal, disk, BASE, bytes)?;
@@ -115,17 +115,17 @@ fn is_block_read_back(
 }
 
 // The same of so many bytes.
-fn reads_block_back(
+fn reads_block_back<D: Disk>(
     alloc: Global,
-    disk: &mut MemStation,
+    disk: &mut D,
     size: u32,
     n: u32,
     free: u32,
 ) -> Result<bool, Fail>
-    requires long { 4096 * 600 ≤ (meaning_of disk.old).len }
+    requires long { 4096 * 600 ≤ (D.meaning disk.old).len }
     requires few { size ≤ 81920 }
     requires inside { 4096 * n < size }
-    ensures { (meaning_of disk.new).len ≡ (meaning_of disk.old).len }
+    ensures { (D.meaning disk.new).len ≡ (D.meaning disk.old).len }
 {
     let bytes = pattern(alloc, size as usize)?;
     let mut map = BlockMap::new(alloc, 22)?;

@@ -1,52 +1,60 @@
 //! Files and the words that are derived from them, worked out by hand.
 
 use lis_derive::derive_words;
-use lis_words::read_name;
+use lis_words::{Word, read_name};
 use std::alloc::{AllocError, Global};
 use std::test::Fail;
 
-/// The words of a file, with a blank behind each.
-fn words_of(alloc: Global, name: &[u8], bytes: &[u8]) -> Result<Vec<u8>, AllocError> {
+/// Words, with a blank between two of them.
+pub fn spaced(alloc: Global, words: &[Word]) -> Result<Vec<u8>, AllocError> {
     let mut text = Vec::new(alloc);
-    let Some(name) = read_name(name) else {
-        return Ok(text);
-    };
-    for word in derive_words(&name, bytes).as_slice() {
+    for word in words {
+        if !text.is_empty() {
+            text.push(b' ')?;
+        }
         text.extend_from_slice(word.bytes())?;
-        text.push(b' ')?;
     }
     Ok(text)
 }
 
+fn words_of(alloc: Global, name: &[u8], bytes: &[u8]) -> Result<Vec<u8>, AllocError> {
+    match read_name(name) {
+        None => Ok(Vec::new(alloc)),
+        Some(name) => spaced(alloc, derive_words(&name, bytes).as_slice()),
+    }
+}
+
 /// A file's name, its bytes, and its words.
-static FILES: [(&[u8], &[u8], &[u8]); 10] = [
-    (b"notes", b"", b"size:empty "),
-    (b"a.b.txt", b"x", b"ext:txt size:small "),
-    (b".txt", b"", b"size:empty "),
-    (b"a.", b"", b"size:empty "),
-    (b"..a", b"", b"ext:a size:empty "),
-    (b"Q.C", b"int f() {}", b"ext:C size:small "),
-    (b"q.h", b"int f() {}", b"ext:h size:small defines:f "),
-    (
-        b"a.456789012345678901234567890123456789012345678901234567890",
-        b"",
-        b"size:empty ",
-    ),
-    (
-        b"m.eml",
-        b"From: Alice <alice@example.org>\nTo: bob@example.org,\n Carol <carol@example.org>\nSubject: Re: Lunch plan\n\nSee you.\n",
-        b"ext:eml size:small from:alice@example.org to:bob@example.org to:carol@example.org subject:re subject:lunch subject:plan ",
-    ),
-    (
-        b"x.c",
-        b"/* #include \"no.h\" */\n#include <stdio.h>\n#include \"sub/list.h\"\nstatic const char *s = \"{\";\nint main(void) {\n  puts(s);\n}\n",
-        b"ext:c size:small includes:stdio.h includes:list.h defines:main ",
-    ),
-];
+fn files() -> &'static [(&'static [u8], &'static [u8], &'static [u8])] {
+    &[
+        (b"notes", b"", b"size:empty"),
+        (b"a.b.txt", b"x", b"ext:txt size:small"),
+        (b".txt", b"", b"size:empty"),
+        (b"a.", b"", b"size:empty"),
+        (b"..a", b"", b"ext:a size:empty"),
+        (b"Q.C", b"int f() {}", b"ext:C size:small"),
+        (b"q.h", b"int f() {}", b"ext:h size:small defines:f"),
+        (
+            b"a.456789012345678901234567890123456789012345678901234567890",
+            b"",
+            b"size:empty",
+        ),
+        (
+            b"m.eml",
+            b"From: Alice <alice@example.org>\nTo: bob@example.org,\n Carol <carol@example.org>\nSubject: Re: Lunch plan\n\nSee you.\n",
+            b"ext:eml size:small from:alice@example.org to:bob@example.org to:carol@example.org subject:re subject:lunch subject:plan",
+        ),
+        (
+            b"x.c",
+            b"/* #include \"no.h\" */\n#include <stdio.h>\n#include \"sub/list.h\"\nstatic const char *s = \"{\";\nint main(void) {\n  puts(s);\n}\n",
+            b"ext:c size:small includes:stdio.h includes:list.h defines:main",
+        ),
+    ]
+}
 
 #[test]
 fn files_give_their_words(rt: HostRuntime) -> Result<(), Fail> {
-    for (name, bytes, wanted) in &FILES {
+    for (name, bytes, wanted) in files() {
         let words = words_of(rt.alloc(), name, bytes)?;
         assert_eq!(rt; words.as_slice(), *wanted);
     }

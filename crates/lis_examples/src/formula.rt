@@ -5,121 +5,131 @@ use lis_place::Place;
 
 /// Every formula of at most three bytes over the word `a`, the signs and the parentheses: the text, whether it is rooted,
 /// and how its place prints. A run of `a` is one word.
-const FORMULAS: [(&str, bool, &str); 13] = [
-    ("a", false, "a"),
-    ("/", true, "/"),
-    ("aa", false, "aa"),
-    ("!a", false, "!a"),
-    ("/a", true, "a"),
-    ("aaa", false, "aaa"),
-    ("a/a", false, "a/a"),
-    ("a|a", false, "(a|a)"),
-    ("!aa", false, "!aa"),
-    ("!!a", false, "!!a"),
-    ("/aa", true, "aa"),
-    ("/!a", true, "!a"),
-    ("(a)", false, "a"),
-];
+fn formulas() -> &'static [(&'static str, bool, &'static str)] {
+    &[
+        ("a", false, "a"),
+        ("/", true, "/"),
+        ("aa", false, "aa"),
+        ("!a", false, "!a"),
+        ("/a", true, "a"),
+        ("aaa", false, "aaa"),
+        ("a/a", false, "a/a"),
+        ("a|a", false, "(a|a)"),
+        ("!aa", false, "!aa"),
+        ("!!a", false, "!!a"),
+        ("/aa", true, "aa"),
+        ("/!a", true, "!a"),
+        ("(a)", false, "a"),
+    ]
+}
 
 /// All other texts of one to three bytes over the same signs, by the length of their longest prefix that begins a formula.
-const BROKEN: [(u32, &str); 12] = [
-    (
-        0,
-        "| ) |a |! |/ || |( |) )a )! )/ )| )( )) |aa |a! |a/ |a| |a( |a) |!a |!! |!/ |!| |!( |!) |/a |/!",
-    ),
-    (
-        0,
-        "|// |/| |/( |/) ||a ||! ||/ ||| ||( ||) |(a |(! |(/ |(| |(( |() |)a |)! |)/ |)| |)( |)) )aa )a!",
-    ),
-    (
-        0,
-        ")a/ )a| )a( )a) )!a )!! )!/ )!| )!( )!) )/a )/! )// )/| )/( )/) )|a )|! )|/ )|| )|( )|) )(a )(!",
-    ),
-    (0, ")(/ )(| )(( )() ))a ))! ))/ ))| ))( )))"),
-    (
-        1,
-        "! ( a! a( a) !/ !| !) // /| /) (/ (| () a!a a!! a!/ a!| a!( a!) a(a a(! a(/ a(| a(( a() a)a a)!",
-    ),
-    (
-        1,
-        "a)/ a)| a)( a)) !/a !/! !// !/| !/( !/) !|a !|! !|/ !|| !|( !|) !)a !)! !)/ !)| !)( !)) //a //!",
-    ),
-    (
-        1,
-        "/// //| //( //) /|a /|! /|/ /|| /|( /|) /)a /)! /)/ /)| /)( /)) (/a (/! (// (/| (/( (/) (|a (|!",
-    ),
-    (1, "(|/ (|| (|( (|) ()a ()! ()/ ()| ()( ())"),
-    (
-        2,
-        "a/ a| !! !( /! /( (a (! (( aa! aa( aa) a// a/| a/) a|/ a|| a|) !a! !a( !a) !!/ !!| !!) !(/ !(|",
-    ),
-    (
-        2,
-        "!() /a! /a( /a) /!/ /!| /!) /(/ /(| /() (a! (a( (!/ (!| (!) ((/ ((| (()",
-    ),
-    (
-        3,
-        "aa/ aa| a/! a/( a|! a|( !a/ !a| !!! !!( !(a !(! !(( /a/ /a| /!! /!( /(a /(! /(( (aa (a/ (a| (!a",
-    ),
-    (3, "(!! (!( ((a ((! ((("),
-];
+fn broken_texts() -> &'static [(u32, &'static str)] {
+    &[
+        (
+            0,
+            "| ) |a |! |/ || |( |) )a )! )/ )| )( )) |aa |a! |a/ |a| |a( |a) |!a |!! |!/ |!| |!( |!) |/a |/!",
+        ),
+        (
+            0,
+            "|// |/| |/( |/) ||a ||! ||/ ||| ||( ||) |(a |(! |(/ |(| |(( |() |)a |)! |)/ |)| |)( |)) )aa )a!",
+        ),
+        (
+            0,
+            ")a/ )a| )a( )a) )!a )!! )!/ )!| )!( )!) )/a )/! )// )/| )/( )/) )|a )|! )|/ )|| )|( )|) )(a )(!",
+        ),
+        (0, ")(/ )(| )(( )() ))a ))! ))/ ))| ))( )))"),
+        (
+            1,
+            "! ( a! a( a) !/ !| !) // /| /) (/ (| () a!a a!! a!/ a!| a!( a!) a(a a(! a(/ a(| a(( a() a)a a)!",
+        ),
+        (
+            1,
+            "a)/ a)| a)( a)) !/a !/! !// !/| !/( !/) !|a !|! !|/ !|| !|( !|) !)a !)! !)/ !)| !)( !)) //a //!",
+        ),
+        (
+            1,
+            "/// //| //( //) /|a /|! /|/ /|| /|( /|) /)a /)! /)/ /)| /)( /)) (/a (/! (// (/| (/( (/) (|a (|!",
+        ),
+        (1, "(|/ (|| (|( (|) ()a ()! ()/ ()| ()( ())"),
+        (
+            2,
+            "a/ a| !! !( /! /( (a (! (( aa! aa( aa) a// a/| a/) a|/ a|| a|) !a! !a( !a) !!/ !!| !!) !(/ !(|",
+        ),
+        (
+            2,
+            "!() /a! /a( /a) /!/ /!| /!) /(/ /(| /() (a! (a( (!/ (!| (!) ((/ ((| (()",
+        ),
+        (
+            3,
+            "aa/ aa| a/! a/( a|! a|( !a/ !a| !!! !!( !(a !(! !(( /a/ /a| /!! /!( /(a /(! /(( (aa (a/ (a| (!a",
+        ),
+        (3, "(!! (!( ((a ((! ((("),
+    ]
+}
 
 /// Longer formulas.
-const LONGER: [(&str, bool, &str); 12] = [
-    ("a|b/c", false, "(a|b)/c"),
-    ("a|b|c", false, "((a|b)|c)"),
-    ("(a/b/c)", false, "((a/b)/c)"),
-    ("a/(b/c)", false, "a/(b/c)"),
-    ("!a|b", false, "(!a|b)"),
-    ("!(a|b)/c", false, "!(a|b)/c"),
-    ("((a))", false, "a"),
-    ("/!(a/b)|size>=007", true, "(!(a/b)|size>=7)"),
-    ("size/size<000/size:small", false, "size/size<0/size:small"),
-    ("size>=999999999999", false, "size>=999999999999"),
-    ("year:|year:2003", false, "(year:|year:2003)"),
-    ("_.-+@/x", false, "_.-+@/x"),
-];
+fn longer_formulas() -> &'static [(&'static str, bool, &'static str)] {
+    &[
+        ("a|b/c", false, "(a|b)/c"),
+        ("a|b|c", false, "((a|b)|c)"),
+        ("(a/b/c)", false, "((a/b)/c)"),
+        ("a/(b/c)", false, "a/(b/c)"),
+        ("!a|b", false, "(!a|b)"),
+        ("!(a|b)/c", false, "!(a|b)/c"),
+        ("((a))", false, "a"),
+        ("/!(a/b)|size>=007", true, "(!(a/b)|size>=7)"),
+        ("size/size<000/size:small", false, "size/size<0/size:small"),
+        ("size>=999999999999", false, "size>=999999999999"),
+        ("year:|year:2003", false, "(year:|year:2003)"),
+        ("_.-+@/x", false, "_.-+@/x"),
+    ]
+}
 
 /// Broken texts, with the length of their longest prefix that begins a formula.
-const MORE_BROKEN: [(u32, &str); 21] = [
-    (0, ".."),
-    (0, "../a"),
-    (1, "/.."),
-    (2, "a/.."),
-    (0, ".a"),
-    (2, "a/"),
-    (2, "(a"),
-    (3, "(a))"),
-    (5, "size>"),
-    (6, "size>="),
-    (7, "size>=1a"),
-    (5, "size<"),
-    (5, "xsize>=5"),
-    (8, "(a|size>b"),
-    (17, "size<0000000000001"),
-    (1, "a b"),
-    (0, ":a"),
-    (3, "a:b:"),
-    (1, "a(b)"),
-    (2, "a|/b"),
-    (
-        60,
-        "aaaaaaaaaaaaaaaaaaaaaaaaaaaaaaaaaaaaaaaaaaaaaaaaaaaaaaaaaaaaa",
-    ),
-];
+fn more_broken_texts() -> &'static [(u32, &'static str)] {
+    &[
+        (0, ".."),
+        (0, "../a"),
+        (1, "/.."),
+        (2, "a/.."),
+        (0, ".a"),
+        (2, "a/"),
+        (2, "(a"),
+        (3, "(a))"),
+        (5, "size>"),
+        (6, "size>="),
+        (7, "size>=1a"),
+        (5, "size<"),
+        (5, "xsize>=5"),
+        (8, "(a|size>b"),
+        (17, "size<0000000000001"),
+        (1, "a b"),
+        (0, ":a"),
+        (3, "a:b:"),
+        (1, "a(b)"),
+        (2, "a|/b"),
+        (
+            60,
+            "aaaaaaaaaaaaaaaaaaaaaaaaaaaaaaaaaaaaaaaaaaaaaaaaaaaaaaaaaaaaa",
+        ),
+    ]
+}
 
 /// A place, a text, and the place that it leads to.
-const LEADS: [(&str, &str, &str); 9] = [
-    ("/", "..", "/"),
-    ("a", "..", "/"),
-    ("a/b", "..", "a"),
-    ("(a/b)", "..", "/"),
-    ("a|b/c/!d", "..", "(a|b)/c"),
-    ("a", "b/c", "a/b/c"),
-    ("a", "(b/c)", "a/(b/c)"),
-    ("a/b", "/c|d", "(c|d)"),
-    ("a", "/", "/"),
-];
+fn leads() -> &'static [(&'static str, &'static str, &'static str)] {
+    &[
+        ("/", "..", "/"),
+        ("a", "..", "/"),
+        ("a/b", "..", "a"),
+        ("(a/b)", "..", "/"),
+        ("a|b/c/!d", "..", "(a|b)/c"),
+        ("a", "b/c", "a/b/c"),
+        ("a", "(b/c)", "a/(b/c)"),
+        ("a/b", "/c|d", "(c|d)"),
+        ("a", "/", "/"),
+    ]
+}
 
 fn reads_to(text: &str, rooted: bool, printed: &str) -> bool {
     match read_formula(text.as_bytes()) {
@@ -144,10 +154,10 @@ fn leads_to(from: &str, text: &str, to: &str) -> bool {
 
 #[test]
 fn formulas_read_as_the_grammar_says(rt: HostRuntime) {
-    for (text, rooted, printed) in &FORMULAS {
+    for (text, rooted, printed) in formulas() {
         assert!(rt; reads_to(text, *rooted, printed), "{text}");
     }
-    for (text, rooted, printed) in &LONGER {
+    for (text, rooted, printed) in longer_formulas() {
         assert!(rt; reads_to(text, *rooted, printed), "{text}");
     }
 }
@@ -155,7 +165,7 @@ fn formulas_read_as_the_grammar_says(rt: HostRuntime) {
 #[test]
 fn broken_texts_break_where_the_grammar_says(rt: HostRuntime) {
     assert_eq!(rt; fault_of(b""), Some(FormulaFault::Syntax(0)));
-    for (at, texts) in &BROKEN {
+    for (at, texts) in broken_texts() {
         for text in texts.split(' ') {
             assert_eq!(rt;
                 fault_of(text.as_bytes()),
@@ -164,7 +174,7 @@ fn broken_texts_break_where_the_grammar_says(rt: HostRuntime) {
             );
         }
     }
-    for (at, text) in &MORE_BROKEN {
+    for (at, text) in more_broken_texts() {
         assert_eq!(rt;
             fault_of(text.as_bytes()),
             Some(FormulaFault::Syntax(*at)),
@@ -187,7 +197,7 @@ fn limits_come_after_syntax_and_long_texts_before(rt: HostRuntime) {
 
 #[test]
 fn places_lead_to_places(rt: HostRuntime) {
-    for (from, text, to) in &LEADS {
+    for (from, text, to) in leads() {
         assert!(rt; leads_to(from, text, to), "{from} {text}");
     }
     let root = Place::root();

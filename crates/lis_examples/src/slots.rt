@@ -1,10 +1,10 @@
 //! Slots kept over a commit.
 
 ghost use Rattle.std.specs.Prelude.{◌≡◌, ◌*◌, ◌<◌, ◌≤◌, length, IfOk};
-ghost use Rattle.lis_memdisk.specs.MemStation.{meaning_of};
 
 use lis_journal::Journal;
 use lis_memdisk::MemStation;
+use lis_ports::Disk;
 use lis_slots::Slots;
 use std::alloc::{AllocError, Global};
 use std::test::Fail;
@@ -27,9 +27,9 @@ fn rows() -> Slots
 }
 
 // Keeps two slots: the last one of the first block, and the first one of the second block.
-fn keep_two(alloc: Global, disk: &mut MemStation) -> Result<(), Fail>
-    requires { 4096 * 580 ≤ (meaning_of disk.old).len }
-    ensures { (meaning_of disk.new).len ≡ (meaning_of disk.old).len }
+fn keep_two<D: Disk>(alloc: Global, disk: &mut D) -> Result<(), Fail>
+    requires { 4096 * 580 ≤ (D.meaning disk.old).len }
+    ensures { (D.meaning disk.new).len ≡ (D.meaning disk.old).len }
 {
     let mut journal = Journal::mount(alloc, disk, BLOCKS)?;
     rows().put(&mut journal, disk, 63, &[3; WIDTH])?;
@@ -39,10 +39,10 @@ fn keep_two(alloc: Global, disk: &mut MemStation) -> Result<(), Fail>
 }
 
 // Whether each byte of a slot is this one.
-fn is_filled(alloc: Global, disk: &mut MemStation, k: u32, fill: u8) -> Result<bool, Fail>
-    requires long { 4096 * 580 ≤ (meaning_of disk.old).len }
+fn is_filled<D: Disk>(alloc: Global, disk: &mut D, k: u32, fill: u8) -> Result<bool, Fail>
+    requires long { 4096 * 580 ≤ (D.meaning disk.old).len }
     requires k { k < 128 }
-    ensures { (meaning_of disk.new).len ≡ (meaning_of disk.old).len }
+    ensures { (D.meaning disk.new).len ≡ (D.meaning disk.old).len }
 {
     let journal = Journal::mount(alloc, disk, BLOCKS)?;
     let mut slot = [9; WIDTH];

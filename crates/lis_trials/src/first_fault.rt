@@ -29,75 +29,77 @@ type Case = (
 );
 
 /// The session leaves open records, so that the opening brings them home.
-static CASES: [Case; 11] = [
-    (
-        &["try", "64", "64", "8"],
-        "",
-        "mkdir music;create a music;add m 5;hello;frob;ls;cat m;cd music;pwd;props a;way a;stat;rm a;ls",
-        &[Kind::Take, Kind::Show],
-    ),
-    (
-        &["make", "i", "64", "64", "8"],
-        "mkdir old;create o old;",
-        "ls;",
-        &[Kind::Disk],
-    ),
-    (
-        &["make", "i", "64", "64", "8", "v2"],
-        "mkdir old;create o old;",
-        "ls;",
-        &[Kind::Disk],
-    ),
-    (
-        &["run", "i"],
-        "mkdir old;create o old;",
-        "mkdir music;mkdir rock;create s1 rock;add m 5 music;hello;axiom rock music;ls;cat m;frob;write m 2;hi;rename s1 s2.c;cd music;pwd;props m;way m;stat;cd /;unaxiom rock music;mv s2.c /music;rm m;rmdir nosuch;ls",
-        &[Kind::Take, Kind::Disk, Kind::Show],
-    ),
-    (
-        &["load", "i"],
-        "mkdir old;create o old;",
-        "mkdir music;mkdir rock;create s1 rock;add m 5 music;hello;axiom rock music;ls;cat m;frob;write m 2;hi;rename s1 s2.c;cd music;stat;unaxiom rock music;rm m;rmdir nosuch;ls",
-        &[Kind::Take, Kind::Disk, Kind::Show],
-    ),
-    (
-        &["rooms", "i"],
-        "mkdir old;create o old;",
-        "@0 cd old;@7 mkdir music;@0 create p music;@0 pwd;@7 pwd;@7 ls;@3;ls;@1 add m 5 music;hello;@0 cat m;@7 rm o;@0 way p;@1 stat",
-        &[Kind::Take, Kind::Disk, Kind::Show],
-    ),
-    (
-        &["dump", "i"],
-        "mkdir old;mkdir k:;mkdir new;axiom old new;create o old;add f 5 k:1 k:2 k:3 k:4 k:5 k:6 k:7 k:8 k:9;hello;",
-        "ls;",
-        &[Kind::Disk, Kind::Show],
-    ),
-    (
-        &["view", "i", "notes.txt", "word:alpha"],
-        "mkdir old;add notes.txt 25 old;alpha one;beta;;alpha two;",
-        "ls;",
-        &[Kind::Disk, Kind::Show],
-    ),
-    (
-        &["put", "i", "notes.txt", "word:alpha"],
-        "mkdir old;add notes.txt 25 old;alpha one;beta;;alpha two;",
-        "+alpha 1;@1 2;+alpha 2;+end;",
-        &[Kind::Take, Kind::Disk, Kind::Show],
-    ),
-    (
-        &["upgrade", "i"],
-        "mkdir old;create o old;",
-        "ls;",
-        &[Kind::Disk],
-    ),
-    // There is room for the words of the first lines alone: no more files are made.
-    (
-        &["grow", "i", "7"],
-        "mkdir k:;create a k:10 k:11 k:12 k:13 k:14 k:15 k:16 k:17 k:18 k:19 k:20 k:21 k:22 k:23 k:24 k:25;create b k:26 k:27 k:28 k:29 k:30 k:31 k:32 k:33 k:34 k:35 k:36 k:37 k:38 k:39 k:40 k:41;create c k:42 k:43 k:44 k:45 k:46 k:47;",
-        "ls;",
-        &[Kind::Disk, Kind::Show],
-    ),
-];
+fn cases() -> &'static [Case] {
+    &[
+        (
+            &["try", "64", "64", "8"],
+            "",
+            "mkdir music;create a music;add m 5;hello;frob;ls;cat m;cd music;pwd;props a;way a;stat;rm a;ls",
+            &[Kind::Take, Kind::Show],
+        ),
+        (
+            &["make", "i", "64", "64", "8"],
+            "mkdir old;create o old;",
+            "ls;",
+            &[Kind::Disk],
+        ),
+        (
+            &["make", "i", "64", "64", "8", "v2"],
+            "mkdir old;create o old;",
+            "ls;",
+            &[Kind::Disk],
+        ),
+        (
+            &["run", "i"],
+            "mkdir old;create o old;",
+            "mkdir music;mkdir rock;create s1 rock;add m 5 music;hello;axiom rock music;ls;cat m;frob;write m 2;hi;rename s1 s2.c;cd music;pwd;props m;way m;stat;cd /;unaxiom rock music;mv s2.c /music;rm m;rmdir nosuch;ls",
+            &[Kind::Take, Kind::Disk, Kind::Show],
+        ),
+        (
+            &["load", "i"],
+            "mkdir old;create o old;",
+            "mkdir music;mkdir rock;create s1 rock;add m 5 music;hello;axiom rock music;ls;cat m;frob;write m 2;hi;rename s1 s2.c;cd music;stat;unaxiom rock music;rm m;rmdir nosuch;ls",
+            &[Kind::Take, Kind::Disk, Kind::Show],
+        ),
+        (
+            &["rooms", "i"],
+            "mkdir old;create o old;",
+            "@0 cd old;@7 mkdir music;@0 create p music;@0 pwd;@7 pwd;@7 ls;@3;ls;@1 add m 5 music;hello;@0 cat m;@7 rm o;@0 way p;@1 stat",
+            &[Kind::Take, Kind::Disk, Kind::Show],
+        ),
+        (
+            &["dump", "i"],
+            "mkdir old;mkdir k:;mkdir new;axiom old new;create o old;add f 5 k:1 k:2 k:3 k:4 k:5 k:6 k:7 k:8 k:9;hello;",
+            "ls;",
+            &[Kind::Disk, Kind::Show],
+        ),
+        (
+            &["view", "i", "notes.txt", "word:alpha"],
+            "mkdir old;add notes.txt 25 old;alpha one;beta;;alpha two;",
+            "ls;",
+            &[Kind::Disk, Kind::Show],
+        ),
+        (
+            &["put", "i", "notes.txt", "word:alpha"],
+            "mkdir old;add notes.txt 25 old;alpha one;beta;;alpha two;",
+            "+alpha 1;@1 2;+alpha 2;+end;",
+            &[Kind::Take, Kind::Disk, Kind::Show],
+        ),
+        (
+            &["upgrade", "i"],
+            "mkdir old;create o old;",
+            "ls;",
+            &[Kind::Disk],
+        ),
+        // There is room for the words of the first lines alone: no more files are made.
+        (
+            &["grow", "i", "7"],
+            "mkdir k:;create a k:10 k:11 k:12 k:13 k:14 k:15 k:16 k:17 k:18 k:19 k:20 k:21 k:22 k:23 k:24 k:25;create b k:26 k:27 k:28 k:29 k:30 k:31 k:32 k:33 k:34 k:35 k:36 k:37 k:38 k:39 k:40 k:41;create c k:42 k:43 k:44 k:45 k:46 k:47;",
+            "ls;",
+            &[Kind::Disk, Kind::Show],
+        ),
+    ]
+}
 
 /// How words ended of whose calls one was to fail: how many calls there were of both objects, and the number of the one that failed.
 #[derive(Drop)]
@@ -168,7 +170,7 @@ fn first_wrong(alloc: Global, case: &Case, kind: Kind) -> Result<u64, Fail> {
 // A body that mounts again behind a failed sync is refused, and one that takes or shows behind it.
 #[test]
 fn nothing_is_mounted_again_behind_a_failed_sync(rt: HostRuntime) -> Result<(), Fail> {
-    for case in &CASES {
+    for case in cases() {
         let wrong = first_wrong(rt.alloc(), case, Kind::Disk)?;
         assert_eq!(rt; wrong, 0, "{:?}", case.0);
     }
@@ -178,7 +180,7 @@ fn nothing_is_mounted_again_behind_a_failed_sync(rt: HostRuntime) -> Result<(), 
 // So is one that takes input again behind a fault of it, and one that shows or changes more.
 #[test]
 fn nothing_is_taken_again_behind_a_fault_of_the_input(rt: HostRuntime) -> Result<(), Fail> {
-    for case in &CASES {
+    for case in cases() {
         let wrong = first_wrong(rt.alloc(), case, Kind::Take)?;
         assert_eq!(rt; wrong, 0, "{:?}", case.0);
     }
@@ -187,7 +189,7 @@ fn nothing_is_taken_again_behind_a_fault_of_the_input(rt: HostRuntime) -> Result
 
 #[test]
 fn nothing_is_done_behind_a_failed_show(rt: HostRuntime) -> Result<(), Fail> {
-    for case in &CASES {
+    for case in cases() {
         let wrong = first_wrong(rt.alloc(), case, Kind::Show)?;
         assert_eq!(rt; wrong, 0, "{:?}", case.0);
     }

@@ -3,7 +3,7 @@
 ghost use Rattle.std.specs.Prelude.{◌≡◌};
 ghost use Rattle.lis_memdisk.specs.MemStation.{meaning_of};
 
-use crate::tests::tables::{OPENING_WORDS, ROWS, SESSIONS, ZEROS};
+use crate::tests::tables::{ROWS, ZEROS, opening_words, sessions};
 use crate::tests::{SOUND, built_sessions, call, row_of};
 use lis_memdisk::MemStation;
 use lis_open::OpenFault;
@@ -81,7 +81,7 @@ fn images_show_what_plain_states_show(rt: HostRuntime) -> Result<(), Fail> {
     let alloc = rt.alloc();
     for words in &MAKES {
         let image = made(alloc, words)?;
-        for (row, wanted) in &SESSIONS {
+        for (row, wanted) in sessions() {
             let (status, shown) = session(alloc, &image, row)?;
             assert_eq!(rt; shown.as_str(), *wanted, "{row}");
             assert_eq!(rt; status, Status::DONE, "{row}");
@@ -113,7 +113,7 @@ fn on_zeros(alloc: Global, words: &[&str], len: usize) -> Result<(Status, usize,
 
 #[test]
 fn each_word_that_opens_an_image_judges_it(rt: HostRuntime) -> Result<(), Fail> {
-    for words in &OPENING_WORDS {
+    for words in opening_words() {
         for (len, wanted) in &ZEROS {
             let (status, taken, shown) = on_zeros(rt.alloc(), words, *len)?;
             assert_eq!(rt; status, *wanted, "{words:?}");

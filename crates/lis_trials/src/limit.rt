@@ -5,18 +5,34 @@ ghost use Rattle.lis_memdisk.specs.MemStation.{meaning_of};
 ghost use Rattle.lis_store.specs.Stored.{IsSound, IsUsable};
 
 use crate::images::{fresh, run, shown_behind};
-use crate::tests::tables::{EDITS, LIMITED};
+use crate::tests::tables::{LIMITED, edit_counts};
 use crate::tests::{SOUND, row_of, source};
 use lis_line::reader::Payload;
 use lis_memdisk::MemStation;
 use lis_open::mount;
+use lis_ports::{Source, Station};
 use lis_session::session::Session;
 use lis_shell::serving::serve;
 use lis_shell::status::Status;
 use std::alloc::{AllocError, Global};
 use std::test::Fail;
 
-// How a session ends that begins with an opened image.
+// How a session ends, whatever its input and its station are.
+fn served<S: Source, T: Station>(
+    session: &mut Session,
+    payload: &mut Payload,
+    input: &mut S,
+    station: &mut T,
+    limit: u64,
+) -> Status
+    requires limit { limit ≤ 2 ^ 40 }
+    requires sound { IsSound session.old.store }
+    requires usable { IsUsable session.old.store (T.meaning station.old) }
+{
+    Status::Ended(serve(session, payload, input, station, limit))
+}
+
+// How a session of such a row ends.
 fn serve_row(
     alloc: Global,
     session: &mut Session,
@@ -30,14 +46,12 @@ fn serve_row(
 {
     let mut payload = Payload::new(alloc)?;
     let mut input = source(alloc, row, &SOUND)?;
-    let halt = serve(session, &mut payload, &mut input, station, limit);
-    Ok(Status::Ended(halt))
+    Ok(served(session, &mut payload, &mut input, station, limit))
 }
 
-fn opened(alloc: Global, station: &mut MemStation) -> Result<Session, Fail>
+fn opened<T: Station>(alloc: Global, station: &mut T) -> Result<Session, Fail>
     ensures sound { IfOk result (λ session. IsSound session.store) }
-    ensures unbroken { IfOk result (λ session. session.store.is_broken ≡ false) }
-    ensures long { IfOk result (λ session. 4096 * session.store.journal.blocks ≤ (meaning_of station.new).len) }
+    ensures usable { IfOk result (λ session. IsUsable session.store (T.meaning station.new)) }
 {
     match mount(alloc, station) {
         Ok(store) => Ok(Session::new(alloc, store)?),
@@ -112,7 +126,7 @@ fn edits_on(alloc: Global, image: &[u8], row: &str) -> Result<u64, Fail> {
 fn rows_are_edited_where_descriptions_differ(rt: HostRuntime) -> Result<(), Fail> {
     let alloc = rt.alloc();
     let image = fresh(alloc)?;
-    for (row, wanted) in &EDITS {
+    for (row, wanted) in edit_counts() {
         let edits = edits_on(alloc, &image, row)?;
         assert_eq!(rt; edits, *wanted, "{row}");
     }

@@ -1,7 +1,7 @@
 //! Parts of a file over images in memory: what is shown of them, and what is left of the file.
 
 use crate::images::{MAKES, bytes_of, made, session, used};
-use crate::tests::tables::{NOTES, NOTES_LEFT, PARTS};
+use crate::tests::tables::{NOTES, NOTES_LEFT, part_cases};
 use crate::tests::{Outside, SOUND, call, row_of};
 use lis_memdisk::MemStation;
 use lis_shell::status::Status;
@@ -67,7 +67,7 @@ fn parts_show_and_leave_the_same_in_any_pieces(rt: HostRuntime) -> Result<(), Fa
     for (step, makes) in [(1, MAKES[0]), (7, MAKES[1]), (4_096, MAKES[0])] {
         let image = noted(alloc, makes)?;
         let outside = Outside { step, ..SOUND };
-        for (words, row, is_taken, wanted, left) in &PARTS {
+        for (words, row, is_taken, wanted, left) in part_cases() {
             let seen = carried_on(alloc, &image, words, row, &outside)?;
             let taken = if *is_taken { row.len() } else { 0 };
             assert_eq!(rt; seen.status, Status::DONE, "{words:?} with {row}");

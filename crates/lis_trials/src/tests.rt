@@ -8,7 +8,7 @@ use lis_line::reader::Payload;
 use lis_memdisk::MemStation;
 use lis_model::limits::Limits;
 use lis_plain::plain::Plain;
-use lis_ports::MemSource;
+use lis_ports::{MemSource, Source, Station};
 use lis_shell::session::try_session;
 use lis_shell::status::Status;
 use lis_shell::top::lisfs;
@@ -18,7 +18,7 @@ use std::test::Fail;
 pub mod tables;
 
 use tables::{
-    CUT_SESSIONS, Cut, FAILING_SHOWS, LARGE_FILES, LONG_LINES, RIGHT_WORDS, SESSIONS, WRONG_WORDS,
+    CUT_SESSIONS, Cut, LARGE_FILES, failing_shows, long_lines, right_words, sessions, wrong_words,
 };
 
 /// The words of most sessions.
@@ -105,6 +105,18 @@ fn station(alloc: Global, outside: &Outside) -> Result<MemStation, AllocError> {
     Ok(station)
 }
 
+// The program, of which is asked here only that a recorded station stays one.
+fn called<S: Source, T: Station>(
+    alloc: Global,
+    words: &[String],
+    input: &mut S,
+    station: &mut T,
+) -> Status
+    ensures { (T.meaning station.new).is_recorded ≡ (T.meaning station.old).is_recorded }
+{
+    lisfs(alloc, words, input, station)
+}
+
 /// How a call of the program ends, and how many bytes of the input it took.
 pub fn call(
     alloc: Global,
@@ -120,7 +132,7 @@ pub fn call(
         owned.push(String::from_str(alloc, word)?)?;
     }
     let mut input = source(alloc, row, outside)?;
-    let status = lisfs(alloc, &owned, &mut input, station);
+    let status = called(alloc, &owned, &mut input, station);
     Ok((status, input.place))
 }
 
@@ -144,7 +156,7 @@ fn is_whole(seen: &Seen, row: &str) -> bool {
 // They are done: no clause can say that there is memory, so a body that gives up would be proved.
 #[test]
 fn sessions_show_the_same_in_any_pieces(rt: HostRuntime) -> Result<(), Fail> {
-    for (row, wanted) in &SESSIONS {
+    for (row, wanted) in sessions() {
         for (words, step) in &PIECES {
             let outside = Outside {
                 step: *step,
@@ -242,7 +254,7 @@ fn crowded_row(alloc: Global) -> Result<(String, String), AllocError> {
 /// Sessions whose rows are put together, and what is shown of each: of long lines, and of words by size and by name that come and go.
 pub fn built_sessions(alloc: Global) -> Result<Vec<(String, String)>, AllocError> {
     let mut sessions = Vec::new(alloc);
-    for (count, behind, wanted) in &LONG_LINES {
+    for (count, behind, wanted) in long_lines() {
         let row = long_row(alloc, *count, behind)?;
         sessions.push((row, String::from_str(alloc, wanted)?))?;
     }
@@ -270,7 +282,7 @@ fn is_untouched(seen: &Seen) -> bool {
 
 #[test]
 fn wrong_words_are_refused_before_anything_is_taken_or_shown(rt: HostRuntime) -> Result<(), Fail> {
-    for words in &WRONG_WORDS {
+    for words in wrong_words() {
         let seen = run(rt.alloc(), words, "mkdir a;", &SOUND)?;
         assert_eq!(rt; seen.status, Status::Usage, "{words:?}");
         assert!(rt; is_untouched(&seen), "{words:?}");
@@ -280,7 +292,7 @@ fn wrong_words_are_refused_before_anything_is_taken_or_shown(rt: HostRuntime) ->
 
 #[test]
 fn right_words_are_carried_out(rt: HostRuntime) -> Result<(), Fail> {
-    for words in &RIGHT_WORDS {
+    for words in right_words() {
         let seen = run(rt.alloc(), words, "mkdir a;", &SOUND)?;
         assert_eq!(rt; seen.status, Status::DONE, "{words:?}");
         assert_eq!(rt; seen.shown.as_str(), "ok;", "{words:?}");
@@ -291,7 +303,7 @@ fn right_words_are_carried_out(rt: HostRuntime) -> Result<(), Fail> {
 // At one byte a call it is known what was shown: a byte for each call before the one that failed.
 #[test]
 fn a_failing_show_ends_behind_a_front_of_the_replies(rt: HostRuntime) -> Result<(), Fail> {
-    for (show_fails, shown, status) in &FAILING_SHOWS {
+    for (show_fails, shown, status) in failing_shows() {
         let outside = Outside {
             show_step: 1,
             show_fails: *show_fails,

@@ -276,19 +276,30 @@ fn damaged_index_blocks_are_named(rt: HostRuntime) -> Result<(), Fail> {
     Ok(())
 }
 
+// The image with another value of the gate of a version.
+fn with_gate(alloc: Global, image: &[u8], gate: u8) -> Result<Vec<u8>, Fail> {
+    let mut bytes = image.to_vec(alloc)?;
+    match bytes.get_mut(24) {
+        None => return Err("there is no gate".into()),
+        Some(place) => *place = gate,
+    }
+    Ok(bytes)
+}
+
+// How a session ends over it that adds a large file, and what it shows.
+fn adds_large(alloc: Global, image: &[u8], gate: u8) -> Result<(Status, String), Fail> {
+    let row = files_row(alloc, &[("a", 65_537)], "")?;
+    let bytes = with_gate(alloc, image, gate)?;
+    Ok(session(alloc, &bytes, row.as_str())?)
+}
+
 // Every value of the gate of a version but one is version 1, and an image without large files opens as either.
 #[test]
 fn the_gate_of_a_version_may_have_any_value(rt: HostRuntime) -> Result<(), Fail> {
     let alloc = rt.alloc();
     let image = made(alloc, &SMALL)?;
     for gate in [0, 1, 2, 3, 165, 255] {
-        let mut bytes = image.clone()?;
-        match bytes.get_mut(24) {
-            None => return Err("there is no gate".into()),
-            Some(place) => *place = gate,
-        }
-        let row = files_row(alloc, &[("a", 65_537)], "")?;
-        let (status, shown) = session(alloc, &bytes, row.as_str())?;
+        let (status, shown) = adds_large(alloc, &image, gate)?;
         let wanted = if gate == 2 {
             "ok;"
         } else {

@@ -4,7 +4,7 @@ use Rattle.lis_content.proofs.Numbers.{below_from_taken, within_if_below}
 use Rattle.lis_examples.proofs.content.is_read_back.Goals as goal
 
 pub read-requires-clause-within : goal.read-requires-clause-within
-read-requires-clause-within c =
+read-requires-clause-within g c =
     let map = c.put-2.new.map in
     let blocks = c.in_ok-blocks.blocks.items in
     let old = c.in_ok-old.ensures.ended in
