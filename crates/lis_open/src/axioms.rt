@@ -35,6 +35,11 @@ pub struct Axioms {
     pub taxonomy: Taxonomy,
 }
 
+impl Axioms {
+    /// Gives back their memory.
+    pub fn close(self) {}
+}
+
 // How many axiom slots there are, in whole blocks.
 fn slot_count(limits: &Limits) -> u32
     requires { IsTrue (are_in_range limits.now) }

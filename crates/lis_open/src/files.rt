@@ -61,6 +61,11 @@ pub struct Files {
     pub ext: Ext,
 }
 
+impl Files {
+    /// Gives back their memory.
+    pub fn close(self) {}
+}
+
 /// No files yet.
 #[tactic(auto, unfolding(crate::specs::ReadFiles::no_files))]
 pub fn no_files(alloc: Global, limits: &Limits) -> Result<Files, AllocError>

@@ -128,8 +128,13 @@ fn mount_image<D: Disk>(alloc: Global, disk: &mut D, limits: Limits) -> Result<S
         → KeepsPast (image_blocks limits) (D.meaning disk.old) (D.meaning disk.new) }
 {
     let room = take_room(alloc, &limits)?;
-    let journal = Journal::mount(alloc, disk, image_blocks(&limits))?;
-    read_store(disk, limits, journal, room)
+    match Journal::mount(alloc, disk, image_blocks(&limits)) {
+        Ok(journal) => read_store(disk, limits, journal, room),
+        Err(fault) => {
+            room.close();
+            Err(OpenFault::from(fault))
+        }
+    }
 }
 
 /// Opens the image on a disk. It writes nothing but what unfinished records ask for.

@@ -126,7 +126,10 @@ pub fn read_store<D: Disk>(
         → SpellsSuper limits (kept 0) → StoreEnded limits kept result }
 {
     let mut room = room;
-    read_parts(disk, &journal, &limits, &mut room)?;
+    if let Err(fault) = read_parts(disk, &journal, &limits, &mut room) {
+        room.close();
+        return Err(fault);
+    }
     let parts = Parts::join(Fields {
         limits,
         dict: room.words.dict,

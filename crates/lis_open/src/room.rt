@@ -1,8 +1,10 @@
 //! The memory that opening takes, all of it before the journal is looked at.
 
-ghost use Rattle.std.specs.Prelude.{IsTrue, IfOk};
+ghost use Rattle.std.specs.Prelude.{◌≡◌, IsTrue, IfOk};
 ghost use Rattle.lis_model.specs.Ranges.{are_in_range};
 ghost use Rattle.lis_open.specs.ReadAll.{IsEmptyRoom};
+ghost use Rattle.lis_open.specs.ReadFiles.{no_files};
+ghost use Rattle.lis_open.specs.ReadWords.{no_words, AreNoAxioms};
 
 use crate::axioms::{Axioms, no_axioms};
 use crate::files::{Files, no_files};
@@ -27,18 +29,53 @@ pub struct Room {
     pub marks: Flags,
 }
 
+impl Room {
+    /// Gives back its memory, each part by a call of its own: a drop of all of them at once takes long to check.
+    pub fn close(self) {
+        self.files.close();
+        self.axioms.close();
+        self.words.close();
+    }
+}
+
+// What the slots are read into.
+#[derive(Drop)]
+struct Slots {
+    words: Words,
+    axioms: Axioms,
+    files: Files,
+}
+
+// Takes the memory for the slots. Nothing is read yet.
+fn take_slots(alloc: Global, limits: &Limits) -> Result<Slots, AllocError>
+    requires { IsTrue (are_in_range limits.now) }
+    ensures words { IfOk result (λ slots. slots.words ≡ no_words limits.now) }
+    ensures axioms { IfOk result (λ slots. AreNoAxioms limits.now slots.axioms) }
+    ensures files { IfOk result (λ slots. slots.files ≡ no_files limits.now) }
+{
+    Ok(Slots {
+        axioms: no_axioms(alloc, limits)?,
+        words: no_words(alloc, limits)?,
+        files: no_files(alloc, limits)?,
+    })
+}
+
 /// Takes the memory, what has most parts last: each part is given back wherever a later one can't be had, which takes long to check.
 /// Nothing is read yet.
 pub fn take_room(alloc: Global, limits: &Limits) -> Result<Room, AllocError>
     requires { IsTrue (are_in_range limits.now) }
     ensures { IfOk result (IsEmptyRoom limits.now) }
 {
+    let row = Rows::new(alloc, 2, limits.props)?;
+    let bytes = Buffer::new(alloc)?;
+    let marks = Flags::new(alloc, 64 * data_start(limits).div_ceil(64))?;
+    let slots = take_slots(alloc, limits)?;
     Ok(Room {
-        row: Rows::new(alloc, 2, limits.props)?,
-        bytes: Buffer::new(alloc)?,
-        marks: Flags::new(alloc, 64 * data_start(limits).div_ceil(64))?,
-        axioms: no_axioms(alloc, limits)?,
-        words: no_words(alloc, limits)?,
-        files: no_files(alloc, limits)?,
+        words: slots.words,
+        axioms: slots.axioms,
+        files: slots.files,
+        row,
+        bytes,
+        marks,
     })
 }

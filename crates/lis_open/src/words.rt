@@ -32,6 +32,11 @@ pub struct Words {
     pub declared: Flags,
 }
 
+impl Words {
+    /// Gives back their memory.
+    pub fn close(self) {}
+}
+
 /// No words yet.
 #[tactic(auto, unfolding(crate::specs::ReadWords::no_words))]
 pub fn no_words(alloc: Global, limits: &Limits) -> Result<Words, AllocError>

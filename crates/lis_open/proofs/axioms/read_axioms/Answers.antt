@@ -1,4 +1,4 @@
-use Rattle.lis_open.proofs.Common.{◌≡◌, refl, subst, ◌∙◌, arith, below_more, ends_none, ends_then, axiom_slots}
+use Rattle.lis_open.proofs.Common.{rules, ◌≡◌, refl, subst, ◌∙◌, arith, below_more, ends_none, ends_then, axiom_slots}
 use Rattle.lis_open.specs.Checks.{AxiomFails}
 use Rattle.lis_open.specs.ReadWords.{AxiomsAreSpelled}
 use Rattle.lis_open.proofs.SpotKinds.{none_before, none_fails}
@@ -62,3 +62,6 @@ returns-clause-ended g c = λ kept fits recalled told.
       none = none_fails limits kept 3 (λ n fails. l.invariant.passed kept fits recalled told n (omega (arith, end, fails.below)) fails);
       is = subst (λ n. AxiomsAreSpelled limits kept l.axioms n) end (l.invariant.spelled kept fits recalled);
     }
+
+pub returns-in_err-found : goal.returns-in_err-found
+returns-in_err-found g c = search rules

@@ -1,4 +1,4 @@
-use Rattle.lis_open.proofs.Common.{arith, length-take-le}
+use Rattle.lis_open.proofs.Common.{rules, arith, length-take-le}
 use Rattle.lis_kept.proofs.InArea.{few_files}
 use Rattle.lis_open.proofs.BlocksRead.{few_blocks}
 use Rattle.lis_open.proofs.Lefts.{row_read}
@@ -11,3 +11,6 @@ pub returns-clause-read : goal.returns-clause-read
 returns-clause-read g c = λ kept fits recalls.
     row_read c.args.limits.now kept c.args.ext.now c.args.p c.rows_start.result _ c.read_slot.new.buf c.is_row.result c.rows_start.ensures
     (length-take-le _ _ (let few = few_files c.args.limits.now c.requires.readable.range in omega (arith, few))) (c.in_ok-read_slot.ensures.read kept fits recalls) c.is_row.ensures
+
+pub returns-in_err-read_slot : goal.returns-in_err-read_slot
+returns-in_err-read_slot g c = search rules

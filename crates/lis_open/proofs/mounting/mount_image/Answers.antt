@@ -1,5 +1,5 @@
 use Rattle.std.proofs.Common.{IfOk}
-use Rattle.lis_open.proofs.Common.{rules, ◌≡◌, ◌⊎◌, ℕ, List, ◌∙◌, sym, ap, subst, Err, Result, false, arith, err_from_is_err_and, block, Held, Leaves, IsSettled, image_blocks, Stored, IsSound, recovered}
+use Rattle.lis_open.proofs.Common.{rules, refl, ◌≡◌, ◌⊎◌, ℕ, List, ◌∙◌, sym, ap, subst, Err, Result, false, arith, err_from_is_err_and, block, Held, Leaves, IsSettled, image_blocks, Stored, IsSound, recovered}
 use Rattle.lis_journal.specs.Recovery.{InRecovery, MountEnded}
 use Rattle.lis_journal.specs.declared.journal.JournalFault.{JournalFault}
 use Rattle.lis_journal.specs.declared.journal.JournalFault.TheVariants.{DiskFault as JournalDisk}
@@ -16,54 +16,53 @@ returns-in_err-room-clause-opened g c = λ honest.
     let p = err_from_is_err_and c.from_residual.result c.from_residual.ensures.1 in
     rw (p.1, p.2) (memory_opened old c.args.limits (c.requires.begins honest) c.requires.long old (unchanged_none old))
 
-pub returns-in_err-journal : goal.returns-in_err-journal
-returns-in_err-journal g c =
+pub returns-in-Err : goal.returns-in-Err
+returns-in-Err g c =
     let old = g.D.Disk.meaning c.args.disk.now in
     let new = g.D.Disk.meaning c.mount.new.disk in
-    let fault = c.in_err-journal.field-0.0 in
-    let p = err_from_is_err_and c.from_residual-in_err-journal.result c.from_residual-in_err-journal.ensures.1 in
+    let fault = c.in-Err.fault in
     let mounted = rw c.image_blocks.ensures.blocks at c.mount.ensures in
-    let failed : c.mount.result ≡ Err JournalDisk → fault ≡ JournalDisk = λ is. one_fault (sym c.in_err-journal.was ∙ is) in
+    let failed : c.mount.result ≡ Err JournalDisk → fault ≡ JournalDisk = λ is. one_fault (sym c.in-Err.is ∙ is) in
     record {
       run = search rules;
-      cause = rw (p.1, p.2) (journal_cause Stored _ _ fault c.in_err-journal.ensures.cause);
+      cause = rw c.from.ensures (journal_cause Stored _ _ fault c.in-Err.ensures.cause);
       first_fault = search rules;
-      fits_disk = journal_enough c.from_residual-in_err-journal.result p.0 fault p.1 p.2;
+      fits_disk = journal_enough (Err c.from.result) c.from.result fault refl c.from.ensures;
       opened = λ honest.
-          rw (p.1, p.2) (journal_opened old c.args.limits (c.requires.begins honest) c.requires.long new c.mount.result fault c.in_err-journal.was (mounted.ended honest)
+          rw c.from.ensures (journal_opened old c.args.limits (c.requires.begins honest) c.requires.long new c.mount.result fault c.in-Err.is (mounted.ended honest)
           (λ memory. subst (λ d. IsUnchanged old (g.D.Disk.meaning d)) (sym (mounted.memory memory)) (unchanged_none old)));
       sound = search rules;
       ready = search rules;
       long = search rules;
       any_moment = λ honest. journal_moments old c.args.limits (c.requires.begins honest) c.requires.long new (mounted.any_moment honest);
-      past = λ honest settled. mounted.past honest (λ is. settled (p.1 ∙ ap Err (p.2 ∙ ap journal_fault (failed is))));
+      past = λ honest settled. mounted.past honest (λ is. settled (ap Err (c.from.ensures ∙ ap journal_fault (failed is))));
     }
 
-pub returns-clause-opened : goal.returns-clause-opened
-returns-clause-opened g c = λ honest.
+pub returns-in-Ok-clause-opened : goal.returns-in-Ok-clause-opened
+returns-in-Ok-clause-opened g c = λ honest.
     let old = g.D.Disk.meaning c.args.disk.now in
     let mid = g.D.Disk.meaning c.mount.new.disk in
     let ended = subst (λ b. MountEnded b old mid c.mount.result) c.image_blocks.ensures.blocks (c.mount.ensures.ended honest) in
-    store_opened old c.args.limits (c.requires.begins honest) c.requires.long (g.met.D.Disk.reads_len c.args.disk.now honest) c.in_ok-journal.journal mid (g.D.Disk.meaning c.read_store.new.disk) c.read_store.result
-    (subst (λ (o : Result Held JournalFault). MountEnded (image_blocks c.args.limits) old mid o) c.in_ok-journal.was ended)
-    (subst (λ b. IsSettled mid (recovered b old.bytes)) c.image_blocks.ensures.blocks (c.in_ok-journal.ensures.left honest)) c.read_store.ensures.disk.reads
+    store_opened old c.args.limits (c.requires.begins honest) c.requires.long (g.met.D.Disk.reads_len c.args.disk.now honest) c.in-Ok.journal mid (g.D.Disk.meaning c.read_store.new.disk) c.read_store.result
+    (subst (λ (o : Result Held JournalFault). MountEnded (image_blocks c.args.limits) old mid o) c.in-Ok.is ended)
+    (subst (λ b. IsSettled mid (recovered b old.bytes)) c.image_blocks.ensures.blocks (c.in-Ok.ensures.left honest)) c.read_store.ensures.disk.reads
     (λ store is. record {
       sound = subst (λ (o : Result Stored OpenFault). IfOk o IsSound) is c.read_store.ensures.sound;
-      over = subst (λ (o : Result Stored OpenFault). IfOk o (λ k. k.journal ≡ c.in_ok-journal.journal)) is c.read_store.ensures.journal;
+      over = subst (λ (o : Result Stored OpenFault). IfOk o (λ k. k.journal ≡ c.in-Ok.journal)) is c.read_store.ensures.journal;
       unbroken = subst (λ (o : Result Stored OpenFault). IfOk o (λ k. k.is_broken ≡ false)) is c.read_store.ensures.unbroken;
-      settled = ap (λ (h : Held). h.staged) (subst (λ (o : Result Stored OpenFault). IfOk o (λ k. k.journal ≡ c.in_ok-journal.journal)) is c.read_store.ensures.journal ∙ c.in_ok-journal.ensures.held);
+      settled = ap (λ (h : Held). h.staged) (subst (λ (o : Result Stored OpenFault). IfOk o (λ k. k.journal ≡ c.in-Ok.journal)) is c.read_store.ensures.journal ∙ c.in-Ok.ensures.held);
     })
     c.read_store.ensures.ended
 
-pub returns-clause-any_moment : goal.returns-clause-any_moment
-returns-clause-any_moment g c = λ honest.
+pub returns-in-Ok-clause-any_moment : goal.returns-in-Ok-clause-any_moment
+returns-in-Ok-clause-any_moment g c = λ honest.
     let old = g.D.Disk.meaning c.args.disk.now in
     let mid = g.D.Disk.meaning c.mount.new.disk in
     store_moments old c.args.limits (c.requires.begins honest) c.requires.long mid (g.D.Disk.meaning c.read_store.new.disk)
-    (subst (λ b. (image : List ℕ) → mid.images image → old.images image ⊎ InRecovery b old.bytes image) c.image_blocks.ensures.blocks (c.in_ok-journal.ensures.images honest))
+    (subst (λ b. (image : List ℕ) → mid.images image → old.images image ⊎ InRecovery b old.bytes image) c.image_blocks.ensures.blocks (c.in-Ok.ensures.images honest))
     (subst (λ b. Leaves old mid (λ image. old.images image ⊎ InRecovery b old.bytes image)) c.image_blocks.ensures.blocks (c.mount.ensures.any_moment honest))
     (c.read_store.ensures.disk.reads.moments (c.mount.ensures.run.honest ∙ honest))
 
-pub returns-clause-past : goal.returns-clause-past
-returns-clause-past g c = λ honest settled n past.
-    ap (block n) (c.read_store.ensures.disk.reads.same (c.mount.ensures.run.honest ∙ honest)).bytes ∙ c.in_ok-journal.ensures.past honest (λ e. absurd (cc)) n (omega (arith, past, c.image_blocks.ensures.blocks))
+pub returns-in-Ok-clause-past : goal.returns-in-Ok-clause-past
+returns-in-Ok-clause-past g c = λ honest settled n past.
+    ap (block n) (c.read_store.ensures.disk.reads.same (c.mount.ensures.run.honest ∙ honest)).bytes ∙ c.in-Ok.ensures.past honest (λ e. absurd (cc)) n (omega (arith, past, c.image_blocks.ensures.blocks))

@@ -1,4 +1,4 @@
-use Rattle.lis_open.proofs.Common.{inr, ◌*◌, arith}
+use Rattle.lis_open.proofs.Common.{rules, inr, ◌*◌, arith}
 use Rattle.lis_open.proofs.Opening.{short_opened, no_super_opened, super_read, none_read}
 use Rattle.lis_open.proofs.mounting.read_limits.Goals as goal
 
@@ -19,3 +19,6 @@ pub returns-clause-ended : goal.returns-clause-ended
 returns-clause-ended g c = λ honest.
     let old = g.D.Disk.meaning c.args.disk.now in
     super_read old.bytes c.read_at.new.buf c.in-Some.limits (c.in_ok-read_at.ensures.read honest) c.in-Some.ensures.spelled
+
+pub returns-in_err-read_at : goal.returns-in_err-read_at
+returns-in_err-read_at g c = search rules

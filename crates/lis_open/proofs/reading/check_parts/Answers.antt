@@ -1,4 +1,4 @@
-use Rattle.lis_open.proofs.Common.{refl, [], ends_none, err_from_is_err_and}
+use Rattle.lis_open.proofs.Common.{rules, refl, [], ends_none, err_from_is_err_and}
 use Rattle.lis_open.specs.ReadAll.{kept_in, AreRead}
 use Rattle.lis_open.proofs.Joined.{none_past}
 use Rattle.lis_open.proofs.AllRead.{words_failed, bitmap_failed, rows_ended, on_ok, stray_cause}
@@ -40,3 +40,6 @@ returns-clause-ended g c = λ kept fits recalls passed.
     let fits1 = fits_after c.args.journal.now kept c.check_bitmap.ensures.disk.reads fits in
     rows_ended c.args.limits.now kept c.args.room.now.words c.args.room.now.axioms c.args.room.now.files passed.read passed.none c.in_ok-check_words.ensures c.requires.readable.range (c.in_ok-check_bitmap.ensures.ended kept fits)
     c.check_rows.result (c.check_rows.ensures.ended kept fits1 recalls)
+
+pub returns-in_err-check_bitmap-clause-disk : goal.returns-in_err-check_bitmap-clause-disk
+returns-in_err-check_bitmap-clause-disk g c = search rules

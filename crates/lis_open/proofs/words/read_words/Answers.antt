@@ -1,4 +1,4 @@
-use Rattle.lis_open.proofs.Common.{refl, sym, ◌∙◌, arith, ends_none, ends_then}
+use Rattle.lis_open.proofs.Common.{rules, refl, sym, ◌∙◌, arith, ends_none, ends_then}
 use Rattle.lis_ports.proofs.OnlyReading.{reads_none, reads_then}
 use Rattle.lis_open.proofs.BlocksRead.{fits_after}
 use Rattle.lis_open.proofs.WordsRead.{slot_on, property_fails, words_pass, first_words}
@@ -42,3 +42,6 @@ pub returns-clause-ended : goal.returns-clause-ended
 returns-clause-ended g c = λ kept fits recalled.
     let l = c.loop-number in
     words_pass c.args.limits.now kept l.words l.number l.invariant.first (l.invariant.spelled kept fits recalled) (omega (arith, c.loop-number-test.false, l.auto.number-end))
+
+pub returns-in_err-found : goal.returns-in_err-found
+returns-in_err-found g c = search rules

@@ -1,4 +1,5 @@
-use Rattle.std.proofs.Common.{length, ap, arith}
+use Rattle.std.proofs.Common.{length, length-append, ap, ◌∙◌, arith}
+use Rattle.std.proofs.lemmas.List.{length-map}
 use Rattle.lis_kept.proofs.InArea.{few_files, few_properties}
 use Rattle.lis_store.specs.Seen.{seen_of}
 use Rattle.lis_session.proofs.Tallying.{few_lines}
@@ -10,6 +11,9 @@ count_lines-requires c =
     let range = c.requires.sound.parts.range in
     let few = few_lines (seen_of c.args.store.now.parts) c.make_listing.new.scratch.increments c.make_listing.new.scratch.locals 0 0 c.make_listing.ensures.kept in
     omega (arith, ap length c.lines.ensures, few, few_properties limits range, few_files limits range)
+
+pub returns-clause-count : goal.returns-clause-count
+returns-clause-count c = c.count_lines.ensures ∙ (ap length (c.lines.ensures ∙ c.make_listing.ensures.lines) ∙ simp (length-append, length-map))
 
 pub returns-clause-few : goal.returns-clause-few
 returns-clause-few c =
