@@ -10,9 +10,8 @@ loop-n-init c = staged_none c.args.self.now c.args.journal.now c.limits.ensures.
 
 pub stage_block-requires-clause-room : goal.stage_block-requires-clause-room
 stage_block-requires-clause-room c =
-    let k = c.args.self.now in
-    let lt : c.loop-n.n < length k.marks = omega (arith, c.loop-n-test.true, c.data_start-end.ensures.start, ap data_start c.limits.ensures.value, c.limits.ensures.sound.marks) in
-    omega (arith, c.requires.room, c.loop-n.invariant.few, marks_before k c.loop-n.n lt (sym c.is_marked.ensures ∙ c.if-is_marked.true))
+    let lt : c.loop-n.n < length c.args.self.now.marks = omega (arith, c.loop-n-test.true, c.data_start-end.ensures.start, ap data_start c.limits.ensures.value, c.limits.ensures.sound.marks) in
+    omega (arith, c.requires.room, c.loop-n.invariant.few, marks_before c.args.self.now c.loop-n.n lt (sym c.is_marked.ensures ∙ c.if-is_marked.true))
 
 pub loop-n-preserved : goal.loop-n-preserved
 loop-n-preserved c =

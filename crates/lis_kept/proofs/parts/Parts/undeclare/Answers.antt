@@ -9,14 +9,10 @@ use Rattle.lis_kept.specs.contracts.parts.Parts.{the_view}
 use Rattle.lis_kept.proofs.parts.Parts.undeclare.Goals as goal
 
 pub put-requires : goal.put-requires
-put-requires c =
-    let below = named_below (the_view c.self.inside) c.self.invariant.sound c.args.number (ap is_some (sym c.word_of.ensures ∙ c.in-Some.is)) in
-    omega (arith, below, c.from-at.ensures, c.self.invariant.sound.bits)
+put-requires c = omega (arith, named_below (the_view c.self.inside) c.self.invariant.sound c.args.number (ap is_some (sym c.word_of.ensures ∙ c.in-Some.is)), c.from-at.ensures, c.self.invariant.sound.bits)
 
 pub unlink_all-requires-clause-number : goal.unlink_all-requires-clause-number
-unlink_all-requires-clause-number c =
-    let below = named_below (the_view c.self.inside) c.self.invariant.sound c.args.number (ap is_some (sym c.word_of.ensures ∙ c.in-Some.is)) in
-    omega (arith, below, c.from-at.ensures)
+unlink_all-requires-clause-number c = omega (arith, named_below (the_view c.self.inside) c.self.invariant.sound c.args.number (ap is_some (sym c.word_of.ensures ∙ c.in-Some.is)), c.from-at.ensures)
 
 pub mark_property-requires-clause-number : goal.mark_property-requires-clause-number
 mark_property-requires-clause-number c = named_below (the_view c.self.inside) c.self.invariant.sound c.args.number (ap is_some (sym c.word_of.ensures ∙ c.in-Some.is))
