@@ -14,6 +14,7 @@ pub returns-in_ok-show_all-in-Some-clause-step : goal.returns-in_ok-show_all-in-
 returns-in_ok-show_all-in-Some-clause-step g c = λ outcome now says.
     let told = rw (c.in_ok-found.was ∙ ap Ok c.in-Some.is) at says in (
       ap (λ (o : Outcome). o.next) (sym told),
-      c.in_ok-show_all-in-Some.ensures.shown
-          ∙ ap (append_known (g.T.Disk.meaning c.args.station.now).shown) (c.deref.ensures.value ∙ ap (λ (o : Outcome). o.reply) (sym told)),
+      ◌∙◌ {b = append_known (g.T.Disk.meaning c.args.station.now).shown c.deref.result.now}
+          c.in_ok-show_all-in-Some.ensures.shown
+          (ap (append_known (g.T.Disk.meaning c.args.station.now).shown) (c.deref.ensures.value ∙ ap (λ (o : Outcome). o.reply) (sym told))),
     )
