@@ -11,7 +11,7 @@ use Rattle.std.proofs.Math.Nat.{mod-lt}
 use Rattle.lis_blockmap.specs.Bitmap.{bitmap_bytes}
 use Rattle.lis_model.specs.Image.{axioms_start, files_start, rows_start}
 use Rattle.lis_kept.specs.Kept.{Kept, property_at, axiom_at, record_at}
-use Rattle.lis_kept.specs.Areas.Area.{Properties, Axioms, Files, Bitmap}
+use Rattle.lis_kept.specs.Areas.Area.{Properties, Axioms, Files, Rows, Bitmap}
 use Rattle.lis_kept.specs.Inside.{IsBlock}
 use Rattle.lis_kept.proofs.InArea.{one_area, slot_placed, some_rows}
 
@@ -70,7 +70,9 @@ module _ (k : Kept) (range : IsTrue (are_in_range k.limits)) (n : ℕ) (block : 
 
   pub rows_block : (start : ℕ) → start ≡ rows_start k.limits → rows_start k.limits ≤ n → n < bitmap_start k.limits
       → ((j : ℕ) → j < 4096 / (k.limits.files / 8) → part (k.limits.files / 8 * j) (k.limits.files / 8) block ≡ row_bytes k.ext (4096 / (k.limits.files / 8) * (n - start) + j)) → IsBlock k n block
-  rows_block start at from to is = search (rules, one_area, mod-lt, some_rows, slot_placed)
+  rows_block start at from to is = one_area k range Rows n block from to (λ m lt here.
+      let p = 4096 / (k.limits.files / 8) in
+      is (m % p) (mod-lt m (some_rows k.limits range)) ∙ ap (row_bytes k.ext) (ap (λ s. p * (n - s) + m % p) at ∙ slot_placed p (rows_start k.limits) m n p (some_rows k.limits range) refl here))
 
   pub bitmap_block : n ≡ bitmap_start k.limits → block ≡ bitmap_bytes k.taken → IsBlock k n block
   bitmap_block here is = one_area k range Bitmap n block (omega (arith, here)) (omega (arith, here)) (λ m lt at. is)
