@@ -1,8 +1,5 @@
-use Rattle.std.proofs.Common.{arith}
-use Rattle.lis_kept.proofs.Common.{◌∙◌, sym, ap, ℕ, List}
+use Rattle.lis_kept.proofs.Common.{◌∙◌, sym, ℕ, List}
 use Rattle.arrayvec.specs.ArrayVec.{ArrayVec}
-use Rattle.lis_model.specs.Image.{image_blocks}
-use Rattle.lis_kept.specs.Kept.{Kept}
 use Rattle.lis_kept.proofs.BlocksTaken.{MayPut, PutEnds, placed_ends, staged_ends, ended_ok, ended_err}
 use Rattle.lis_kept.specs.contracts.parts.Parts.{the_view}
 use Rattle.lis_kept.proofs.parts.Parts.put_content.Goals.{then-is_large, else-is_large, in-Ok, in-Err-Disk}
@@ -34,12 +31,6 @@ ends g c =
           (staged_ends items k v t c.self.view_is c.self.invariant c.args.bytes.now old r.new.journal may r.new.map c.mark_bitmap.new.marks c.mark_bitmap.ensures
           before (sym c.is_large.ensures ∙ w.if-is_large.false) r.result (rw c.data_start-base.ensures.start at r.ensures.ended))
     ]
-
-pub place_file-put-requires-clause-within : goal.place_file-put-requires-clause-within
-place_file-put-requires-clause-within g c = omega (arith, c.data_start-base.ensures.start, c.requires.image, ap (λ (k : Kept). image_blocks k.limits) c.self.view_is, c.self.invariant.sound.blocks)
-
-pub put-put-requires-clause-within : goal.put-put-requires-clause-within
-put-put-requires-clause-within g c = omega (arith, c.data_start-base.ensures.start, c.requires.image, ap (λ (k : Kept). image_blocks k.limits) c.self.view_is, c.self.invariant.sound.blocks)
 
 pub invariant_of-self : goal.invariant_of-self
 invariant_of-self g c = (ends g c).held
