@@ -9,7 +9,7 @@ use Rattle.lis_journal.specs.Images.{look}
 use Rattle.lis_journal.specs.Phases.{looked}
 use Rattle.lis_journal.proofs.Entries.{length-with_entry}
 use Rattle.lis_kept.specs.Kept.{Kept}
-use Rattle.lis_kept.specs.Areas.{Area, slots_of, block_of, spelled, held_in, is_marked, IsSaved}
+use Rattle.lis_kept.specs.Areas.{Area, slots_of, block_of, spelled, held_in, is_marked, marked_count, IsSaved}
 use Rattle.lis_kept.specs.Staging.{Stages}
 use Rattle.lis_kept.specs.Inside.{bytes_in, IsBlock, StagesBlock, StagedBelow}
 use Rattle.lis_kept.proofs.InArea.{held_by, among_slots}
@@ -78,6 +78,10 @@ module _ (k : Kept) (n : ℕ) (old now : Held) (within : n < length k.marks) (fr
 
 count_front : (bits : List Bool) (n : ℕ) → count_by (λ (b : Bool). b) (take n bits) ≤ count_by (λ (b : Bool). b) bits
 count_front bits n = sum_by-take-le _ bits n
+
+-- before a marked block there are fewer marks than all
+pub marks_before : (k : Kept) (n : ℕ) → n < length k.marks → is_marked k n ≡ true → count_by (λ (b : Bool). b) (take n k.marks) < marked_count k
+marks_before k n within marked = omega (arith, count_front k.marks (n + 1), count_by_more_yes (λ (b : Bool). b) k.marks n false within marked)
 
 -- all of them
 pub staged_all : (k : Kept) (end : ℕ) (old new : Held) → IsTrue (are_in_range k.limits) → end ≡ data_start k.limits → StagedBelow k end old new → Stages k old new

@@ -18,60 +18,66 @@ use lis_words::read_count;
 /// What a line asks for, without the payload behind it.
 pub type Request = Result<Command, Refusal>;
 
+fn is(first: &[u8], word: &[u8]) -> bool
+    ensures { result ≡ same_word first.now word.now }
+{
+    first == word
+}
+
 /// What a line asks for by its first word and what stands behind it.
 fn command_of(first: &[u8], rest: &[u8]) -> Request
     requires { length rest.now ≤ 1024 }
     ensures { (payload : Payload) → asked_of payload result ≡ form_of first.now (words_of rest.now) payload }
 {
-    if first == b"mkdir".as_slice() {
+    if is(first, b"mkdir") {
         return mkdir_form(rest);
     }
-    if first == b"rmdir".as_slice() {
+    if is(first, b"rmdir") {
         return rmdir_form(rest);
     }
-    if first == b"axiom".as_slice() {
+    if is(first, b"axiom") {
         return axiom_form(rest);
     }
-    if first == b"unaxiom".as_slice() {
+    if is(first, b"unaxiom") {
         return unaxiom_form(rest);
     }
-    if first == b"create".as_slice() {
+    if is(first, b"create") {
         return create_form(rest);
     }
-    if first == b"add".as_slice() {
+    if is(first, b"add") {
         return add_form(rest);
     }
-    if first == b"write".as_slice() {
+    if is(first, b"write") {
         return write_form(rest);
     }
-    if first == b"cat".as_slice() {
+    if is(first, b"cat") {
         return cat_form(rest);
     }
-    if first == b"mv".as_slice() {
+    if is(first, b"mv") {
         return mv_form(rest);
     }
-    if first == b"rename".as_slice() {
+    if is(first, b"rename") {
         return rename_form(rest);
     }
-    if first == b"rm".as_slice() {
+    if is(first, b"rm") {
         return rm_form(rest);
     }
-    if first == b"cd".as_slice() {
+    if is(first, b"cd") {
         return cd_form(rest);
     }
-    if first == b"pwd".as_slice() {
+    if is(first, b"pwd") {
         return pwd_form(rest);
     }
-    if first == b"ls".as_slice() {
+    if is(first, b"ls") {
         return ls_form(rest);
     }
-    if first == b"props".as_slice() {
+    if is(first, b"props") {
         return props_form(rest);
     }
-    if first == b"way".as_slice() {
+    if is(first, b"way") {
         return way_form(rest);
     }
-    if first == b"stat".as_slice() {
+    if is(first, b"stat") {
         return stat_form(rest);
     }
     Err(Refusal::BadLine)
@@ -91,10 +97,10 @@ pub fn asked(line: &[u8]) -> Option<Request>
 fn takes_payload(first: &[u8]) -> bool
     ensures { result ≡ (same_word first.now (codes "add") || same_word first.now (codes "write")) }
 {
-    if first == b"add".as_slice() {
+    if is(first, b"add") {
         return true;
     }
-    first == b"write".as_slice()
+    is(first, b"write")
 }
 
 /// How many bytes are to follow a line and its line feed; None where no payload follows.

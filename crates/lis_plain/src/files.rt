@@ -1,7 +1,7 @@
 //! The commands that make and change files.
 
 ghost use Rattle.std.specs.Prelude.{◌≡◌, ◌++◌, ◌&&◌, is_some, IfOk};
-ghost use Rattle.lis_model.specs.State.{blocks_taken};
+ghost use Rattle.lis_model.specs.State.{File as Told, blocks_taken};
 ghost use Rattle.lis_model.specs.Places.{place_words};
 ghost use Rattle.lis_model.specs.Changes.{new_file, file_of};
 ghost use Rattle.lis_model.specs.Step.{is_here, free_blocks, exceeds_file, blocks_for, here_checks, create_checks, create_with, create, add_checks, add_with, add, write_checks, write_with, write, mv_checks, mv_with, mv, rename_checks, rename_with, rename, rm, assigned_at, retagged, tags_at};
@@ -233,12 +233,20 @@ impl Plain {
         self.settle(made, answer)
     }
 
+    // The file under another name.
+    fn renamed(&self, old: &File, other: &Name) -> Result<File, AllocError>
+        ensures { IfOk result (λ file. file ≡ new_file other.now old.now.assigned old.now.bytes) }
+    {
+        let assigned = copies(self.alloc, &old.assigned)?;
+        let file = new_file(self.alloc, other, assigned, &old.bytes)?;
+        Ok(file)
+    }
+
     pub(crate) fn rename(&mut self, name: &Name, other: &Name) -> Result<Answer, AllocError>
         ensures { IsAnswered (rename self.old name.now other.now) self.old self.new result }
     {
         let old = self.file(name)?;
-        let assigned = copies(self.alloc, &old.assigned)?;
-        let new = new_file(self.alloc, other, assigned, &old.bytes)?;
+        let new = self.renamed(&old, other)?;
         self.rename_with(&old, &new)
     }
 
@@ -330,6 +338,15 @@ impl Plain {
         self.settle(made, answer)
     }
 
+    fn mv_there(&mut self, place: &Place, words: &[Word], name: &Name) -> Result<Answer, AllocError>
+        ensures { let old : Told = file_of self.old.state.files name.now in
+            IsAnswered (mv_with self.old place.now words.now old (new_file old.name (retagged old.assigned (tags_at self.old.place) (tags_at place.now)) old.bytes)) self.old self.new result }
+    {
+        let old = self.file(name)?;
+        let new = self.moved(&old, place)?;
+        self.mv_with(place, words, &old, &new)
+    }
+
     pub(crate) fn mv(&mut self, name: &Name, text: &Text) -> Result<Answer, AllocError>
         ensures { IsAnswered (mv self.old name.now text.now) self.old self.new result }
     {
@@ -339,8 +356,6 @@ impl Plain {
             Err(FormulaFault::TooLarge) => return Ok(Err(Refusal::LargeFormula)),
         };
         let words = text_words(self.alloc, text.bytes())?;
-        let old = self.file(name)?;
-        let new = self.moved(&old, &place)?;
-        self.mv_with(&place, &words, &old, &new)
+        self.mv_there(&place, &words, name)
     }
 }

@@ -1,5 +1,6 @@
 use Rattle.std.proofs.Common.{arith}
-use Rattle.lis_kept.proofs.Common.{sym, ap, ◌∙◌, length, map, take, length-marked}
+use Rattle.std.proofs.lemmas.List.{take_all}
+use Rattle.lis_kept.proofs.Common.{sym, ap, ◌∙◌, length, map, take, marked, length-marked}
 use Rattle.lis_kept.specs.Areas.{block_of}
 use Rattle.lis_kept.specs.Areas.Area.{Rows}
 use Rattle.lis_kept.proofs.Marking.{marked_next, row_home}
@@ -13,3 +14,9 @@ put-requires c =
 pub loop-k-preserved : goal.loop-k-preserved
 loop-k-preserved c =
     grind (arith, marked_next (block_of c.args.limits.now Rows) c.args.marks.now c.args.ext.now.marks c.loop-k.k c.in-Some.number (sym c.changed.ensures ∙ c.in-Some.is))
+
+pub returns : goal.returns
+returns c =
+    c.loop-k.invariant
+    ∙ ap (λ ns. marked c.args.marks.now (map (block_of c.args.limits.now Rows) ns))
+    (take_all c.loop-k.k c.args.ext.now.marks (omega (arith, c.requires.few, c.loop-k-test.false, c.loop-k.auto.k-end)))

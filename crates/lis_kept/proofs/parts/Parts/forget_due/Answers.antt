@@ -1,5 +1,6 @@
 use Rattle.std.proofs.Common.{arith}
 use Rattle.lis_kept.proofs.Common.{◌∙◌, ◌+◌, ◌<◌, sym, subst, length, take, get_or}
+use Rattle.std.proofs.lemmas.List.{take_all}
 use Rattle.lis_kept.specs.Kept.{Kept}
 use Rattle.lis_kept.specs.Passes.{ForgetsDue}
 use Rattle.lis_kept.specs.Sound.{AreSound}
@@ -35,3 +36,8 @@ loop-number-preserved c =
             sound = subst AreSound (sym w.self-is) c.loop-number.invariant.sound;
           }
     ]
+
+pub returns-clause-forgets : goal.returns-clause-forgets
+returns-clause-forgets c =
+    subst (λ ns. ForgetsDue c.args.slot c.args.valued ns c.args.self.now c.loop-number.self)
+    (take_all c.loop-number.number-index c.args.numbers.now (omega (arith, c.loop-number-test.false, c.loop-number.auto.number-index-end))) c.loop-number.invariant.forgets

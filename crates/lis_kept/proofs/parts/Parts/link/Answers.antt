@@ -5,7 +5,7 @@ use Rattle.lis_kept.specs.Linking.{is_free, MayLink, Links}
 use Rattle.lis_kept.specs.Kept.{Kept}
 use Rattle.lis_kept.specs.Links.{AreHeld}
 use Rattle.lis_kept.proofs.Formed.{named_below}
-use Rattle.lis_kept.proofs.AxiomSlots.{first_is_some, first_no_later, free_place}
+use Rattle.lis_kept.proofs.AxiomSlots.{axiom_within, first_is_some, first_no_later, free_place}
 use Rattle.lis_kept.proofs.AxiomsChanged.{link_refused, links}
 use Rattle.lis_kept.specs.contracts.parts.Parts.{the_view}
 use Rattle.lis_kept.proofs.parts.Parts.link.Goals.{In-Some}
@@ -25,6 +25,10 @@ place c = ap (position is_free) (sym c.as_slice.ensures.value) ∙ (sym c.free_s
 
 below : (c : In-Some) → c.in-Some.slot < (the_view c.self.inside).limits.props
 below c = omega (arith, first_no_later is_free (the_view c.self.inside).axioms (may c).slot c.in-Some.slot FreeAxiom (may c).free refl (place c), (may c).below)
+
+pub index_mut-requires : goal.index_mut-requires
+index_mut-requires c =
+    omega (arith, axiom_within (the_view c.self.inside).limits c.in-Some.slot (below (goal.at.index_mut-requires c).In-Some), c.self.invariant.sound.axiom_count)
 
 pub add-requires-clause-p : goal.add-requires-clause-p
 add-requires-clause-p c =

@@ -1,10 +1,21 @@
-use Rattle.lis_kept.proofs.Common.{◌∙◌, false, set, sym, ap, subst}
+use Rattle.std.proofs.Common.{arith}
+use Rattle.lis_kept.proofs.Common.{◌∙◌, false, set, sym, ap, subst, is_some}
 use Rattle.lis_kept.specs.Kept.{Kept}
 use Rattle.lis_kept.specs.Links.{AreHeld}
 use Rattle.lis_kept.specs.Undeclaring.{MayUndeclare, Undeclares}
+use Rattle.lis_kept.proofs.Formed.{named_below}
 use Rattle.lis_kept.proofs.WordLess.{edges_within, undeclares}
 use Rattle.lis_kept.specs.contracts.parts.Parts.{the_view}
 use Rattle.lis_kept.proofs.parts.Parts.undeclare.Goals as goal
+
+pub put-requires : goal.put-requires
+put-requires c = omega (arith, named_below (the_view c.self.inside) c.self.invariant.sound c.args.number (ap is_some (sym c.word_of.ensures ∙ c.in-Some.is)), c.from-at.ensures, c.self.invariant.sound.bits)
+
+pub unlink_all-requires-clause-number : goal.unlink_all-requires-clause-number
+unlink_all-requires-clause-number c = omega (arith, named_below (the_view c.self.inside) c.self.invariant.sound c.args.number (ap is_some (sym c.word_of.ensures ∙ c.in-Some.is)), c.from-at.ensures)
+
+pub mark_property-requires-clause-number : goal.mark_property-requires-clause-number
+mark_property-requires-clause-number c = named_below (the_view c.self.inside) c.self.invariant.sound c.args.number (ap is_some (sym c.word_of.ensures ∙ c.in-Some.is))
 
 pub unlink_all-requires-clause-within : goal.unlink_all-requires-clause-within
 unlink_all-requires-clause-within c = edges_within (the_view c.self.inside) c.self.inside.taxonomy c.self.invariant

@@ -1,5 +1,5 @@
 use Rattle.std.proofs.Common.{arith}
-use Rattle.lis_kept.proofs.Common.{◌≡◌, ◌<◌, ℕ, true, List, sym, subst, bitmap_start, AxiomSlot}
+use Rattle.lis_kept.proofs.Common.{common_steps, ◌≡◌, ◌<◌, ℕ, true, List, sym, subst, bitmap_start, AxiomSlot}
 use Rattle.lis_fields.specs.Layouts.{is_axiom}
 use Rattle.lis_kept.specs.Kept.{Kept, axiom_at}
 use Rattle.lis_kept.specs.Inside.{IsBlock}
@@ -35,6 +35,9 @@ returns-then-n-rows c =
     subst P c.self.view_is
     (files_block (the_view c.self.inside) c.self.invariant.sound.range c.args.n c.write_files.new.block _ c.files_start-files.ensures
     (omega (arith, c.if-n-files.false, c.files_start-files.ensures)) (omega (arith, c.if-n-rows.true, c.rows_start-rows.ensures)) c.write_files.ensures)
+
+pub overflow_mul-count : goal.overflow_mul-count
+overflow_mul-count c = grind (arith, common_steps) steps 2000000
 
 pub returns : goal.returns
 returns c =
