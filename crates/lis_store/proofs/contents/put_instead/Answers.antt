@@ -44,13 +44,8 @@ pub put_content-requires-2-clause-ready : goal.put_content-requires-2-clause-rea
 put_content-requires-2-clause-ready g c =
     let found = rec_some (rec_at c.args.parts.now.catalog c.args.slot) c.requires.there in
     let given = c.in_ok-free_content-2.ensures.given found.0 found.1 in
-    let ready = c.requires.ready in
-    record {
-      image = ready.image ∙ sym (ap (λ (x : Kept). image_blocks x.limits) given.0.takes.parts);
-      usable = record { unbroken = ready.usable.unbroken; long = omega (arith, ready.usable.long, given.1.reads.run.len) };
-      unplaced = ready.unplaced;
-      room = ready.room;
-    }
+    let image = c.requires.ready.image ∙ sym (ap (λ (x : Kept). image_blocks x.limits) given.0.takes.parts) in
+    record { image = image; usable = record { unbroken = c.requires.ready.usable.unbroken; long = omega (arith, c.requires.ready.usable.long, given.1.reads.run.len) }; unplaced = c.requires.ready.unplaced; room = c.requires.ready.room }
 
 pub put_content-requires-2-clause-enough : goal.put_content-requires-2-clause-enough
 put_content-requires-2-clause-enough g c =
