@@ -1,4 +1,4 @@
-use Rattle.lis_store.proofs.Common.{◌≡◌, ◌∙◌, refl, sym, ap, subst, is_some, Err, err_from_is_err_and, slot_of, rec_at-slot_of, image_blocks, Situation, rm, Kept, rules, State}
+use Rattle.lis_store.proofs.Common.{◌∙◌, refl, sym, ap, subst, is_some, Err, err_from_is_err_and, slot_of, rec_at-slot_of, image_blocks, Situation, rm, Kept, rules, State}
 use Rattle.lis_store.specs.Stored.{Stored, IsSound, StoreHolds}
 use Rattle.lis_store.specs.Judging.{is_among}
 use Rattle.lis_store.proofs.Edits.{edits_same, edits_saved}
