@@ -1,9 +1,10 @@
 -- Which files a place has.
-use Rattle.lis_store.proofs.Common.{common_steps, ◌≡◌, refl, sym, ap, ap₂, ◌∙◌, ℕ, ◌<◌, ◌==◌, Bool, true, false, cond, IsSome, IsSomeAnd, List, [], ◌∷◌, map, filter, Some, None, option_map, find, same_Some, Among, contains_from_among, among_filter, filter_among, same_word, Formula, FileRecord, Filed, slot_of, rec_at, rec_at-slot_of, same_word_decides, Placed, Kept, AreSound, filed_rec, filed_slot, false_from_ne_true, among_from_any, any_from_among, among_map, map_among}
+use Rattle.lis_store.proofs.Common.{common_steps, rules, ◌≡◌, refl, sym, ap, ap₂, ◌∙◌, ℕ, ◌<◌, ◌==◌, Bool, true, false, cond, IsSome, IsSomeAnd, List, [], ◌∷◌, map, filter, Some, None, option_map, slice_get, find, same_Some, Among, contains_from_among, among_filter, filter_among, same_word, Formula, FileRecord, Filed, slot_of, rec_at, rec_at-slot_of, same_word_decides, Placed, Kept, AreSound, filed_rec, filed_slot, false_from_ne_true, among_from_any, any_from_among, among_map, map_among}
 use native.Mathlib.Omega.{arith}
+use Rattle.std.proofs.lemmas.Option.{slice_get-map}
 use Rattle.lis_model.specs.Table.{Entry}
 use Rattle.lis_model.specs.Listing.{holds_all}
-use Rattle.lis_eval.specs.View.{TellsTest}
+use Rattle.lis_eval.specs.View.{TellsTest, name_and_slot}
 use Rattle.lis_kept.proofs.Dropped.{file_slot_below}
 use Rattle.lis_store.specs.Seen.{placed, seen_of, table_of}
 use Rattle.lis_store.specs.Judging.{is_among}
@@ -62,6 +63,9 @@ pub slot_seen : (k : Kept) (name : List ℕ) (fs : List Filed)
     → option_map (λ (f : Placed). f.slot) (find (λ (f : Placed). same_word f.entry.name name) (map (placed k) fs)) ≡ option_map (λ (f : Filed). f.slot) (find (λ (f : Filed). same_word f.rec.name name) fs)
 slot_seen k name [] = refl
 slot_seen k name (f ∷ fs) = grind (arith, common_steps, slot_seen k name fs)
+
+pub file_seen : (k : Kept) (fs : List Filed) (n : ℕ) → option_map name_and_slot (slice_get (map (placed k) fs) n) ≡ option_map (λ (f : Filed). (f.rec.name, f.slot)) (slice_get fs n)
+file_seen k fs n = search (rules, slice_get-map)
 
 pub none_seen : (k : Kept) (slot : ℕ) (fs : List Filed) → option_map (λ (f : Filed). f.rec) (find (λ (f : Filed). f.slot == slot) fs) ≡ None
     → IsSome (find (λ (f : Placed). f.slot == slot) (map (placed k) fs)) → ⊥

@@ -1,4 +1,4 @@
-use Rattle.lis_store.proofs.Common.{◌≡◌, ◌∙◌, ℕ, ◌+◌, ◌==◌, Err, length, filter, sym, ap, arith, eq-eqb, err_from_is_err_and, is_taken, free_count, rec_at, small_size, Limits, file_limit, Kept}
+use Rattle.lis_store.proofs.Common.{◌≡◌, ◌∙◌, ℕ, ◌+◌, ◌==◌, Err, length, filter, sym, ap, arith, eq-eqb, err_from_is_err_and, is_taken, free_count, rec_at, small_size, Limits, file_limit, Kept, image_blocks}
 use Rattle.std.proofs.lemmas.Bool.{cond-true}
 use Rattle.lis_store.proofs.FreeAgain.{rec_some, first_version, enough_given}
 use Rattle.lis_store.proofs.Renewed.{renews_placed, lost_last, lost_first, put_last}
@@ -34,6 +34,18 @@ returns-in_err-free_content-2-clause-renewed g c = λ rec there.
     let e = err_from_is_err_and c.from_residual-in_err-free_content-2.result c.from_residual-in_err-free_content-2.ensures.1 in
     lost_first ℕ c.args.parts.now c.free_content-2.new.parts rec c.args.payload.now c.args.journal.now (g.D.Disk.meaning c.args.disk.now) (g.D.Disk.meaning c.free_content-2.new.disk)
     c.in_err-free_content-2.field-0.0 c.from_residual-in_err-free_content-2.result c.requires.ready.unplaced (c.in_err-free_content-2.ensures.given rec there) (e.1 ∙ ap Err e.2)
+
+pub put_content-requires-2-clause-short : goal.put_content-requires-2-clause-short
+put_content-requires-2-clause-short g c =
+    let found = rec_some (rec_at c.args.parts.now.catalog c.args.slot) c.requires.there in
+    omega (arith, c.requires.short, ap (λ (x : Kept). file_limit x.limits.version) (c.in_ok-free_content-2.ensures.given found.0 found.1).0.takes.parts)
+
+pub put_content-requires-2-clause-ready : goal.put_content-requires-2-clause-ready
+put_content-requires-2-clause-ready g c =
+    let found = rec_some (rec_at c.args.parts.now.catalog c.args.slot) c.requires.there in
+    let given = c.in_ok-free_content-2.ensures.given found.0 found.1 in
+    let image = c.requires.ready.image ∙ sym (ap (λ (x : Kept). image_blocks x.limits) given.0.takes.parts) in
+    record { image = image; usable = record { unbroken = c.requires.ready.usable.unbroken; long = omega (arith, c.requires.ready.usable.long, given.1.reads.run.len) }; unplaced = c.requires.ready.unplaced; room = c.requires.ready.room }
 
 pub put_content-requires-2-clause-enough : goal.put_content-requires-2-clause-enough
 put_content-requires-2-clause-enough g c =

@@ -1,4 +1,4 @@
-use Rattle.lis_store.proofs.Common.{◌≡◌, ◌∙◌, ℕ, List, [], ◌∷◌, Some, None, cond, nat_lt, true, ap, subst, arith, lt-ltb, Limits, NoSpace, blocks_taken, new_file}
+use Rattle.lis_store.proofs.Common.{◌≡◌, ◌∙◌, ℕ, List, [], ◌∷◌, Some, None, cond, nat_lt, true, ap, subst, arith, lt-ltb, Limits, NoSpace, blocks_taken, new_file, common_steps}
 use Rattle.lis_store.specs.Drafts.{draft_of}
 use Rattle.lis_store.specs.Instead.{given_before, free_instead, instead_checks}
 use Rattle.lis_store.proofs.Judged.{refused_then}
@@ -15,3 +15,6 @@ returns-then-blocks_taken-free_instead-clause-row c = λ rec there.
     (omega (arith, c.if-blocks_taken-free_instead.true, c.blocks_taken.ensures, c.free_instead.ensures rec there, version)) in
     refused_then (instead_checks k c.args.slot (draft_of (given_before k rec c.args.name.now c.args.payload.now))) ((nat_lt (free_instead k rec) (blocks_taken k.limits.version c.args.size), NoSpace) ∷ []) none
     ∙ ap (λ b. cond b (Some NoSpace) None) large
+
+pub returns-clause-row : goal.returns-clause-row
+returns-clause-row c = grind (arith, common_steps)

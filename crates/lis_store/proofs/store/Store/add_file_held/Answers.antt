@@ -1,4 +1,4 @@
-use Rattle.lis_store.proofs.Common.{◌∙◌, sym, ap, subst, ℕ, List, None, Ok, Err, err_from_is_err_and, new_file, file_added, assigned_at, Situation, Outcome, Payload, add, Kept, changed}
+use Rattle.lis_store.proofs.Common.{◌∙◌, sym, ap, subst, ℕ, List, None, Ok, Err, err_from_is_err_and, new_file, file_added, assigned_at, Situation, Outcome, Payload, add, Kept, changed, rules, State}
 use Rattle.lis_store.specs.ReplacingIn.{MayPutBytes}
 use Rattle.lis_store.specs.Stored.{Stored, StoreHolds}
 use Rattle.lis_store.specs.Changes.{Holds, Commits}
@@ -9,8 +9,9 @@ use Rattle.lis_store.proofs.ToldBy.{told_held}
 use Rattle.lis_store.proofs.store.Store.add_file_held.Goals.{then-is_large+in_ok-commit, else-is_large}
 use Rattle.lis_store.proofs.store.Store.add_file_held.Goals as goal
 
-pub returns-in_err-assigned-clause-holds : goal.returns-in_err-assigned-clause-holds
-returns-in_err-assigned-clause-holds g c = λ base s holds.
+pub returns-in_err-assigned : goal.returns-in_err-assigned
+returns-in_err-assigned g c =
+    let holds = λ (base : State) (s : State) (holds : StoreHolds c.args.self.now (g.D.Disk.meaning c.args.disk.now) base s).
     let p = err_from_is_err_and c.from_residual.result c.from_residual.ensures.1 in
     let m = g.D.Disk.meaning c.args.disk.now in
     let old : Stored = record { parts = c.self.inside.parts; journal = c.self.inside.journal; is_broken = c.self.inside.is_broken } in
@@ -20,15 +21,18 @@ returns-in_err-assigned-clause-holds g c = λ base s holds.
     let Q : Stored → Type 0 = λ k. Holds base now (add now c.args.name.now c.args.tags.now payload) k m m c.from_residual.result in
     subst Q c.self.view_is
     (added_refused old m c.args.place.now c.args.name.now c.args.tags.now payload c.in_err-assigned.field-0.0 c.from_residual.result c.self.invariant
-    c.in_err-assigned.ensures.row (p.1 ∙ ap Err p.2) base s (subst H (sym c.self.view_is) holds))
+    c.in_err-assigned.ensures.row (p.1 ∙ ap Err p.2) base s (subst H (sym c.self.view_is) holds)) in
+    search (rules, holds)
 
-pub returns-in_err-commit-clause-holds : goal.returns-in_err-commit-clause-holds
-returns-in_err-commit-clause-holds g c = λ base s holds.
+pub returns-in_err-commit : goal.returns-in_err-commit
+returns-in_err-commit g c =
+    let holds = λ (base : State) (s : State) (holds : StoreHolds c.args.self.now (g.D.Disk.meaning c.args.disk.now) base s).
     let p = err_from_is_err_and c.from_residual-in_err-commit.result c.from_residual-in_err-commit.ensures.1 in
     let m = g.D.Disk.meaning c.args.disk.now in
     let now : Situation = record { state = s; place = c.args.place.now } in
     held_lost_commit base now (add now c.args.name.now c.args.tags.now (record { size = c.args.size; bytes = c.args.payload.now })) m m (g.D.Disk.meaning c.commit.new.disk)
-    c.commit.new.self c.in_err-commit.field-0.0 c.from_residual-in_err-commit.result (c.in_err-commit.ensures.commits base s holds) (p.1 ∙ ap Err p.2)
+    c.commit.new.self c.in_err-commit.field-0.0 c.from_residual-in_err-commit.result (c.in_err-commit.ensures.commits base s holds) (p.1 ∙ ap Err p.2) in
+    search (rules, holds)
 
 pub put_file-requires-clause-may : goal.put_file-requires-clause-may
 put_file-requires-clause-may g c =

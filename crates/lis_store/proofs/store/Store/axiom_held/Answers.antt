@@ -1,4 +1,5 @@
-use Rattle.lis_store.proofs.Common.{◌∙◌, ap, Err, err_from_is_err_and}
+use Rattle.lis_store.proofs.Common.{◌∙◌, ap, Err, err_from_is_err_and, rules, State, Situation}
+use Rattle.lis_store.specs.Stored.{StoreHolds}
 use Rattle.lis_store.proofs.Edits.{edits_saved}
 use Rattle.lis_store.proofs.Judged.{view_refused}
 use Rattle.lis_store.proofs.Related.{related, axiom_refused, axiom_done, axiom_fit}
@@ -6,12 +7,14 @@ use Rattle.lis_store.proofs.Relates.{axiom_change, axiom_holds}
 use Rattle.lis_store.proofs.SavedAlone.{alone_placed, whole_view, held_view}
 use Rattle.lis_store.proofs.store.Store.axiom_held.Goals as goal
 
-pub returns-in_err-may_relate-clause-holds : goal.returns-in_err-may_relate-clause-holds
-returns-in_err-may_relate-clause-holds g c = λ base now fits.
+pub returns-in_err-may_relate : goal.returns-in_err-may_relate
+returns-in_err-may_relate g c =
+    let holds = λ (base : State) (now : Situation) (fits : StoreHolds c.args.self.now (g.D.Disk.meaning c.args.disk.now) base now.state).
     let p = err_from_is_err_and c.from_residual.result c.from_residual.ensures.1 in
     let refusal = c.in_err-may_relate.field-0.0 in
     view_refused c.self.view_is now refusal fits
-    (λ held. axiom_refused c.self.invariant now held.tells c.args.left.now c.args.right.now refusal c.in_err-may_relate.ensures.row) (p.1 ∙ ap Err p.2)
+    (λ held. axiom_refused c.self.invariant now held.tells c.args.left.now c.args.right.now refusal c.in_err-may_relate.ensures.row) (p.1 ∙ ap Err p.2) in
+    search (rules, holds)
 
 pub relate-requires-clause-may : goal.relate-requires-clause-may
 relate-requires-clause-may g c = related c.self.invariant.parts c.in_ok-may_relate.ensures.row

@@ -1,5 +1,5 @@
-use Rattle.lis_store.proofs.Common.{◌∙◌, sym, ap, subst, List, ℕ, Err, err_from_is_err_and, image_blocks, Kept}
-use Rattle.lis_store.specs.Stored.{Stored}
+use Rattle.lis_store.proofs.Common.{◌∙◌, sym, ap, subst, List, ℕ, Err, err_from_is_err_and, image_blocks, Kept, rules, State}
+use Rattle.lis_store.specs.Stored.{Stored, StoreHolds}
 use Rattle.lis_store.specs.Testing.{MayDeclare}
 use Rattle.lis_store.proofs.Edits.{edits_saved}
 use Rattle.lis_store.proofs.Judged.{view_refused}
@@ -8,12 +8,14 @@ use Rattle.lis_store.proofs.SavedAlone.{alone_placed, whole_view, held_view}
 use Rattle.lis_store.proofs.Tested.{declared_change, declared_holds, declared_refused}
 use Rattle.lis_store.proofs.store.Store.declare_held.Goals as goal
 
-pub returns-in_err-places-clause-holds : goal.returns-in_err-places-clause-holds
-returns-in_err-places-clause-holds g c = λ base s fits.
+pub returns-in_err-places : goal.returns-in_err-places
+returns-in_err-places g c =
+    let holds = λ (base : State) (s : State) (fits : StoreHolds c.args.self.now (g.D.Disk.meaning c.args.disk.now) base s).
     let p = err_from_is_err_and c.from_residual.result c.from_residual.ensures.1 in
     let refusal = c.in_err-places.field-0.0 in
     view_refused c.self.view_is (record { state = s; place = c.args.place.now }) refusal fits
-    (λ held. declared_refused c.self.invariant c.args.place.now c.args.word.now refusal c.may_declare.ensures.word c.in_err-places.ensures.row s held) (p.1 ∙ ap Err p.2)
+    (λ held. declared_refused c.self.invariant c.args.place.now c.args.word.now refusal c.may_declare.ensures.word c.in_err-places.ensures.row s held) (p.1 ∙ ap Err p.2) in
+    search (rules, holds)
 
 pub declare_tested-requires-clause-form : goal.declare_tested-requires-clause-form
 declare_tested-requires-clause-form g c = in_form _ c.self.invariant

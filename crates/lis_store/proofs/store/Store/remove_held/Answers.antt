@@ -1,4 +1,4 @@
-use Rattle.lis_store.proofs.Common.{◌≡◌, ◌∙◌, refl, sym, ap, subst, is_some, Err, err_from_is_err_and, slot_of, rec_at-slot_of, image_blocks, Situation, rm, Kept}
+use Rattle.lis_store.proofs.Common.{◌∙◌, refl, sym, ap, subst, is_some, Err, err_from_is_err_and, slot_of, rec_at-slot_of, image_blocks, Situation, rm, Kept, rules, State}
 use Rattle.lis_store.specs.Stored.{Stored, IsSound, StoreHolds}
 use Rattle.lis_store.specs.Judging.{is_among}
 use Rattle.lis_store.proofs.Edits.{edits_same, edits_saved}
@@ -23,38 +23,26 @@ invariant_of-self g c =
     lost_sound (Unit {0}) old c.in-Some.slot c.args.name.now c.self.invariant named c.free_content.new.parts c.free_content.new.is_broken c.in_err-free_content.field-0.0 (g.D.Disk.meaning c.args.disk.now)
     (g.D.Disk.meaning c.free_content.new.disk) c.in_err-free_content.ensures.given c.in_err-free_content.ensures.ended
 
-pub returns-in_err-free_content-clause-sound : goal.returns-in_err-free_content-clause-sound
-returns-in_err-free_content-clause-sound g c =
+pub returns-in_err-free_content : goal.returns-in_err-free_content
+returns-in_err-free_content g c =
+    let m = g.D.Disk.meaning c.args.disk.now in
+    let after = g.D.Disk.meaning c.free_content.new.disk in
     let old : Stored = record { parts = c.self.inside.parts; journal = c.self.inside.journal; is_broken = c.self.inside.is_broken } in
     let named = ap (λ (k : Stored). slot_of k.parts.catalog c.args.name.now) c.self.view_is ∙ c.in-Some.ensures.slot in
-    lost_sound (Unit {0}) old c.in-Some.slot c.args.name.now c.self.invariant named c.free_content.new.parts c.free_content.new.is_broken c.in_err-free_content.field-0.0 (g.D.Disk.meaning c.args.disk.now)
-    (g.D.Disk.meaning c.free_content.new.disk) c.in_err-free_content.ensures.given c.in_err-free_content.ensures.ended
-
-pub returns-in_err-free_content-clause-holds : goal.returns-in_err-free_content-clause-holds
-returns-in_err-free_content-clause-holds g c = λ base s holds.
-    let old : Stored = record { parts = c.self.inside.parts; journal = c.self.inside.journal; is_broken = c.self.inside.is_broken } in
-    let named = ap (λ (k : Stored). slot_of k.parts.catalog c.args.name.now) c.self.view_is ∙ c.in-Some.ensures.slot in
+    let given = c.in_err-free_content.ensures.given in
+    let ended = c.in_err-free_content.ensures.ended in
+    let fault = c.in_err-free_content.field-0.0 in
+    let sound = lost_sound (Unit {0}) old c.in-Some.slot c.args.name.now c.self.invariant named c.free_content.new.parts c.free_content.new.is_broken fault m after given ended in
+    let same = lost_parts (Unit {0}) old c.in-Some.slot c.args.name.now c.self.invariant named c.free_content.new.parts c.free_content.new.is_broken fault m after given ended in
+    let limits = ap (λ (k : Kept). k.limits) same ∙ ap (λ (k : Stored). k.parts.limits) c.self.view_is in
+    let edits = edits_same c.args.self.now.parts.ext c.free_content.new.parts.ext (ap (λ (k : Kept). k.ext) same ∙ ap (λ (k : Stored). k.parts.ext) c.self.view_is) in
     let p = err_from_is_err_and c.from_residual.result c.from_residual.ensures.1 in
+    let holds = λ (base : State) (s : State) (holds : StoreHolds c.args.self.now m base s).
     let now : Situation = record { state = s; place = c.args.place.now } in
-    let H : Stored → Type 0 = λ k. StoreHolds k (g.D.Disk.meaning c.args.disk.now) base s in
-    lost_holds (Unit {0}) old c.in-Some.slot c.args.name.now c.self.invariant named c.free_content.new.parts c.free_content.new.is_broken c.in_err-free_content.field-0.0 (g.D.Disk.meaning c.args.disk.now)
-    (g.D.Disk.meaning c.free_content.new.disk) c.in_err-free_content.ensures.given c.in_err-free_content.ensures.ended base now (rm now c.args.name.now) c.from_residual.result (p.1 ∙ ap Err p.2) (subst H (sym c.self.view_is) holds)
-
-pub returns-in_err-free_content-clause-limits : goal.returns-in_err-free_content-clause-limits
-returns-in_err-free_content-clause-limits g c =
-    let old : Stored = record { parts = c.self.inside.parts; journal = c.self.inside.journal; is_broken = c.self.inside.is_broken } in
-    let named = ap (λ (k : Stored). slot_of k.parts.catalog c.args.name.now) c.self.view_is ∙ c.in-Some.ensures.slot in
-    ap (λ (k : Kept). k.limits) (lost_parts (Unit {0}) old c.in-Some.slot c.args.name.now c.self.invariant named c.free_content.new.parts c.free_content.new.is_broken c.in_err-free_content.field-0.0 (g.D.Disk.meaning c.args.disk.now)
-    (g.D.Disk.meaning c.free_content.new.disk) c.in_err-free_content.ensures.given c.in_err-free_content.ensures.ended) ∙ ap (λ (k : Stored). k.parts.limits) c.self.view_is
-
-pub returns-in_err-free_content-clause-edits : goal.returns-in_err-free_content-clause-edits
-returns-in_err-free_content-clause-edits g c =
-    let old : Stored = record { parts = c.self.inside.parts; journal = c.self.inside.journal; is_broken = c.self.inside.is_broken } in
-    let named = ap (λ (k : Stored). slot_of k.parts.catalog c.args.name.now) c.self.view_is ∙ c.in-Some.ensures.slot in
-    let same = lost_parts (Unit {0}) old c.in-Some.slot c.args.name.now c.self.invariant named c.free_content.new.parts c.free_content.new.is_broken c.in_err-free_content.field-0.0 (g.D.Disk.meaning c.args.disk.now)
-    (g.D.Disk.meaning c.free_content.new.disk) c.in_err-free_content.ensures.given c.in_err-free_content.ensures.ended in
-    let is : c.free_content.new.parts.ext ≡ c.args.self.now.parts.ext = ap (λ (k : Kept). k.ext) same ∙ ap (λ (k : Stored). k.parts.ext) c.self.view_is in
-    edits_same c.args.self.now.parts.ext c.free_content.new.parts.ext is
+    let H : Stored → Type 0 = λ k. StoreHolds k m base s in
+    lost_holds (Unit {0}) old c.in-Some.slot c.args.name.now c.self.invariant named c.free_content.new.parts c.free_content.new.is_broken fault m after given ended
+    base now (rm now c.args.name.now) c.from_residual.result (p.1 ∙ ap Err p.2) (subst H (sym c.self.view_is) holds) in
+    search (rules, sound, limits, edits, holds)
 
 pub take_out-requires-clause-form : goal.take_out-requires-clause-form
 take_out-requires-clause-form g c =

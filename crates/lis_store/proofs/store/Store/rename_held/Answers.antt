@@ -1,5 +1,5 @@
-use Rattle.lis_store.proofs.Common.{◌∙◌, length, Err, is_some, refl, sym, ap, subst, err_from_is_err_and, Kept}
-use Rattle.lis_store.specs.Stored.{Stored, IsSound}
+use Rattle.lis_store.proofs.Common.{◌∙◌, length, Err, is_some, refl, sym, ap, subst, err_from_is_err_and, Kept, rules, State}
+use Rattle.lis_store.specs.Stored.{Stored, IsSound, StoreHolds}
 use Rattle.lis_store.proofs.Edits.{edits_saved}
 use Rattle.lis_store.proofs.FileRead.{name_taken, rename_asks, read_lost, renaming_refused, renaming_holds}
 use Rattle.lis_store.proofs.ReplaceFile.{still_in_form, still_below, refiled_limits, refiled_sound, refiled_image, refiled_placed, refiled_room, refiled_edits}
@@ -29,12 +29,14 @@ pub may_rename-requires-clause-there : goal.may_rename-requires-clause-there
 may_rename-requires-clause-there g c =
     ap is_some (found_there c.self.view_is c.self.invariant c.args.name.now c.in-Some.ensures.slot).1
 
-pub returns-in_err-words-clause-holds : goal.returns-in_err-words-clause-holds
-returns-in_err-words-clause-holds g c = λ base s holds.
+pub returns-in_err-words : goal.returns-in_err-words
+returns-in_err-words g c =
+    let holds = λ (base : State) (s : State) (holds : StoreHolds c.args.self.now (g.D.Disk.meaning c.args.disk.now) base s).
     let e = err_from_is_err_and c.from_residual.result c.from_residual.ensures.1 in
     renaming_refused c.self.view_is c.self.invariant c.args.place.now c.args.name.now c.in-Some.ensures.slot c.in-Some.ensures.here c.args.new.now (g.D.Disk.meaning c.args.disk.now) base s holds (g.D.Disk.meaning c.read_file.new.disk)
     (record { reads = c.read_file.ensures.disk.reads; fits = c.read_file.ensures.fits })
-    c.in_default-read_file.ensures.read c.bytes.ensures.bytes c.in_err-words.field-0.0 c.from_residual.result (e.1 ∙ ap Err e.2) c.in_err-words.ensures.row
+    c.in_default-read_file.ensures.read c.bytes.ensures.bytes c.in_err-words.field-0.0 c.from_residual.result (e.1 ∙ ap Err e.2) c.in_err-words.ensures.row in
+    search (rules, holds)
 
 pub replace_record-requires-clause-may : goal.replace_record-requires-clause-may
 replace_record-requires-clause-may g c =

@@ -1,5 +1,5 @@
-use Rattle.lis_store.proofs.Common.{◌∙◌, Err, length, is_some, refl, sym, ap, subst, arith, err_from_is_err_and, resolved, Kept}
-use Rattle.lis_store.specs.Stored.{Stored, IsSound}
+use Rattle.lis_store.proofs.Common.{◌∙◌, Err, length, is_some, refl, sym, ap, subst, arith, err_from_is_err_and, resolved, Kept, rules, State}
+use Rattle.lis_store.specs.Stored.{Stored, IsSound, StoreHolds}
 use Rattle.lis_store.proofs.Edits.{edits_saved}
 use Rattle.lis_store.proofs.MoveFile.{led_to, moved_nowhere, moving_refused, standing_refused, move_asks, move_holds}
 use Rattle.lis_store.proofs.ReplaceFile.{still_in_form, still_below, refiled_limits, refiled_sound, refiled_image, refiled_placed, refiled_room, refiled_edits}
@@ -15,11 +15,13 @@ returns-in_default-clause-holds g c = λ base s holds.
 pub may_move-requires-clause-rec : goal.may_move-requires-clause-rec
 may_move-requires-clause-rec g c = ap is_some (found_there c.self.view_is c.self.invariant c.args.name.now c.in-Some.ensures.slot).1
 
-pub returns-in_err-words-clause-holds : goal.returns-in_err-words-clause-holds
-returns-in_err-words-clause-holds g c = λ base s holds.
+pub returns-in_err-words : goal.returns-in_err-words
+returns-in_err-words g c =
+    let holds = λ (base : State) (s : State) (holds : StoreHolds c.args.self.now (g.D.Disk.meaning c.args.disk.now) base s).
     let e = err_from_is_err_and c.from_residual-in_err-words.result c.from_residual-in_err-words.ensures.1 in
     moving_refused c.self.view_is c.self.invariant c.args.place.now c.args.name.now c.in-Some.ensures.slot c.in-Some.ensures.here c.args.text.now c.in_ok-next.ensures (g.D.Disk.meaning c.args.disk.now) base s holds
-    c.in_err-words.field-0.0 c.from_residual-in_err-words.result (e.1 ∙ ap Err e.2) c.in_err-words.ensures.row
+    c.in_err-words.field-0.0 c.from_residual-in_err-words.result (e.1 ∙ ap Err e.2) c.in_err-words.ensures.row in
+    search (rules, holds)
 
 pub own_in-own-requires-clause-there : goal.own_in-own-requires-clause-there
 own_in-own-requires-clause-there g c = ap is_some (found_there c.self.view_is c.self.invariant c.args.name.now c.in-Some.ensures.slot).1
@@ -36,12 +38,14 @@ blocks_in-blocks-requires g c = ap is_some (found_there c.self.view_is c.self.in
 pub own_in-own-requires-clause-short : goal.own_in-own-requires-clause-short
 own_in-own-requires-clause-short g c = c.self.invariant.short
 
-pub returns-in_err-may_stand_instead-clause-holds : goal.returns-in_err-may_stand_instead-clause-holds
-returns-in_err-may_stand_instead-clause-holds g c = λ base s holds.
+pub returns-in_err-may_stand_instead : goal.returns-in_err-may_stand_instead
+returns-in_err-may_stand_instead g c =
+    let holds = λ (base : State) (s : State) (holds : StoreHolds c.args.self.now (g.D.Disk.meaning c.args.disk.now) base s).
     let e = err_from_is_err_and c.from_residual-in_err-may_stand_instead.result c.from_residual-in_err-may_stand_instead.ensures.1 in
     standing_refused c.self.view_is c.self.invariant c.args.place.now c.args.name.now c.in-Some.ensures.slot c.in-Some.ensures.here c.args.text.now c.in_ok-next.ensures
     c.in_ok-words.ensures.row c.size_in.ensures (λ rec is. c.as_slice.ensures.value ∙ c.in_ok-words.ensures.words rec is) (c.as_slice-2.ensures.value ∙ c.own_in-own.ensures.own) (g.D.Disk.meaning c.args.disk.now) base s holds
-    c.in_err-may_stand_instead.field-0.0 c.from_residual-in_err-may_stand_instead.result (e.1 ∙ ap Err e.2) c.in_err-may_stand_instead.ensures.row
+    c.in_err-may_stand_instead.field-0.0 c.from_residual-in_err-may_stand_instead.result (e.1 ∙ ap Err e.2) c.in_err-may_stand_instead.ensures.row in
+    search (rules, holds)
 
 pub replace_draft-requires-clause-may : goal.replace_draft-requires-clause-may
 replace_draft-requires-clause-may g c =
@@ -80,3 +84,6 @@ returns-clause-holds g c = λ base s holds.
     move_holds c.self.view_is c.self.invariant c.args.place.now c.args.name.now c.in-Some.ensures.slot c.in-Some.ensures.here c.args.text.now c.in_ok-next.ensures
     c.in_ok-words.ensures.row c.size_in.ensures (λ rec is. c.as_slice.ensures.value ∙ c.in_ok-words.ensures.words rec is) (c.as_slice-2.ensures.value ∙ c.own_in-own.ensures.own) c.in_ok-may_stand_instead.ensures.row
     c.replace_draft.ensures.refiles c.blocks_in-blocks.ensures c.requires.usable.unbroken (g.D.Disk.meaning c.args.disk.now) base s holds new (g.D.Disk.meaning c.hold.new.disk) c.hold.result c.hold.ensures.saves
+
+pub returns-in_err-next : goal.returns-in_err-next
+returns-in_err-next g c = search rules

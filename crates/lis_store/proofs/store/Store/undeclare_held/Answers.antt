@@ -1,16 +1,18 @@
-use Rattle.lis_store.proofs.Common.{◌∙◌, sym, ap, Err, is_some, err_from_is_err_and, image_blocks, Kept}
-use Rattle.lis_store.specs.Stored.{Stored}
+use Rattle.lis_store.proofs.Common.{◌∙◌, sym, ap, Err, is_some, err_from_is_err_and, image_blocks, Kept, rules, State, Situation}
+use Rattle.lis_store.specs.Stored.{Stored, StoreHolds}
 use Rattle.lis_store.proofs.Edits.{edits_saved}
 use Rattle.lis_store.proofs.Judged.{view_refused}
 use Rattle.lis_store.proofs.Undeclared.{undeclared_may, undeclared_named, undeclared_change, undeclared_holds, undeclared_refused}
 use Rattle.lis_store.proofs.SavedAlone.{alone_placed, whole_view, held_view}
 use Rattle.lis_store.proofs.store.Store.undeclare_held.Goals as goal
 
-pub returns-in_err-number-clause-holds : goal.returns-in_err-number-clause-holds
-returns-in_err-number-clause-holds g c = λ base now fits.
+pub returns-in_err-number : goal.returns-in_err-number
+returns-in_err-number g c =
+    let holds = λ (base : State) (now : Situation) (fits : StoreHolds c.args.self.now (g.D.Disk.meaning c.args.disk.now) base now.state).
     let p = err_from_is_err_and c.from_residual.result c.from_residual.ensures.1 in
     let refusal = c.in_err-number.field-0.0 in
-    view_refused c.self.view_is now refusal fits (λ held. undeclared_refused c.self.invariant c.args.word.now refusal c.in_err-number.ensures.row now held) (p.1 ∙ ap Err p.2)
+    view_refused c.self.view_is now refusal fits (λ held. undeclared_refused c.self.invariant c.args.word.now refusal c.in_err-number.ensures.row now held) (p.1 ∙ ap Err p.2) in
+    search (rules, holds)
 
 pub undeclare_unmet-requires-clause-may : goal.undeclare_unmet-requires-clause-may
 undeclare_unmet-requires-clause-may g c = undeclared_may c.self.invariant c.in_ok-number.ensures.may

@@ -1,11 +1,13 @@
-use Rattle.lis_store.proofs.Common.{◌∙◌, ap, subst, Err, err_from_is_err_and, Situation, Payload, write}
+use Rattle.lis_store.proofs.Common.{◌∙◌, ap, subst, Err, err_from_is_err_and, Situation, Payload, write, rules, State}
+use Rattle.lis_store.specs.Stored.{StoreFits}
 use Rattle.lis_store.specs.Changes.{Holds}
 use Rattle.lis_store.proofs.StoreSays.{limits_told}
 use Rattle.lis_store.proofs.Holding.{fits_held, changes_ended, changes_committed}
 use Rattle.lis_store.proofs.store.Store.write.Goals as goal
 
-pub returns-in_err-write_held-clause-changes : goal.returns-in_err-write_held-clause-changes
-returns-in_err-write_held-clause-changes g c = λ s fits.
+pub returns-in_err-write_held : goal.returns-in_err-write_held
+returns-in_err-write_held g c =
+    let changes = λ (s : State) (fits : StoreFits c.args.self.now (g.D.Disk.meaning c.args.disk.now) s).
     let p = err_from_is_err_and c.from_residual.result c.from_residual.ensures.1 in
     let m = g.D.Disk.meaning c.args.disk.now in
     let now : Situation = record { state = s; place = c.args.place.now } in
@@ -13,7 +15,8 @@ returns-in_err-write_held-clause-changes g c = λ s fits.
     let outcome = write now c.args.name.now payload in
     let held = fits_held c.args.self.now m s c.write_held.ensures.entry fits in
     changes_ended now outcome c.args.self.now c.write_held.new.self m (g.D.Disk.meaning c.write_held.new.disk) c.in_err-write_held.field-0.0 c.write_held.result c.from_residual.result
-    c.in_err-write_held.was (p.1 ∙ ap Err p.2) fits c.write_held.ensures.left (c.write_held.ensures.holds s s held)
+    c.in_err-write_held.was (p.1 ∙ ap Err p.2) fits c.write_held.ensures.left (c.write_held.ensures.holds s s held) in
+    search (rules, changes)
 
 pub returns-clause-changes : goal.returns-clause-changes
 returns-clause-changes g c = λ s fits.

@@ -1,4 +1,4 @@
-use Rattle.lis_store.proofs.Common.{◌≡◌, ◌∙◌, ◌≤◌, Some, Ok, Err, is_some, refl, sym, ap, subst, arith, err_from_is_err_and, slot_of, rec_at, FileRecord, Limits, new_file, file_added, file_limit, State, Situation, Outcome, Payload, write, changed, words_told}
+use Rattle.lis_store.proofs.Common.{◌≡◌, ◌∙◌, ◌≤◌, Some, Ok, Err, is_some, refl, sym, ap, subst, arith, err_from_is_err_and, slot_of, rec_at, FileRecord, Limits, new_file, file_added, file_limit, State, Situation, Outcome, Payload, write, changed, words_told, rules}
 use Rattle.lis_store.specs.Stored.{Stored, IsSound, StoreHolds}
 use Rattle.lis_store.specs.Changes.{Holds, Commits}
 use Rattle.lis_store.specs.Judging.{is_among}
@@ -21,8 +21,9 @@ pub may_write-requires-clause-there : goal.may_write-requires-clause-there
 may_write-requires-clause-there g c =
     ap is_some (found_there c.self.view_is c.self.invariant c.args.name.now c.in-Some.ensures.slot).1
 
-pub returns-in_err-words-clause-holds : goal.returns-in_err-words-clause-holds
-returns-in_err-words-clause-holds g c = λ base s holds.
+pub returns-in_err-words : goal.returns-in_err-words
+returns-in_err-words g c =
+    let holds = λ (base : State) (s : State) (holds : StoreHolds c.args.self.now (g.D.Disk.meaning c.args.disk.now) base s).
     let e = err_from_is_err_and c.from_residual.result c.from_residual.ensures.1 in
     let m = g.D.Disk.meaning c.args.disk.now in
     let now : Situation = record { state = s; place = c.args.place.now } in
@@ -37,15 +38,18 @@ returns-in_err-words-clause-holds g c = λ base s holds.
     subst Q c.self.view_is
     (written_refused old m c.args.place.now c.args.name.now c.from_residual.result c.self.invariant base s (subst P (sym c.self.view_is) holds) c.in-Some.slot found.0 (λ _. (named, found.1)) payload c.in_err-words.field-0.0
     (rest_of_write c.self.inside.parts c.args.place.now c.args.name.now c.in-Some.slot found.0 (given_before c.self.inside.parts found.0 c.args.name.now c.args.payload.now) c.args.size small here
-    ∙ c.in_err-words.ensures.row found.0 found.1) (e.1 ∙ ap Err e.2))
+    ∙ c.in_err-words.ensures.row found.0 found.1) (e.1 ∙ ap Err e.2)) in
+    search (rules, holds)
 
-pub returns-in_err-commit-clause-holds : goal.returns-in_err-commit-clause-holds
-returns-in_err-commit-clause-holds g c = λ base s holds.
+pub returns-in_err-commit : goal.returns-in_err-commit
+returns-in_err-commit g c =
+    let holds = λ (base : State) (s : State) (holds : StoreHolds c.args.self.now (g.D.Disk.meaning c.args.disk.now) base s).
     let p = err_from_is_err_and c.from_residual-in_err-commit.result c.from_residual-in_err-commit.ensures.1 in
     let m = g.D.Disk.meaning c.args.disk.now in
     let now : Situation = record { state = s; place = c.args.place.now } in
     held_lost_commit base now (write now c.args.name.now (record { size = c.args.size; bytes = c.args.payload.now })) m m (g.D.Disk.meaning c.commit.new.disk)
-    c.commit.new.self c.in_err-commit.field-0.0 c.from_residual-in_err-commit.result (c.in_err-commit.ensures.commits base s holds) (p.1 ∙ ap Err p.2)
+    c.commit.new.self c.in_err-commit.field-0.0 c.from_residual-in_err-commit.result (c.in_err-commit.ensures.commits base s holds) (p.1 ∙ ap Err p.2) in
+    search (rules, holds)
 
 pub put_file-requires-clause-may : goal.put_file-requires-clause-may
 put_file-requires-clause-may g c =
