@@ -6,7 +6,7 @@ use lis_bits::{Flags, Rows, and_not_row, and_row, copy_row, meets, within};
 use std::alloc::{AllocError, Global};
 use std::test::Fail;
 
-// So many rows of so many bits, of which no more is asked.
+// So many rows of so many bits. No more is told of them, since what a check knows of a value stands in each of its steps.
 fn new_rows(alloc: Global, rows: u32, bits: u32) -> Result<Rows, AllocError>
     requires whole_words { bits % 64 ≡ 0 }
     requires few { rows * bits ≤ 2 ^ 27 }
@@ -16,6 +16,7 @@ fn new_rows(alloc: Global, rows: u32, bits: u32) -> Result<Rows, AllocError>
     Rows::new(alloc, rows, bits)
 }
 
+// The same of flags.
 fn new_flags(alloc: Global, bits: u32) -> Result<Flags, AllocError>
     requires whole_words { bits % 64 ≡ 0 }
     requires few { bits ≤ 2 ^ 27 }

@@ -207,16 +207,16 @@ struct Reading {
     seen: String,
 }
 
-fn begin(alloc: Global, row: &str, limit: u64, step: usize) -> Result<Reading, AllocError> {
-    Ok(Reading {
-        reader: LineReader::new(limit.min(99)),
-        input: input_of(alloc, row, step)?,
-        seen: String::new(alloc),
-        payload: Payload::new(alloc)?,
-    })
-}
-
 impl Reading {
+    fn new(alloc: Global, row: &str, limit: u64, step: usize) -> Result<Reading, AllocError> {
+        Ok(Reading {
+            reader: LineReader::new(limit.min(99)),
+            input: input_of(alloc, row, step)?,
+            seen: String::new(alloc),
+            payload: Payload::new(alloc)?,
+        })
+    }
+
     // Notes each item, up to the last one.
     fn note_all(&mut self) -> Result<(), AllocError> {
         for _ in 0..99 {
@@ -267,19 +267,19 @@ impl Reading {
 }
 
 fn items(alloc: Global, row: &str, limit: u64, step: usize) -> Result<String, AllocError> {
-    let mut reading = begin(alloc, row, limit, step)?;
+    let mut reading = Reading::new(alloc, row, limit, step)?;
     reading.note_all()?;
     Ok(reading.seen)
 }
 
 fn held_items(alloc: Global, row: &str, limit: u64, step: usize) -> Result<String, AllocError> {
-    let mut reading = begin(alloc, row, limit, step)?;
+    let mut reading = Reading::new(alloc, row, limit, step)?;
     reading.note_held()?;
     Ok(reading.seen)
 }
 
 fn tagged_items(alloc: Global, row: &str, limit: u64, step: usize) -> Result<String, AllocError> {
-    let mut reading = begin(alloc, row, limit, step)?;
+    let mut reading = Reading::new(alloc, row, limit, step)?;
     reading.note_tagged()?;
     Ok(reading.seen)
 }

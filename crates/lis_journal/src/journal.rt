@@ -86,6 +86,8 @@ struct Room {
     latest: Stage,
 }
 
+// Takes the room, what has most parts last: whatever was taken before is given back where a later part can't be had, and each such
+// end is checked with all that it gives back. So `mount` has one end for all of them.
 fn take_room(alloc: Global, blocks: u32) -> Result<Room, AllocError>
     ensures stage { IfOk result (λ room. room.stage ≡ record { blocks = blocks; entries = [] }) }
     ensures latest { IfOk result (λ room. room.latest ≡ record { blocks = blocks; entries = [] }) }
@@ -104,7 +106,7 @@ fn take_room(alloc: Global, blocks: u32) -> Result<Room, AllocError>
 }
 
 // A journal in this room, with nothing staged and no open record.
-fn idle(room: Room) -> Journal
+fn mounted(room: Room) -> Journal
     requires blocks { 578 < room.stage.blocks }
     requires same { room.latest.blocks ≡ room.stage.blocks }
     requires empty { room.stage.entries ≡ [] }
@@ -178,7 +180,7 @@ impl Journal {
     {
         let mut room = take_room(alloc, blocks)?;
         match recover(disk, &mut room.latest, &mut room.header, &mut room.block) {
-            Ok(None) => Ok(idle(room)),
+            Ok(None) => Ok(mounted(room)),
             Ok(Some(first)) => Err(JournalFault::BadRecord(first)),
             Err(Failed) => Err(JournalFault::DiskFault),
         }

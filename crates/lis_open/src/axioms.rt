@@ -36,7 +36,7 @@ pub struct Axioms {
 }
 
 impl Axioms {
-    /// Gives back their memory.
+    /// Gives back their memory. A caller that lets them go by this call is not checked with the end of all that they own.
     pub fn close(self) {}
 }
 

@@ -62,7 +62,7 @@ pub struct Files {
 }
 
 impl Files {
-    /// Gives back their memory.
+    /// Gives back their memory. A caller that lets them go by this call is not checked with the end of all that they own.
     pub fn close(self) {}
 }
 

@@ -130,6 +130,7 @@ fn mount_image<D: Disk>(alloc: Global, disk: &mut D, limits: Limits) -> Result<S
     let room = take_room(alloc, &limits)?;
     match Journal::mount(alloc, disk, image_blocks(&limits)) {
         Ok(journal) => read_store(disk, limits, journal, room),
+        // Closed by a call, since an end is checked with all that is let go there.
         Err(fault) => {
             room.close();
             Err(OpenFault::from(fault))

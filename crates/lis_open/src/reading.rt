@@ -126,6 +126,7 @@ pub fn read_store<D: Disk>(
         → SpellsSuper limits (kept 0) → StoreEnded limits kept result }
 {
     let mut room = room;
+    // Closed by a call, since an end is checked with all that is let go there.
     if let Err(fault) = read_parts(disk, &journal, &limits, &mut room) {
         room.close();
         return Err(fault);

@@ -30,7 +30,7 @@ pub struct Room {
 }
 
 impl Room {
-    /// Gives back its memory, each part by a call of its own: a drop of all of them at once takes long to check.
+    /// Gives back its memory, what has most parts by calls of their own: a drop of all at once takes long to check.
     pub fn close(self) {
         self.files.close();
         self.axioms.close();
@@ -40,20 +40,20 @@ impl Room {
 
 // What the slots are read into.
 #[derive(Drop)]
-struct Slots {
+struct SlotRoom {
     words: Words,
     axioms: Axioms,
     files: Files,
 }
 
 // Takes the memory for the slots. Nothing is read yet.
-fn take_slots(alloc: Global, limits: &Limits) -> Result<Slots, AllocError>
+fn take_slot_room(alloc: Global, limits: &Limits) -> Result<SlotRoom, AllocError>
     requires { IsTrue (are_in_range limits.now) }
     ensures words { IfOk result (λ slots. slots.words ≡ no_words limits.now) }
     ensures axioms { IfOk result (λ slots. AreNoAxioms limits.now slots.axioms) }
     ensures files { IfOk result (λ slots. slots.files ≡ no_files limits.now) }
 {
-    Ok(Slots {
+    Ok(SlotRoom {
         axioms: no_axioms(alloc, limits)?,
         words: no_words(alloc, limits)?,
         files: no_files(alloc, limits)?,
@@ -69,7 +69,7 @@ pub fn take_room(alloc: Global, limits: &Limits) -> Result<Room, AllocError>
     let row = Rows::new(alloc, 2, limits.props)?;
     let bytes = Buffer::new(alloc)?;
     let marks = Flags::new(alloc, 64 * data_start(limits).div_ceil(64))?;
-    let slots = take_slots(alloc, limits)?;
+    let slots = take_slot_room(alloc, limits)?;
     Ok(Room {
         words: slots.words,
         axioms: slots.axioms,

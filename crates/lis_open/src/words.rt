@@ -33,7 +33,7 @@ pub struct Words {
 }
 
 impl Words {
-    /// Gives back their memory.
+    /// Gives back their memory. A caller that lets them go by this call is not checked with the end of all that they own.
     pub fn close(self) {}
 }
 

@@ -238,8 +238,7 @@ impl Plain {
         ensures { IfOk result (λ file. file ≡ new_file other.now old.now.assigned old.now.bytes) }
     {
         let assigned = copies(self.alloc, &old.assigned)?;
-        let file = new_file(self.alloc, other, assigned, &old.bytes)?;
-        Ok(file)
+        new_file(self.alloc, other, assigned, &old.bytes)
     }
 
     pub(crate) fn rename(&mut self, name: &Name, other: &Name) -> Result<Answer, AllocError>
@@ -338,6 +337,7 @@ impl Plain {
         self.settle(made, answer)
     }
 
+    // The file with the tags of another place, given the words of the text that led there.
     fn mv_there(&mut self, place: &Place, words: &[Word], name: &Name) -> Result<Answer, AllocError>
         ensures { let old : Told = file_of self.old.state.files name.now in
             IsAnswered (mv_with self.old place.now words.now old (new_file old.name (retagged old.assigned (tags_at self.old.place) (tags_at place.now)) old.bytes)) self.old self.new result }

@@ -1,6 +1,6 @@
 //! Sessions over an opened store: with a small limit, and what they edit of its extension rows.
 
-ghost use Rattle.std.specs.Prelude.{◌≡◌, ◌*◌, ◌≤◌, ◌^◌, false, IfOk};
+ghost use Rattle.std.specs.Prelude.{◌≤◌, ◌^◌, IfOk};
 ghost use Rattle.lis_memdisk.specs.MemStation.{meaning_of};
 ghost use Rattle.lis_store.specs.Stored.{IsSound, IsUsable};
 
@@ -17,7 +17,7 @@ use lis_shell::status::Status;
 use std::alloc::{AllocError, Global};
 use std::test::Fail;
 
-// How a session ends, whatever its input and its station are.
+// How a session ends, over any input and any station: what is known of those in memory would stand in each step of its check.
 fn served<S: Source, T: Station>(
     session: &mut Session,
     payload: &mut Payload,

@@ -105,8 +105,9 @@ fn station(alloc: Global, outside: &Outside) -> Result<MemStation, AllocError> {
     Ok(station)
 }
 
-// The program, of which is asked here only that a recorded station stays one.
-fn called<S: Source, T: Station>(
+// The program over any input and any station, since what is known of those in memory would stand in each step of its check. Asked of it is
+// only that a recorded station stays one.
+fn run_program<S: Source, T: Station>(
     alloc: Global,
     words: &[String],
     input: &mut S,
@@ -132,7 +133,7 @@ pub fn call(
         owned.push(String::from_str(alloc, word)?)?;
     }
     let mut input = source(alloc, row, outside)?;
-    let status = called(alloc, &owned, &mut input, station);
+    let status = run_program(alloc, &owned, &mut input, station);
     Ok((status, input.place))
 }
 

@@ -287,7 +287,7 @@ fn with_gate(alloc: Global, image: &[u8], gate: u8) -> Result<Vec<u8>, Fail> {
 }
 
 // How a session ends over it that adds a large file, and what it shows.
-fn adds_large(alloc: Global, image: &[u8], gate: u8) -> Result<(Status, String), Fail> {
+fn large_file_with_gate(alloc: Global, image: &[u8], gate: u8) -> Result<(Status, String), Fail> {
     let row = files_row(alloc, &[("a", 65_537)], "")?;
     let bytes = with_gate(alloc, image, gate)?;
     Ok(session(alloc, &bytes, row.as_str())?)
@@ -299,7 +299,7 @@ fn the_gate_of_a_version_may_have_any_value(rt: HostRuntime) -> Result<(), Fail>
     let alloc = rt.alloc();
     let image = made(alloc, &SMALL)?;
     for gate in [0, 1, 2, 3, 165, 255] {
-        let (status, shown) = adds_large(alloc, &image, gate)?;
+        let (status, shown) = large_file_with_gate(alloc, &image, gate)?;
         let wanted = if gate == 2 {
             "ok;"
         } else {

@@ -1,9 +1,11 @@
-//! The rows. What is wanted was worked out by hand from the rules of commands and listings.
+//! The rows. What is wanted was worked out by hand from the rules of commands and listings. Long tables stand behind calls: of a static table
+//! that a loop goes through, each step of its check holds all rows.
 
 use lis_model::spot::Spot;
 use lis_open::OpenFault;
 use lis_shell::status::Status;
 
+/// Inputs of a session, and what it shows.
 pub fn sessions() -> &'static [(&'static str, &'static str)] {
     &[
         ("", ""),
@@ -280,6 +282,7 @@ pub fn long_lines() -> &'static [(usize, &'static str, &'static str)] {
     ]
 }
 
+/// Words on the command line that are refused.
 pub fn wrong_words() -> &'static [&'static [&'static str]] {
     &[
         &[],
@@ -355,6 +358,7 @@ pub fn wrong_words() -> &'static [&'static [&'static str]] {
     ]
 }
 
+/// Words on the command line that begin a session.
 pub fn right_words() -> &'static [&'static [&'static str]] {
     &[
         &["try", "64", "64", "1"],
