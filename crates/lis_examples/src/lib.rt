@@ -2,23 +2,9 @@
 #![tactic(auto)]
 
 #[cfg(test)]
-mod bits;
-#[cfg(test)]
-mod blockmap;
-#[cfg(test)]
-mod catalog;
-#[cfg(test)]
-mod content;
-#[cfg(test)]
 mod csource;
 #[cfg(test)]
 mod derive;
-#[cfg(test)]
-mod dict;
-#[cfg(test)]
-mod ext;
-#[cfg(test)]
-mod fields;
 #[cfg(test)]
 mod formula;
 #[cfg(test)]
@@ -29,9 +15,3 @@ mod mail;
 mod memdisk;
 #[cfg(test)]
 mod ports;
-#[cfg(test)]
-mod region;
-#[cfg(test)]
-mod slots;
-#[cfg(test)]
-mod taxonomy;
