@@ -39,7 +39,7 @@ slot_of_an_axiom = refl
 -- a name of four bytes, two words, 5,000 bytes in blocks 7 and 5
 slot_of_a_file : file_bytes (Used (record { name = codes "song"; size = 5000; tags = 3 ∷ 258 ∷ []; blocks = 7 ∷ 5 ∷ [] }))
     ≡ 1 ∷ 4 ∷ codes "song" ++ zeros 56 ++ 2 ∷ 0 ∷ 136 ∷ 19 ∷ 0 ∷ 0 ∷ 3 ∷ 0 ∷ 2 ∷ 1 ∷ zeros 28 ++ 7 ∷ 0 ∷ 5 ∷ 0 ∷ zeros 28 ++ zeros 124
-unfolding file_bytes
+unfolding file_bytes zeros
 slot_of_a_file = refl
 
 blocks_are_distinct : is_record 1 (record { name = codes "song"; size = 5000; tags = []; blocks = 7 ∷ 7 ∷ [] }) ≡ false
