@@ -59,7 +59,7 @@ fn a_record_that_is_not_in_form_is_told(rt: HostRuntime) -> Result<(), Fail> {
     let alloc = rt.alloc();
     for (second_gate, at, with, block) in HEADERS {
         let image = open_record(alloc, second_gate, at.min(3_999), with)?;
-        assert_eq!(rt; bad_record(alloc, &image)?, block, "at {at}");
+        assert!(rt; bad_record(alloc, &image)? == block, "at {at}");
     }
     Ok(())
 }

@@ -154,7 +154,7 @@ fn items_are_the_same_in_any_pieces(rt: HostRuntime) -> Result<(), Fail> {
     for (row, limit, wanted) in inputs() {
         for step in [1, 2, 4_096] {
             let seen = items(rt.alloc(), row, *limit, step)?;
-            assert_eq!(rt; seen.as_str(), *wanted, "{row}");
+            assert!(rt; seen.as_str() == *wanted, "{row}");
         }
     }
     Ok(())

@@ -336,6 +336,6 @@ fn an_opening_that_is_stopped_leaves_the_state_that_it_found(rt: HostRuntime) ->
             stops = stops.saturating_add(1);
         }
     }
-    assert_eq!(rt; stops, 9);
+    assert!(rt; stops == 9);
     Ok(())
 }

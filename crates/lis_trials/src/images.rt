@@ -83,8 +83,8 @@ fn images_show_what_plain_states_show(rt: HostRuntime) -> Result<(), Fail> {
         let image = made(alloc, words)?;
         for (row, wanted) in sessions() {
             let (status, shown) = session(alloc, &image, row)?;
-            assert_eq!(rt; shown.as_str(), *wanted, "{row}");
-            assert_eq!(rt; status, Status::DONE, "{row}");
+            assert!(rt; shown.as_str() == *wanted, "{row}");
+            assert!(rt; status == Status::DONE, "{row}");
         }
     }
     Ok(())
@@ -98,7 +98,7 @@ fn images_show_the_same_of_long_lines_and_many_words(rt: HostRuntime) -> Result<
         let image = made(alloc, words)?;
         for (row, wanted) in &sessions {
             let (_, shown) = session(alloc, &image, row.as_str())?;
-            assert_eq!(rt; shown.as_str(), wanted.as_str(), "{words:?}");
+            assert!(rt; shown.as_str() == wanted.as_str(), "{words:?}");
         }
     }
     Ok(())
@@ -116,8 +116,8 @@ fn each_word_that_opens_an_image_judges_it(rt: HostRuntime) -> Result<(), Fail> 
     for words in opening_words() {
         for (len, wanted) in &ZEROS {
             let (status, taken, shown) = on_zeros(rt.alloc(), words, *len)?;
-            assert_eq!(rt; status, *wanted, "{words:?}");
-            assert_eq!(rt; (taken, shown), (0, 0), "{words:?}");
+            assert!(rt; status == *wanted, "{words:?}");
+            assert!(rt; (taken, shown) == (0, 0), "{words:?}");
         }
     }
     Ok(())
@@ -128,8 +128,8 @@ fn no_image_is_made_of_a_byte_less(rt: HostRuntime) -> Result<(), Fail> {
     for words in &MAKES {
         let (status, _, shown) = on_zeros(rt.alloc(), words, 2_433_023)?;
         let wanted = Status::Opening(OpenFault::TooShort(2_433_023, 2_433_024));
-        assert_eq!(rt; status, wanted, "{words:?}");
-        assert_eq!(rt; shown, 0, "{words:?}");
+        assert!(rt; status == wanted, "{words:?}");
+        assert!(rt; shown == 0, "{words:?}");
     }
     Ok(())
 }
@@ -167,8 +167,11 @@ fn rows_tell_which_file_has_which_word(rt: HostRuntime) -> Result<(), Fail> {
             Some(place) => *place = *byte,
         }
         let (status, shown) = session(alloc, &bytes, "ls;")?;
-        assert_eq!(rt; status, *wanted, "{byte} at {at}");
-        assert_eq!(rt; shown.is_empty(), status != Status::DONE, "{byte} at {at}");
+        assert!(rt; status == *wanted, "{byte} at {at}");
+        assert!(rt;
+            shown.is_empty() == (status != Status::DONE),
+            "{byte} at {at}"
+        );
     }
     Ok(())
 }
@@ -218,14 +221,14 @@ fn with_failing_show(alloc: Global, image: &[u8], rows: [&str; 2]) -> Result<Bot
 fn a_failing_show_leaves_what_was_carried_out(rt: HostRuntime) -> Result<(), Fail> {
     let alloc = rt.alloc();
     let both = with_failing_show(alloc, &fresh(alloc)?, ["create a;create b;ls;", "ls;"])?;
-    assert_eq!(rt; both.status, Status::OUTPUT_FAULT);
+    assert!(rt; both.status == Status::OUTPUT_FAULT);
     assert!(rt; "ok;".starts_with(both.shown.as_str()));
     let wanted = if both.shown.len() == 3 {
         "f a;f b;ok;"
     } else {
         "f a;ok;"
     };
-    assert_eq!(rt; both.reply.as_str(), wanted);
+    assert!(rt; both.reply.as_str() == wanted);
     Ok(())
 }
 
@@ -266,7 +269,7 @@ fn a_failing_sync_shows_nothing(rt: HostRuntime) -> Result<(), Fail> {
     for behind in 1..8 {
         let number = opened.saturating_add(behind);
         let both = with_failing_call(alloc, &image, ["mkdir a;", "mkdir a;"], number)?;
-        assert_eq!(rt; both.again, Status::DONE, "the call {behind}");
+        assert!(rt; both.again == Status::DONE, "the call {behind}");
         assert!(rt; is_declared_once(&both), "the call {behind}");
     }
     Ok(())
@@ -286,6 +289,6 @@ fn want_of_memory_comes_before_anything_is_shown(rt: HostRuntime) -> Result<(), 
     } else {
         "ok;ok;ok;d size:empty;d size:small;ok;ok;"
     };
-    assert_eq!(rt; shown.as_str(), wanted, "{status:?}");
+    assert!(rt; shown.as_str() == wanted, "{status:?}");
     Ok(())
 }

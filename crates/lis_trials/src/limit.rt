@@ -99,9 +99,9 @@ fn a_session_ends_at_its_limit(rt: HostRuntime) -> Result<(), Fail> {
     let image = fresh(alloc)?;
     for (row, wanted, wanted_replies, wanted_left) in &LIMITED {
         let (status, replies, left) = limited(alloc, &image, row)?;
-        assert_eq!(rt; status, *wanted, "{row}");
-        assert_eq!(rt; replies.as_str(), *wanted_replies, "{row}");
-        assert_eq!(rt; left.as_str(), *wanted_left, "{row}");
+        assert!(rt; status == *wanted, "{row}");
+        assert!(rt; replies.as_str() == *wanted_replies, "{row}");
+        assert!(rt; left.as_str() == *wanted_left, "{row}");
     }
     Ok(())
 }
@@ -128,7 +128,7 @@ fn rows_are_edited_where_descriptions_differ(rt: HostRuntime) -> Result<(), Fail
     let image = fresh(alloc)?;
     for (row, wanted) in edit_counts() {
         let edits = edits_on(alloc, &image, row)?;
-        assert_eq!(rt; edits, *wanted, "{row}");
+        assert!(rt; edits == *wanted, "{row}");
     }
     Ok(())
 }

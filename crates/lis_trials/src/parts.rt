@@ -70,10 +70,10 @@ fn parts_show_and_leave_the_same_in_any_pieces(rt: HostRuntime) -> Result<(), Fa
         for (words, row, is_taken, wanted, left) in part_cases() {
             let seen = carried_on(alloc, &image, words, row, &outside)?;
             let taken = if *is_taken { row.len() } else { 0 };
-            assert_eq!(rt; seen.status, Status::DONE, "{words:?} with {row}");
-            assert_eq!(rt; seen.shown.as_str(), *wanted, "{words:?} with {row}");
-            assert_eq!(rt; seen.taken, taken, "{words:?} with {row}");
-            assert_eq!(rt; seen.left.as_str(), *left, "{words:?} with {row}");
+            assert!(rt; seen.status == Status::DONE, "{words:?} with {row}");
+            assert!(rt; seen.shown.as_str() == *wanted, "{words:?} with {row}");
+            assert!(rt; seen.taken == taken, "{words:?} with {row}");
+            assert!(rt; seen.left.as_str() == *left, "{words:?} with {row}");
         }
     }
     Ok(())
@@ -92,9 +92,9 @@ fn a_failing_source_leaves_the_file(rt: HostRuntime) -> Result<(), Fail> {
         };
         let words = ["put", "i", "notes.txt", "word:alpha"];
         let seen = carried_on(alloc, &image, &words, EDITED, &outside)?;
-        assert_eq!(rt; seen.status, Status::INPUT_FAULT, "at {place}");
+        assert!(rt; seen.status == Status::INPUT_FAULT, "at {place}");
         assert!(rt; seen.shown.is_empty(), "at {place}");
-        assert_eq!(rt; seen.left.as_str(), NOTES_LEFT, "at {place}");
+        assert!(rt; seen.left.as_str() == NOTES_LEFT, "at {place}");
     }
     Ok(())
 }

@@ -164,7 +164,7 @@ fn sessions_show_the_same_in_any_pieces(rt: HostRuntime) -> Result<(), Fail> {
                 ..SOUND
             };
             let seen = run(rt.alloc(), words, row, &outside)?;
-            assert_eq!(rt; seen.shown.as_str(), *wanted, "{row}");
+            assert!(rt; seen.shown.as_str() == *wanted, "{row}");
             assert!(rt; is_whole(&seen, row), "{row}");
         }
     }
@@ -210,7 +210,7 @@ fn files_are_as_large_as_there_are_blocks(rt: HostRuntime) -> Result<(), Fail> {
     for (words, files, behind, wanted) in &LARGE_FILES {
         let row = files_row(rt.alloc(), files, behind)?;
         let seen = run(rt.alloc(), words, row.as_str(), &SOUND)?;
-        assert_eq!(rt; seen.shown.as_str(), *wanted, "{words:?}");
+        assert!(rt; seen.shown.as_str() == *wanted, "{words:?}");
     }
     Ok(())
 }
@@ -271,7 +271,7 @@ pub fn built_sessions(alloc: Global) -> Result<Vec<(String, String)>, AllocError
 fn sessions_of_long_lines_and_many_words_show_the_same(rt: HostRuntime) -> Result<(), Fail> {
     for (row, wanted) in &built_sessions(rt.alloc())? {
         let seen = run(rt.alloc(), &WORDS, row.as_str(), &SOUND)?;
-        assert_eq!(rt; seen.shown.as_str(), wanted.as_str());
+        assert!(rt; seen.shown.as_str() == wanted.as_str());
     }
     Ok(())
 }
@@ -285,7 +285,7 @@ fn is_untouched(seen: &Seen) -> bool {
 fn wrong_words_are_refused_before_anything_is_taken_or_shown(rt: HostRuntime) -> Result<(), Fail> {
     for words in wrong_words() {
         let seen = run(rt.alloc(), words, "mkdir a;", &SOUND)?;
-        assert_eq!(rt; seen.status, Status::Usage, "{words:?}");
+        assert!(rt; seen.status == Status::Usage, "{words:?}");
         assert!(rt; is_untouched(&seen), "{words:?}");
     }
     Ok(())
@@ -295,8 +295,8 @@ fn wrong_words_are_refused_before_anything_is_taken_or_shown(rt: HostRuntime) ->
 fn right_words_are_carried_out(rt: HostRuntime) -> Result<(), Fail> {
     for words in right_words() {
         let seen = run(rt.alloc(), words, "mkdir a;", &SOUND)?;
-        assert_eq!(rt; seen.status, Status::DONE, "{words:?}");
-        assert_eq!(rt; seen.shown.as_str(), "ok;", "{words:?}");
+        assert!(rt; seen.status == Status::DONE, "{words:?}");
+        assert!(rt; seen.shown.as_str() == "ok;", "{words:?}");
     }
     Ok(())
 }
@@ -311,8 +311,8 @@ fn a_failing_show_ends_behind_a_front_of_the_replies(rt: HostRuntime) -> Result<
             ..SOUND
         };
         let seen = run(rt.alloc(), &WORDS, "create a;create b;ls;", &outside)?;
-        assert_eq!(rt; seen.shown.as_str(), *shown, "the call {show_fails}");
-        assert_eq!(rt; seen.status, *status, "the call {show_fails}");
+        assert!(rt; seen.shown.as_str() == *shown, "the call {show_fails}");
+        assert!(rt; seen.status == *status, "the call {show_fails}");
     }
     Ok(())
 }
@@ -324,7 +324,7 @@ fn a_failing_show_ends_with_its_fault(rt: HostRuntime) -> Result<(), Fail> {
         ..SOUND
     };
     let seen = run(rt.alloc(), &WORDS, "create a;create b;ls;", &outside)?;
-    assert_eq!(rt; seen.status, Status::OUTPUT_FAULT);
+    assert!(rt; seen.status == Status::OUTPUT_FAULT);
     assert!(rt; "ok;".starts_with(seen.shown.as_str()));
     Ok(())
 }
@@ -375,10 +375,10 @@ fn a_cut_session_leaves_what_it_had_carried_out(rt: HostRuntime) -> Result<(), F
     for case in &CUT_SESSIONS {
         let (_, _, _, (row, shown, status), (then, then_shown)) = case;
         let (seen, behind) = seen_both(rt.alloc(), case)?;
-        assert_eq!(rt; seen.status, *status, "{row}");
-        assert_eq!(rt; seen.shown.as_str(), *shown, "{row}");
-        assert_eq!(rt; behind.status, Status::DONE, "{then} after {row}");
-        assert_eq!(rt; behind.shown.as_str(), *then_shown, "{then} after {row}");
+        assert!(rt; seen.status == *status, "{row}");
+        assert!(rt; seen.shown.as_str() == *shown, "{row}");
+        assert!(rt; behind.status == Status::DONE, "{then} after {row}");
+        assert!(rt; behind.shown.as_str() == *then_shown, "{then} after {row}");
     }
     Ok(())
 }

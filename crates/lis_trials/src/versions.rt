@@ -117,8 +117,8 @@ fn files_of_images_are_as_large_as_there_are_blocks(rt: HostRuntime) -> Result<(
         let image = made(alloc, &making(alloc, words)?)?;
         let row = files_row(alloc, files, behind)?;
         let (status, shown) = session(alloc, &image, row.as_str())?;
-        assert_eq!(rt; shown.as_str(), *wanted, "{words:?}");
-        assert_eq!(rt; status, Status::DONE, "{words:?}");
+        assert!(rt; shown.as_str() == *wanted, "{words:?}");
+        assert!(rt; status == Status::DONE, "{words:?}");
     }
     Ok(())
 }
@@ -146,10 +146,7 @@ fn shown_upgraded(alloc: Global, row: &str) -> Result<String, Fail> {
 fn an_upgraded_image_takes_larger_files(rt: HostRuntime) -> Result<(), Fail> {
     let row = files_row(rt.alloc(), &[("a", 65_537)], "stat;")?;
     let shown = shown_upgraded(rt.alloc(), row.as_str())?;
-    assert_eq!(rt;
-        shown.as_str(),
-        "ok;s files 1;s known 2;s axioms 0;s free 22;ok;"
-    );
+    assert!(rt; shown.as_str() == "ok;s files 1;s known 2;s axioms 0;s free 22;ok;");
     Ok(())
 }
 
@@ -188,10 +185,12 @@ fn a_crash_of_an_upgrade_leaves_an_image_that_opens(rt: HostRuntime) -> Result<(
     for call in 0..=station.calls() {
         for pick in [0, 1, 2, 165] {
             let (status, shown) = left_by(alloc, &station, call, pick)?;
-            assert_eq!(rt; status, Status::DONE, "the call {call} and the pick {pick}");
-            assert_eq!(rt;
-                shown.as_str(),
-                "ok;",
+            assert!(rt;
+                status == Status::DONE,
+                "the call {call} and the pick {pick}"
+            );
+            assert!(rt;
+                shown.as_str() == "ok;",
                 "the call {call} and the pick {pick}"
             );
         }
@@ -261,14 +260,13 @@ fn damaged_index_blocks_are_named(rt: HostRuntime) -> Result<(), Fail> {
     let alloc = rt.alloc();
     let image = with_files(alloc)?;
     let (status, _) = session(alloc, &image, "ls;")?;
-    assert_eq!(rt; status, Status::DONE);
+    assert!(rt; status == Status::DONE);
     for (place, what, spot) in &DAMAGES {
         let mut bytes = image.clone()?;
         assert!(rt; damage(&image, &mut bytes, *place, *what), "{place:?}");
         let (status, shown) = session(alloc, &bytes, "ls;")?;
-        assert_eq!(rt;
-            status,
-            Status::Opening(OpenFault::Damaged(*spot)),
+        assert!(rt;
+            status == Status::Opening(OpenFault::Damaged(*spot)),
             "{place:?} {what:?}"
         );
         assert!(rt; shown.is_empty(), "{place:?} {what:?}");
@@ -305,8 +303,8 @@ fn the_gate_of_a_version_may_have_any_value(rt: HostRuntime) -> Result<(), Fail>
         } else {
             "no 20 file too large;"
         };
-        assert_eq!(rt; status, Status::DONE, "{gate}");
-        assert_eq!(rt; shown.as_str(), wanted, "{gate}");
+        assert!(rt; status == Status::DONE, "{gate}");
+        assert!(rt; shown.as_str() == wanted, "{gate}");
     }
     Ok(())
 }
