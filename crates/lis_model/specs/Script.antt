@@ -1,5 +1,5 @@
 -- How the input is cut into items.
-use Rattle.std.specs.Prelude.{ℕ, ◌==◌, nat_lt, nat_le, zero, suc, Bool, false, true, ◌&&◌, ◌||◌, if◌then◌else◌, Option, Some, None, Result, Ok, Err, List, [], ◌∷◌, ◌++◌, length, take, drop, filter, codes}
+use Rattle.std.specs.Prelude.{ℕ, nat_lt, nat_le, zero, suc, Bool, false, true, ◌&&◌, ◌||◌, if◌then◌else◌, Option, Some, None, Result, Ok, Err, List, [], ◌∷◌, ◌++◌, length, take, drop, filter, codes}
 use Rattle.std.specs.Option.{option_to_list}
 use Rattle.std.specs.List.{list_any, list_all}
 use Rattle.lis_words.specs.Bytes.{is_feed, is_blank, is_some_bytes, without_return}
