@@ -7,10 +7,10 @@ use Rattle.std.proofs.lemmas.List.{length-take}
 use Rattle.std.proofs.lemmas.List.Folds.{list_all-append}
 use Rattle.lis_words.specs.Words.{same_word, is_property, is_file_name, is_count}
 use Rattle.lis_model.specs.declared.refusal.Refusal.TheVariants.{BadLine, LongLine, CutPayload, PayloadEnd, TooManyAssigned}
-use Rattle.lis_model.specs.declared.command.Command.TheVariants.{Mkdir, Rmdir, Axiom, Unaxiom, Create, Add, Write, Cat, Mv, Rename, Rm, Pwd, Ls, Props, Way, Stat}
+use Rattle.lis_model.specs.declared.command.Command.TheVariants.{Mkdir, Rmdir, Axiom, Unaxiom, Create, Add, Write, Cat, Mv, Rename, Rm, Cd, Pwd, Ls, Props, Way, Stat}
 use Rattle.lis_model.specs.Step.{Item, Payload, no_payload}
 use Rattle.lis_model.specs.Step.Item.{Do, Bad}
-use Rattle.lis_model.specs.Script.{bad_line, word_form, pair_form, tags_form, with_tags, create_form, add_form, write_form, file_form, cd_form, mv_form, rename_form, alone_form, form_of, item_of_words, item_of, line_words, is_long, payload_limit, payload_of, payload_size, before_feed, after_feed, First, first_ended, first_with, first_by, first_of, items_within, all_items, whole_within, whole_items, script}
+use Rattle.lis_model.specs.Script.{bad_line, one_form, two_form, any_word, tags_form, with_tags, create_form, add_form, alone_form, form_of, item_of_words, item_of, line_words, is_long, payload_limit, payload_of, payload_size, before_feed, after_feed, First, first_ended, first_with, first_by, first_of, items_within, all_items, whole_within, whole_items, script}
 use Rattle.lis_laws.specs.Steps.{is_payload, is_formed}
 use Rattle.lis_words.specs.Bytes.{is_feed}
 
@@ -32,20 +32,22 @@ payload_formed size bytes is = by (nat_le size payload_limit)
     by true = eq-eqb (length bytes) size is
     by false = refl
 
-word_formed : (item : List ℕ → Item) → ((word : List ℕ) → is_property word ≡ true → is_formed (item word) ≡ true) → (words : List (List ℕ)) → is_formed (word_form item words) ≡ true
-word_formed item formed [] = refl
-word_formed item formed (word ∷ []) = tested (is_property word) (item word) (formed word)
-word_formed item formed (word ∷ more ∷ words) = refl
+one_formed : (fits : List ℕ → Bool) (item : List ℕ → Item) → ((word : List ℕ) → fits word ≡ true → is_formed (item word) ≡ true)
+    → (words : List (List ℕ)) → is_formed (one_form fits item words) ≡ true
+one_formed fits item formed [] = refl
+one_formed fits item formed (word ∷ []) = tested (fits word) (item word) (formed word)
+one_formed fits item formed (word ∷ more ∷ words) = refl
 
-pair_formed : (item : List ℕ → List ℕ → Item) → ((left right : List ℕ) → is_property left ≡ true → is_property right ≡ true → is_formed (item left right) ≡ true)
-    → (words : List (List ℕ)) → is_formed (pair_form item words) ≡ true
-pair_formed item formed [] = refl
-pair_formed item formed (left ∷ []) = refl
-pair_formed item formed (left ∷ right ∷ []) = tested (is_property left && is_property right) (item left right) both
+two_formed : (fits_left fits_right : List ℕ → Bool) (item : List ℕ → List ℕ → Item)
+    → ((left right : List ℕ) → fits_left left ≡ true → fits_right right ≡ true → is_formed (item left right) ≡ true)
+    → (words : List (List ℕ)) → is_formed (two_form fits_left fits_right item words) ≡ true
+two_formed fits_left fits_right item formed [] = refl
+two_formed fits_left fits_right item formed (left ∷ []) = refl
+two_formed fits_left fits_right item formed (left ∷ right ∷ []) = tested (fits_left left && fits_right right) (item left right) both
   where
-    both : (is_property left && is_property right) ≡ true → is_formed (item left right) ≡ true
-    both e = let parts = and_parts (is_property left) (is_property right) e in formed left right parts.0 parts.1
-pair_formed item formed (left ∷ right ∷ more ∷ words) = refl
+    both : (fits_left left && fits_right right) ≡ true → is_formed (item left right) ≡ true
+    both e = let parts = and_parts (fits_left left) (fits_right right) e in formed left right parts.0 parts.1
+two_formed fits_left fits_right item formed (left ∷ right ∷ more ∷ words) = refl
 
 create_named_formed : (name : List ℕ) (words : List (List ℕ)) → is_file_name name ≡ true → is_formed (with_tags (λ tags. Do (Create name tags) no_payload) (tags_form words)) ≡ true
 create_named_formed name words named = by (list_all is_property words) refl (nat_lt 16 (length words))
@@ -73,35 +75,6 @@ add_formed (name ∷ []) payload sized = refl
 add_formed (name ∷ size ∷ words) payload sized =
     tested (is_file_name name && is_count size) (with_tags (λ tags. Do (Add name tags) payload) (tags_form words)) (λ e. add_named_formed name words payload sized (and_parts _ _ e).0)
 
-write_formed : (words : List (List ℕ)) (payload : Payload) → is_payload payload ≡ true → is_formed (write_form words payload) ≡ true
-write_formed [] payload sized = refl
-write_formed (name ∷ []) payload sized = refl
-write_formed (name ∷ size ∷ []) payload sized =
-    tested (is_file_name name && is_count size) (Do (Write name) payload) (λ e. and_from _ _ (and_parts (is_file_name name) (is_count size) e).0 sized)
-write_formed (name ∷ size ∷ more ∷ words) payload sized = refl
-
-file_formed : (item : List ℕ → Item) → ((name : List ℕ) → is_file_name name ≡ true → is_formed (item name) ≡ true) → (words : List (List ℕ)) → is_formed (file_form item words) ≡ true
-file_formed item formed [] = refl
-file_formed item formed (name ∷ []) = tested (is_file_name name) (item name) (formed name)
-file_formed item formed (name ∷ more ∷ words) = refl
-
-mv_formed : (words : List (List ℕ)) → is_formed (mv_form words) ≡ true
-mv_formed [] = refl
-mv_formed (name ∷ []) = refl
-mv_formed (name ∷ text ∷ []) = tested (is_file_name name) (Do (Mv name text) no_payload) (λ e. and_from _ _ e refl)
-mv_formed (name ∷ text ∷ more ∷ words) = refl
-
-rename_formed : (words : List (List ℕ)) → is_formed (rename_form words) ≡ true
-rename_formed [] = refl
-rename_formed (name ∷ []) = refl
-rename_formed (name ∷ other ∷ []) = tested (is_file_name name && is_file_name other) (Do (Rename name other) no_payload) (λ e. and_from _ _ e refl)
-rename_formed (name ∷ other ∷ more ∷ words) = refl
-
-cd_formed : (words : List (List ℕ)) → is_formed (cd_form words) ≡ true
-cd_formed [] = refl
-cd_formed (text ∷ []) = refl
-cd_formed (text ∷ more ∷ words) = refl
-
 alone_formed : (item : Item) (words : List (List ℕ)) → is_formed item ≡ true → is_formed (alone_form item words) ≡ true
 alone_formed item [] h = h
 alone_formed item (word ∷ words) h = refl
@@ -112,22 +85,22 @@ alone b e = and_from _ _ e refl
 -- the lines of all commands
 line_formed : (first : List ℕ) (words : List (List ℕ)) (payload : Payload) → is_payload payload ≡ true → is_formed (form_of first words payload) ≡ true
 line_formed first words payload sized =
-    chosen (same_word first (codes "mkdir")) _ _ (word_formed (λ word. Do (Mkdir word) no_payload) (λ word e. alone _ e) words)
-    (chosen (same_word first (codes "rmdir")) _ _ (word_formed (λ word. Do (Rmdir word) no_payload) (λ word e. alone _ e) words)
-    (chosen (same_word first (codes "axiom")) _ _ (pair_formed (λ left right. Do (Axiom left right) no_payload) (λ left right e f. alone _ (and_from _ _ e f)) words)
-    (chosen (same_word first (codes "unaxiom")) _ _ (pair_formed (λ left right. Do (Unaxiom left right) no_payload) (λ left right e f. alone _ (and_from _ _ e f)) words)
+    chosen (same_word first (codes "mkdir")) _ _ (one_formed is_property (λ word. Do (Mkdir word) no_payload) (λ word e. alone _ e) words)
+    (chosen (same_word first (codes "rmdir")) _ _ (one_formed is_property (λ word. Do (Rmdir word) no_payload) (λ word e. alone _ e) words)
+    (chosen (same_word first (codes "axiom")) _ _ (two_formed is_property is_property (λ left right. Do (Axiom left right) no_payload) (λ left right e f. alone _ (and_from _ _ e f)) words)
+    (chosen (same_word first (codes "unaxiom")) _ _ (two_formed is_property is_property (λ left right. Do (Unaxiom left right) no_payload) (λ left right e f. alone _ (and_from _ _ e f)) words)
     (chosen (same_word first (codes "create")) _ _ (create_formed words)
     (chosen (same_word first (codes "add")) _ _ (add_formed words payload sized)
-    (chosen (same_word first (codes "write")) _ _ (write_formed words payload sized)
-    (chosen (same_word first (codes "cat")) _ _ (file_formed (λ name. Do (Cat name) no_payload) (λ name e. alone _ e) words)
-    (chosen (same_word first (codes "mv")) _ _ (mv_formed words)
-    (chosen (same_word first (codes "rename")) _ _ (rename_formed words)
-    (chosen (same_word first (codes "rm")) _ _ (file_formed (λ name. Do (Rm name) no_payload) (λ name e. alone _ e) words)
-    (chosen (same_word first (codes "cd")) _ _ (cd_formed words)
+    (chosen (same_word first (codes "write")) _ _ (two_formed is_file_name is_count (λ name size. Do (Write name) payload) (λ name size e f. and_from _ _ e sized) words)
+    (chosen (same_word first (codes "cat")) _ _ (one_formed is_file_name (λ name. Do (Cat name) no_payload) (λ name e. alone _ e) words)
+    (chosen (same_word first (codes "mv")) _ _ (two_formed is_file_name any_word (λ name word. Do (Mv name word) no_payload) (λ name word e f. alone _ e) words)
+    (chosen (same_word first (codes "rename")) _ _ (two_formed is_file_name is_file_name (λ name other. Do (Rename name other) no_payload) (λ name other e f. alone _ (and_from _ _ e f)) words)
+    (chosen (same_word first (codes "rm")) _ _ (one_formed is_file_name (λ name. Do (Rm name) no_payload) (λ name e. alone _ e) words)
+    (chosen (same_word first (codes "cd")) _ _ (one_formed any_word (λ word. Do (Cd word) no_payload) (λ word e. refl) words)
     (chosen (same_word first (codes "pwd")) _ _ (alone_formed (Do Pwd no_payload) words refl)
     (chosen (same_word first (codes "ls")) _ _ (alone_formed (Do Ls no_payload) words refl)
-    (chosen (same_word first (codes "props")) _ _ (file_formed (λ name. Do (Props name) no_payload) (λ name e. alone _ e) words)
-    (chosen (same_word first (codes "way")) _ _ (file_formed (λ name. Do (Way name) no_payload) (λ name e. alone _ e) words)
+    (chosen (same_word first (codes "props")) _ _ (one_formed is_file_name (λ name. Do (Props name) no_payload) (λ name e. alone _ e) words)
+    (chosen (same_word first (codes "way")) _ _ (one_formed is_file_name (λ name. Do (Way name) no_payload) (λ name e. alone _ e) words)
     (chosen (same_word first (codes "stat")) _ _ (alone_formed (Do Stat no_payload) words refl) refl))))))))))))))))
 
 -- the items of a part of the input, none or one

@@ -1,9 +1,9 @@
 -- The words of a text, one after another.
-use Rattle.std.proofs.Common.{◌≡◌, ◌==◌, ℕ, ◌+◌, ◌-◌, ◌≤◌, ◌<◌, Bool, true, false, not, cond, List, [], ◌∷◌, ◌++◌, length, take, drop, filter, get_or, suc, ap, sym, ◌∙◌, refl, inl, inr, arith, length-take, append_assoc, append-nil, length-append}
+use Rattle.std.proofs.Common.{◌≡◌, ◌==◌, ℕ, ◌+◌, ◌-◌, ◌≤◌, ◌<◌, Bool, true, false, not, cond, List, [], ◌∷◌, ◌++◌, length, take, drop, filter, get_or, suc, ap, sym, ◌∙◌, refl, inl, inr, arith, length-take, append_assoc, append-nil}
 use Rattle.std.specs.List.{prefix_len}
 use Rattle.std.proofs.lemmas.Grind.{common_steps}
 use Rattle.std.proofs.lemmas.List.Sums.{prefix_len-le-length}
-use Rattle.std.proofs.lemmas.Bool.{cond-true, cond-false, le-leb, cases_lt}
+use Rattle.std.proofs.lemmas.Bool.{cond-true, cond-false, cases_lt}
 use Rattle.lis_line.specs.Tagged.{after_blanks}
 use Rattle.lis_line.proofs.Bytes.{differs, same}
 use Rattle.lis_model.specs.Script.{pieces_on, words_of}

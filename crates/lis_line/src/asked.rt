@@ -18,7 +18,9 @@ use lis_words::read_count;
 /// What a line asks for, without the payload behind it.
 pub type Request = Result<Command, Refusal>;
 
-fn is(first: &[u8], word: &[u8]) -> bool
+/// Whether the first word is this one. What a check sees of a literal stands in each step behind it, and behind a call it does not: so
+/// this is a function.
+fn is_word(first: &[u8], word: &[u8]) -> bool
     ensures { result ≡ same_word first.now word.now }
 {
     first == word
@@ -29,55 +31,55 @@ fn command_of(first: &[u8], rest: &[u8]) -> Request
     requires { length rest.now ≤ 1024 }
     ensures { (payload : Payload) → asked_of payload result ≡ form_of first.now (words_of rest.now) payload }
 {
-    if is(first, b"mkdir") {
+    if is_word(first, b"mkdir") {
         return mkdir_form(rest);
     }
-    if is(first, b"rmdir") {
+    if is_word(first, b"rmdir") {
         return rmdir_form(rest);
     }
-    if is(first, b"axiom") {
+    if is_word(first, b"axiom") {
         return axiom_form(rest);
     }
-    if is(first, b"unaxiom") {
+    if is_word(first, b"unaxiom") {
         return unaxiom_form(rest);
     }
-    if is(first, b"create") {
+    if is_word(first, b"create") {
         return create_form(rest);
     }
-    if is(first, b"add") {
+    if is_word(first, b"add") {
         return add_form(rest);
     }
-    if is(first, b"write") {
+    if is_word(first, b"write") {
         return write_form(rest);
     }
-    if is(first, b"cat") {
+    if is_word(first, b"cat") {
         return cat_form(rest);
     }
-    if is(first, b"mv") {
+    if is_word(first, b"mv") {
         return mv_form(rest);
     }
-    if is(first, b"rename") {
+    if is_word(first, b"rename") {
         return rename_form(rest);
     }
-    if is(first, b"rm") {
+    if is_word(first, b"rm") {
         return rm_form(rest);
     }
-    if is(first, b"cd") {
+    if is_word(first, b"cd") {
         return cd_form(rest);
     }
-    if is(first, b"pwd") {
+    if is_word(first, b"pwd") {
         return pwd_form(rest);
     }
-    if is(first, b"ls") {
+    if is_word(first, b"ls") {
         return ls_form(rest);
     }
-    if is(first, b"props") {
+    if is_word(first, b"props") {
         return props_form(rest);
     }
-    if is(first, b"way") {
+    if is_word(first, b"way") {
         return way_form(rest);
     }
-    if is(first, b"stat") {
+    if is_word(first, b"stat") {
         return stat_form(rest);
     }
     Err(Refusal::BadLine)
@@ -97,10 +99,10 @@ pub fn asked(line: &[u8]) -> Option<Request>
 fn takes_payload(first: &[u8]) -> bool
     ensures { result ≡ (same_word first.now (codes "add") || same_word first.now (codes "write")) }
 {
-    if is(first, b"add") {
+    if is_word(first, b"add") {
         return true;
     }
-    is(first, b"write")
+    is_word(first, b"write")
 }
 
 /// How many bytes are to follow a line and its line feed; None where no payload follows.

@@ -1,10 +1,10 @@
 //! Inputs of any kind of items, taken part by part.
 
 ghost use Rattle.std.specs.Prelude.{◌≡◌, ℕ, ◌<◌, ◌≤◌, length, Option, Some, ⊤};
-ghost use Rattle.lis_ports.specs.Calls.{HasCause, FaultEnds};
 ghost use Rattle.lis_model.specs.Step.{Payload as Told};
 ghost use Rattle.lis_model.specs.Script.{Cut};
 ghost use Rattle.lis_line.specs.Reading.{GivesPart};
+ghost use Rattle.lis_line.specs.Taking.{UsesSource};
 
 use crate::payload::Payload;
 use crate::stock::Stock;
@@ -49,8 +49,7 @@ pub trait InputItem: Drop {
         requires { 0 < stock.old.rest }
         ensures gives { GivesPart cut (asks payload.new) stock.old stock.new (S.left source.old) (S.left source.new) result }
         ensures few { length stock.new.ahead ≤ stock.new.rest }
-        ensures cause { HasCause (S.faults source.old) (S.faults source.new) result }
-        ensures first_fault { FaultEnds (S.faults source.old) (S.behind source.old) (S.behind source.new) };
+        ensures source { UsesSource (S.faults source.old) (S.faults source.new) (S.behind source.old) (S.behind source.new) result };
 
     /// The item that asks for this.
     fn of(request: Self::Request) -> Self

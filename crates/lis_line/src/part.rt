@@ -3,10 +3,10 @@
 ghost use Rattle.std.specs.Prelude.{◌≡◌, ℕ, ◌<◌, ◌≤◌, ◌∷◌, ◌++◌, false, Some, length};
 ghost use Rattle.std.specs.Option.{option_map};
 ghost use Rattle.std.specs.List.{list_any};
-ghost use Rattle.lis_ports.specs.Calls.{HasCause, FaultEnds};
 ghost use Rattle.lis_model.specs.Step.{Payload as Told, no_payload};
 ghost use Rattle.lis_model.specs.Script.{item_of, payload_size, first_of, first_with, first_ended, session_cut};
 ghost use Rattle.lis_line.specs.Reading.{item_with, asked_by};
+ghost use Rattle.lis_line.specs.Taking.{UsesSource};
 ghost use Rattle.lis_line.specs.Parts.{TakesPart, first_dropped};
 ghost use Rattle.lis_words.specs.Bytes.{is_feed};
 
@@ -24,8 +24,7 @@ fn drop_line<S: Source>(stock: &mut Stock, source: &mut S) -> Result<Part<Reques
     requires { 0 < stock.old.rest }
     ensures takes { (payload : Told) → TakesPart first_dropped (item_with payload) stock.old stock.new (S.left source.old) (S.left source.new) result }
     ensures few { length stock.new.ahead ≤ stock.new.rest }
-    ensures cause { HasCause (S.faults source.old) (S.faults source.new) result }
-    ensures first_fault { FaultEnds (S.faults source.old) (S.behind source.old) (S.behind source.new) }
+    ensures source { UsesSource (S.faults source.old) (S.faults source.new) (S.behind source.old) (S.behind source.new) result }
 {
     let mut dropped = ArrayVec::new();
     match read_line(stock, &mut dropped, source)? {
@@ -45,8 +44,7 @@ fn take_end<S: Source>(
     requires sized { (size : ℕ) × (payload_size line.now ≡ Some size) }
     ensures takes { (payload : Told) → TakesPart (first_ended (item_of line.now payload)) (item_with payload) stock.old stock.new (S.left source.old) (S.left source.new) result }
     ensures few { length stock.new.ahead ≤ stock.new.rest }
-    ensures cause { HasCause (S.faults source.old) (S.faults source.new) result }
-    ensures first_fault { FaultEnds (S.faults source.old) (S.behind source.old) (S.behind source.new) }
+    ensures source { UsesSource (S.faults source.old) (S.faults source.new) (S.behind source.old) (S.behind source.new) result }
 {
     let Some(byte) = stock.next_byte(source)? else {
         return Ok(Part::Last(asked(line)));
@@ -73,8 +71,7 @@ fn take_payload<S: Source>(
     requires sized { payload_size line.now ≡ Some size }
     ensures takes { TakesPart (first_with line.now size) (item_with payload.new) stock.old stock.new (S.left source.old) (S.left source.new) result }
     ensures few { length stock.new.ahead ≤ stock.new.rest }
-    ensures cause { HasCause (S.faults source.old) (S.faults source.new) result }
-    ensures first_fault { FaultEnds (S.faults source.old) (S.behind source.old) (S.behind source.new) }
+    ensures source { UsesSource (S.faults source.old) (S.faults source.new) (S.behind source.old) (S.behind source.new) result }
 {
     match fill(stock, payload, size, source)? {
         Filled::All => take_end(stock, line, source),
@@ -96,8 +93,7 @@ pub fn take_behind<S: Source>(
     requires one_line { list_any is_feed line.now ≡ false }
     ensures takes { TakesPart (λ more. first_of (line.now ++ 10 ∷ more)) (item_with payload.new) stock.old stock.new (S.left source.old) (S.left source.new) result }
     ensures few { length stock.new.ahead ≤ stock.new.rest }
-    ensures cause { HasCause (S.faults source.old) (S.faults source.new) result }
-    ensures first_fault { FaultEnds (S.faults source.old) (S.behind source.old) (S.behind source.new) }
+    ensures source { UsesSource (S.faults source.old) (S.faults source.new) (S.behind source.old) (S.behind source.new) result }
 {
     match payload_size(line) {
         None => Ok(Part::Whole(asked(line))),

@@ -1,10 +1,10 @@
 //! The bytes that come behind a command's line.
 
 ghost use Rattle.std.specs.Prelude.{◌≡◌, ℕ, ◌+◌, ◌<◌, ◌≤◌, ◌^◌, [], ◌++◌, length, take, drop, IfOk};
-ghost use Rattle.lis_ports.specs.Calls.{HasCause, FaultEnds};
 ghost use Rattle.lis_model.specs.Step.{no_payload};
 ghost use Rattle.lis_model.specs.Script.{payload_limit};
 ghost use Rattle.lis_line.specs.Inside.{frame_bytes, IsKept};
+ghost use Rattle.lis_line.specs.Taking.{UsesSource};
 ghost use Rattle.lis_line.specs.Parts.{with_bytes, TakesRun, Fills};
 
 use crate::stock::Stock;
@@ -123,8 +123,7 @@ fn take_run<S: Source>(
     requires room { payload.old.size + most < 2 ^ 64 }
     ensures few { length stock.new.ahead ≤ stock.new.rest }
     ensures takes { TakesRun stock.old stock.new (S.left source.old) (S.left source.new) most payload.old payload.new result }
-    ensures cause { HasCause (S.faults source.old) (S.faults source.new) result }
-    ensures first_fault { FaultEnds (S.faults source.old) (S.behind source.old) (S.behind source.new) }
+    ensures source { UsesSource (S.faults source.old) (S.faults source.new) (S.behind source.old) (S.behind source.new) result }
 {
     if !stock.meet(source)? {
         return Ok(false);
@@ -147,8 +146,7 @@ pub fn fill<S: Source>(
     requires few { length stock.old.ahead ≤ stock.old.rest }
     ensures few { length stock.new.ahead ≤ stock.new.rest }
     ensures fills { Fills stock.old stock.new (S.left source.old) (S.left source.new) size payload.new result }
-    ensures cause { HasCause (S.faults source.old) (S.faults source.new) result }
-    ensures first_fault { FaultEnds (S.faults source.old) (S.behind source.old) (S.behind source.new) }
+    ensures source { UsesSource (S.faults source.old) (S.faults source.new) (S.behind source.old) (S.behind source.new) result }
 {
     payload.clear();
     while payload.size() < size {

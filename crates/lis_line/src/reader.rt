@@ -1,8 +1,8 @@
 //! The reader of items.
 
 ghost use Rattle.std.specs.Prelude.{◌≡◌, ℕ, ◌^◌, ◌≤◌, false, [], length, IfOk, IsTrue};
-ghost use Rattle.lis_ports.specs.Calls.{HasCause, FaultEnds};
 ghost use Rattle.lis_model.specs.Script.{session_cut};
+ghost use Rattle.lis_line.specs.Taking.{UsesSource};
 
 use crate::ahead::{Nothing, lies_whole};
 use crate::asked::Request;
@@ -112,8 +112,7 @@ impl LineReader {
         requires { self.old.is_ended ≡ false }
         ensures says { Says I.cut self.old self.new (S.left source.old) (S.left source.new) (told (next_map (I.asks payload.new)) result) }
         ensures few { length self.new.stock.ahead ≤ self.new.stock.rest }
-        ensures cause { HasCause (S.faults source.old) (S.faults source.new) result }
-        ensures first_fault { FaultEnds (S.faults source.old) (S.behind source.old) (S.behind source.new) }
+        ensures source { UsesSource (S.faults source.old) (S.faults source.new) (S.behind source.old) (S.behind source.new) result }
     {
         if self.is_closed {
             self.is_ended = true;
@@ -152,8 +151,7 @@ impl LineReader {
         requires whole { IsTrue lies_whole → (self.old.is_closed ≡ false) × LiesWhole session_cut self.old.stock.ahead }
         ensures says { Says session_cut self.old self.new (S.left source.old) (S.left source.new) (told (next_map (item_with payload.new)) result) }
         ensures few { length self.new.stock.ahead ≤ self.new.stock.rest }
-        ensures cause { HasCause (S.faults source.old) (S.faults source.new) result }
-        ensures first_fault { FaultEnds (S.faults source.old) (S.behind source.old) (S.behind source.new) }
+        ensures source { UsesSource (S.faults source.old) (S.faults source.new) (S.behind source.old) (S.behind source.new) result }
         ensures still { IsTrue lies_whole → source.new ≡ source.old }
         ensures goes_on { IsTrue lies_whole → GoesOn result }
     {
@@ -168,8 +166,7 @@ impl LineReader {
         requires { self.old.is_ended ≡ false }
         ensures says { Says session_cut self.old self.new (S.left source.old) (S.left source.new) (told (says_by payload.new) result) }
         ensures few { length self.new.stock.ahead ≤ self.new.stock.rest }
-        ensures cause { HasCause (S.faults source.old) (S.faults source.new) result }
-        ensures first_fault { FaultEnds (S.faults source.old) (S.behind source.old) (S.behind source.new) }
+        ensures source { UsesSource (S.faults source.old) (S.faults source.new) (S.behind source.old) (S.behind source.new) result }
     {
         match self.read::<Item, S>(source, payload)? {
             Next::Item(request) => Ok(Item::of(request)),
@@ -188,8 +185,7 @@ impl LineReader {
         ensures says { Says tagged_cut self.old self.new (S.left source.old) (S.left source.new) (told (says_tagged payload.new) result) }
         ensures said { IfOk result IsTagged }
         ensures few { length self.new.stock.ahead ≤ self.new.stock.rest }
-        ensures cause { HasCause (S.faults source.old) (S.faults source.new) result }
-        ensures first_fault { FaultEnds (S.faults source.old) (S.behind source.old) (S.behind source.new) }
+        ensures source { UsesSource (S.faults source.old) (S.faults source.new) (S.behind source.old) (S.behind source.new) result }
     {
         match self.read::<Tagged, S>(source, payload)? {
             Next::Item(spoken) => Ok(Tagged::of(spoken)),

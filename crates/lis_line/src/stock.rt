@@ -1,8 +1,8 @@
 //! Bytes out of a source, one by one or by runs, whatever pieces it gives; and lines out of bytes.
 
 ghost use Rattle.std.specs.Prelude.{◌≡◌, ℕ, ◌+◌, ◌-◌, ◌<◌, ◌≤◌, ◌^◌, List, [], ◌∷◌, ◌↔◌, length, take, drop, IsTrue};
-ghost use Rattle.lis_ports.specs.Calls.{HasCause, FaultEnds};
 ghost use Rattle.lis_line.specs.Stock.{Stocked, GivesByte, Refills, Meets, ReadsLine};
+ghost use Rattle.lis_line.specs.Taking.{UsesSource};
 ghost use Rattle.lis_words.specs.Bytes.{is_feed};
 
 use arrayvec::ArrayVec;
@@ -77,8 +77,7 @@ impl Stock {
     fn refill<S: Source>(&mut self, source: &mut S) -> Result<(), Failed>
         requires { 0 < self.old.rest }
         ensures refills { Refills self.old self.new (S.left source.old) (S.left source.new) result }
-        ensures cause { HasCause (S.faults source.old) (S.faults source.new) result }
-        ensures first_fault { FaultEnds (S.faults source.old) (S.behind source.old) (S.behind source.new) }
+        ensures source { UsesSource (S.faults source.old) (S.faults source.new) (S.behind source.old) (S.behind source.new) result }
     {
         let room = self.rest.min(PIECE as u64) as usize;
         self.start = 0;
@@ -102,8 +101,7 @@ impl Stock {
     pub fn meet<S: Source>(&mut self, source: &mut S) -> Result<bool, Failed>
         requires { 0 < self.old.rest }
         ensures meets { Meets self.old self.new (S.left source.old) (S.left source.new) result }
-        ensures cause { HasCause (S.faults source.old) (S.faults source.new) result }
-        ensures first_fault { FaultEnds (S.faults source.old) (S.behind source.old) (S.behind source.new) }
+        ensures source { UsesSource (S.faults source.old) (S.faults source.new) (S.behind source.old) (S.behind source.new) result }
     {
         if !self.is_empty() {
             return Ok(true);
@@ -137,8 +135,7 @@ impl Stock {
     pub fn next_byte<S: Source>(&mut self, source: &mut S) -> Result<Option<u8>, Failed>
         requires { 0 < self.old.rest }
         ensures gives { GivesByte self.old self.new (S.left source.old) (S.left source.new) result }
-        ensures cause { HasCause (S.faults source.old) (S.faults source.new) result }
-        ensures first_fault { FaultEnds (S.faults source.old) (S.behind source.old) (S.behind source.new) }
+        ensures source { UsesSource (S.faults source.old) (S.faults source.new) (S.behind source.old) (S.behind source.new) result }
     {
         if !self.meet(source)? {
             return Ok(None);
@@ -164,8 +161,7 @@ pub fn read_line<S: Source>(
     requires empty { line.old.items ≡ [] }
     ensures few { length stock.new.ahead ≤ stock.new.rest }
     ensures reads { ReadsLine stock.old stock.new (S.left source.old) (S.left source.new) line.new.items result }
-    ensures cause { HasCause (S.faults source.old) (S.faults source.new) result }
-    ensures first_fault { FaultEnds (S.faults source.old) (S.behind source.old) (S.behind source.new) }
+    ensures source { UsesSource (S.faults source.old) (S.faults source.new) (S.behind source.old) (S.behind source.new) result }
 {
     loop {
         let Some(byte) = stock.next_byte(source)? else {

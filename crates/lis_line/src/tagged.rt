@@ -3,11 +3,11 @@
 ghost use Rattle.std.specs.Prelude.{◌≡◌, ℕ, ◌<◌, ◌≤◌, List, ◌∷◌, ◌++◌, length, drop, false, Option, None, Some, IsSome};
 ghost use Rattle.std.specs.Option.{option_map};
 ghost use Rattle.std.specs.List.{list_any};
-ghost use Rattle.lis_ports.specs.Calls.{HasCause, FaultEnds};
 ghost use Rattle.lis_model.specs.Step.{Payload as Told, no_payload};
 ghost use Rattle.lis_model.specs.Script.{line_words, First};
 ghost use Rattle.lis_line.specs.Stock.{Stocked};
 ghost use Rattle.lis_line.specs.Reading.{item_with};
+ghost use Rattle.lis_line.specs.Taking.{UsesSource};
 ghost use Rattle.lis_line.specs.Parts.{TookPart, TakesPart};
 ghost use Rattle.lis_line.specs.Tagged.{after_blanks, spoken_in, no_room, in_room, first_tagged, tagged_cut};
 ghost use Rattle.lis_line.specs.Spoken.{tagged_with, tagged_by, IsTagged};
@@ -127,8 +127,7 @@ fn take_spoken<S: Source>(
     requires one_line { list_any is_feed line.now ≡ false }
     ensures takes { TakesPart (λ more. first_tagged (line.now ++ 10 ∷ more)) (tagged_with payload.new) stock.old stock.new (S.left source.old) (S.left source.new) result }
     ensures few { length stock.new.ahead ≤ stock.new.rest }
-    ensures cause { HasCause (S.faults source.old) (S.faults source.new) result }
-    ensures first_fault { FaultEnds (S.faults source.old) (S.behind source.old) (S.behind source.new) }
+    ensures source { UsesSource (S.faults source.old) (S.faults source.new) (S.behind source.old) (S.behind source.new) result }
 {
     match spoken_in(line) {
         None => Ok(Part::Whole(refused(line))),

@@ -1,8 +1,8 @@
 //! What the input asks for, out of a stock of bytes.
 
 ghost use Rattle.std.specs.Prelude.{◌≡◌, ℕ, ◌<◌, ◌≤◌, length};
-ghost use Rattle.lis_ports.specs.Calls.{HasCause, FaultEnds};
 ghost use Rattle.lis_line.specs.Reading.{GivesAsked};
+ghost use Rattle.lis_line.specs.Taking.{UsesSource};
 
 use crate::input::{InputItem, Part};
 use crate::payload::Payload;
@@ -30,8 +30,7 @@ pub fn take_asked<I: InputItem, S: Source>(
     requires { 0 < stock.old.rest }
     ensures gives { GivesAsked I.cut (I.asks payload.new) stock.old stock.new (S.left source.old) (S.left source.new) result }
     ensures few { length stock.new.ahead ≤ stock.new.rest }
-    ensures cause { HasCause (S.faults source.old) (S.faults source.new) result }
-    ensures first_fault { FaultEnds (S.faults source.old) (S.behind source.old) (S.behind source.new) }
+    ensures source { UsesSource (S.faults source.old) (S.faults source.new) (S.behind source.old) (S.behind source.new) result }
 {
     loop {
         match I::take_part(stock, payload, source)? {

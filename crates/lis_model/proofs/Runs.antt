@@ -1,5 +1,5 @@
 -- Items carried out one after another.
-use Rattle.std.proofs.Common.{◌≡◌, ℕ, List, [], ◌∷◌, ◌++◌, refl, ap, sym, ◌∙◌, append_assoc}
+use Rattle.std.proofs.Common.{◌≡◌, List, [], ◌∷◌, ◌++◌, refl, ap, sym, ◌∙◌, append_assoc}
 use Rattle.lis_model.specs.Step.{SituationOf, OutcomeOf, replies_by, after_by}
 
 module _ {P I : Type 0} (by : SituationOf P → I → OutcomeOf P) where

@@ -1,5 +1,5 @@
 -- How the input is cut into items.
-use Rattle.std.specs.Prelude.{ℕ, ◌==◌, nat_lt, nat_le, zero, suc, Bool, false, true, ◌&&◌, ◌||◌, if◌then◌else◌, Option, Some, None, Result, Ok, Err, List, [], ◌∷◌, ◌++◌, length, take, drop, filter, codes}
+use Rattle.std.specs.Prelude.{ℕ, nat_lt, nat_le, zero, suc, Bool, false, true, ◌&&◌, ◌||◌, if◌then◌else◌, Option, Some, None, Result, Ok, Err, List, [], ◌∷◌, ◌++◌, length, take, drop, filter, codes}
 use Rattle.std.specs.Option.{option_to_list}
 use Rattle.std.specs.List.{list_any, list_all}
 use Rattle.lis_words.specs.Bytes.{is_feed, is_blank, is_some_bytes, without_return}
@@ -32,17 +32,21 @@ words_of text = filter is_some_bytes (pieces_on [] text)
 abbrev pub bad_line : Item
 bad_line = Bad BadLine
 
--- one word, and two words
-abbrev pub word_form : (List ℕ → Item) → List (List ℕ) → Item
-word_form item [] = bad_line
-word_form item (word ∷ []) = if is_property word then item word else bad_line
-word_form item (word ∷ more ∷ words) = bad_line
+-- one word, if it fits, and two, if each does
+abbrev pub one_form : (List ℕ → Bool) → (List ℕ → Item) → List (List ℕ) → Item
+one_form fits item [] = bad_line
+one_form fits item (word ∷ []) = if fits word then item word else bad_line
+one_form fits item (word ∷ more ∷ words) = bad_line
 
-abbrev pub pair_form : (List ℕ → List ℕ → Item) → List (List ℕ) → Item
-pair_form item [] = bad_line
-pair_form item (left ∷ []) = bad_line
-pair_form item (left ∷ right ∷ []) = if is_property left && is_property right then item left right else bad_line
-pair_form item (left ∷ right ∷ more ∷ words) = bad_line
+abbrev pub two_form : (List ℕ → Bool) → (List ℕ → Bool) → (List ℕ → List ℕ → Item) → List (List ℕ) → Item
+two_form fits_left fits_right item [] = bad_line
+two_form fits_left fits_right item (left ∷ []) = bad_line
+two_form fits_left fits_right item (left ∷ right ∷ []) = if fits_left left && fits_right right then item left right else bad_line
+two_form fits_left fits_right item (left ∷ right ∷ more ∷ words) = bad_line
+
+-- any word of the line fits
+abbrev pub any_word : List ℕ → Bool
+any_word word = true
 
 -- words that a file is to be given: at most 16 in one line
 abbrev pub tags_form : List (List ℕ) → Result (List (List ℕ)) Refusal
@@ -66,39 +70,7 @@ add_form (name ∷ []) payload = bad_line
 add_form (name ∷ size ∷ words) payload =
     if is_file_name name && is_count size then with_tags (λ tags. Do (Add name tags) payload) (tags_form words) else bad_line
 
--- a file's name, and how many bytes it is to have
-abbrev pub write_form : List (List ℕ) → Payload → Item
-write_form [] payload = bad_line
-write_form (name ∷ []) payload = bad_line
-write_form (name ∷ size ∷ []) payload = if is_file_name name && is_count size then Do (Write name) payload else bad_line
-write_form (name ∷ size ∷ more ∷ words) payload = bad_line
-
--- the name of a file
-abbrev pub file_form : (List ℕ → Item) → List (List ℕ) → Item
-file_form item [] = bad_line
-file_form item (name ∷ []) = if is_file_name name then item name else bad_line
-file_form item (name ∷ more ∷ words) = bad_line
-
--- any word of the line is a text for `cd`
-abbrev pub cd_form : List (List ℕ) → Item
-cd_form [] = bad_line
-cd_form (text ∷ []) = Do (Cd text) no_payload
-cd_form (text ∷ more ∷ words) = bad_line
-
--- a file's name, and any word of the line as a text
-abbrev pub mv_form : List (List ℕ) → Item
-mv_form [] = bad_line
-mv_form (name ∷ []) = bad_line
-mv_form (name ∷ text ∷ []) = if is_file_name name then Do (Mv name text) no_payload else bad_line
-mv_form (name ∷ text ∷ more ∷ words) = bad_line
-
--- two names
-abbrev pub rename_form : List (List ℕ) → Item
-rename_form [] = bad_line
-rename_form (name ∷ []) = bad_line
-rename_form (name ∷ other ∷ []) = if is_file_name name && is_file_name other then Do (Rename name other) no_payload else bad_line
-rename_form (name ∷ other ∷ more ∷ words) = bad_line
-
+-- no word
 abbrev pub alone_form : Item → List (List ℕ) → Item
 alone_form item [] = item
 alone_form item (word ∷ words) = bad_line
@@ -106,22 +78,22 @@ alone_form item (word ∷ words) = bad_line
 -- the lines of all commands
 abbrev pub form_of : List ℕ → List (List ℕ) → Payload → Item
 form_of first words payload =
-    if same_word first (codes "mkdir") then word_form (λ word. Do (Mkdir word) no_payload) words
-    else if same_word first (codes "rmdir") then word_form (λ word. Do (Rmdir word) no_payload) words
-    else if same_word first (codes "axiom") then pair_form (λ left right. Do (Axiom left right) no_payload) words
-    else if same_word first (codes "unaxiom") then pair_form (λ left right. Do (Unaxiom left right) no_payload) words
+    if same_word first (codes "mkdir") then one_form is_property (λ word. Do (Mkdir word) no_payload) words
+    else if same_word first (codes "rmdir") then one_form is_property (λ word. Do (Rmdir word) no_payload) words
+    else if same_word first (codes "axiom") then two_form is_property is_property (λ left right. Do (Axiom left right) no_payload) words
+    else if same_word first (codes "unaxiom") then two_form is_property is_property (λ left right. Do (Unaxiom left right) no_payload) words
     else if same_word first (codes "create") then create_form words
     else if same_word first (codes "add") then add_form words payload
-    else if same_word first (codes "write") then write_form words payload
-    else if same_word first (codes "cat") then file_form (λ name. Do (Cat name) no_payload) words
-    else if same_word first (codes "mv") then mv_form words
-    else if same_word first (codes "rename") then rename_form words
-    else if same_word first (codes "rm") then file_form (λ name. Do (Rm name) no_payload) words
-    else if same_word first (codes "cd") then cd_form words
+    else if same_word first (codes "write") then two_form is_file_name is_count (λ name size. Do (Write name) payload) words
+    else if same_word first (codes "cat") then one_form is_file_name (λ name. Do (Cat name) no_payload) words
+    else if same_word first (codes "mv") then two_form is_file_name any_word (λ name word. Do (Mv name word) no_payload) words
+    else if same_word first (codes "rename") then two_form is_file_name is_file_name (λ name other. Do (Rename name other) no_payload) words
+    else if same_word first (codes "rm") then one_form is_file_name (λ name. Do (Rm name) no_payload) words
+    else if same_word first (codes "cd") then one_form any_word (λ word. Do (Cd word) no_payload) words
     else if same_word first (codes "pwd") then alone_form (Do Pwd no_payload) words
     else if same_word first (codes "ls") then alone_form (Do Ls no_payload) words
-    else if same_word first (codes "props") then file_form (λ name. Do (Props name) no_payload) words
-    else if same_word first (codes "way") then file_form (λ name. Do (Way name) no_payload) words
+    else if same_word first (codes "props") then one_form is_file_name (λ name. Do (Props name) no_payload) words
+    else if same_word first (codes "way") then one_form is_file_name (λ name. Do (Way name) no_payload) words
     else if same_word first (codes "stat") then alone_form (Do Stat no_payload) words
     else bad_line
 

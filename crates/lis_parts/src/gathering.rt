@@ -1,9 +1,9 @@
 //! An edited view, taken whole from a source before anything is judged.
 
 ghost use Rattle.std.specs.Prelude.{◌≡◌, ◌+◌, ◌<◌, ◌≤◌, ◌↔◌, ℕ, List, [], Some, length, IfOk, IsTrue, true};
-ghost use Rattle.lis_ports.specs.Calls.{HasCause, FaultEnds};
+ghost use Rattle.lis_ports.specs.Calls.{HasCause};
 ghost use Rattle.lis_line.specs.Inside.{frame_bytes};
-ghost use Rattle.lis_line.specs.Taking.{TakesFew};
+ghost use Rattle.lis_line.specs.Taking.{TakesFew, UsesSource};
 ghost use Rattle.lis_parts.specs.Inside.{IsKept, TakesBehind, TakesMore};
 ghost use Rattle.lis_parts.specs.Putting.{view_limit, Gathers};
 
@@ -107,8 +107,7 @@ impl Edited {
         ensures gathers { IfOk result (λ whole. (input : List ℕ) → S.left source.old ≡ Some input → Gathers input (S.left source.new) self.new whole) }
         ensures short { IfOk result (λ whole. whole ≡ true → length self.new ≤ view_limit) }
         ensures few { TakesFew view_limit (S.left source.old) (S.left source.new) }
-        ensures cause { HasCause (S.faults source.old) (S.faults source.new) result }
-        ensures first_fault { FaultEnds (S.faults source.old) (S.behind source.old) (S.behind source.new) }
+        ensures source { UsesSource (S.faults source.old) (S.faults source.new) (S.behind source.old) (S.behind source.new) result }
     {
         self.clear();
         while self.has_room() {

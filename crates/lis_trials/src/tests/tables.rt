@@ -5,7 +5,7 @@ use lis_model::spot::Spot;
 use lis_open::OpenFault;
 use lis_shell::status::Status;
 
-/// Inputs of a session, and what it shows.
+/// Inputs of sessions, and what is shown.
 pub fn sessions() -> &'static [(&'static str, &'static str)] {
     &[
         ("", ""),
@@ -282,7 +282,7 @@ pub fn long_lines() -> &'static [(usize, &'static str, &'static str)] {
     ]
 }
 
-/// Words on the command line that are refused.
+/// Words in no form, or with a number out of range.
 pub fn wrong_words() -> &'static [&'static [&'static str]] {
     &[
         &[],
@@ -358,7 +358,7 @@ pub fn wrong_words() -> &'static [&'static [&'static str]] {
     ]
 }
 
-/// Words on the command line that begin a session.
+/// Words of `try` in form, also at both ends of each range.
 pub fn right_words() -> &'static [&'static [&'static str]] {
     &[
         &["try", "64", "64", "1"],

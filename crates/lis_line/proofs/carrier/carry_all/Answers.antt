@@ -57,6 +57,6 @@ loop-request-preserved g c =
           (c.of-item.ensures.asks c.read.new.payload) (c.in_default.ensures.carried c.args.carrier.now c.args.station.now so_far.first so_far.done))
           (c.in_default.ensures.ready (behind_next c.args.limit so_far.first)
           (ready_next so_far.first _ taken (g.C.Carrier.is_ready c.loop-request.carrier (g.T.Disk.meaning c.loop-request.station)) so_far.ready));
-      input_faults = c.in-Ok-Item.ensures.cause.stays ∙ c.loop-request.invariant.input_faults;
-      first_fault = omega (arith, c.loop-request.invariant.first_fault, c.loop-request.invariant.input_faults, c.in-Ok-Item.ensures.first_fault);
+      input_faults = c.in-Ok-Item.ensures.source.cause.stays ∙ c.loop-request.invariant.input_faults;
+      first_fault = omega (arith, c.loop-request.invariant.first_fault, c.loop-request.invariant.input_faults, c.in-Ok-Item.ensures.source.first_fault);
     }

@@ -96,6 +96,6 @@ loop-fault-preserved g c =
           (c.in_default-carry.ensures.carried c.args.carrier.now c.args.station.now so_far.first (c.in_default.ensures.done c.args.carrier.now c.args.station.now so_far.first so_far.done)))
           (c.in_default-carry.ensures.ready (behind_next c.args.limit so_far.first)
           (ready_next so_far.first _ taken (g.C.Holder.is_ready c.settle_unless.new.carrier (g.T.Disk.meaning c.settle_unless.new.station)) (c.in_default.ensures.ready _ so_far.ready)));
-      input_faults = c.in-Ok-Item.ensures.cause.stays ∙ c.loop-fault.invariant.input_faults;
-      first_fault = omega (arith, c.loop-fault.invariant.first_fault, c.loop-fault.invariant.input_faults, c.in-Ok-Item.ensures.first_fault);
+      input_faults = c.in-Ok-Item.ensures.source.cause.stays ∙ c.loop-fault.invariant.input_faults;
+      first_fault = omega (arith, c.loop-fault.invariant.first_fault, c.loop-fault.invariant.input_faults, c.in-Ok-Item.ensures.source.first_fault);
     }

@@ -16,6 +16,6 @@ loop-stock-preserved g c =
       filling = filling_more _ c.loop-stock.stock _ _ (g.S.Source.left c.loop-stock.source) _ _ c.loop-stock.payload _ took.0 c.loop-stock.invariant.filling
           took.1 (omega arith) (omega (arith, took.3, c.size-in-loop-stock.ensures)) (omega arith) took.4;
       few = c.in_ok-take_run.ensures.few;
-      faults = c.in_ok-take_run.ensures.cause.stays ∙ c.loop-stock.invariant.faults;
-      first_fault = omega (arith, c.loop-stock.invariant.first_fault, c.loop-stock.invariant.faults, c.in_ok-take_run.ensures.first_fault);
+      faults = c.in_ok-take_run.ensures.source.cause.stays ∙ c.loop-stock.invariant.faults;
+      first_fault = omega (arith, c.loop-stock.invariant.first_fault, c.loop-stock.invariant.faults, c.in_ok-take_run.ensures.source.first_fault);
     }

@@ -28,8 +28,8 @@ loop-byte-preserved-then-len-lt-KEPT g c =
     record {
       going = going_pushed _ c.loop-byte.stock _ _ (g.S.Source.left c.loop-byte.source) _ c.loop-byte.line.items _ c.in-Some.byte c.loop-byte.invariant.going
           given.0 given.1 (eqb-false c.in-Some.byte 10 (sym c.is_feed.ensures ∙ c.if-is_feed.false)) (omega arith) few c.push.ensures.items;
-      faults = c.in_ok-byte.ensures.cause.stays ∙ c.loop-byte.invariant.faults;
-      first_fault = omega (arith, c.loop-byte.invariant.first_fault, c.loop-byte.invariant.faults, c.in_ok-byte.ensures.first_fault);
+      faults = c.in_ok-byte.ensures.source.cause.stays ∙ c.loop-byte.invariant.faults;
+      first_fault = omega (arith, c.loop-byte.invariant.first_fault, c.loop-byte.invariant.faults, c.in_ok-byte.ensures.source.first_fault);
     }
 
 pub loop-byte-preserved : goal.loop-byte-preserved
@@ -39,6 +39,6 @@ loop-byte-preserved g c =
     record {
       going = going_full _ c.loop-byte.stock _ _ (g.S.Source.left c.loop-byte.source) _ c.loop-byte.line.items c.in-Some.byte c.loop-byte.invariant.going
           given.0 given.1 (eqb-false c.in-Some.byte 10 (sym c.is_feed.ensures ∙ c.if-is_feed.false)) (omega arith) full;
-      faults = c.in_ok-byte.ensures.cause.stays ∙ c.loop-byte.invariant.faults;
-      first_fault = omega (arith, c.loop-byte.invariant.first_fault, c.loop-byte.invariant.faults, c.in_ok-byte.ensures.first_fault);
+      faults = c.in_ok-byte.ensures.source.cause.stays ∙ c.loop-byte.invariant.faults;
+      first_fault = omega (arith, c.loop-byte.invariant.first_fault, c.loop-byte.invariant.faults, c.in_ok-byte.ensures.source.first_fault);
     }

@@ -18,8 +18,8 @@ loop-asked-preserved g c =
     let part = rw c.in-Whole-None.field-0-is at (rw c.in-Whole-None.is at c.in_ok-asked.ensures.gives) in
     record {
       skipping = skip_more c.loop-asked.invariant.skipping part;
-      faults = c.in_ok-asked.ensures.cause.stays ∙ c.loop-asked.invariant.faults;
-      first_fault = omega (arith, c.loop-asked.invariant.first_fault, c.loop-asked.invariant.faults, c.in_ok-asked.ensures.first_fault);
+      faults = c.in_ok-asked.ensures.source.cause.stays ∙ c.loop-asked.invariant.faults;
+      first_fault = omega (arith, c.loop-asked.invariant.first_fault, c.loop-asked.invariant.faults, c.in_ok-asked.ensures.source.first_fault);
     }
 
 pub returns-in-Last-Some-clause-gives : goal.returns-in-Last-Some-clause-gives
