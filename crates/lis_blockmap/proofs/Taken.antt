@@ -6,8 +6,8 @@ use Rattle.std.proofs.lemmas.List.{get_or-replicate, length-replicate, get_or_pa
 use Rattle.std.proofs.lemmas.List.FromFn.{fill_by_all, length-map-range_with_len, get_or-map-range_with_len}
 use Rattle.std.proofs.lemmas.List.Folds.{sum_by-replicate}
 use Rattle.std.proofs.lemmas.List.Sums.{sum_by-set, count_by-le-length}
-use Rattle.lis_bits.specs.Rows.{Rows, get, with_row, empty_rows, NoneTrue}
-use Rattle.lis_bits.proofs.Laws.{get-with_row_same, get-empty_rows, length-with_row, length-empty_rows}
+use Rattle.lis_bits.specs.Rows.{Rows, get, with_row, NoneTrue}
+use Rattle.lis_bits.proofs.Laws.{get-with_row_same, length-with_row}
 use Rattle.lis_blockmap.specs.Bitmap.{free_count}
 use Rattle.lis_blockmap.specs.Inside.{taken_of, HasFree, IsSoundMap}
 
@@ -107,13 +107,6 @@ module _ (rows : Rows) (blocks free n : ℕ) (sound : IsSoundMap rows blocks fre
 -- ---- a row of free blocks
 not_below : (n m : ℕ) → m ≤ n → nat_lt n m ≡ false
 not_below n m ge = grind (arith, nat_tests)
-
-pub none_yet : (blocks bits : ℕ) → blocks ≤ bits → HasFree (empty_rows 1 bits) blocks 0
-none_yet blocks bits wide = record {
-  tall = length-empty_rows 1 bits;
-  wide = wide;
-  bits = λ n lt. get-empty_rows 1 bits 0 n ∙ sym (not_below n 0 (omega arith));
-}
 
 pub one_more_bit : (rows : Rows) (blocks n : ℕ) → HasFree rows blocks n → n < blocks → HasFree (after_put rows n true) blocks (n + 1)
 one_more_bit rows blocks n h lt = record {

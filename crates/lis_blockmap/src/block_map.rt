@@ -1,7 +1,8 @@
-ghost use Rattle.std.specs.Prelude.{◌≡◌, ◌⊎◌, ◌↔◌, ℕ, ◌+◌, ◌*◌, ◌/◌, ◌<◌, ◌≤◌, ◌==◌, if◌then◌else◌, false, true, List, length, take, drop, replicate, slice_set, IsTrue, IfOk, IsNone, IfNone, IfSome, OnSome};
+ghost use Rattle.std.specs.Prelude.{◌≡◌, ◌⊎◌, ◌↔◌, ℕ, ◌+◌, ◌*◌, ◌/◌, ◌<◌, ◌≤◌, ◌==◌, if◌then◌else◌, false, true, List, length, replicate, slice_set, IsTrue, IfOk, IsNone, IfNone, IfSome, OnSome};
+ghost use Rattle.lis_bits.specs.Bytes.{bits_number};
 ghost use Rattle.lis_journal.specs.Images.{look, is_among};
 ghost use Rattle.lis_journal.specs.Staging.{with_entry, has_entry};
-ghost use Rattle.lis_blockmap.specs.Bitmap.{free_count, is_taken, bits_number, bitmap_bytes, has_bit, IsFirstDifference};
+ghost use Rattle.lis_blockmap.specs.Bitmap.{free_count, is_taken, bitmap_bytes, has_bit, IsFirstDifference};
 ghost use Rattle.lis_blockmap.specs.Inside.{HasFree};
 
 use lis_bits::Rows;
@@ -171,7 +172,7 @@ impl BlockMap {
     // The byte that tells eight blocks, the first of them in its lowest bit.
     fn byte(&self, k: u32) -> u8
         requires { k < 4096 }
-        ensures { result ≡ bits_number (take 8 (drop (8 * k) self.now)) }
+        ensures { result ≡ bits_number 8 (λ i. is_taken self.now (8 * k + i)) }
     {
         // The row tells the free ones of eight blocks at once; the last byte may have fewer blocks.
         if 8 * k + 8 <= self.blocks {

@@ -20,11 +20,13 @@ use Rattle.lis_journal.specs.Staging.{has_entry}
 use Rattle.lis_journal.proofs.Entries.{neither}
 use Rattle.lis_journal.proofs.Runs.{among_head, among_parts, among_swapped, run_other}
 use Rattle.lis_blockmap.specs.Bitmap.{free_count, is_taken}
-use Rattle.lis_content.specs.Content.{content, padded, marked, has_home}
+use Rattle.lis_words.specs.Bytes.{padded}
+use Rattle.lis_words.proofs.Bytes.{length_padded}
+use Rattle.lis_content.specs.Content.{content, marked, has_home}
 use Rattle.lis_content.specs.Large.{is_large, index_bytes, numbers_in}
 use Rattle.lis_content.specs.Placing.{AreUnstaged, homes_of, Places, Lays, IsLaid, HasFile, IsPlaced, IsTornOff, WritesRow, RowPlaced, RowOf, RowTorn, OnePlaced}
 use Rattle.lis_content.proofs.Numbers.{are_below, below_from_free, free_after, length-marked, number_past, row_new}
-use Rattle.lis_content.proofs.Taking.{length-padded, part_more, same_others}
+use Rattle.lis_content.proofs.Taking.{part_more, same_others}
 use Rattle.lis_content.proofs.Indexes.{index_reads_back, large_numbers, large_blocks, small_numbers, small_blocks}
 use Rattle.lis_model.specs.Sets.{has_number}
 
@@ -122,12 +124,12 @@ lays_more base start now_taken next_taken before now next blocks n count after P
 }
 
 -- a row of one block
-pub one_block : (base : ℕ) (bytes block : List ℕ) (taken now_taken : List Bool) (before now : Held) {old new : Meaning} (n count : ℕ) → length bytes ≤ 4096 → block ≡ padded bytes → RowOf base block taken now_taken before now old new n count → OnePlaced base bytes taken now_taken before now old new n
+pub one_block : (base : ℕ) (bytes block : List ℕ) (taken now_taken : List Bool) (before now : Held) {old new : Meaning} (n count : ℕ) → length bytes ≤ 4096 → block ≡ padded 4096 bytes → RowOf base block taken now_taken before now old new n count → OnePlaced base bytes taken now_taken before now old new n
 one_block base bytes block taken now_taken before now {old} {new} n count few is row =
-    let len : length block ≡ 4096 = ap length is ∙ length-padded bytes few in
+    let len : length block ≡ 4096 = ap length is ∙ length_padded 4096 bytes few in
     let one : count ≡ 1 = omega (arith, row.any, row.few, len) in
     let was = subst (λ k. RowPlaced base taken now_taken before now old new n k (with_run (base + n) k (take (4096 * k) block))) one row.placed in
-    let whole : take 4096 (take 4096 block) ≡ padded bytes = ap (take 4096) (take_all 4096 block (omega (arith, len))) ∙ (take_all 4096 block (omega (arith, len)) ∙ is) in
+    let whole : take 4096 (take 4096 block) ≡ padded 4096 bytes = ap (take 4096) (take_all 4096 block (omega (arith, len))) ∙ (take_all 4096 block (omega (arith, len)) ∙ is) in
     record {
       writes = was.writes;
       journal = was.journal;
@@ -249,10 +251,10 @@ pub laying_last : (base : ℕ) (bytes rest : List ℕ) (start now_taken next_tak
     → IsDiskRun mid new → new.disk_faults ≡ mid.disk_faults → DiskFaultEnds mid new
     → Laying base bytes [] start next_taken before next old new (blocks ++ n ∷ [])
 laying_last base bytes rest start now_taken next_taken before now next blocks n was some few one run faults no_more =
-    laying_more base bytes rest [] (padded rest) start now_taken next_taken before now next blocks n 1 (with_kept (base + n) (padded rest))
-    was some (length-padded rest few) (omega (arith, some, few)) (λ more. absurd (omega (arith, more)))
-    (λ flat all holds. ap (λ p. take (length bytes) ((flat ++ p) ++ [])) (sym (append-nil (padded rest))) ∙ part_more bytes flat rest rest [] all holds (append-nil rest) (inr refl))
-    one (one_keeps (base + n) (padded rest)) (λ at new. flat_one base n blocks (padded rest) at (new n (omega arith) (omega arith))) run faults no_more
+    laying_more base bytes rest [] (padded 4096 rest) start now_taken next_taken before now next blocks n 1 (with_kept (base + n) (padded 4096 rest))
+    was some (length_padded 4096 rest few) (omega (arith, some, few)) (λ more. absurd (omega (arith, more)))
+    (λ flat all holds. ap (λ p. take (length bytes) ((flat ++ p) ++ [])) (sym (append-nil (padded 4096 rest))) ∙ part_more bytes flat rest rest [] all holds (append-nil rest) (inr refl))
+    one (one_keeps (base + n) (padded 4096 rest)) (λ at new. flat_one base n blocks (padded 4096 rest) at (new n (omega arith) (omega arith))) run faults no_more
 
 -- ---- what stands at the end
 pub lays_as : (base : ℕ) (start now_taken : List Bool) (before now : Held) {old new : Meaning} (blocks : List ℕ) (P Q : (ℕ → List ℕ) → Type 0) → ((at : ℕ → List ℕ) → P at → Q at) → Lays base start now_taken before now old new blocks P → Lays base start now_taken before now old new blocks Q
@@ -290,10 +292,10 @@ placed_small base bytes start now_taken before now blocks small was = record {
 pub placed_large : (base : ℕ) (bytes : List ℕ) (start now_taken next_taken : List Bool) (before now next : Held) {old mid new : Meaning} (blocks : List ℕ) (n : ℕ) → is_large (length bytes) ≡ true → are_below 65536 blocks ≡ true → IsLaid base bytes start now_taken before now old mid blocks → OnePlaced base (flat_map (little_bytes 2) blocks) now_taken next_taken now next mid new n → IsPlaced base bytes start next_taken before next old new (n ∷ [])
 placed_large base bytes start now_taken next_taken before now next blocks n large short was one = record {
   blocks = blocks ++ n ∷ [];
-  lays = lays_more base start now_taken next_taken before now next blocks n 1 (λ at. with_kept (base + n) (padded spelled) at) _ (HasFile base bytes (n ∷ []) (blocks ++ n ∷ [])) was.lays one (one_keeps (base + n) (padded spelled)) (λ at new is. record {
+  lays = lays_more base start now_taken next_taken before now next blocks n 1 (λ at. with_kept (base + n) (padded 4096 spelled) at) _ (HasFile base bytes (n ∷ []) (blocks ++ n ∷ [])) was.lays one (one_keeps (base + n) (padded 4096 spelled)) (λ at new is. record {
     reads =
         ap (λ ns. content base ns size (after at)) (large_numbers base (n ∷ []) size (after at) large ∙ numbers at)
-        ∙ (ap (take size) (same_others at (after at) base n blocks (padded spelled) (λ m. refl) (new n (omega arith) (omega arith))) ∙ is);
+        ∙ (ap (take size) (same_others at (after at) base n blocks (padded 4096 spelled) (λ m. refl) (new n (omega arith) (omega arith))) ∙ is);
     index = λ is_so. here at ∙ ap index_bytes (sym (numbers at));
     all = large_blocks base (n ∷ []) size (after at) large ∙ ap (λ ns. ns ++ n ∷ []) (numbers at);
   });
@@ -309,10 +311,10 @@ placed_large base bytes start now_taken next_taken before now next blocks n larg
     spelled = flat_map (little_bytes 2) blocks
 
     after : (ℕ → List ℕ) → ℕ → List ℕ
-    after at = with_kept (base + n) (padded spelled) at
+    after at = with_kept (base + n) (padded 4096 spelled) at
 
     here : (at : ℕ → List ℕ) → after at (base + n) ≡ index_bytes blocks
-    here at = cond-true ((base + n) == (base + n)) (padded spelled) (at (base + n)) (eq-eqb (base + n) (base + n) refl)
+    here at = cond-true ((base + n) == (base + n)) (padded 4096 spelled) (at (base + n)) (eq-eqb (base + n) (base + n) refl)
 
     numbers : (at : ℕ → List ℕ) → numbers_in (blocks_needed size) (after at (base + n)) ≡ blocks
     numbers at =

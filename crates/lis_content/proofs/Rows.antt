@@ -1,5 +1,5 @@
 -- Free blocks that stand in a row.
-use Rattle.std.proofs.Common.{◌≡◌, ◌⊎◌, ℕ, ◌+◌, ◌-◌, ◌<◌, ◌≤◌, Bool, true, false, List, [], ◌∷◌, ◌++◌, length, set, refl, sym, ◌∙◌, ap, subst, inl, inr, arith}
+use Rattle.std.proofs.Common.{◌≡◌, ℕ, ◌+◌, ◌-◌, ◌<◌, Bool, true, false, List, [], length, set, refl, sym, ◌∙◌, ap, inl, inr, arith}
 use Rattle.std.specs.List.{range_with_len}
 use Rattle.std.proofs.lemmas.Bool.{cases_lt}
 use Rattle.lis_journal.specs.Record.{HomeBlock}
@@ -9,14 +9,6 @@ use Rattle.lis_blockmap.specs.Bitmap.{free_count, is_taken}
 use Rattle.lis_content.specs.Content.{marked}
 use Rattle.lis_content.specs.Placing.{AreUnstaged, TakesRow}
 use Rattle.lis_content.proofs.Numbers.{length-marked, free_after, marked_more}
-
-pub takes_first : (taken now : List Bool) (n : ℕ) → n < length taken → is_taken taken n ≡ false → now ≡ set taken n true → free_count now + 1 ≡ free_count taken → TakesRow taken now n 1
-takes_first taken now n lt free is fewer = record {
-  within = omega (arith, lt);
-  were_free = λ k le less. let same : k ≡ n = omega (arith, le, less) in ap (is_taken taken) same ∙ free;
-  marks = is;
-  counted = fewer;
-}
 
 pub takes_next : (taken now next : List Bool) (n count : ℕ) → TakesRow taken now n count → n + count < length now → is_taken now (n + count) ≡ false → next ≡ set now (n + count) true → free_count next + 1 ≡ free_count now → TakesRow taken next n (count + 1)
 takes_next taken now next n count was lt free is fewer = record {

@@ -3,7 +3,7 @@ use Rattle.std.proofs.Common.{◌≡◌, ◌⊎◌, ℕ, ◌+◌, ◌-◌, ◌*�
 use Rattle.std.specs.List.{flat_map}
 use Rattle.std.proofs.lemmas.Bool.{and_parts, eqb-false, eq-eqb, ne_eqb, cases_lt}
 use Rattle.std.proofs.lemmas.Grind.{flat_map-append}
-use Rattle.std.proofs.lemmas.List.{append-nil, take_all, take_at, length-replicate}
+use Rattle.std.proofs.lemmas.List.{append-nil, take_all, take_at}
 use Rattle.std.proofs.lemmas.List.Folds.{list_any-append}
 use Rattle.lis_model.specs.State.{blocks_needed}
 use Rattle.lis_journal.specs.Journal.{Held}
@@ -12,7 +12,9 @@ use Rattle.lis_journal.specs.Phases.{looked}
 use Rattle.lis_journal.specs.Staging.{with_entry}
 use Rattle.lis_journal.proofs.Entries.{length-with_entry, neither}
 use Rattle.lis_blockmap.specs.Bitmap.{free_count, is_taken}
-use Rattle.lis_content.specs.Content.{content, padded, given, marked, are_taken, are_free, has_home}
+use Rattle.lis_words.specs.Bytes.{padded}
+use Rattle.lis_words.proofs.Bytes.{length_padded}
+use Rattle.lis_content.specs.Content.{content, given, marked, are_taken, are_free, has_home}
 use Rattle.lis_content.specs.Putting.{IsPut}
 use Rattle.lis_content.proofs.Numbers.{length-marked, not_true, below_from_free, free_after, distinct_more, free_more, marked_more, marked_are_taken, taken_still}
 use Rattle.lis_model.specs.Sets.{are_distinct, has_number}
@@ -86,13 +88,8 @@ filling_done base bytes rest start now_taken before now blocks none was = record
     empty [] is = refl
     empty (x ∷ xs) is = absurd (omega arith)
 
-pub length-padded : (bytes : List ℕ) → length bytes ≤ 4096 → length (padded bytes) ≡ 4096
-length-padded bytes few =
-    length-append bytes (replicate (4096 - length bytes) 0)
-    ∙ (ap (λ k. length bytes + k) (length-replicate (4096 - length bytes) 0) ∙ omega (arith, few))
-
 -- the next part of the bytes behind those that stand already
-pub part_more : (bytes flat rest front behind : List ℕ) → length flat + length rest ≡ length bytes → take (length bytes) (flat ++ rest) ≡ bytes → front ++ behind ≡ rest → (length front ≡ 4096) ⊎ (length behind ≡ 0) → take (length bytes) ((flat ++ (padded front ++ [])) ++ behind) ≡ bytes
+pub part_more : (bytes flat rest front behind : List ℕ) → length flat + length rest ≡ length bytes → take (length bytes) (flat ++ rest) ≡ bytes → front ++ behind ≡ rest → (length front ≡ 4096) ⊎ (length behind ≡ 0) → take (length bytes) ((flat ++ (padded 4096 front ++ [])) ++ behind) ≡ bytes
 part_more bytes flat rest front behind all holds parts ends = by ends
   where
     zeros : List ℕ
@@ -105,9 +102,9 @@ part_more bytes flat rest front behind all holds parts ends = by ends
     empty [] is = refl
     empty (x ∷ xs) is = absurd (omega arith)
 
-    by : (length front ≡ 4096) ⊎ (length behind ≡ 0) → take (length bytes) ((flat ++ (padded front ++ [])) ++ behind) ≡ bytes
+    by : (length front ≡ 4096) ⊎ (length behind ≡ 0) → take (length bytes) ((flat ++ (padded 4096 front ++ [])) ++ behind) ≡ bytes
     by (inl full) =
-        let none : padded front ≡ front = ap (λ k. front ++ replicate k 0) (let e : 4096 - length front ≡ 0 = omega arith in e) ∙ append-nil front in
+        let none : padded 4096 front ≡ front = ap (λ k. front ++ replicate k 0) (let e : 4096 - length front ≡ 0 = omega arith in e) ∙ append-nil front in
         ap (λ p. take (length bytes) ((flat ++ (p ++ [])) ++ behind)) none
         ∙ (ap (λ p. take (length bytes) ((flat ++ p) ++ behind)) (append-nil front)
         ∙ (ap (take (length bytes)) (append_assoc flat front behind)
@@ -115,9 +112,9 @@ part_more bytes flat rest front behind all holds parts ends = by ends
     by (inr last) =
         let none : behind ≡ [] = empty behind last in
         let is_rest : front ≡ rest = sym (append-nil front) ∙ (ap (λ r. front ++ r) (sym none) ∙ parts) in
-        ap (λ r. take (length bytes) ((flat ++ (padded front ++ [])) ++ r)) none
-        ∙ (ap (take (length bytes)) (append-nil (flat ++ (padded front ++ [])))
-        ∙ (ap (λ p. take (length bytes) (flat ++ p)) (append-nil (padded front))
+        ap (λ r. take (length bytes) ((flat ++ (padded 4096 front ++ [])) ++ r)) none
+        ∙ (ap (take (length bytes)) (append-nil (flat ++ (padded 4096 front ++ [])))
+        ∙ (ap (λ p. take (length bytes) (flat ++ p)) (append-nil (padded 4096 front))
         ∙ (ap (take (length bytes)) (sym (append_assoc flat front (replicate (4096 - length front) 0)))
         ∙ take_at (flat ++ front) (replicate (4096 - length front) 0) (length bytes) (ap length (ap (λ r. flat ++ r) is_rest ∙ whole))
         ∙ (ap (λ r. flat ++ r) is_rest ∙ whole))))
@@ -132,7 +129,7 @@ same_others at after base n (b ∷ blocks) content looks new =
     ap (λ xs. xs ++ flat_map (λ k. after (base + k)) blocks) same
     ∙ ap (λ xs. at (base + b) ++ xs) (same_others at after base n blocks content looks unlike.1)
 
-pub filling_more : (base : ℕ) (bytes rest front behind : List ℕ) (start now_taken next_taken : List Bool) (before now next : Held) (blocks : List ℕ) (n : ℕ) → Filling base bytes rest start now_taken before now blocks → 0 < length rest → front ++ behind ≡ rest → length front ≡ min (length rest) 4096 → n < length now_taken → is_taken now_taken n ≡ false → next_taken ≡ set now_taken n true → free_count next_taken + 1 ≡ free_count now_taken → next ≡ record now { staged = with_entry now.staged (base + n) (padded front) } → ((m : ℕ) (was : List ℕ) → look next.staged m was ≡ cond (eqb m (base + n)) (padded front) (look now.staged m was)) → Filling base bytes behind start next_taken before next (blocks ++ n ∷ [])
+pub filling_more : (base : ℕ) (bytes rest front behind : List ℕ) (start now_taken next_taken : List Bool) (before now next : Held) (blocks : List ℕ) (n : ℕ) → Filling base bytes rest start now_taken before now blocks → 0 < length rest → front ++ behind ≡ rest → length front ≡ min (length rest) 4096 → n < length now_taken → is_taken now_taken n ≡ false → next_taken ≡ set now_taken n true → free_count next_taken + 1 ≡ free_count now_taken → next ≡ record now { staged = with_entry now.staged (base + n) (padded 4096 front) } → ((m : ℕ) (was : List ℕ) → look next.staged m was ≡ cond (eqb m (base + n)) (padded 4096 front) (look now.staged m was)) → Filling base bytes behind start next_taken before next (blocks ++ n ∷ [])
 filling_more base bytes rest front behind start now_taken next_taken before now next blocks n was some parts size lt free takes fewer staged looks = record {
   distinct = distinct_more blocks n was.distinct unlike.0;
   were_free = free_more start blocks n was.were_free below unlike.1;
@@ -147,16 +144,16 @@ filling_more base bytes rest front behind start now_taken next_taken before now 
   left = λ more. omega (arith, was.left some, longer, size, both, more);
   long = λ kept.
       ap length (flat kept)
-      ∙ (length-append (flat_map (λ b. looked now.staged kept (base + b)) blocks) (padded front ++ [])
-      ∙ omega (arith, was.long kept, longer, length-append (padded front) [], length-padded front (omega (arith, size))));
+      ∙ (length-append (flat_map (λ b. looked now.staged kept (base + b)) blocks) (padded 4096 front ++ [])
+      ∙ omega (arith, was.long kept, longer, length-append (padded 4096 front) [], length_padded 4096 front (omega (arith, size))));
   holds = λ kept.
       ap (λ xs. take (length bytes) (xs ++ behind)) (flat kept)
       ∙ part_more bytes (flat_map (λ b. looked now.staged kept (base + b)) blocks) rest front behind (omega (arith, was.long kept, was.left some)) (was.holds kept) parts ends;
   others = λ m old none.
       let split = neither (has_home base blocks m) (eqb (base + n) m || false) (sym (list_any-append (λ b. base + b == m) blocks (n ∷ [])) ∙ none) in
       let differ : m ≡ base + n → ⊥ = λ e. eqb-false (base + n) m (neither (eqb (base + n) m) false split.1).0 (sym e) in
-      looks m old ∙ (ap (λ t. cond t (padded front) (look now.staged m old)) (ne_eqb m (base + n) differ) ∙ was.others m old split.0);
-  few = omega (arith, was.few, longer, length-with_entry now.staged (base + n) (padded front), ap (λ (h : Held). length h.staged) staged);
+      looks m old ∙ (ap (λ t. cond t (padded 4096 front) (look now.staged m old)) (ne_eqb m (base + n) differ) ∙ was.others m old split.0);
+  few = omega (arith, was.few, longer, length-with_entry now.staged (base + n) (padded 4096 front), ap (λ (h : Held). length h.staged) staged);
 }
   where
     longer : length (blocks ++ n ∷ []) ≡ length blocks + 1
@@ -177,11 +174,11 @@ filling_more base bytes rest front behind start now_taken next_taken before now 
       | inr less ↦ inr (omega (arith, size, less, both))
     ]
 
-    at_n : (kept : ℕ → List ℕ) → looked next.staged kept (base + n) ≡ padded front
-    at_n kept = looks (base + n) (kept (base + n)) ∙ ap (λ t. cond t (padded front) (looked now.staged kept (base + n))) (eq-eqb (base + n) (base + n) refl)
+    at_n : (kept : ℕ → List ℕ) → looked next.staged kept (base + n) ≡ padded 4096 front
+    at_n kept = looks (base + n) (kept (base + n)) ∙ ap (λ t. cond t (padded 4096 front) (looked now.staged kept (base + n))) (eq-eqb (base + n) (base + n) refl)
 
-    flat : (kept : ℕ → List ℕ) → flat_map (λ b. looked next.staged kept (base + b)) (blocks ++ n ∷ []) ≡ flat_map (λ b. looked now.staged kept (base + b)) blocks ++ (padded front ++ [])
+    flat : (kept : ℕ → List ℕ) → flat_map (λ b. looked next.staged kept (base + b)) (blocks ++ n ∷ []) ≡ flat_map (λ b. looked now.staged kept (base + b)) blocks ++ (padded 4096 front ++ [])
     flat kept =
         flat_map-append (λ b. looked next.staged kept (base + b)) blocks (n ∷ [])
-        ∙ (ap (λ xs. xs ++ (looked next.staged kept (base + n) ++ [])) (same_others (looked now.staged kept) (looked next.staged kept) base n blocks (padded front) (λ m. looks m (kept m)) unlike.0)
+        ∙ (ap (λ xs. xs ++ (looked next.staged kept (base + n) ++ [])) (same_others (looked now.staged kept) (looked next.staged kept) base n blocks (padded 4096 front) (λ m. looks m (kept m)) unlike.0)
         ∙ ap (λ xs. flat_map (λ b. looked now.staged kept (base + b)) blocks ++ (xs ++ [])) (at_n kept))

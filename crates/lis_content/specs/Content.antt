@@ -1,15 +1,11 @@
 -- The bytes of a file over data blocks, and what is taken for them.
-use Rattle.std.specs.Prelude.{ℕ, ◌+◌, ◌-◌, ◌==◌, nat_lt, Bool, true, false, not, ◌&&◌, List, [], ◌∷◌, ◌++◌, length, take, replicate, slice_set}
+use Rattle.std.specs.Prelude.{ℕ, ◌+◌, ◌==◌, nat_lt, Bool, true, false, not, ◌&&◌, List, length, take, slice_set}
 use Rattle.std.specs.List.{flat_map, fold, list_all, list_any}
 use Rattle.lis_blockmap.specs.Bitmap.{is_taken}
 
 -- the bytes of a file, by what each block holds
 abbrev pub content : ℕ → List ℕ → ℕ → (ℕ → List ℕ) → List ℕ
 content base blocks size at = take size (flat_map (λ b. at (base + b)) blocks)
-
--- what a block holds that begins with these bytes and ends in zeros
-abbrev pub padded : List ℕ → List ℕ
-padded bytes = bytes ++ replicate (4096 - length bytes) 0
 
 -- what is taken when these blocks are given back
 abbrev pub given : List Bool → List ℕ → List Bool

@@ -4,7 +4,8 @@ use Rattle.std.specs.Prelude.{◌≡◌, ℕ, ◌+◌, ◌*◌, ◌^◌, nat_lt,
 use Rattle.std.specs.List.{flat_map, list_all, range_with_len}
 use Rattle.byteorder.specs.Endian.{little_bytes, little_number}
 use Rattle.lis_model.specs.State.{blocks_needed}
-use Rattle.lis_content.specs.Content.{content, padded}
+use Rattle.lis_words.specs.Bytes.{padded}
+use Rattle.lis_content.specs.Content.{content}
 
 -- so many bytes take more blocks than a slot numbers
 abbrev pub is_large : ℕ → Bool
@@ -20,7 +21,7 @@ are_short ns = list_all (λ n. nat_lt n (2 ^ 16)) ns
 
 -- an index block: the numbers in order, two bytes each with the lowest first, and zeros
 abbrev pub index_bytes : List ℕ → List ℕ
-index_bytes ns = padded (flat_map (little_bytes 2) ns)
+index_bytes ns = padded 4096 (flat_map (little_bytes 2) ns)
 
 -- the number at a place of a block, counted by numbers
 abbrev pub number_at : List ℕ → ℕ → ℕ

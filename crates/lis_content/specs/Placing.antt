@@ -10,7 +10,8 @@ use Rattle.lis_journal.specs.Journal.{Held}
 use Rattle.lis_journal.specs.Images.{StandsBut, Fits, KeepsPast, with_kept, with_run}
 use Rattle.lis_journal.specs.Staging.{has_entry}
 use Rattle.lis_blockmap.specs.Bitmap.{free_count, is_taken}
-use Rattle.lis_content.specs.Content.{content, padded, marked, are_free, has_home}
+use Rattle.lis_words.specs.Bytes.{padded}
+use Rattle.lis_content.specs.Content.{content, marked, are_free, has_home}
 use Rattle.lis_content.specs.Large.{is_large, slot_count, file_content, file_blocks, IsIndexed}
 use Rattle.lis_content.specs.declared.fault.PutFault.{PutFault}
 use Rattle.lis_content.specs.declared.fault.PutFault.TheVariants.{NoSpace, Disk}
@@ -108,7 +109,7 @@ pub record RowOf (base : ℕ) (bytes : List ℕ) (taken now_taken : List Bool) (
 
 -- a block is placed that has these bytes and zeros behind them
 abbrev pub OnePlaced : ℕ → List ℕ → List Bool → List Bool → Held → Held → Meaning → Meaning → ℕ → Type 0
-OnePlaced base bytes taken now_taken before now old new n = RowPlaced base taken now_taken before now old new n 1 (with_kept (base + n) (padded bytes))
+OnePlaced base bytes taken now_taken before now old new n = RowPlaced base taken now_taken before now old new n 1 (with_kept (base + n) (padded 4096 bytes))
 
 -- The bytes stand in these blocks in order.
 pub record IsLaid (base : ℕ) (bytes : List ℕ) (taken now_taken : List Bool) (before now : Held) (old new : Meaning) (blocks : List ℕ) : Type 0 where

@@ -4,7 +4,7 @@ ghost use Rattle.std.specs.Prelude.{◌≡◌, ◌⊎◌, ◌+◌, ◌<◌, ◌�
 ghost use Rattle.lis_ports.specs.Calls.{ReadsDisk};
 ghost use Rattle.lis_journal.specs.Images.{Fits, look, is_among, JournalIsUsable};
 ghost use Rattle.lis_journal.specs.Staging.{with_entry, has_entry};
-ghost use Rattle.lis_content.specs.Content.{padded};
+ghost use Rattle.lis_words.specs.Bytes.{padded};
 
 use lis_journal::{BLOCK_LEN, Journal};
 use lis_ports::{Disk, Failed};
@@ -49,7 +49,7 @@ pub fn read_front<D: Disk>(
 pub fn fill(block: &mut [u8], bytes: &[u8])
     requires whole { length block.old ≡ 4096 }
     requires few { length bytes.now ≤ 4096 }
-    ensures { block.new ≡ padded bytes.now }
+    ensures { block.new ≡ padded 4096 bytes.now }
 {
     let (front, rest) = block.split_at_mut(bytes.len());
     front.copy_from_slice(bytes);
@@ -64,9 +64,9 @@ pub fn stage_front(journal: &mut Journal, n: u32, bytes: &[u8])
     requires unbroken { journal.old.is_broken ≡ false }
     requires unplaced { is_among journal.old.placed n ≡ false }
     requires room { IsTrue (has_entry journal.old.staged n) ⊎ (length journal.old.staged < 575) }
-    ensures staged { journal.new ≡ record journal.old { staged = with_entry journal.old.staged n (padded bytes.now) } }
+    ensures staged { journal.new ≡ record journal.old { staged = with_entry journal.old.staged n (padded 4096 bytes.now) } }
     ensures looks { (m : ℕ) (old : List ℕ) → look journal.new.staged m old
-        ≡ (if m == n then padded bytes.now else look journal.old.staged m old) }
+        ≡ (if m == n then padded 4096 bytes.now else look journal.old.staged m old) }
 {
     if bytes.len() == BLOCK_LEN {
         journal.stage(n, bytes);

@@ -11,7 +11,8 @@ use Rattle.std.proofs.lemmas.Cmp.{nat_list_cmp_total}
 use Rattle.lis_graph.specs.Graph.{is_rising}
 use Rattle.lis_graph.proofs.Members.{Among, among_filter, among_insert_key, among_map, map_among, among_from_any, any_from_among}
 use Rattle.lis_words.specs.Words.{word_cmp}
-use Rattle.lis_dict.specs.Dict.{entry_cmp, are_distinct}
+use Rattle.lis_model.specs.Sets.{are_distinct}
+use Rattle.lis_dict.specs.Dict.{entry_cmp}
 use Rattle.lis_dict.proofs.Finds.{all_among, all_from}
 
 abbrev pub DictEntry : Type 0

@@ -1,11 +1,12 @@
 -- Words and their numbers: a finite map.
-use Rattle.std.specs.Prelude.{◌≡◌, ◌⊎◌, ℕ, ◌<◌, ◌≤◌, ◌==◌, nat_lt, Bool, true, not, ◌&&◌, Option, Some, None, Result, Ok, Err, List, [], ◌∷◌, map, filter, length, IsTrue}
+use Rattle.std.specs.Prelude.{◌≡◌, ◌⊎◌, ℕ, ◌<◌, ◌≤◌, ◌==◌, nat_lt, not, Option, Some, None, Result, Ok, Err, List, map, filter, length, IsTrue}
 use Rattle.std.specs.Option.{option_map}
-use Rattle.std.specs.List.{find, list_any, list_all}
+use Rattle.std.specs.List.{find, list_all}
 use Rattle.std.specs.BTreeSet.{insert_key}
 use Rattle.std.specs.declared.cmp.Ordering.{Ordering}
 use Rattle.lis_graph.specs.Graph.{is_rising}
 use Rattle.lis_words.specs.Words.{is_property, word_cmp, same_word}
+use Rattle.lis_model.specs.Sets.{are_distinct}
 
 -- words and their numbers, which are below `props`
 pub record Dict : Type 0 where
@@ -40,11 +41,6 @@ with_entry d word number = record d { entries = insert_key entry_cmp d.entries (
 -- the dictionary, without the word
 abbrev pub without_word : Dict → List ℕ → Dict
 without_word d word = record d { entries = filter (λ e. not (same_word e.0 word)) d.entries }
-
--- no number stands twice
-abbrev pub are_distinct : List ℕ → Bool
-are_distinct [] = true
-are_distinct (n ∷ ns) = not (list_any (λ m. m == n) ns) && are_distinct ns
 
 -- what holds of each dictionary
 pub record IsDict (d : Dict) : Type 0 where

@@ -8,11 +8,12 @@ use Rattle.lis_bits.specs.Rows.{Rows, HasShape, get, with_row, SetsBits}
 use Rattle.lis_bits.proofs.Laws.{bits_set}
 use Rattle.lis_grammar.specs.Formula.{Formula}
 use Rattle.lis_grammar.specs.Formula.Formula.{Negation}
+use Rattle.lis_grammar.specs.Codes.{combined}
 use Rattle.lis_model.specs.Table.{Entry}
 use Rattle.lis_model.specs.Listing.{holds, holds_all}
 use Rattle.lis_place.specs.declared.node.Node.{Node}
 use Rattle.lis_place.specs.declared.node.Node.TheVariants.{Not}
-use Rattle.lis_place.specs.Nodes.{with_node, combined}
+use Rattle.lis_place.specs.Nodes.{with_node}
 use Rattle.lis_eval.specs.View.{Placed, Seen, IsView}
 use Rattle.lis_eval.specs.Stack.{Stacks, IsStack, Pushes, PutsNode, in_all}
 

@@ -4,8 +4,9 @@ use Rattle.std.proofs.lemmas.Bool.{and_parts}
 use Rattle.byteorder.specs.Endian.{little_bytes}
 use Rattle.lis_graph.specs.Graph.{is_rising}
 use Rattle.lis_model.specs.Ranges.{are_in_range}
+use Rattle.lis_words.specs.Bytes.{padded}
 use Rattle.lis_fields.specs.Records.{FileRecord}
-use Rattle.lis_fields.specs.Layouts.{zeros, padded, text_bytes, numbers, gate_version, SpellsSuper, prop_bytes, is_prop, axiom_bytes, is_axiom, file_start, record_bytes, is_record, file_bytes, is_file, are_short, are_tags, slot_blocks, are_blocks}
+use Rattle.lis_fields.specs.Layouts.{zeros, text_bytes, numbers, gate_version, SpellsSuper, prop_bytes, is_prop, axiom_bytes, is_axiom, file_start, record_bytes, is_record, file_bytes, is_file, are_short, are_tags, slot_blocks, are_blocks}
 use Rattle.lis_model.specs.declared.limits.Limits.{Limits}
 use Rattle.lis_fields.specs.declared.slots.PropSlot.{PropSlot}
 use Rattle.lis_fields.specs.declared.slots.PropSlot.TheVariants.{Free as FreeProp, Known, Declared}
@@ -23,12 +24,14 @@ use Rattle.lis_fields.proofs.Supers.{super_fits, super_parts, same_super}
 use Rattle.lis_model.specs.Sets.{are_distinct}
 
 same_text : (a b : List ℕ) → length a ≤ 60 → text_bytes a ≡ text_bytes b → a ≡ b
+unfolding zeros
 same_text a b short e =
     let size : length a ≡ length b = ap (λ xs. get_or xs 0 0) e in
     let rest : padded 60 a ≡ padded 60 b = ap (λ xs. drop 1 xs) e in
     sym (front_is (length a) (padded 60 a) a (zeros (60 - length a)) refl refl) ∙ front_is (length a) (padded 60 a) b (zeros (60 - length b)) rest (sym size)
 
 same_numbers : (ms ns : List ℕ) → length ms ≡ length ns → are_short ms ≡ true → are_short ns ≡ true → numbers ms ≡ numbers ns → ms ≡ ns
+unfolding zeros
 same_numbers ms ns len sm sn e =
     let of_ms = length_shorts ms in
     let of_ns = length_shorts ns in

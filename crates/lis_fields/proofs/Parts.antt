@@ -3,6 +3,7 @@ use Rattle.std.proofs.Common.{◌≡◌, refl, sym, ap, ap₂, ◌∙◌, subst,
 use Rattle.std.proofs.lemmas.Bool.{and_parts, and_from, or_cases, or_left, or_right, leb-true, le-leb, eqb-true, ltb-true, ltb-false}
 use Rattle.byteorder.specs.Endian.{little_bytes}
 use Rattle.lis_words.specs.Words.{is_word, is_plain_word, is_head, is_valued, is_test, is_property, is_built_in, is_file_name}
+use Rattle.lis_words.proofs.Bytes.{length_padded}
 use Rattle.lis_words.proofs.Tests.{word_is_property, property_short}
 use Rattle.lis_model.specs.State.{is_declarable, file_limit, blocks_needed}
 use Rattle.lis_fields.specs.Records.{FileRecord}
@@ -11,7 +12,7 @@ use Rattle.lis_fields.specs.declared.slots.PropSlot.{PropSlot}
 use Rattle.lis_fields.specs.declared.slots.PropSlot.TheVariants.{Free as FreeProp, Known, Declared}
 use Rattle.lis_fields.specs.declared.slots.FileSlot.{FileSlot}
 use Rattle.lis_fields.specs.declared.slots.FileSlot.TheVariants.{Free as FreeFile, Used}
-use Rattle.lis_fields.proofs.Widths.{front_is, behind_is, joined, length_zeros, length_padded}
+use Rattle.lis_fields.proofs.Widths.{front_is, behind_is, joined, length_zeros}
 use Rattle.lis_fields.proofs.Texts.{length_text, name_short}
 use Rattle.lis_fields.proofs.Shorts.{shorts, length_shorts}
 use Rattle.lis_model.specs.Sets.{are_distinct}

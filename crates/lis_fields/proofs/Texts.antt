@@ -2,8 +2,10 @@
 use Rattle.std.proofs.Common.{◌≡◌, sym, ap, ap₂, ◌∙◌, ℕ, ◌≤◌, true, false, List, ◌∷◌, length, take, drop, IsTrue, arith, length-take-le}
 use Rattle.std.proofs.lemmas.Bool.{and_parts, leb-true}
 use Rattle.lis_words.specs.Words.{is_file_name}
-use Rattle.lis_fields.specs.Layouts.{padded, text_bytes}
-use Rattle.lis_fields.proofs.Widths.{are_zero, padding_zero, padded_from, length_padded}
+use Rattle.lis_words.specs.Bytes.{padded}
+use Rattle.lis_words.proofs.Bytes.{length_padded}
+use Rattle.lis_fields.specs.Layouts.{text_bytes}
+use Rattle.lis_fields.proofs.Widths.{are_zero, padding_zero, padded_from}
 
 pub length_text : (text : List ℕ) → length text ≤ 60 → length (text_bytes text) ≡ 61
 length_text text short = omega (arith, length_padded 60 text short)

@@ -1,11 +1,12 @@
 -- Fields of fixed widths, read back from their spelling: zeros, numbers of four bytes, and bytes with zeros behind them.
-use Rattle.std.proofs.Common.{◌≡◌, refl, sym, ap, ap₂, ◌∙◌, ℕ, zero, suc, ◌-◌, ◌^◌, ◌<◌, ◌≤◌, ◌==◌, Bool, true, false, List, [], ◌∷◌, ◌++◌, length, take, drop, take_at, drop_at, take-append-drop, length-append, length-drop, length-take-le, arith}
+use Rattle.std.proofs.Common.{◌≡◌, refl, sym, ap, ap₂, ◌∙◌, ℕ, zero, suc, ◌-◌, ◌^◌, ◌<◌, ◌≤◌, ◌==◌, Bool, true, false, List, [], ◌∷◌, ◌++◌, length, take, drop, take_at, drop_at, take-append-drop, length-drop, length-take-le, arith}
 use Rattle.std.specs.List.{list_all}
 use Rattle.std.proofs.lemmas.Bool.{and_parts, eqb-true}
 use Rattle.std.proofs.lemmas.List.{length-replicate}
 use Rattle.byteorder.specs.Endian.{little_bytes, little_number}
 use Rattle.byteorder.specs.Numbers.{little_number-reads_back}
-use Rattle.lis_fields.specs.Layouts.{zeros, padded}
+use Rattle.lis_words.specs.Bytes.{padded}
+use Rattle.lis_fields.specs.Layouts.{zeros}
 
 abbrev pub are_zero : List ℕ → Bool
 are_zero bytes = list_all (λ b. b == 0) bytes
@@ -50,14 +51,13 @@ same_number n a b small fits e =
 
 -- bytes with zeros behind them
 pub padding_zero : (n len : ℕ) (bytes field : List ℕ) → field ≡ padded n bytes → length bytes ≡ len → are_zero (drop len field) ≡ true
+unfolding zeros
 padding_zero n len bytes field e same =
     ap are_zero (behind_is len field bytes (zeros (n - length bytes)) e same) ∙ zeros_pass (n - length bytes)
 
 pub padded_from : (n len : ℕ) (field : List ℕ) → length field ≡ n → len ≤ n → are_zero (drop len field) ≡ true → field ≡ padded n (take len field)
+unfolding zeros
 padded_from n len field full few all =
     let front : length (take len field) ≡ len = omega (arith, length-take-le len field) in
     let rest : length (drop len field) ≡ n - length (take len field) = omega (arith, length-drop len field) in
     joined len field (take len field) (zeros (n - length (take len field))) refl (zeros_of (n - length (take len field)) (drop len field) rest all)
-
-pub length_padded : (n : ℕ) (bytes : List ℕ) → length bytes ≤ n → length (padded n bytes) ≡ n
-length_padded n bytes few = omega (arith, length-append bytes (zeros (n - length bytes)), length_zeros (n - length bytes))

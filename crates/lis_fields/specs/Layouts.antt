@@ -4,6 +4,7 @@ use Rattle.std.specs.List.{list_any, list_all, flat_map}
 use Rattle.std.specs.Ordering.{nat_cmp}
 use Rattle.byteorder.specs.Endian.{little_bytes}
 use Rattle.lis_graph.specs.Graph.{is_rising}
+use Rattle.lis_words.specs.Bytes.{padded}
 use Rattle.lis_words.specs.Words.{is_head, is_valued, is_built_in, is_file_name}
 use Rattle.lis_model.specs.declared.limits.Limits.{Limits}
 use Rattle.lis_model.specs.Sets.{are_distinct}
@@ -19,10 +20,6 @@ use Rattle.lis_fields.specs.declared.slots.FileSlot.TheVariants.{Free as FreeFil
 -- so many zero bytes
 unfoldable pub zeros : ℕ → List ℕ
 zeros n = replicate n 0
-
--- the bytes, with zeros behind them up to so many in all
-abbrev pub padded : ℕ → List ℕ → List ℕ
-padded n bytes = bytes ++ zeros (n - length bytes)
 
 -- a text of at most 60 bytes behind its length
 abbrev pub text_bytes : List ℕ → List ℕ

@@ -68,6 +68,7 @@ pub fn read_text(field: &[u8]) -> Option<&[u8]>
 }
 
 /// Writes a text into a field of 61 bytes.
+#[tactic(auto, unfolding(crate::specs::Layouts::zeros))]
 pub fn write_text(text: &[u8], field: &mut [u8])
     requires len { length field.old ≡ 61 }
     requires short { length text.now ≤ 60 }
@@ -114,6 +115,7 @@ pub fn read_numbers(field: &[u8], count: usize) -> Option<ArrayVec<u16, 16>>
 }
 
 /// Writes numbers into a field of 32 bytes.
+#[tactic(auto, unfolding(crate::specs::Layouts::zeros))]
 pub fn write_numbers(list: &[u16], field: &mut [u8])
     requires len { length field.old ≡ 32 }
     requires few { length list.now ≤ 16 }

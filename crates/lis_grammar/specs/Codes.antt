@@ -25,9 +25,10 @@ abbrev pub negated : List Formula → List Formula
 negated [] = []
 negated (f ∷ stack) = Negation f ∷ stack
 
+-- the last two formulas as one; a stack of fewer stays
 abbrev pub combined : (Formula → Formula → Formula) → List Formula → List Formula
 combined join [] = []
-combined join (g ∷ []) = []
+combined join (g ∷ []) = g ∷ []
 combined join (g ∷ f ∷ stack) = join f g ∷ stack
 
 abbrev pub pushed : Token → List Formula → List Formula

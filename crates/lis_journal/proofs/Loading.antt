@@ -6,7 +6,7 @@ use Rattle.lis_ports.specs.Bytes.{part}
 use Rattle.lis_ports.specs.Runs.{IsDiskRun}
 use Rattle.lis_ports.specs.Calls.{DiskFaultEnds, Elapses, IsUnchanged}
 use Rattle.lis_ports.proofs.Ending.{ends_then}
-use Rattle.lis_ports.proofs.Moments.{run_then, leaves_none, leaves_call, leaves_then, leaves_weaken}
+use Rattle.lis_ports.proofs.Moments.{run_then, leaves_call, leaves_then, leaves_weaken}
 use Rattle.lis_journal.specs.Record.{block, word, words, count_of, homes_of, rises, is_header, record_end, is_record, entries_from, recorded, first_bad, all_recorded, behind}
 use Rattle.lis_journal.specs.Images.{look}
 use Rattle.lis_journal.specs.Staging.{Staging}
@@ -18,9 +18,6 @@ use Rattle.lis_journal.proofs.Series.{behind-more, entries-more, form-more, form
 use Rattle.lis_journal.proofs.Absorbing.{absorbs_put, absorbs_then}
 
 -- ---- reads in a row
-pub quiet_none : (m : Meaning) → IsQuiet m m
-quiet_none m = record { bytes = refl; images = λ image is. is; moments = leaves_none m m.images }
-
 pub quiet_call : {a b : Meaning} → IsDiskRun a b → Elapses a b → IsUnchanged a b → IsQuiet a b
 quiet_call {a} run time same = record {
   bytes = same.bytes;

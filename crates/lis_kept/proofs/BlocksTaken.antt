@@ -30,7 +30,6 @@ use Rattle.lis_kept.specs.Changes.{Takes, GivesBack, Fills, Lands, Puts, PutTorn
 use Rattle.lis_kept.proofs.InArea.{few_blocks}
 use Rattle.lis_kept.proofs.Formed.{held_files, record_parts}
 use Rattle.lis_kept.proofs.Marking.{block_marked}
-use Rattle.lis_kept.proofs.Filing.{same_distinct}
 use Rattle.lis_kept.proofs.Contents.{slot_blocks_counted}
 use Rattle.lis_model.specs.Sets.{has_number}
 
@@ -78,7 +77,7 @@ module _ (p : Kept) (t : Taxonomy) (held : AreHeld p t) (numbers : List ℕ) (fr
   free_short = search (rules, all_from, lt-ltb, ltb-true, all_among, free_below, few_blocks)
 
   free_in_form : (size : ℕ) → size ≤ file_limit p.limits.version → length numbers ≡ slot_count size → are_distinct numbers ≡ true → are_blocks p.limits.version size numbers ≡ true
-  free_in_form size few counted apart = search (rules, slot_blocks_counted, and_from, eq-eqb, free_short, same_distinct)
+  free_in_form size few counted apart = search (rules, slot_blocks_counted, and_from, eq-eqb, free_short)
 
 -- ---- a content that is placed
 placed_fills : (p : Kept) (taken : List Bool) (old : Held) (before after : Meaning) (blocks : List ℕ) → Places (data_start p.limits) p.taken taken old before after blocks → Fills blocks p old before after

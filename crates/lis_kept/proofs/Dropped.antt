@@ -17,7 +17,7 @@ use Rattle.lis_kept.specs.Changes.{Marks, Drops}
 use Rattle.lis_kept.proofs.InArea.{among_slots}
 use Rattle.lis_kept.proofs.Formed.{held_files, record_parts}
 use Rattle.lis_kept.proofs.Marking.{block_marked}
-use Rattle.lis_kept.proofs.Filing.{filter-map, catalog_without, filed_rec, filed_slot, same_distinct}
+use Rattle.lis_kept.proofs.Filing.{filter-map, catalog_without, filed_rec, filed_slot}
 
 -- a sound record is in the ranges of its layout
 pub record_in_form : (version : ℕ) (dict : Dict) (blocks : ℕ) (rec : FileRecord) → is_sound_record version dict blocks rec ≡ true → IsFileRecord version rec
@@ -28,7 +28,7 @@ record_in_form version dict blocks rec sound =
 pub blocks_apart : (k : Kept) → AreSound k → (slot : ℕ) (rec : FileRecord) → rec_at k.catalog slot ≡ Some rec → are_distinct rec.blocks ≡ true
 blocks_apart k sound slot rec there =
     let form = record_in_form k.limits.version k.dict k.limits.blocks rec (sound.records slot rec there) in
-    sym (same_distinct rec.blocks) ∙ (and_parts ((length rec.blocks == slot_blocks k.limits.version rec.size) && are_short rec.blocks) (are_distinct rec.blocks) form.blocks).1
+    (and_parts ((length rec.blocks == slot_blocks k.limits.version rec.size) && are_short rec.blocks) (are_distinct rec.blocks) form.blocks).1
 
 pub file_slot_below : (k : Kept) → AreSound k → (slot : ℕ) (rec : FileRecord) → rec_at k.catalog slot ≡ Some rec → slot < k.limits.files
 file_slot_below k sound slot rec there = omega (arith, slot_is_below k.catalog slot sound.catalog (ap is_some there), sound.slots)

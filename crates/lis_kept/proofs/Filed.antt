@@ -16,7 +16,7 @@ use Rattle.lis_kept.specs.Telling.{state_of, file_told}
 use Rattle.lis_kept.specs.Sound.{is_sound_record}
 use Rattle.lis_kept.specs.Links.{AreHeld}
 use Rattle.lis_kept.specs.Changes.{Files}
-use Rattle.lis_kept.proofs.Filing.{number_from_among, map_insert_key, same_distinct, slot_is_free, catalog_then}
+use Rattle.lis_kept.proofs.Filing.{number_from_among, map_insert_key, slot_is_free, catalog_then}
 use Rattle.lis_kept.proofs.Dropped.{OneFile, held_then, marks_then, record_in_form}
 use Rattle.lis_model.specs.Sets.{has_number}
 
@@ -41,7 +41,7 @@ each_once (n ∷ ns) apart =
 pub room_for_file : (c : Catalog) → IsCatalog c → (slot : ℕ) (rec : FileRecord) → slot_of c rec.name ≡ None → slot < c.files → rec_at c slot ≡ None → length c.entries < c.files
 room_for_file c is slot rec absent below free =
     let ns : List ℕ = slot ∷ slots c in
-    let apart : are_distinct ns ≡ true = and_from (not (has_number (slots c) slot)) (are_distinct (slots c)) (ap not (slot_is_free c is slot rec absent free)) (sym (same_distinct (slots c)) ∙ is.apart) in
+    let apart : are_distinct ns ≡ true = and_from (not (has_number (slots c) slot)) (are_distinct (slots c)) (ap not (slot_is_free c is slot rec absent free)) is.apart in
     let few = length-le_from_distinct_below ns c.files (each_once ns apart) (λ q among.
     let found = among_from_any (eqb q) ns among in
     lower q (subst (λ n. Among ns n) (sym (eqb-true q found.0 found.2)) found.1)) in

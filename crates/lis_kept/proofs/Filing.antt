@@ -1,7 +1,7 @@
 -- Lists of files in the order of their names, and catalogs with a file more or fewer.
 pub use Rattle.lis_laws.proofs.Routes.{find_among}
 use Rattle.std.proofs.Common.{filter, option_map, arith}
-use Rattle.lis_kept.proofs.Common.{common_steps, rules, ◌≡◌, ◌⊎◌, refl, sym, ap, ap₂, ◌∙◌, subst, inl, inr, ℕ, ◌+◌, ◌<◌, ◌≤◌, nat_lt, ◌==◌, ◌&&◌, not, Bool, true, false, cond, List, [], ◌∷◌, length, map, Option, Some, None, Ordering, Less, Equal, Greater, match_ordering, insert_key, find, list_all, list_any, and_parts, eqb-true, lt-ltb, not-true, Among, among_filter, among_from_any, among_insert_key, among_map, are_distinct, FileRecord, Catalog, Filed, IsCatalog, slot_of, rec_at, without_slot, word_cmp, word_order, all_among, filter_le, and_from, both_ways, false_from_ne_true, any_from_among, map_among, all_from}
+use Rattle.lis_kept.proofs.Common.{common_steps, rules, ◌≡◌, ◌⊎◌, refl, sym, ap, ap₂, ◌∙◌, subst, inl, inr, ℕ, ◌+◌, ◌<◌, ◌≤◌, nat_lt, ◌==◌, not, Bool, true, false, cond, List, [], ◌∷◌, length, map, Option, Some, None, Ordering, Less, Equal, Greater, match_ordering, insert_key, find, list_all, list_any, and_parts, eqb-true, lt-ltb, not-true, Among, among_filter, among_from_any, among_insert_key, among_map, are_distinct, FileRecord, Catalog, Filed, IsCatalog, slot_of, rec_at, without_slot, word_cmp, word_order, all_among, filter_le, and_from, both_ways, false_from_ne_true, any_from_among, map_among, all_from}
 use Rattle.std.proofs.lemmas.Bool.{eq-eqb, or_parts}
 use Rattle.lis_graph.specs.Graph.{is_rising}
 use Rattle.lis_catalog.specs.Catalog.{names, slots, filed_cmp, with_filed}
@@ -90,10 +90,6 @@ pub catalog_without : (c : Catalog) (slot : ℕ) → IsCatalog c → IsCatalog (
 catalog_without c slot is = search (rules, rising_kept, all_kept, apart_filter, filter_le)
 
 -- ---- numbers of which none stands twice
-pub same_distinct : (ns : List ℕ) → are_distinct ns ≡ are_distinct ns
-same_distinct [] = refl
-same_distinct (n ∷ ns) = ap (λ b. not (has_number ns n) && b) (same_distinct ns)
-
 -- slots are different ones with one more, that no file has
 apart_more : (f : Filed) (es : List Filed) → are_distinct (map slot_in es) ≡ true → list_any (λ (g : Filed). g.slot == f.slot) es ≡ false
     → are_distinct (map slot_in (insert_key filed_cmp es f)) ≡ true

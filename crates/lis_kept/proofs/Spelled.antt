@@ -1,11 +1,10 @@
 -- Blocks whose slots are spelled by what memory keeps.
 use Rattle.std.proofs.Common.{arith, replicate}
-use Rattle.lis_kept.proofs.Common.{rules, ◌≡◌, sym, ap, ap₂, ◌∙◌, ℕ, ◌+◌, ◌*◌, ◌<◌, ◌≤◌, List, ◌++◌, length, take, drop, zero, suc, ◌/◌, Bool, false, [], ◌∷◌, map, refl, ◌-◌, ◌%◌, IsTrue, part, Ext, has, AxiomSlot, prop_bytes, axiom_bytes, file_bytes, are_in_range, bitmap_start}
+use Rattle.lis_kept.proofs.Common.{rules, ◌≡◌, ap, ap₂, ◌∙◌, ℕ, ◌+◌, ◌*◌, ◌<◌, ◌≤◌, List, ◌++◌, length, take, drop, ◌/◌, false, refl, ◌-◌, ◌%◌, IsTrue, part, Ext, has, AxiomSlot, prop_bytes, axiom_bytes, file_bytes, are_in_range, bitmap_start}
 use Rattle.lis_ports.proofs.Parts.{length-part, part-put, part-put_other}
 use Rattle.lis_slots.proofs.Putting.{put_between, places_apart}
-use Rattle.std.proofs.lemmas.List.{get_or-replicate, length-replicate}
-use Rattle.std.proofs.lemmas.List.FromFn.{fill_by_all}
-use Rattle.lis_bits.specs.Bytes.{bits_number, bits_bytes}
+use Rattle.lis_bits.specs.Bytes.{bits_bytes}
+use Rattle.lis_bits.proofs.Numbers.{bytes_none, bytes_same}
 use Rattle.lis_kept.specs.Rows.{row_bytes}
 use Rattle.std.proofs.Math.Nat.{mod-lt}
 use Rattle.lis_blockmap.specs.Bitmap.{bitmap_bytes}
@@ -23,33 +22,16 @@ one_slot_more width k at n spelled block bytes place len within covers is so_far
     search (rules, put_between, length-part, part-put, part-put_other, places_apart)
 
 -- ---- the bytes of rows
-no_bits : (n : ℕ) (bit : ℕ → Bool) → ((i : ℕ) → bit i ≡ false) → bits_number n bit ≡ 0
-unfolding bits_number
-no_bits zero bit none = refl
-no_bits (suc n) bit none = rw (none 0, no_bits n (λ i. bit (i + 1)) (λ i. none (i + 1))) refl
-
-same_number : (n : ℕ) (f g : ℕ → Bool) → ((i : ℕ) → f i ≡ g i) → bits_number n f ≡ bits_number n g
-unfolding bits_number
-same_number zero f g same = refl
-same_number (suc n) f g same = rw (same 0, same_number n (λ i. f (i + 1)) (λ i. g (i + 1)) (λ i. same (i + 1))) refl
-
 -- the row of a number that no file has
 pub row_bytes_none : (e : Ext) (prop n : ℕ) → 8 * n ≡ length e.sets → ((file : ℕ) → has e prop file ≡ false) → replicate n 0 ≡ row_bytes e prop
-unfolding bits_bytes
 row_bytes_none e prop n wide none =
-    let count : length e.sets / 8 ≡ n = omega (arith, wide) in
-    fill_by_all (λ k. bits_number 8 (λ i. has e prop (8 * k + i))) (replicate n 0) n 0 (length-replicate n 0)
-    (λ k lt. get_or-replicate n k 0 0 lt ∙ sym (no_bits 8 (λ i. has e prop (8 * k + i)) (λ i. none (8 * k + i))))
-    ∙ ap (λ m. bits_bytes m (has e prop)) (sym count)
-
-same_map : (f g : ℕ → ℕ) → ((n : ℕ) → f n ≡ g n) → (ns : List ℕ) → map f ns ≡ map g ns
-same_map f g same [] = refl
-same_map f g same (n ∷ ns) = rw (same n, same_map f g same ns) refl
+    let count : n ≡ length e.sets / 8 = omega (arith, wide) in
+    bytes_none n (has e prop) none ∙ ap (λ m. bits_bytes m (has e prop)) count
 
 -- what the row tells is all that it depends on
 pub row_bytes_same : (d e : Ext) (prop : ℕ) → length e.sets ≡ length d.sets → ((file : ℕ) → has e prop file ≡ has d prop file) → row_bytes e prop ≡ row_bytes d prop
-unfolding bits_bytes
-row_bytes_same d e prop count same = search (rules, same_map, same_number)
+row_bytes_same d e prop count same =
+    ap (λ n. bits_bytes (n / 8) (has e prop)) count ∙ bytes_same (length d.sets / 8) (has e prop) (has d prop) (λ file lt. same file)
 
 -- ---- blocks whose slots are spelled by what memory keeps
 module _ (k : Kept) (range : IsTrue (are_in_range k.limits)) (n : ℕ) (block : List ℕ) where

@@ -20,6 +20,7 @@ set_of words = with_words [] words
 abbrev pub has_number : List ℕ → ℕ → Bool
 has_number ns n = list_any (λ m. m == n) ns
 
+-- no number stands twice
 abbrev pub are_distinct : List ℕ → Bool
 are_distinct [] = true
 are_distinct (n ∷ ns) = not (has_number ns n) && are_distinct ns

@@ -7,7 +7,6 @@ use Rattle.lis_kept.specs.Sound.{IsSoundAxiom, FreeSlotsAreEmpty}
 use Rattle.lis_kept.specs.Links.{AreHeld}
 use Rattle.lis_kept.specs.Telling.{AreUsed}
 use Rattle.lis_kept.specs.Forgetting.{KeepsInUse}
-use Rattle.lis_kept.proofs.Filing.{same_distinct}
 use Rattle.lis_store.specs.Drafts.{draft_of}
 use Rattle.lis_store.proofs.Admitted.{derived_own}
 use Rattle.lis_store.specs.Stored.{AreClosed, TestsAreMet}
@@ -336,8 +335,7 @@ module _ (limits : Limits) (words : Words) (axioms : Axioms) (files : Files) (ma
 
   used_once : are_distinct all_used ≡ true
   used_once =
-      distinct_pieces (λ (f : Filed). f.slot) blocks_of files.catalog.entries
-      (sym (same_distinct (map (λ (f : Filed). f.slot) files.catalog.entries)) ∙ held_sound.catalog.apart)
+      distinct_pieces (λ (f : Filed). f.slot) blocks_of files.catalog.entries held_sound.catalog.apart
       (λ f m. spelled.records.blocks.distinct f.slot f.rec (filed_rec files.catalog held_sound.catalog f m))
       (λ f g n here there in_f in_g. one_owner f g here there n (has_from_among (blocks_of f) n in_f) (has_from_among (blocks_of g) n in_g))
 

@@ -1,17 +1,15 @@
 -- Rows of the left sides of axioms and of their heads, and the words that are not in use.
 use Rattle.std.proofs.Common.{rules}
 use Rattle.std.proofs.Common.{min, ◌↔◌}
-use Rattle.lis_open.proofs.Common.{◌≡◌, ◌∙◌, sym, ap, ap₂, ℕ, ◌*◌, ◌/◌, ◌<◌, ◌==◌, Bool, false, List, [], length, IsTrue, arith, subst, refl, if◌then◌else◌, ◌&&◌, ◌||◌, not, true, cond, Some, None, is_some, list_all, length-replicate, bits_bytes, has, Limits, slot, Row, row_slots, both_ways, has_number, list_any, or-false, HasShape, get, with_row, is_taken, Dict, IsDict, word_of, AxiomSlot, Kept, is_head_by, is_had, is_left_of, is_left_head_of, is_used, Rows}
+use Rattle.lis_open.proofs.Common.{◌≡◌, ◌∙◌, sym, ap, ap₂, ℕ, ◌/◌, ◌<◌, ◌==◌, Bool, false, List, length, IsTrue, arith, subst, refl, if◌then◌else◌, ◌&&◌, ◌||◌, not, true, cond, Some, None, is_some, list_all, bits_bytes, has, Limits, slot, Row, row_slots, both_ways, list_any, or-false, HasShape, get, with_row, is_taken, Dict, IsDict, word_of, AxiomSlot, Kept, is_head_by, is_had, is_left_of, is_left_head_of, is_used, Rows}
 use Rattle.lis_fields.specs.Layouts.{zeros}
 use Rattle.std.proofs.lemmas.Bool.Decides.{nat_tests}
-use Rattle.lis_bits.proofs.Numbers.{bytes_same}
-use Rattle.lis_ext.specs.Ext.{Ext, empty_ext}
+use Rattle.lis_bits.proofs.Numbers.{bytes_none}
+use Rattle.lis_ext.specs.Ext.{Ext}
 use Rattle.lis_fields.proofs.Widths.{zeros_pass, zeros_of}
 use Rattle.lis_model.specs.Image.{rows_start}
 use Rattle.lis_open.specs.ReadAll.{IsRowSpelled, IsFirstRow, row_place, is_stray}
-use Rattle.lis_open.proofs.WordsRead.{nothing_at}
 use Rattle.lis_kept.specs.Rows.{row_bytes}
-use Rattle.lis_kept.proofs.Spelled.{row_bytes_none}
 use Rattle.std.proofs.Math.Bool.{or-true, or_assoc}
 use Rattle.std.proofs.lemmas.Bool.{and_right}
 use Rattle.lis_bits.proofs.Laws.{get-with_row_same, shaped as still_shaped}
@@ -20,19 +18,9 @@ use Rattle.lis_kept.proofs.Used.{is_at, any_or}
 use Rattle.lis_open.specs.ReadWords.{head_by}
 
 -- a row of which no bit is set is all zeros
-abbrev no_rows : ℕ → Ext
-no_rows n = empty_ext 0 (8 * n)
-
-no_set : (n i : ℕ) → has (no_rows n) 0 i ≡ false
-no_set n i = ap (λ ns. has_number ns 0) (nothing_at (8 * n) i [])
-
 pub zero_row : (n : ℕ) (bit : ℕ → Bool) → ((i : ℕ) → bit i ≡ false) → bits_bytes n bit ≡ zeros n
 unfolding zeros
-zero_row n bit none =
-    let long : length (no_rows n).sets ≡ 8 * n = length-replicate (8 * n) [] in
-    let count : n ≡ length (no_rows n).sets / 8 = omega (arith, long) in
-    bytes_same n bit (has (no_rows n) 0) (λ i lt. none i ∙ sym (no_set n i))
-    ∙ (ap (λ m. bits_bytes m (has (no_rows n) 0)) count ∙ sym (row_bytes_none (no_rows n) 0 n (sym long) (no_set n)))
+zero_row n bit none = sym (bytes_none n bit none)
 
 -- the row of a number that no file has
 pub no_file_has : (e : Ext) (files number : ℕ) → length e.sets ≡ files → ((slot : ℕ) → has e number slot ≡ false) → row_bytes e number ≡ zeros (files / 8)

@@ -14,10 +14,10 @@ use Rattle.lis_grammar.proofs.Fits.{AreFit-append}
 use Rattle.lis_place.specs.declared.node.Node.{Node}
 use Rattle.lis_place.specs.declared.node.Node.TheVariants.{Word, AtLeast, Below, Not, And, Or}
 use Rattle.lis_place.specs.declared.limits.Tally.{Tally}
-use Rattle.lis_place.specs.Nodes.{tree_node_list, nodes_of, combined, with_node, steps_of}
+use Rattle.lis_place.specs.Nodes.{tree_node_list, nodes_of, with_node, steps_of}
 use Rattle.lis_place.specs.Limits.{with_operand, with_test, with_mark, with_joint, tally_with, tally_after, no_tally, is_within, are_place}
 use Rattle.lis_place.proofs.Trees.{nodes_of-append}
-use Rattle.lis_grammar.specs.Codes.{negated}
+use Rattle.lis_grammar.specs.Codes.{negated, combined}
 
 -- from steps to the tally of their nodes
 

@@ -3,7 +3,7 @@ use Rattle.std.specs.Prelude.{ℕ, List, [], ◌∷◌, ◌++◌, reverse}
 use Rattle.std.specs.List.{flat_map, fold}
 use Rattle.lis_grammar.specs.Formula.{Formula}
 use Rattle.lis_grammar.specs.Formula.Formula.{Has, SizeAtLeast, SizeBelow, Negation, Both, Either}
-use Rattle.lis_grammar.specs.Codes.{negated}
+use Rattle.lis_grammar.specs.Codes.{negated, combined}
 use Rattle.lis_place.specs.declared.node.Node.{Node}
 use Rattle.lis_place.specs.declared.node.Node.TheVariants.{Word, AtLeast, Below, Not, And, Or}
 
@@ -29,12 +29,6 @@ node_words And = []
 node_words Or = []
 
 -- the trees that the nodes make: a stack, the last one first, on which each operator finds its operands
-
-abbrev pub combined : (Formula → Formula → Formula) → List Formula → List Formula
-combined join [] = []
-combined join (g ∷ []) = g ∷ []
-combined join (g ∷ f ∷ stack) = join f g ∷ stack
-
 abbrev pub with_node : List Formula → Node → List Formula
 with_node stack (Word word) = Has word ∷ stack
 with_node stack (AtLeast n) = SizeAtLeast n ∷ stack

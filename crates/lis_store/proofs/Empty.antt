@@ -1,10 +1,11 @@
 -- A blank image tells of no words and no files: it stands for the empty state.
 use Rattle.std.proofs.Common.{rules}
-use Rattle.lis_store.proofs.Common.{◌≡◌, refl, sym, ap, ap₂, ◌∙◌, ℕ, zero, suc, ◌+◌, ◌-◌, ◌*◌, ◌/◌, ◌<◌, ◌≤◌, ◌≢◌, false, List, [], ◌∷◌, get_or, map, take, drop, replicate, slice_get, slice_index, Some, IsTrue, arith, ◌==◌, insert_key, range_with_len, Contains, length-replicate, get_or-replicate, slice_get_within, get_or_from_slice_get, among_from_contains, part, block, is_taken, Dict, IsDict, has, SpellsSuper, AxiomSlot, FreeAxiom, Pair, Limits, are_in_range, bitmap_start, data_start, State, pair_cmp, Kept, IsWritten, axiom_slots, Properties, Axioms, Bitmap, AreSound, Tells, among_slots, list_any, Meaning, both_ways, Files, Rows}
+use Rattle.lis_store.proofs.Common.{◌≡◌, refl, sym, ap, ◌∙◌, ℕ, zero, suc, ◌+◌, ◌-◌, ◌/◌, ◌<◌, ◌≤◌, ◌≢◌, false, List, [], get_or, take, replicate, slice_get, slice_index, Some, IsTrue, arith, ◌==◌, insert_key, Contains, length-replicate, get_or-replicate, slice_get_within, get_or_from_slice_get, among_from_contains, part, block, is_taken, Dict, IsDict, has, SpellsSuper, AxiomSlot, FreeAxiom, Pair, Limits, are_in_range, bitmap_start, data_start, State, pair_cmp, Kept, IsWritten, axiom_slots, Properties, Axioms, Bitmap, AreSound, Tells, among_slots, list_any, Meaning, both_ways, Files, Rows}
 use Rattle.std.specs.List.{fold}
 use Rattle.std.proofs.lemmas.List.{drop-replicate, take-replicate, take-take}
 use Rattle.lis_slots.specs.Slots.{Slots, home, place, slot}
-use Rattle.lis_blockmap.specs.Bitmap.{bits_number, bitmap_bytes}
+use Rattle.lis_bits.proofs.Numbers.{bytes_none}
+use Rattle.lis_blockmap.specs.Bitmap.{bitmap_bytes}
 use Rattle.lis_catalog.specs.Catalog.{IsCatalog}
 use Rattle.lis_ext.specs.Ext.{set_of}
 use Rattle.lis_ext.specs.Numbers.{has_number as has_in}
@@ -65,20 +66,9 @@ zeros-part at n total le = ap (take n) (drop-replicate at total 0) ∙ take-repl
 free_slot : (slots : Slots) (at : ℕ → List ℕ) (k : ℕ) → at (home slots k) ≡ zeros 4096 → place slots k + slots.width ≤ 4096 → slot slots at k ≡ zeros slots.width
 free_slot slots at k blank within = ap (part (place slots k) slots.width) blank ∙ zeros-part (place slots k) slots.width 4096 within
 
-no_bits : (j n : ℕ) → bits_number (take j (replicate n false)) ≡ 0
-no_bits zero n = refl
-no_bits (suc j) zero = refl
-no_bits (suc j) (suc n) = omega (arith, no_bits j n)
-
-all_none : (f : ℕ → ℕ) → ((k : ℕ) → f k ≡ 0) → (a n : ℕ) → map f (range_with_len a n) ≡ replicate n 0
-all_none f none a zero = refl
-all_none f none a (suc n) = ap₂ (λ x xs. x ∷ xs) (none a) (all_none f none (a + 1) n)
-
 bitmap-none : (n : ℕ) → bitmap_bytes (replicate n false) ≡ zeros 4096
 unfolding bitmap_bytes zeros
-bitmap-none n =
-    all_none (λ k. bits_number (take 8 (drop (8 * k) (replicate n false))))
-    (λ k. ap (λ bits. bits_number (take 8 bits)) (drop-replicate (8 * k) n false) ∙ no_bits 8 (n - 8 * k)) 0 4096
+bitmap-none n = sym (bytes_none 4096 (is_taken (replicate n false)) (none_set n))
 
 -- a row ends inside its block
 row_within : (limits : Limits) (k : ℕ) → IsTrue (are_in_range limits) → place (row_slots limits) k + (row_slots limits).width ≤ 4096

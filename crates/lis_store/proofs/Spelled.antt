@@ -26,7 +26,7 @@ use Rattle.lis_kept.specs.Kept.{property_at, axiom_at, file_by, record_at}
 use Rattle.lis_kept.specs.Areas.{property_slots, file_slots, row_slots}
 use Rattle.lis_kept.specs.Telling.{pair_by, pair_told, pairs_told}
 use Rattle.lis_kept.proofs.Formed.{axioms_formed, records_formed}
-use Rattle.lis_kept.proofs.Filing.{number_from_among as has_from_among, same_distinct}
+use Rattle.lis_kept.proofs.Filing.{number_from_among as has_from_among}
 use Rattle.lis_kept.proofs.Known.{placed_at, only_pair, declared_set}
 use Rattle.lis_store.specs.Stands.{Contents, AreSlots, word_in, declared_in, words_in, all_declared, word_at, pair_in, pairs_in, is_named_axiom, is_free_axiom, records_in, all_records, all_blocks, file_by as file_of_record, spelled_state, is_had_by, row_bit, Spells}
 use Rattle.lis_store.specs.Stored.{PairsAreApart}
@@ -343,7 +343,7 @@ module _ (k : Kept) (at : ℕ → List ℕ) (sound : AreSound k) (free : FreeSlo
 
   pub used_once : are_distinct (used k sound at) ≡ true
   used_once =
-      distinct_pieces (λ (f : Filed). f.slot) (λ (f : Filed). blocks_told k.limits at f.rec) k.catalog.entries (sym (same_distinct (map (λ (f : Filed). f.slot) k.catalog.entries)) ∙ sound.catalog.apart)
+      distinct_pieces (λ (f : Filed). f.slot) (λ (f : Filed). blocks_told k.limits at f.rec) k.catalog.entries sound.catalog.apart
       (λ f m. tells.apart f (contains_from_among k.catalog.entries f m))
       (λ f g n here there in_f in_g. tells.one_use f g (contains_from_among k.catalog.entries f here) (contains_from_among k.catalog.entries g there) n (has_from_among (blocks_told k.limits at f.rec) n in_f) (has_from_among (blocks_told k.limits at g.rec) n in_g))
 

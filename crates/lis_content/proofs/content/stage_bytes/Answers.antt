@@ -2,7 +2,7 @@ use Rattle.std.proofs.Common.{◌≡◌, ℕ, ◌+◌, ◌++◌, min, cond, eqb,
 use Rattle.std.proofs.lemmas.Bool.{eqb-true, eqb-false}
 use Rattle.lis_journal.specs.Images.{look, is_among}
 use Rattle.lis_journal.specs.Staging.{with_entry}
-use Rattle.lis_content.specs.Content.{padded}
+use Rattle.lis_words.specs.Bytes.{padded}
 use Rattle.lis_content.proofs.Numbers.{length-marked}
 use Rattle.lis_content.proofs.Taking.{filling_more, filling_done}
 use Rattle.lis_content.proofs.content.stage_bytes.Goals as goal
@@ -25,8 +25,8 @@ loop-rest-preserved c =
     let differ : length rest ≡ 0 → ⊥ = eqb-false (length rest) 0 (sym c.is_empty.ensures ∙ c.loop-rest-test.true) in
     let parts : front ++ c.split_at.result.1.now ≡ rest = sym c.split_at.ensures.by_index.0 in
     let size : length front ≡ min (length rest) 4096 = c.split_at.ensures.front_len ∙ c.min.ensures in
-    let staged = c.stage_front.ensures.staged ∙ ap (λ h. record now { staged = with_entry now.staged h (padded front) }) c.home.ensures in
-    let looks : (m : ℕ) (was : List ℕ) → look c.stage_front.new.journal.staged m was ≡ cond (eqb m (c.args.base + c.in-Some.n)) (padded front) (look now.staged m was) = λ m was. c.stage_front.ensures.looks m was ∙ ap (λ h. cond (eqb m h) (padded front) (look now.staged m was)) c.home.ensures in
+    let staged = c.stage_front.ensures.staged ∙ ap (λ h. record now { staged = with_entry now.staged h (padded 4096 front) }) c.home.ensures in
+    let looks : (m : ℕ) (was : List ℕ) → look c.stage_front.new.journal.staged m was ≡ cond (eqb m (c.args.base + c.in-Some.n)) (padded 4096 front) (look now.staged m was) = λ m was. c.stage_front.ensures.looks m was ∙ ap (λ h. cond (eqb m h) (padded 4096 front) (look now.staged m was)) c.home.ensures in
     let more = filling_more c.args.base c.args.bytes.now rest front c.split_at.result.1.now c.args.map.now c.loop-rest.map c.take.new.self c.args.journal.now now c.stage_front.new.journal c.loop-rest.taken.items c.in-Some.n c.loop-rest.invariant (omega (arith, differ)) parts size c.in-Some.ensures.within c.in-Some.ensures.was_free c.in-Some.ensures.taken c.in-Some.ensures.fewer staged looks in
     rw c.push.ensures.items more
 

@@ -1,5 +1,5 @@
 use Rattle.std.proofs.Common.{◌≡◌, ◌*◌, ◌∙◌, sym, ap, length, arith}
-use Rattle.lis_fields.specs.Layouts.{padded}
+use Rattle.lis_words.specs.Bytes.{padded}
 use Rattle.lis_fields.proofs.Widths.{are_zero, padding_zero, padded_from, front_is}
 use Rattle.lis_fields.proofs.Shorts.{shorts, length_shorts, same_shorts}
 use Rattle.lis_fields.proofs.fields.read_numbers.Goals as goal
