@@ -52,7 +52,8 @@ put_file-requires-clause-may g c =
 
 pub returns-clause-holds : goal.returns-clause-holds
 returns-clause-holds g c = λ base s holds.
-    let m = g.D.Disk.meaning c.args.disk.now in let mid = c.if-is_large.self in
+    let m = g.D.Disk.meaning c.args.disk.now in
+    let mid = c.if-is_large.self in
     let between = g.D.Disk.meaning c.if-is_large.disk in
     let after = g.D.Disk.meaning c.put_file.new.disk in
     let old : Stored = record { parts = c.self.inside.parts; journal = c.self.inside.journal; is_broken = c.self.inside.is_broken } in

@@ -30,7 +30,8 @@ hold-requires-clause-room g c = (axiom_change c.self.invariant (related c.self.i
 
 pub returns-clause-holds : goal.returns-clause-holds
 returns-clause-holds g c = λ base now fits.
-    let held = held_view c.self.view_is fits in let row = c.in_ok-may_relate.ensures.row in
+    let held = held_view c.self.view_is fits in
+    let row = c.in_ok-may_relate.ensures.row in
     axiom_holds c.self.invariant (related c.self.invariant.parts row) c.relate.ensures (whole_view c.self.view_is c.requires.usable.unbroken) c.hold.ensures.saves now held
     (axiom_fit c.self.invariant now held.tells c.args.left.now c.args.right.now row) (axiom_done c.self.invariant now held.tells c.args.left.now c.args.right.now row)
 

@@ -24,7 +24,8 @@ returns-in_err-blocks-clause-sound g c =
 pub returns-in_err-blocks-clause-holds : goal.returns-in_err-blocks-clause-holds
 returns-in_err-blocks-clause-holds g c = λ base now holds.
     let old : Stored = record { parts = c.self.inside.parts; journal = c.self.inside.journal; is_broken = c.self.inside.is_broken } in
-    let m = g.D.Disk.meaning c.args.disk.now in let after = g.D.Disk.meaning c.put_anew.new.disk in
+    let m = g.D.Disk.meaning c.args.disk.now in
+    let after = g.D.Disk.meaning c.put_anew.new.disk in
     let alone = λ (large : is_large (length c.args.payload.now) ≡ true). ap (λ (k : Stored). k.journal.staged) c.self.view_is ∙ c.requires.alone large in
     let H : Stored → Type 0 = λ k. StoreHolds k m base now.state in
     let r = err_from_is_err_and c.from_residual.result c.from_residual.ensures.1 in

@@ -23,7 +23,8 @@ returns-clause-changes g c = λ s fits.
     let between = g.D.Disk.meaning c.remove_held.new.disk in
     let sound = c.remove_held.ensures.entry in
     let now : Situation = record { state = s; place = c.args.place.now } in
-    let outcome = rm now c.args.name.now in let held = fits_held c.args.self.now m s sound fits in
+    let outcome = rm now c.args.name.now in
+    let held = fits_held c.args.self.now m s sound fits in
     changes_committed now outcome c.remove_held.new.self c.commit.new.self m between (g.D.Disk.meaning c.commit.new.disk) c.in_ok-remove_held.field-0 c.commit.result
     (subst (λ r. Holds s now outcome c.remove_held.new.self m between r) c.in_ok-remove_held.was (c.remove_held.ensures.holds s s held)) c.commit.ensures.commits
     (c.remove_held.ensures.limits ∙ limits_told c.args.self.now.parts fits.kept s sound.parts sound.free fits.tells)
