@@ -1,5 +1,5 @@
 -- Calls that change memory alone before they are saved.
-use Rattle.lis_store.proofs.Common.{◌≡◌, sym, ap, ◌∙◌, subst, ℕ, ◌+◌, ◌≤◌, false, List, length, Result, Meaning, looked, State, Situation, Outcome, Kept, AreSound, marked_count, StandsBut, changed}
+use Rattle.lis_store.proofs.Common.{◌≡◌, sym, ap, ◌∙◌, subst, ℕ, ◌+◌, ◌≤◌, false, List, length, Result, Meaning, looked, image_blocks, State, Situation, Outcome, Kept, AreSound, marked_count, StandsBut, changed}
 use Rattle.lis_store.specs.declared.change.Change.{Change}
 use Rattle.lis_store.specs.Stands.{Stands}
 use Rattle.lis_store.specs.Stored.{Stored, IsSound, StoreHolds}
@@ -15,6 +15,10 @@ pub record IsChange (old : Stored) (q : Kept) : Type 0 where
   pub limits : q.limits ≡ old.parts.limits
   pub room : length old.journal.staged + marked_count q ≤ 575
   pub edits : AreEditsFew old.parts.ext q.ext
+
+-- the image stays as long
+pub change_image : {old : Stored} {q : Kept} → IsSound old → IsChange old q → old.journal.blocks ≡ image_blocks q.limits
+change_image sound change = sound.image ∙ ap image_blocks (sym change.limits)
 
 module _ (old : Stored) (sound : IsSound old) (unbroken : old.is_broken ≡ false) where
   -- nothing is placed

@@ -1,7 +1,7 @@
 use Rattle.lis_store.proofs.Common.{◌∙◌, ap, Err, err_from_is_err_and, rules, State, Situation}
 use Rattle.lis_store.specs.Stored.{StoreHolds}
-use Rattle.lis_store.proofs.Edits.{edits_saved}
 use Rattle.lis_store.proofs.Judged.{view_refused}
+use Rattle.lis_store.proofs.Keeps.{keeps_saved}
 use Rattle.lis_store.proofs.Related.{related, axiom_refused, axiom_done, axiom_fit}
 use Rattle.lis_store.proofs.Relates.{axiom_change, axiom_holds}
 use Rattle.lis_store.proofs.SavedAlone.{alone_placed, whole_view, held_view}
@@ -35,7 +35,7 @@ returns-clause-holds g c = λ base now fits.
     axiom_holds c.self.invariant (related c.self.invariant.parts row) c.relate.ensures (whole_view c.self.view_is c.requires.usable.unbroken) c.hold.ensures.saves now held
     (axiom_fit c.self.invariant now held.tells c.args.left.now c.args.right.now row) (axiom_done c.self.invariant now held.tells c.args.left.now c.args.right.now row)
 
-pub returns-clause-edits : goal.returns-clause-edits
-returns-clause-edits g c =
+pub returns-clause-keeps : goal.returns-clause-keeps
+returns-clause-keeps g c =
     let change = axiom_change c.self.invariant (related c.self.invariant.parts c.in_ok-may_relate.ensures.row) c.relate.ensures (whole_view c.self.view_is c.requires.usable.unbroken) in
-    edits_saved c.relate.new.parts c.self.view_is c.hold.ensures.parts change.edits
+    keeps_saved c.self.view_is c.relate.new.parts c.hold.result change.limits change.edits c.hold.ensures.sound c.hold.ensures.parts c.hold.ensures.image c.hold.ensures.ended

@@ -1,12 +1,12 @@
-use Rattle.lis_store.proofs.Common.{◌≡◌, ◌∙◌, ℕ, ◌≤◌, true, length, Err, sym, ap, subst, arith, err_from_is_err_and, ArrayVec, is_large, Limits, blocks_taken, new_file, file_added, Kept, changed, HasRoom}
+use Rattle.lis_store.proofs.Common.{◌≡◌, ◌∙◌, ℕ, ◌≤◌, true, length, Err, sym, ap, subst, arith, err_from_is_err_and, ArrayVec, is_large, Limits, blocks_taken, new_file, file_added, changed, HasRoom}
 use Rattle.lis_store.specs.Stored.{Stored, StoreHolds}
 use Rattle.lis_store.specs.Drafts.{draft_of}
 use Rattle.lis_store.specs.Instead.{free_for}
 use Rattle.lis_store.specs.ReplacingIn.{record_in, file_gone}
-use Rattle.lis_store.proofs.Edits.{edits_saved}
+use Rattle.lis_store.proofs.Keeps.{keeps_saved}
 use Rattle.lis_store.proofs.Large.{none_left}
-use Rattle.lis_store.proofs.ReplaceFile.{anew_there, anew_small, mid_form, mid_first, mid_in_form, mid_below, mid_limits, mid_short, mid_image, written_sound, written_image, written_unbroken, written_placed, written_room, written_limits, written_edits, written_holds}
-use Rattle.lis_store.proofs.Torn.{lost_sound, lost_holds}
+use Rattle.lis_store.proofs.ReplaceFile.{anew_there, anew_small, mid_form, mid_first, mid_in_form, mid_below, mid_limits, mid_short, mid_image, written_sound, written_image, written_unbroken, written_placed, written_room, written_same, written_edits, written_holds}
+use Rattle.lis_store.proofs.Torn.{lost_sound, lost_holds, lost_keeps}
 use Rattle.lis_store.proofs.store.Store.put_file.Goals as goal
 
 pub invariant_of-self : goal.invariant_of-self
@@ -15,11 +15,12 @@ invariant_of-self g c =
     lost_sound (ArrayVec ℕ) old c.self.invariant c.args.payload.now (record_in old.parts c.args.slot) c.put_anew.new.parts c.put_anew.new.journal c.put_anew.new.is_broken c.in_err-blocks.field-0.0
     (g.D.Disk.meaning c.args.disk.now) (g.D.Disk.meaning c.put_anew.new.disk) c.in_err-blocks.ensures.renewed c.in_err-blocks.ensures.ended c.put_anew.ensures.sound
 
-pub returns-in_err-blocks-clause-sound : goal.returns-in_err-blocks-clause-sound
-returns-in_err-blocks-clause-sound g c =
+pub returns-in_err-blocks-clause-keeps : goal.returns-in_err-blocks-clause-keeps
+returns-in_err-blocks-clause-keeps g c =
     let old : Stored = record { parts = c.self.inside.parts; journal = c.self.inside.journal; is_broken = c.self.inside.is_broken } in
-    lost_sound (ArrayVec ℕ) old c.self.invariant c.args.payload.now (record_in old.parts c.args.slot) c.put_anew.new.parts c.put_anew.new.journal c.put_anew.new.is_broken c.in_err-blocks.field-0.0
-    (g.D.Disk.meaning c.args.disk.now) (g.D.Disk.meaning c.put_anew.new.disk) c.in_err-blocks.ensures.renewed c.in_err-blocks.ensures.ended c.put_anew.ensures.sound
+    let r = err_from_is_err_and c.from_residual.result c.from_residual.ensures.1 in
+    lost_keeps (ArrayVec ℕ) old c.self.invariant c.args.payload.now (record_in old.parts c.args.slot) c.put_anew.new.parts c.put_anew.new.journal c.put_anew.new.is_broken c.in_err-blocks.field-0.0
+    (g.D.Disk.meaning c.args.disk.now) (g.D.Disk.meaning c.put_anew.new.disk) c.in_err-blocks.ensures.renewed c.in_err-blocks.ensures.ended c.self.view_is (r.1 ∙ ap Err r.2) c.put_anew.ensures.sound
 
 pub returns-in_err-blocks-clause-holds : goal.returns-in_err-blocks-clause-holds
 returns-in_err-blocks-clause-holds g c = λ base now holds.
@@ -97,17 +98,11 @@ pub returns-clause-settled : goal.returns-clause-settled
 returns-clause-settled g c = λ large.
     none_left (length c.args.payload.now) c.most_held.result c.hold.new.journal.staged c.hold.result c.most_held.ensures.large large c.hold.ensures.few
 
-pub returns-clause-limits : goal.returns-clause-limits
-returns-clause-limits g c =
-    ap (λ (k : Kept). k.limits) c.hold.ensures.parts ∙ written_limits c.self.view_is c.args.slot c.args.name.now c.args.assigned.now c.args.payload.now c.in_ok-blocks.blocks.items c.self.invariant c.in_ok-blocks.ensures.sound c.requires.may.0 c.in_ok-blocks.ensures.renewed c.replace_record.ensures.refiles
-
-pub returns-clause-image : goal.returns-clause-image
-returns-clause-image g c =
-    c.hold.ensures.image ∙ mid_image c.self.view_is c.args.slot c.args.name.now c.args.assigned.now c.args.payload.now c.in_ok-blocks.blocks.items c.self.invariant c.in_ok-blocks.ensures.sound c.requires.may.0 c.in_ok-blocks.ensures.renewed
-
-pub returns-clause-edits : goal.returns-clause-edits
-returns-clause-edits g c =
-    edits_saved c.replace_record.new.parts c.self.view_is c.hold.ensures.parts (written_edits c.self.view_is c.args.slot c.args.name.now c.args.assigned.now c.args.payload.now c.in_ok-blocks.blocks.items c.self.invariant c.in_ok-blocks.ensures.sound c.requires.may.0 c.in_ok-blocks.ensures.renewed c.replace_record.ensures.refiles)
+pub returns-clause-keeps : goal.returns-clause-keeps
+returns-clause-keeps g c =
+    let limits = written_same c.self.view_is c.args.slot c.args.name.now c.args.assigned.now c.args.payload.now c.in_ok-blocks.blocks.items c.self.invariant c.in_ok-blocks.ensures.sound c.requires.may.0 c.in_ok-blocks.ensures.renewed c.replace_record.ensures.refiles in
+    let edits = written_edits c.self.view_is c.args.slot c.args.name.now c.args.assigned.now c.args.payload.now c.in_ok-blocks.blocks.items c.self.invariant c.in_ok-blocks.ensures.sound c.requires.may.0 c.in_ok-blocks.ensures.renewed c.replace_record.ensures.refiles in
+    keeps_saved c.self.view_is c.replace_record.new.parts c.hold.result limits edits c.hold.ensures.sound c.hold.ensures.parts (c.hold.ensures.image ∙ c.in_ok-blocks.ensures.renewed.image) c.hold.ensures.ended
 
 pub put_anew-requires-clause-sound : goal.put_anew-requires-clause-sound
 put_anew-requires-clause-sound g c = c.self.invariant.parts

@@ -1,7 +1,7 @@
 use Rattle.lis_store.proofs.Common.{refl, sym, false}
 use Rattle.lis_model.specs.declared.refusal.Refusal.TheVariants.{NoAxiom}
-use Rattle.lis_store.proofs.Edits.{edits_saved}
 use Rattle.lis_store.proofs.Judged.{view_refused}
+use Rattle.lis_store.proofs.Keeps.{keeps_saved}
 use Rattle.lis_store.proofs.SavedAlone.{alone_placed, whole_view, held_view}
 use Rattle.lis_store.proofs.Unaxiomed.{may_go, unaxiom_is, unaxiom_change, unaxiom_holds}
 use Rattle.lis_store.proofs.store.Store.unaxiom_held.Goals as goal
@@ -27,7 +27,7 @@ pub returns-clause-holds : goal.returns-clause-holds
 returns-clause-holds g c = λ base now fits.
     unaxiom_holds c.self.invariant c.take_axiom.ensures c.in-Some.ensures.numbers (sym c.in-Some.ensures.there) (whole_view c.self.view_is c.requires.usable.unbroken) c.hold.ensures.saves now (held_view c.self.view_is fits)
 
-pub returns-clause-edits : goal.returns-clause-edits
-returns-clause-edits g c =
+pub returns-clause-keeps : goal.returns-clause-keeps
+returns-clause-keeps g c =
     let change = unaxiom_change c.self.invariant c.take_axiom.ensures (whole_view c.self.view_is c.requires.usable.unbroken) in
-    edits_saved c.take_axiom.new.parts c.self.view_is c.hold.ensures.parts change.edits
+    keeps_saved c.self.view_is c.take_axiom.new.parts c.hold.result change.limits change.edits c.hold.ensures.sound c.hold.ensures.parts c.hold.ensures.image c.hold.ensures.ended
