@@ -4,7 +4,7 @@ pub mod SlotOrder
 pub mod Points
 pub mod Marks
 pub mod Edits
-pub mod Keeps
+pub mod Keeping
 pub mod Differing
 pub mod Spelled
 pub mod FileBlocks

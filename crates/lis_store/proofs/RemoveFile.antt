@@ -14,7 +14,7 @@ use Rattle.lis_store.proofs.StoreSays.{here_told}
 use Rattle.lis_store.proofs.Judged.{change_refused}
 use Rattle.lis_store.proofs.Cleaned.{none_marked}
 use Rattle.lis_store.proofs.Edits.{AreEditsFew}
-use Rattle.lis_store.proofs.Keeps.{keeps_lost}
+use Rattle.lis_store.proofs.Keeping.{keeps_lost}
 use Rattle.lis_store.proofs.Removed.{end_is, form_removed, few_marked, few_edits, ready_removed}
 use Rattle.lis_store.proofs.Retaken.{in_form, settled_sound}
 use Rattle.lis_store.proofs.SavedAlone.{IsChange, unplaced_stands, whole_view, held_view}

@@ -8,7 +8,7 @@ use Rattle.lis_store.specs.Stands.{Stands}
 use Rattle.lis_store.specs.Stored.{Stored, IsSound, StoreHolds}
 use Rattle.lis_store.specs.Changes.{Holds}
 use Rattle.lis_store.specs.Contents.{blocks_gone, IsRenewed, Renews, Trades}
-use Rattle.lis_store.specs.Saving.{settled, ArePlaced, Saves}
+use Rattle.lis_store.specs.Saving.{settled, Saves}
 use Rattle.lis_store.specs.Drafts.{Draft, with_own, draft_of, AreOwnWords}
 use Rattle.lis_store.specs.Instead.{free_for}
 use Rattle.lis_store.specs.Replacing.{MayReplace}
@@ -22,7 +22,7 @@ use Rattle.lis_store.proofs.Renewed.{stands_same}
 use Rattle.lis_store.proofs.Edits.{AreEditsFew}
 use Rattle.lis_store.proofs.Refiled.{form_refiled, limits_refiled, axioms_refiled, saved_refiled, marked_refiled, edits_refiled, few_refiled, tells_refiled, may_there}
 use Rattle.lis_store.proofs.Retaken.{in_form, settled_sound, retaken, form_retaken}
-use Rattle.lis_store.proofs.SavedAlone.{IsChange, unplaced_stands}
+use Rattle.lis_store.proofs.SavedAlone.{IsChange, MayBeSaved, unplaced_stands}
 use Rattle.lis_store.proofs.Steps.{pairs_same, small_or_alone, holds_behind, but_stands}
 use Rattle.lis_store.proofs.ToldBy.{ToldBy, told_held}
 use Rattle.lis_store.proofs.WriteFile.{found_there, written_enough}
@@ -166,9 +166,6 @@ module _ {old now : Stored} (same : old ≡ now) {mid : Kept} {j : Held} (slot :
     pub written_same : q.limits ≡ k.limits
     written_same = limits_then old mid.taken mid.marks q j goes (draft_of file) numbers sound sound_renewed again
 
-    pub written_image : j.blocks ≡ image_blocks q.limits
-    written_image = renews.image ∙ (sound.image ∙ ap image_blocks (sym written_same))
-
     pub written_edits : AreEditsFew k.ext q.ext
     written_edits = replaced_edits old mid.taken mid.marks q j goes (draft_of file) numbers sound sound_renewed again
 
@@ -179,21 +176,20 @@ module _ {old now : Stored} (same : old ≡ now) {mid : Kept} {j : Held} (slot :
       pub written_unbroken : j.is_broken ≡ false
       written_unbroken = renews.broken ∙ sound.journal unbroken
 
-      pub written_sound : AreSound q → IsSound (settled q j)
-      written_sound = replaced_sound old mid.taken mid.marks q j goes (draft_of file) numbers sound sound_renewed again (sym renews.image) written_unbroken
-
-      pub written_placed : ArePlaced q j
-      written_placed n among =
-          let at = among_from_any (λ b. data_start k.limits + b == n) renews.spare (renews.placed n among) in
-          let bitmap = subst (λ (x : Kept). is_marked x (bitmap_start k.limits) ≡ true) renews.parts renews.bitmap in (
-            omega (arith, eqb-true (data_start k.limits + at.0) n at.2, ap data_start written_same),
-            replaced_bitmap old mid.taken mid.marks q j goes (draft_of file) numbers sound sound_renewed again bitmap,
-          )
-
-      pub written_room : length j.staged + marked_count q ≤ 575
-      written_room =
-          let some = replaced_marks old mid.taken mid.marks q j goes (draft_of file) numbers sound sound_renewed again in
-          omega (arith, some, sound.few unbroken, renews.few_staged, renews.marks.few, none_marked k (sound.clean unbroken), ap (λ (x : Kept). marked_count x) renews.parts)
+      pub written_saves : MayBeSaved q j
+      written_saves = record {
+        settles = replaced_sound old mid.taken mid.marks q j goes (draft_of file) numbers sound sound_renewed again (sym renews.image) written_unbroken;
+        image = renews.image ∙ (sound.image ∙ ap image_blocks (sym written_same));
+        placed = λ n among.
+            let at = among_from_any (λ b. data_start k.limits + b == n) renews.spare (renews.placed n among) in
+            let bitmap = subst (λ (x : Kept). is_marked x (bitmap_start k.limits) ≡ true) renews.parts renews.bitmap in (
+              omega (arith, eqb-true (data_start k.limits + at.0) n at.2, ap data_start written_same),
+              replaced_bitmap old mid.taken mid.marks q j goes (draft_of file) numbers sound sound_renewed again bitmap,
+            );
+        room =
+            let some = replaced_marks old mid.taken mid.marks q j goes (draft_of file) numbers sound sound_renewed again in
+            omega (arith, some, sound.few unbroken, renews.few_staged, renews.marks.few, none_marked k (sound.clean unbroken), ap (λ (x : Kept). marked_count x) renews.parts);
+      }
 
     -- from a state that memory told
     module _ (base : State) (was : Situation) (holds : StoreHolds old before base was.state) where

@@ -5,7 +5,7 @@ use Rattle.lis_store.specs.declared.change.Change.TheVariants.{Refused, Disk}
 use Rattle.lis_store.specs.Stored.{Stored, IsSound, StoreHolds}
 use Rattle.lis_store.specs.Changes.{Holds, ChangeKeeps}
 use Rattle.lis_store.specs.Contents.{ContentTorn, ContentEnded, ContentRenewed}
-use Rattle.lis_store.proofs.Keeps.{keeps_lost}
+use Rattle.lis_store.proofs.Keeping.{keeps_lost}
 use Rattle.lis_store.proofs.Retaken.{retaken, form_retaken, in_form, sound_lost}
 use Rattle.lis_store.proofs.Steps.{holds_lost, torn_stand, torn_past}
 

@@ -4,7 +4,7 @@ use Rattle.lis_store.specs.Stored.{Stored, StoreHolds}
 use Rattle.lis_store.specs.Changes.{Holds, Commits}
 use Rattle.lis_store.proofs.Admitted.{whole_inside, admitted, enough_free, add_done, added_refused}
 use Rattle.lis_store.proofs.Holding.{fits_held}
-use Rattle.lis_store.proofs.Keeps.{keeps_behind}
+use Rattle.lis_store.proofs.Keeping.{keeps_behind}
 use Rattle.lis_store.proofs.Large.{held_behind_commit, held_lost_commit}
 use Rattle.lis_store.proofs.ToldBy.{told_held}
 use Rattle.lis_store.proofs.store.Store.add_file_held.Goals.{then-is_large+in_ok-commit, else-is_large}

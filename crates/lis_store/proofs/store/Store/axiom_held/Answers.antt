@@ -1,10 +1,10 @@
 use Rattle.lis_store.proofs.Common.{◌∙◌, ap, Err, err_from_is_err_and, rules, State, Situation}
 use Rattle.lis_store.specs.Stored.{StoreHolds}
 use Rattle.lis_store.proofs.Judged.{view_refused}
-use Rattle.lis_store.proofs.Keeps.{keeps_saved}
+use Rattle.lis_store.proofs.Keeping.{keeps_saved}
 use Rattle.lis_store.proofs.Related.{related, axiom_refused, axiom_done, axiom_fit}
 use Rattle.lis_store.proofs.Relates.{axiom_change, axiom_holds}
-use Rattle.lis_store.proofs.SavedAlone.{alone_placed, whole_view, held_view}
+use Rattle.lis_store.proofs.SavedAlone.{change_saves, whole_view, held_view}
 use Rattle.lis_store.proofs.store.Store.axiom_held.Goals as goal
 
 pub returns-in_err-may_relate : goal.returns-in_err-may_relate
@@ -19,14 +19,11 @@ returns-in_err-may_relate g c =
 pub relate-requires-clause-may : goal.relate-requires-clause-may
 relate-requires-clause-may g c = related c.self.invariant.parts c.in_ok-may_relate.ensures.row
 
-pub hold-requires-clause-sound : goal.hold-requires-clause-sound
-hold-requires-clause-sound g c = (axiom_change c.self.invariant (related c.self.invariant.parts c.in_ok-may_relate.ensures.row) c.relate.ensures (whole_view c.self.view_is c.requires.usable.unbroken)).settles
-
-pub hold-requires-clause-placed : goal.hold-requires-clause-placed
-hold-requires-clause-placed g c = alone_placed _ c.self.invariant (whole_view c.self.view_is c.requires.usable.unbroken) c.relate.new.parts
-
-pub hold-requires-clause-room : goal.hold-requires-clause-room
-hold-requires-clause-room g c = (axiom_change c.self.invariant (related c.self.invariant.parts c.in_ok-may_relate.ensures.row) c.relate.ensures (whole_view c.self.view_is c.requires.usable.unbroken)).room
+pub hold-requires : goal.hold-requires
+hold-requires g c =
+    let change = axiom_change c.self.invariant (related c.self.invariant.parts c.in_ok-may_relate.ensures.row) c.relate.ensures (whole_view c.self.view_is c.requires.usable.unbroken) in
+    let asks = change_saves c.self.invariant (whole_view c.self.view_is c.requires.usable.unbroken) change in
+    search (rules, asks.settles, asks.image, asks.placed, asks.room)
 
 pub returns-clause-holds : goal.returns-clause-holds
 returns-clause-holds g c = λ base now fits.

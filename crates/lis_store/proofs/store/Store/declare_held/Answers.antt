@@ -2,9 +2,9 @@ use Rattle.lis_store.proofs.Common.{◌∙◌, sym, ap, subst, List, ℕ, Err, e
 use Rattle.lis_store.specs.Stored.{StoreHolds}
 use Rattle.lis_store.specs.Testing.{MayDeclare}
 use Rattle.lis_store.proofs.Judged.{view_refused}
-use Rattle.lis_store.proofs.Keeps.{keeps_saved}
+use Rattle.lis_store.proofs.Keeping.{keeps_saved}
 use Rattle.lis_store.proofs.Retaken.{in_form}
-use Rattle.lis_store.proofs.SavedAlone.{change_image, alone_placed, whole_view, held_view}
+use Rattle.lis_store.proofs.SavedAlone.{change_saves, whole_view, held_view}
 use Rattle.lis_store.proofs.Tested.{declared_change, declared_holds, declared_refused}
 use Rattle.lis_store.proofs.store.Store.declare_held.Goals as goal
 
@@ -23,20 +23,11 @@ declare_tested-requires-clause-form g c = in_form _ c.self.invariant
 pub declare_tested-requires-clause-may : goal.declare_tested-requires-clause-may
 declare_tested-requires-clause-may g c = subst (λ (ns : List ℕ). MayDeclare c.self.inside.parts c.args.word.now ns) (sym c.as_slice.ensures.value) c.in_ok-places.ensures.may
 
-pub hold-requires-clause-sound : goal.hold-requires-clause-sound
-hold-requires-clause-sound g c =
-    (declared_change c.self.invariant (whole_view c.self.view_is c.requires.usable.unbroken) c.in_ok-places.ensures.may c.as_slice.ensures.value c.declare_tested.ensures).settles
-
-pub hold-requires-clause-image : goal.hold-requires-clause-image
-hold-requires-clause-image g c =
-    change_image c.self.invariant (declared_change c.self.invariant (whole_view c.self.view_is c.requires.usable.unbroken) c.in_ok-places.ensures.may c.as_slice.ensures.value c.declare_tested.ensures)
-
-pub hold-requires-clause-placed : goal.hold-requires-clause-placed
-hold-requires-clause-placed g c = alone_placed _ c.self.invariant (whole_view c.self.view_is c.requires.usable.unbroken) c.declare_tested.new.parts
-
-pub hold-requires-clause-room : goal.hold-requires-clause-room
-hold-requires-clause-room g c =
-    (declared_change c.self.invariant (whole_view c.self.view_is c.requires.usable.unbroken) c.in_ok-places.ensures.may c.as_slice.ensures.value c.declare_tested.ensures).room
+pub hold-requires : goal.hold-requires
+hold-requires g c =
+    let change = declared_change c.self.invariant (whole_view c.self.view_is c.requires.usable.unbroken) c.in_ok-places.ensures.may c.as_slice.ensures.value c.declare_tested.ensures in
+    let asks = change_saves c.self.invariant (whole_view c.self.view_is c.requires.usable.unbroken) change in
+    search (rules, asks.settles, asks.image, asks.placed, asks.room)
 
 pub returns-clause-keeps : goal.returns-clause-keeps
 returns-clause-keeps g c =

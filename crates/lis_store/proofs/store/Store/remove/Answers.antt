@@ -1,7 +1,7 @@
 use Rattle.lis_store.proofs.Common.{◌∙◌, ap, Err, err_from_is_err_and, rules, State}
 use Rattle.lis_store.specs.Stored.{StoreFits}
 use Rattle.lis_store.proofs.Holding.{call_ended, call_committed}
-use Rattle.lis_store.proofs.Keeps.{keeps_committed}
+use Rattle.lis_store.proofs.Keeping.{keeps_committed}
 use Rattle.lis_store.proofs.store.Store.remove.Goals as goal
 
 pub returns-in_err-remove_held : goal.returns-in_err-remove_held

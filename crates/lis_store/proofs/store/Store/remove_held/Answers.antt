@@ -1,8 +1,8 @@
 use Rattle.lis_store.proofs.Common.{◌∙◌, refl, sym, ap, subst, is_some, Err, err_from_is_err_and, slot_of, Situation, rm, rules, State}
 use Rattle.lis_store.specs.Stored.{Stored, IsSound, StoreHolds}
-use Rattle.lis_store.proofs.Keeps.{keeps_saved}
+use Rattle.lis_store.proofs.Keeping.{keeps_saved}
 use Rattle.lis_store.proofs.RemoveFile.{removed_refused, lost_sound, lost_holds, lost_keeps, form_given, there_given, removed_change, removed_holds}
-use Rattle.lis_store.proofs.SavedAlone.{change_image}
+use Rattle.lis_store.proofs.SavedAlone.{change_saves, whole_view}
 use Rattle.lis_store.proofs.WriteFile.{found_there}
 use Rattle.lis_store.proofs.store.Store.remove_held.Goals as goal
 
@@ -48,17 +48,11 @@ pub take_out-requires-clause-there : goal.take_out-requires-clause-there
 take_out-requires-clause-there g c =
     there_given c.self.view_is c.self.invariant c.requires.usable.unbroken c.args.place.now c.args.name.now c.in-Some.ensures.slot c.in-Some.ensures.here c.in_ok-free_content.ensures.given
 
-pub hold-requires-clause-sound : goal.hold-requires-clause-sound
-hold-requires-clause-sound g c =
-    (removed_change c.self.view_is c.self.invariant c.requires.usable.unbroken c.args.place.now c.args.name.now c.in-Some.ensures.slot c.in-Some.ensures.here c.in_ok-free_content.ensures.given c.take_out.ensures).settles
-
-pub hold-requires-clause-image : goal.hold-requires-clause-image
-hold-requires-clause-image g c =
-    change_image c.self.invariant (removed_change c.self.view_is c.self.invariant c.requires.usable.unbroken c.args.place.now c.args.name.now c.in-Some.ensures.slot c.in-Some.ensures.here c.in_ok-free_content.ensures.given c.take_out.ensures)
-
-pub hold-requires-clause-room : goal.hold-requires-clause-room
-hold-requires-clause-room g c =
-    (removed_change c.self.view_is c.self.invariant c.requires.usable.unbroken c.args.place.now c.args.name.now c.in-Some.ensures.slot c.in-Some.ensures.here c.in_ok-free_content.ensures.given c.take_out.ensures).room
+pub hold-requires : goal.hold-requires
+hold-requires g c =
+    let change = removed_change c.self.view_is c.self.invariant c.requires.usable.unbroken c.args.place.now c.args.name.now c.in-Some.ensures.slot c.in-Some.ensures.here c.in_ok-free_content.ensures.given c.take_out.ensures in
+    let asks = change_saves c.self.invariant (whole_view c.self.view_is c.requires.usable.unbroken) change in
+    search (rules, asks.settles, asks.image, asks.placed, asks.room)
 
 pub returns-clause-keeps : goal.returns-clause-keeps
 returns-clause-keeps g c =

@@ -1,10 +1,10 @@
 use Rattle.lis_store.proofs.Common.{◌∙◌, length, Err, is_some, refl, sym, ap, subst, err_from_is_err_and, rules, State}
 use Rattle.lis_store.specs.Stored.{Stored, IsSound, StoreHolds}
 use Rattle.lis_store.proofs.FileRead.{name_taken, rename_asks, read_lost, renaming_refused, renaming_holds}
-use Rattle.lis_store.proofs.Keeps.{keeps_lost, keeps_saved}
+use Rattle.lis_store.proofs.Keeping.{keeps_lost, keeps_saved}
 use Rattle.lis_store.proofs.ReplaceFile.{still_in_form, still_below, refiled_change}
 use Rattle.lis_store.proofs.Retaken.{in_form, sound_lost}
-use Rattle.lis_store.proofs.SavedAlone.{change_image, alone_placed, whole_view}
+use Rattle.lis_store.proofs.SavedAlone.{change_saves, whole_view}
 use Rattle.lis_store.proofs.WriteFile.{found_there, renamed_nowhere}
 use Rattle.lis_store.proofs.store.Store.rename_held.Goals as goal
 
@@ -50,17 +50,11 @@ replace_record-requires-clause-may g c =
     rename_asks c.self.view_is c.self.invariant c.args.place.now c.args.name.now c.in-Some.ensures.slot c.in-Some.ensures.here c.args.new.now c.bytes.ensures.bytes c.bytes-2.ensures.bytes c.in_default-read_file.ensures.size
     c.slot_of.ensures.name c.as_slice.ensures.value c.in_ok-words.ensures.words c.in_ok-words.ensures.row
 
-pub hold-requires-clause-sound : goal.hold-requires-clause-sound
-hold-requires-clause-sound g c = (refiled_change c.self.view_is c.self.invariant c.requires.usable.unbroken c.replace_record.ensures.refiles).settles
-
-pub hold-requires-clause-image : goal.hold-requires-clause-image
-hold-requires-clause-image g c = change_image c.self.invariant (refiled_change c.self.view_is c.self.invariant c.requires.usable.unbroken c.replace_record.ensures.refiles)
-
-pub hold-requires-clause-placed : goal.hold-requires-clause-placed
-hold-requires-clause-placed g c = alone_placed _ c.self.invariant (whole_view c.self.view_is c.requires.usable.unbroken) c.replace_record.new.parts
-
-pub hold-requires-clause-room : goal.hold-requires-clause-room
-hold-requires-clause-room g c = (refiled_change c.self.view_is c.self.invariant c.requires.usable.unbroken c.replace_record.ensures.refiles).room
+pub hold-requires : goal.hold-requires
+hold-requires g c =
+    let change = refiled_change c.self.view_is c.self.invariant c.requires.usable.unbroken c.replace_record.ensures.refiles in
+    let asks = change_saves c.self.invariant (whole_view c.self.view_is c.requires.usable.unbroken) change in
+    search (rules, asks.settles, asks.image, asks.placed, asks.room)
 
 pub returns-clause-keeps : goal.returns-clause-keeps
 returns-clause-keeps g c =

@@ -5,7 +5,7 @@ use Rattle.lis_store.specs.Judging.{is_among}
 use Rattle.lis_store.specs.Instead.{given_before}
 use Rattle.lis_store.specs.ReplacingIn.{file_gone}
 use Rattle.lis_store.proofs.Holding.{fits_held}
-use Rattle.lis_store.proofs.Keeps.{keeps_behind}
+use Rattle.lis_store.proofs.Keeping.{keeps_behind}
 use Rattle.lis_store.proofs.Large.{held_behind_commit, held_lost_commit}
 use Rattle.lis_store.proofs.WriteFile.{found_there, rest_of_write, written_refused, written_nowhere, write_asks, write_does}
 use Rattle.lis_store.proofs.store.Store.write_held.Goals.{then-is_large+in_ok-commit, else-is_large}
