@@ -23,6 +23,7 @@ use Rattle.lis_store.specs.Seen.{placed}
 use Rattle.lis_store.specs.Stored.{Stored, IsSound, StoreFits}
 use Rattle.lis_store.proofs.ToldBy.{told_fits}
 use Rattle.lis_store.proofs.Described.{tags_told}
+use Rattle.lis_store.proofs.FilesHere.{file_seen as entry_seen}
 use Rattle.lis_store.proofs.StoreSays.{limits_told, files_told, file_in_slot}
 use Rattle.lis_session.specs.Item.{FitsAt}
 use Rattle.lis_session.proofs.Blocks.{size_is}
@@ -32,20 +33,16 @@ abbrev file_seen : Kept → ℕ → Option (List ℕ × ℕ)
 file_seen k n = option_map name_and_slot (slice_get (map (placed k) k.catalog.entries) n)
 
 -- what is seen of it is kept
-seen_filed : (k : Kept) (n : ℕ) (o : Option (List ℕ × ℕ)) → o ≡ option_map (λ (f : Filed). (f.rec.name, f.slot)) (slice_get k.catalog.entries n) → file_seen k n ≡ o
-seen_filed k n o is = ap (option_map name_and_slot) (slice_get-map (placed k) k.catalog.entries n) ∙ (twice (slice_get k.catalog.entries n) ∙ sym is)
-  where
-    twice : (f : Option Filed) → option_map name_and_slot (option_map (placed k) f) ≡ option_map (λ (g : Filed). (g.rec.name, g.slot)) f
-    twice None = refl
-    twice (Some f) = refl
+seen_filed : (k : Kept) (n : ℕ) (o : Option Filed) → slice_get k.catalog.entries n ≡ o → file_seen k n ≡ option_map (λ (f : Filed). (f.rec.name, f.slot)) o
+seen_filed k n o is = entry_seen k k.catalog.entries n ∙ ap (option_map (λ (f : Filed). (f.rec.name, f.slot))) is
 
 filed : (k : Kept) (n : ℕ) (name : List ℕ) (slot : ℕ) → file_seen k n ≡ Some (name, slot) → (f : Filed) × (slice_get k.catalog.entries n ≡ Some f) × (f.rec.name ≡ name) × (f.slot ≡ slot)
 filed k n name slot seen = by (slice_get k.catalog.entries n) refl
   where
     by : (o : Option Filed) → slice_get k.catalog.entries n ≡ o → (f : Filed) × (slice_get k.catalog.entries n ≡ Some f) × (f.rec.name ≡ name) × (f.slot ≡ slot)
-    by None is = let none : ◌≡◌ {A = Option (List ℕ × ℕ)} (Some (name, slot)) None = sym seen ∙ seen_filed k n None (sym (ap (option_map (λ (f : Filed). (f.rec.name, f.slot))) is)) in absurd cc
+    by None is = let none : ◌≡◌ {A = Option (List ℕ × ℕ)} (Some (name, slot)) None = sym seen ∙ seen_filed k n None is in absurd cc
     by (Some f) is =
-        let same : (f.rec.name, f.slot) ≡ (name, slot) = same_Some (f.rec.name, f.slot) (name, slot) (sym (seen_filed k n (Some (f.rec.name, f.slot)) (sym (ap (option_map (λ (g : Filed). (g.rec.name, g.slot))) is))) ∙ seen) in
+        let same : (f.rec.name, f.slot) ≡ (name, slot) = same_Some (f.rec.name, f.slot) (name, slot) (sym (seen_filed k n (Some f) is) ∙ seen) in
         (f, is, ap (λ (x : List ℕ × ℕ). x.0) same, ap (λ (x : List ℕ × ℕ). x.1) same)
 
 not_filed : (k : Kept) (n : ℕ) → file_seen k n ≡ None → slice_get k.catalog.entries n ≡ None
@@ -53,7 +50,7 @@ not_filed k n seen = by (slice_get k.catalog.entries n) refl
   where
     by : (o : Option Filed) → slice_get k.catalog.entries n ≡ o → slice_get k.catalog.entries n ≡ None
     by None is = is
-    by (Some f) is = let none : ◌≡◌ {A = Option (List ℕ × ℕ)} None (Some (f.rec.name, f.slot)) = sym seen ∙ seen_filed k n (Some (f.rec.name, f.slot)) (sym (ap (option_map (λ (g : Filed). (g.rec.name, g.slot))) is)) in absurd cc
+    by (Some f) is = let none : ◌≡◌ {A = Option (List ℕ × ℕ)} None (Some (f.rec.name, f.slot)) = sym seen ∙ seen_filed k n (Some f) is in absurd cc
 
 pub slot_seen : (k : Stored) → IsSound k → (n : ℕ) (name : List ℕ) (slot : ℕ) → file_seen k.parts n ≡ Some (name, slot) → slot_of k.parts.catalog name ≡ Some slot
 slot_seen k sound n name slot seen =

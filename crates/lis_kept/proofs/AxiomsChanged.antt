@@ -1,6 +1,6 @@
 -- An axiom that comes into a free slot, and one that leaves its slot.
 use Rattle.std.proofs.Common.{arith}
-use Rattle.lis_kept.proofs.Common.{rules, ◌≡◌, ◌⊎◌, ◌↔◌, refl, sym, ap, ap₂, ◌∙◌, subst, inl, inr, ℕ, ◌<◌, ◌==◌, ◌&&◌, ◌||◌, Bool, true, false, List, [], set, slice_get, Some, Result, Err, length, length-set, get_or-set_other, not, list_any, IsStrictlySortedBy, same_Some, Among, among_insert_key, insert_key_old, insert_key_new, same_sets, sorted_insert_key, word_of, Taxonomy, has_edge, with_edge, EdgeFault, Present, Cycle, Absent, has_word, is_plain_word, AxiomSlot, FreeAxiom, Pair, up, with_axiom, pair_exact, and_parts, eqb-true, not_from_false, not-true, IsStrictlySortedBy-filter, among_filter, without_edge, same_word, same_pair, same_word_decides, both_ways, and_from, false_from_ne_true, pair_order, has_word_from_among, filter_among, any_from_among}
+use Rattle.lis_kept.proofs.Common.{rules, data_start, ◌≡◌, ◌⊎◌, ◌↔◌, refl, sym, ap, ap₂, ◌∙◌, subst, inl, inr, ℕ, ◌<◌, ◌≤◌, ◌==◌, ◌&&◌, ◌||◌, Bool, true, false, List, [], set, slice_get, Some, Result, Err, length, length-set, get_or-set_other, not, list_any, IsStrictlySortedBy, same_Some, Among, among_insert_key, insert_key_old, insert_key_new, same_sets, sorted_insert_key, word_of, Taxonomy, has_edge, with_edge, EdgeFault, Present, Cycle, Absent, has_word, is_plain_word, AxiomSlot, FreeAxiom, Pair, up, with_axiom, pair_exact, and_parts, eqb-true, not_from_false, not-true, IsStrictlySortedBy-filter, among_filter, without_edge, same_word, same_pair, same_word_decides, both_ways, and_from, false_from_ne_true, pair_order, has_word_from_among, filter_among, any_from_among}
 use Rattle.lis_graph.proofs.Sets.{sorted_nil, sorted_with_more}
 use Rattle.lis_taxonomy.specs.Taxonomy.{Entails as Leads}
 use Rattle.lis_model.specs.State.{pair_cmp}
@@ -59,26 +59,13 @@ module _ (p : Kept) (sound : AreSound p) {slot : ℕ} {now : AxiomSlot} {axioms 
       by (inr old) = sound.axioms at x y old.1
 
   pub sound_then : AreSound after
-  sound_then = record {
-    range = sound.range;
-    numbers = sound.numbers;
-    dict = sound.dict;
-    heads = sound.heads;
-    bits = sound.bits;
-    flagged = sound.flagged;
-    properties = sound.properties;
-    axiom_count = ap length one.axioms_are ∙ (length-set p.axioms slot now ∙ sound.axiom_count);
-    axioms = λ at x y is. let one = axiom_then at x y is in record { below = one.below; left = one.left; right = one.right; plain = one.plain };
-    slots = sound.slots;
-    catalog = sound.catalog;
-    records = sound.records;
-    blocks = sound.blocks;
-    rows = sound.rows;
-    files = sound.files;
-    named = sound.named;
-    settled = sound.settled;
-    marks = omega (arith, ap length one.marked, length-set p.marks (block_of p.limits Axioms slot) true, sound.marks);
-  }
+  sound_then = assumption (pairs_sound, ap length one.axioms_are ∙ (length-set p.axioms slot now ∙ sound.axiom_count), long)
+    where
+      pairs_sound : (at x y : ℕ) → slice_get axioms at ≡ Some (Pair x y) → IsSoundAxiom after at x y
+      pairs_sound at x y is = assumption (axiom_then at x y is)
+
+      long : data_start p.limits ≤ length marks
+      long = omega (arith, ap length one.marked, length-set p.marks (block_of p.limits Axioms slot) true, sound.marks)
 
   spelled_before : (area : Area) (n : ℕ) → n < (slots_of p.limits area).count → (block_of p.limits area n ≡ block_of p.limits Axioms slot → ⊥) → spelled after area n ≡ spelled p area n
   spelled_before area n lt apart = search (rules, get_or-set_other)

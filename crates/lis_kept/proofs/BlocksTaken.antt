@@ -43,17 +43,7 @@ module _ (k p : Kept) (t : Taxonomy) (taken marks : List Bool) (is : p ≡ k) (h
 
   pub takes : AreHeld retaken t × Takes taken k retaken
   takes = (
-    held_files p t p.catalog taken p.ext marks held (record {
-      slots = refl;
-      catalog_is = held.sound.catalog;
-      records = held.sound.records;
-      blocks = len;
-      rows = refl;
-      files = refl;
-      named = held.sound.named;
-      settled = held.sound.settled;
-      as_many = ap length marked_is ∙ length-set p.marks (bitmap_start p.limits) true;
-    }),
+    held_files p t p.catalog taken p.ext marks held (assumption (ap length marked_is ∙ length-set p.marks (bitmap_start p.limits) true)),
     subst (λ (x : Kept). Takes taken x retaken) is (record {
       parts = cc (marked_is);
       len = len;

@@ -70,20 +70,15 @@ module _ (p : Kept) (t : Taxonomy) (held : AreHeld p t) (slot : ℕ) (old new : 
   as_many = ap length sets ∙ length-set p.ext.sets slot new
 
   held_described : AreHeld described t
-  held_described = held_files p t p.catalog p.taken e marks held (record {
-    slots = refl;
-    catalog_is = held.sound.catalog;
-    records = held.sound.records;
-    blocks = refl;
-    rows = props;
-    files = as_many;
-    named = λ n s. by n s (cases_eq s slot);
-    settled = settled;
-    as_many = ap length are_marks ∙ length-marked p.marks (map (block_of p.limits Rows) (numbers_where p.ext.props (differs old new)));
-  })
+  held_described =
+      held_files p t p.catalog p.taken e marks held
+      (assumption (as_many, is_named, ap length are_marks ∙ length-marked p.marks (map (block_of p.limits Rows) (numbers_where p.ext.props (differs old new)))))
     where
       by : (n s : ℕ) → (s ≡ slot) ⊎ (s ≡ slot → ⊥) → IsSome (rec_at p.catalog s) → has e n s ≡ true → IsSome (word_of p.dict n)
       by n s h1 there has_it = search (rules, new_named, set_in, set_at)
+
+      is_named : (n s : ℕ) → IsSome (rec_at p.catalog s) → has e n s ≡ true → IsSome (word_of p.dict n)
+      is_named n s = by n s (cases_eq s slot)
 
   pub described_made : AreHeld described t × Describes slot new p described
   described_made = (

@@ -1,13 +1,13 @@
 -- What sound parts spell is in the ranges of its layouts.
 use Rattle.std.proofs.Common.{◌^◌, unwrap_or, arith}
-use Rattle.lis_kept.proofs.Common.{rules, ◌≡◌, ◌⊎◌, inl, inr, ℕ, ◌-◌, ◌<◌, ◌≤◌, ◌&&◌, nat_lt, Bool, true, false, List, [], length, Option, Some, None, is_some, slice_get, IsSome, refl, sym, ap, ◌∙◌, list_all, and_parts, lt-ltb, cases_lt, get_or_from_slice_get, Dict, word_of, number_from_word, number_below, Catalog, IsCatalog, rec_at, Ext, has, Taxonomy, FileRecord, AxiomSlot, FreeAxiom, Pair, and_from, both_ways, false_from_ne_true, get_or_past}
+use Rattle.lis_kept.proofs.Common.{rules, data_start, ◌≡◌, ◌⊎◌, inl, inr, ℕ, ◌-◌, ◌<◌, ◌≤◌, ◌&&◌, nat_lt, Bool, true, false, List, [], length, Option, Some, None, is_some, slice_get, IsSome, refl, sym, ap, ◌∙◌, list_all, and_parts, lt-ltb, cases_lt, get_or_from_slice_get, Dict, word_of, number_from_word, number_below, Catalog, IsCatalog, rec_at, Ext, has, Taxonomy, FileRecord, AxiomSlot, FreeAxiom, Pair, and_from, both_ways, false_from_ne_true, get_or_past}
 use Rattle.std.specs.List.{All}
 use Rattle.std.proofs.lemmas.Option.{unwrap_or-slice_get}
 use Rattle.lis_ext.specs.Ext.{set_of}
 use Rattle.lis_ext.proofs.Seen.{each_below}
 use Rattle.lis_fields.specs.Layouts.{is_axiom, is_file, is_record}
 use Rattle.lis_kept.specs.Kept.{Kept, axiom_at, file_by, record_at}
-use Rattle.lis_kept.specs.Sound.{AreSound, is_sound_record, FreeSlotsAreEmpty}
+use Rattle.lis_kept.specs.Sound.{AreSound, IsSoundAxiom, is_sound_record, FreeSlotsAreEmpty}
 use Rattle.lis_kept.specs.Inside.{IsShort}
 use Rattle.lis_kept.specs.Links.{AreHeld}
 use Rattle.lis_kept.proofs.InArea.{few_properties}
@@ -111,29 +111,14 @@ pub record FilesHold (p : Kept) (catalog : Catalog) (taken : List Bool) (ext : E
 
 pub held_files : (p : Kept) (t : Taxonomy) (catalog : Catalog) (taken : List Bool) (ext : Ext) (marks : List Bool) → AreHeld p t → FilesHold p catalog taken ext marks
     → AreHeld (record p { catalog = catalog; taken = taken; ext = ext; marks = marks }) t
-held_files p t catalog taken ext marks held hold = record {
-  sound = record {
-    range = held.sound.range;
-    numbers = held.sound.numbers;
-    dict = held.sound.dict;
-    heads = held.sound.heads;
-    bits = held.sound.bits;
-    flagged = held.sound.flagged;
-    properties = held.sound.properties;
-    axiom_count = held.sound.axiom_count;
-    axioms = λ slot left right is. let one = held.sound.axioms slot left right is in record { below = one.below; left = one.left; right = one.right; plain = one.plain };
-    slots = hold.slots ∙ held.sound.slots;
-    catalog = hold.catalog_is;
-    records = hold.records;
-    blocks = hold.blocks ∙ held.sound.blocks;
-    rows = hold.rows ∙ held.sound.rows;
-    files = hold.files ∙ held.sound.files;
-    named = hold.named;
-    settled = hold.settled;
-    marks = omega (arith, hold.as_many, held.sound.marks);
-  };
-  links = record { props = held.links.props; edges = held.links.edges };
-}
+held_files p t catalog taken ext marks held hold =
+    assumption (axioms, hold.slots ∙ held.sound.slots, hold.blocks ∙ held.sound.blocks, hold.rows ∙ held.sound.rows, hold.files ∙ held.sound.files, long)
+  where
+    axioms : (slot left right : ℕ) → slice_get p.axioms slot ≡ Some (Pair left right) → IsSoundAxiom (record p { catalog = catalog; taken = taken; ext = ext; marks = marks }) slot left right
+    axioms slot left right is = assumption (held.sound.axioms slot left right is)
+
+    long : data_start p.limits ≤ length marks
+    long = omega (arith, hold.as_many, held.sound.marks)
 
 -- other marks, as many
 pub held_marks : (k : Kept) (t : Taxonomy) (marks : List Bool) → AreHeld k t → length marks ≡ length k.marks → AreHeld (record k { marks = marks }) t

@@ -3,8 +3,8 @@
 ghost use Rattle.std.specs.Prelude.{◌≡◌, true};
 ghost use Rattle.lis_eval.specs.Room.{HasRoom};
 ghost use Rattle.lis_model.specs.Step.{done};
-ghost use Rattle.lis_store.specs.Changes.{ChangeLeft, ChangesDisk};
-ghost use Rattle.lis_store.specs.Stored.{IsSound, IsUsable};
+ghost use Rattle.lis_store.specs.Changes.{ChangeKeeps, ChangesDisk};
+ghost use Rattle.lis_store.specs.Stored.{IsUsable};
 ghost use Rattle.lis_session.specs.Parts.{Makes, MakesHeld, is_change};
 
 use lis_eval::Scratch;
@@ -42,10 +42,7 @@ pub(crate) fn change<D: Disk>(
     requires usable { IsUsable store.old (D.meaning disk.old) }
     ensures scratch { HasRoom scratch.new store.old.parts.limits }
     ensures makes { Makes (λ now. done now command.now payload.now) place.now store.old store.new (D.meaning disk.old) (D.meaning disk.new) result }
-    ensures limits { store.new.parts.limits ≡ store.old.parts.limits }
-    ensures image { store.new.journal.blocks ≡ store.old.journal.blocks }
-    ensures left { ChangeLeft store.old store.new result }
-    ensures sound { IsSound store.new }
+    ensures keeps { ChangeKeeps store.old store.new result }
     ensures disk { ChangesDisk (D.meaning disk.old) (D.meaning disk.new) result }
 {
     let bytes = payload.bytes();
@@ -84,10 +81,7 @@ pub(crate) fn hold<D: Disk>(
     requires usable { IsUsable store.old (D.meaning disk.old) }
     ensures scratch { HasRoom scratch.new store.old.parts.limits }
     ensures holds { MakesHeld (λ now. done now command.now payload.now) place.now store.old store.new (D.meaning disk.old) (D.meaning disk.new) result }
-    ensures limits { store.new.parts.limits ≡ store.old.parts.limits }
-    ensures image { store.new.journal.blocks ≡ store.old.journal.blocks }
-    ensures left { ChangeLeft store.old store.new result }
-    ensures sound { IsSound store.new }
+    ensures keeps { ChangeKeeps store.old store.new result }
     ensures disk { ChangesDisk (D.meaning disk.old) (D.meaning disk.new) result }
 {
     let bytes = payload.bytes();

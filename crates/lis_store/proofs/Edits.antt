@@ -1,6 +1,5 @@
 -- How often rows are edited: at most as often as bits of them differ, and the count does not fall.
-use Rattle.lis_store.proofs.Common.{◌≡◌, sym, ap, ap₂, subst, inl, inr, ℕ, ◌+◌, ◌<◌, ◌≤◌, List, [], ◌∷◌, length, map, sum, arith, range_with_len, Among, range_among, Ext, numbers_at, differs, Kept, sum_by-cons, numbers_where}
-use Rattle.lis_store.specs.Stored.{Stored}
+use Rattle.lis_store.proofs.Common.{◌≡◌, ap, ap₂, inl, inr, ℕ, ◌+◌, ◌<◌, ◌≤◌, List, [], ◌∷◌, length, map, sum, arith, range_with_len, Among, range_among, Ext, numbers_at, differs, sum_by-cons, numbers_where}
 use Rattle.lis_store.specs.Changes.{differing_bits}
 
 -- as the contracts say it of stores
@@ -25,8 +24,3 @@ edits_at p q slot before now slot_in was is no_fewer made =
 -- where no row was edited
 pub edits_same : (p q : Ext) → q ≡ p → AreEditsFew p q
 edits_same p q is = let same = ap (λ (e : Ext). e.edits) is in (omega (arith, same), omega (arith, same))
-
--- saving parts edits no row
-pub edits_saved : {was old : Stored} {saved : Kept} (made : Kept) → was ≡ old → saved ≡ record made { marks = saved.marks } → AreEditsFew was.parts.ext made.ext → AreEditsFew old.parts.ext saved.ext
-edits_saved {was} {old} {saved} made same is few =
-    subst (λ (e : Ext). AreEditsFew old.parts.ext e) (sym (ap (λ (k : Kept). k.ext) is)) (subst (λ (k : Stored). AreEditsFew k.parts.ext made.ext) same few)

@@ -37,7 +37,7 @@ one_of_two (inl (inr a)) = inl a
 one_of_two (inr b) = inr b
 
 -- A change that was refused, or that a fault of the disk ended, of a store that held back nothing.
-pub changes_ended : {T : Type 0} (now : Situation) (outcome : Outcome) (old new : Stored) (before after : Meaning) (change : Change) (held result : Result T Change) → held ≡ Err change → result ≡ Err change
+changes_ended : {T : Type 0} (now : Situation) (outcome : Outcome) (old new : Stored) (before after : Meaning) (change : Change) (held result : Result T Change) → held ≡ Err change → result ≡ Err change
     → StoreFits old before now.state → ChangeLeft old new held → Holds now.state now outcome new before after held → Changes now outcome new before after result
 changes_ended {T = T} now outcome old new before after change held result was ends fits left holds =
     record {
@@ -76,7 +76,7 @@ module _ {T U : Type 0} (now : Situation) (outcome : Outcome) (mid new : Stored)
     ended = ended_by result commit.ended;
   }
 
-  pub changes_committed : mid.parts.limits ≡ now.state.limits → Changes now outcome new before after result
+  changes_committed : mid.parts.limits ≡ now.state.limits → Changes now outcome new before after result
   changes_committed limits = by holds.ended.1
     where
       same : (image : List ℕ) → Stands image next ⊎ Stands image next → Either image

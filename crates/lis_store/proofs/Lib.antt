@@ -4,6 +4,7 @@ pub mod SlotOrder
 pub mod Points
 pub mod Marks
 pub mod Edits
+pub mod Keeping
 pub mod Differing
 pub mod Spelled
 pub mod FileBlocks

@@ -1,25 +1,27 @@
 -- A call that takes a file away.
 use Rattle.std.proofs.Common.{rules}
-use Rattle.lis_store.proofs.Common.{◌≡◌, sym, ap, ◌∙◌, subst, ℕ, ◌+◌, ◌≤◌, not, Bool, true, false, cond, List, length, set, Some, Result, Err, arith, Meaning, Held, looked, Asks, slot_of, rec_at, rec_at-slot_of, Ext, Formula, FileRecord, NoFileHere, bitmap_start, image_blocks, State, Situation, Outcome, refused, rm, file_removed, Kept, IsSaved, marked_count, AreSound, changed, GivesBack}
+use Rattle.lis_store.proofs.Common.{◌≡◌, refl, sym, ap, ◌∙◌, subst, ℕ, is_some, not, IsSome, Bool, true, false, cond, List, set, Some, Result, Err, arith, Meaning, Held, looked, Asks, slot_of, rec_at, rec_at-slot_of, Ext, Formula, FileRecord, NoFileHere, bitmap_start, image_blocks, State, Situation, Outcome, refused, rm, file_removed, Kept, IsSaved, changed, GivesBack}
 use Rattle.lis_store.specs.declared.change.Change.{Change}
 use Rattle.lis_store.specs.declared.change.Change.TheVariants.{Refused, Disk}
 use Rattle.lis_store.specs.Stored.{Stored, IsSound, StoreHolds}
 use Rattle.lis_store.specs.Contents.{ContentGiven, ContentEnded}
-use Rattle.lis_store.specs.Changes.{Holds}
+use Rattle.lis_store.specs.Changes.{Holds, ChangeKeeps}
 use Rattle.lis_store.specs.Judging.{is_among}
-use Rattle.lis_store.specs.Saving.{settled, IsReady, Saves}
+use Rattle.lis_store.specs.Saving.{IsReady, Saves}
 use Rattle.lis_store.specs.Removing.{TakesOut}
 use Rattle.lis_store.specs.ReplacingIn.{AreInForm}
-use Rattle.lis_store.proofs.StoreSays.{here_told, filed_named}
+use Rattle.lis_store.proofs.StoreSays.{here_told}
 use Rattle.lis_store.proofs.Judged.{change_refused}
 use Rattle.lis_store.proofs.Cleaned.{none_marked}
 use Rattle.lis_store.proofs.Edits.{AreEditsFew}
+use Rattle.lis_store.proofs.Keeping.{keeps_lost}
 use Rattle.lis_store.proofs.Removed.{end_is, form_removed, few_marked, few_edits, ready_removed}
 use Rattle.lis_store.proofs.Retaken.{in_form, settled_sound}
-use Rattle.lis_store.proofs.SavedAlone.{unplaced_stands}
+use Rattle.lis_store.proofs.SavedAlone.{IsChange, unplaced_stands, whole_view, held_view}
 use Rattle.lis_store.proofs.Steps.{form_taken, pairs_same, sound_lost, holds_behind, holds_lost, asks_stand, asks_past}
 use Rattle.lis_store.proofs.ToldBy.{told_held}
 use Rattle.lis_store.proofs.Torn.{ended_broken}
+use Rattle.lis_store.proofs.WriteFile.{found_there}
 
 -- one that is refused
 pub removed_refused : {T : Type 0} (old : Stored) (m : Meaning) (place : List Formula) (name : List ℕ) (result : Result T Change) → IsSound old → is_among old.parts place name ≡ false
@@ -41,7 +43,7 @@ module _ (T : Type 0) (old : Stored) (slot : ℕ) (name : List ℕ) (sound : IsS
   broken : b ≡ true
   broken = ended_broken T b change ended
 
-  pub lost_parts : q ≡ old.parts
+  lost_parts : q ≡ old.parts
   lost_parts = lost.1
 
   pub lost_sound : IsSound (record { parts = q; journal = old.journal; is_broken = b })
@@ -53,38 +55,63 @@ module _ (T : Type 0) (old : Stored) (slot : ℕ) (name : List ℕ) (sound : IsS
       holds_lost base now outcome (record { parts = q; journal = old.journal; is_broken = b }) before after result (asks_stand old base now.state before sound holds after lost.2)
       (asks_past old base now.state before sound holds after lost.2) broken (ends ∙ ap Err lost.0)
 
+  pub lost_keeps : {U : Type 0} {now : Stored} {result : Result U Change} → old ≡ now → result ≡ Err change → ChangeKeeps now (record { parts = q; journal = old.journal; is_broken = b }) result
+  lost_keeps view ends = keeps_lost view lost_sound (ends ∙ ap Err lost.0) (ap (λ (k : Kept). k.limits) lost_parts) refl (ap (λ (k : Kept). k.ext) lost_parts) broken
+
 -- ---- its blocks are given back, and then it is taken out
-module _ (old : Stored) (mid : Kept) (slot : ℕ) (rec : FileRecord) (before : Meaning) (gives : GivesBack rec old.parts mid old.journal before) (sound : IsSound old) (filed : rec_at old.parts.catalog slot ≡ Some rec) where
+-- What a call asks speaks of the store's value `now`, and what is proved of its parts, `old`.
+module _ {old now : Stored} (view : old ≡ now) (sound : IsSound old) (unbroken_now : now.is_broken ≡ false) (place : List Formula) (name : List ℕ) {slot : ℕ} (named : slot_of now.parts.catalog name ≡ Some slot)
+    (here_now : true ≡ is_among now.parts place name) {mid : Kept} {before asked : Meaning}
+    (given : (rec : FileRecord) → rec_at old.parts.catalog slot ≡ Some rec → GivesBack rec old.parts mid old.journal before × Asks old.journal before asked) where
+  found : (rec : FileRecord) × (rec_at old.parts.catalog slot ≡ Some rec) × (rec.name ≡ name)
+  found = found_there view sound name named
+
+  abbrev rec : FileRecord
+  rec = found.0
+
+  gives : GivesBack rec old.parts mid old.journal before
+  gives = (given rec found.1).0
+
+  unbroken : old.is_broken ≡ false
+  unbroken = whole_view view unbroken_now
+
   pub form_given : AreInForm mid
   form_given = form_taken old.parts mid mid.taken gives.takes (in_form old sound)
 
-  pub filed_given : rec_at mid.catalog slot ≡ Some rec
-  filed_given = ap (λ (k : Kept). rec_at k.catalog slot) gives.takes.parts ∙ filed
+  filed_given : rec_at mid.catalog slot ≡ Some rec
+  filed_given = ap (λ (k : Kept). rec_at k.catalog slot) gives.takes.parts ∙ found.1
 
-  module _ (q : Kept) (place : List Formula) (name : List ℕ) (out : TakesOut slot rec mid q) (unbroken : old.is_broken ≡ false) (here : is_among old.parts place name ≡ true) (named : slot_of old.parts.catalog name ≡ Some slot) where
+  pub there_given : IsSome (rec_at mid.catalog slot)
+  there_given = ap is_some filed_given
+
+  module _ {q : Kept} (takes : (rec : FileRecord) → rec_at mid.catalog slot ≡ Some rec → TakesOut slot rec mid q) where
+    out : TakesOut slot rec mid q
+    out = takes rec filed_given
+
     abbrev after_marks : List Bool
     after_marks = set old.parts.marks (bitmap_start old.parts.limits) true
 
     same_axioms : q.axioms ≡ old.parts.axioms
     same_axioms = ap (λ (k : Kept). k.axioms) (end_is slot rec mid q form_given out) ∙ ap (λ (k : Kept). k.axioms) gives.takes.parts
 
-    pub same_limits : q.limits ≡ old.parts.limits
+    same_limits : q.limits ≡ old.parts.limits
     same_limits = ap (λ (k : Kept). k.limits) (end_is slot rec mid q form_given out) ∙ ap (λ (k : Kept). k.limits) gives.takes.parts
 
-    pub removed_sound : AreSound q → IsSound (settled q old.journal)
-    removed_sound after =
-        settled_sound q old.journal (form_removed slot rec mid q form_given out) (pairs_same old.parts q same_axioms sound.pairs) (sound.image ∙ ap image_blocks (sym same_limits)) (sound.journal unbroken)
+    pub removed_change : IsChange old q
+    removed_change = record {
+      settles = λ after.
+          settled_sound q old.journal (form_removed slot rec mid q form_given out) (pairs_same old.parts q same_axioms sound.pairs) (sound.image ∙ ap image_blocks (sym same_limits)) (sound.journal unbroken);
+      limits = same_limits;
+      room = omega (arith, few_marked slot rec mid q form_given out, gives.takes.marks.few, none_marked old.parts (sound.clean unbroken), sound.few unbroken);
+      edits = subst (λ (e : Ext). AreEditsFew e q.ext) (ap (λ (k : Kept). k.ext) gives.takes.parts) (few_edits slot rec mid q form_given out);
+    }
 
-    pub removed_marks : length old.journal.staged + marked_count q ≤ 575
-    removed_marks = omega (arith, few_marked slot rec mid q form_given out, gives.takes.marks.few, none_marked old.parts (sound.clean unbroken), sound.few unbroken)
-
-    pub removed_edits : AreEditsFew old.parts.ext q.ext
-    removed_edits = subst (λ (e : Ext). AreEditsFew e q.ext) (ap (λ (k : Kept). k.ext) gives.takes.parts) (few_edits slot rec mid q form_given out)
-
-    pub removed_holds : {T : Type 0} (base : State) (s : State) (holds : StoreHolds old before base s) (new : Stored) (asked after : Meaning) (result : Result T Change) → Asks old.journal before asked → Saves q old.journal new asked after result
+    pub removed_holds : {T : Type 0} {new : Stored} {after : Meaning} {result : Result T Change} → Saves q old.journal new asked after result → (base s : State) → StoreHolds now before base s
         → Holds base (record { state = s; place = place }) (rm (record { state = s; place = place }) name) new before after result
-    removed_holds base s holds new asked after result asks saves =
-        let now : Situation = record { state = s; place = place } in
+    removed_holds {new = new} {after = after} {result = result} saves base s holds_now =
+        let at_place : Situation = record { state = s; place = place } in
+        let holds : StoreHolds old before base s = held_view view holds_now in
+        let asks = (given rec found.1).1 in
         let at : ℕ → List ℕ = looked old.journal.staged holds.kept in
         let gave = gives.given holds.kept holds.journal in
         let ts = mid.taken in
@@ -92,8 +119,8 @@ module _ (old : Stored) (mid : Kept) (slot : ℕ) (rec : FileRecord) (before : M
         let ready : IsReady q at (file_removed s rec.name) =
         subst R (sym gives.takes.parts) (λ form out saved. ready_removed slot rec old.parts ts after_marks q form out sound.parts at s holds.tells gave saved)
         form_given out (gives.takes.marks.saved at (λ area n lt unmarked. holds.written area n lt)) in
-        let same : rec.name ≡ name = (filed_named old.parts sound.parts name slot rec named filed).1 in
-        holds_behind base now (rm now name) new before asked after result (asks_stand old base s before sound holds asked asks) (asks_past old base s before sound holds asked asks)
-        (saves base now (rm now name) (file_removed s name) holds.kept (asks.fits holds.kept holds.journal) (same_limits ∙ holds.limits) (unplaced_stands old sound unbroken base s before holds)
-        (λ _. subst (λ n. IsReady q at (file_removed s n)) same ready)
-        (ap (λ b. cond (not b) (refused now NoFileHere) (changed now (file_removed s name))) (sym (here_told old s sound (told_held old before base s sound holds) place name) ∙ here)))
+        let here : is_among old.parts place name ≡ true = ap (λ (k : Stored). is_among k.parts place name) view ∙ sym here_now in
+        holds_behind base at_place (rm at_place name) new before asked after result (asks_stand old base s before sound holds asked asks) (asks_past old base s before sound holds asked asks)
+        (saves base at_place (rm at_place name) (file_removed s name) holds.kept (asks.fits holds.kept holds.journal) (same_limits ∙ holds.limits) (unplaced_stands old sound unbroken base s before holds)
+        (λ _. subst (λ n. IsReady q at (file_removed s n)) found.2 ready)
+        (ap (λ b. cond (not b) (refused at_place NoFileHere) (changed at_place (file_removed s name))) (sym (here_told old s sound (told_held old before base s sound holds) place name) ∙ here)))

@@ -8,7 +8,7 @@ use Rattle.lis_store.specs.Stands.{Stands}
 use Rattle.lis_store.specs.Stored.{Stored, IsSound, StoreHolds}
 use Rattle.lis_store.specs.Changes.{Holds}
 use Rattle.lis_store.specs.Contents.{blocks_gone, IsRenewed, Renews, Trades}
-use Rattle.lis_store.specs.Saving.{settled, ArePlaced, Saves}
+use Rattle.lis_store.specs.Saving.{settled, Saves}
 use Rattle.lis_store.specs.Drafts.{Draft, with_own, draft_of, AreOwnWords}
 use Rattle.lis_store.specs.Instead.{free_for}
 use Rattle.lis_store.specs.Replacing.{MayReplace}
@@ -22,7 +22,7 @@ use Rattle.lis_store.proofs.Renewed.{stands_same}
 use Rattle.lis_store.proofs.Edits.{AreEditsFew}
 use Rattle.lis_store.proofs.Refiled.{form_refiled, limits_refiled, axioms_refiled, saved_refiled, marked_refiled, edits_refiled, few_refiled, tells_refiled, may_there}
 use Rattle.lis_store.proofs.Retaken.{in_form, settled_sound, retaken, form_retaken}
-use Rattle.lis_store.proofs.SavedAlone.{alone_placed, unplaced_stands}
+use Rattle.lis_store.proofs.SavedAlone.{IsChange, MayBeSaved, unplaced_stands}
 use Rattle.lis_store.proofs.Steps.{pairs_same, small_or_alone, holds_behind, but_stands}
 use Rattle.lis_store.proofs.ToldBy.{ToldBy, told_held}
 use Rattle.lis_store.proofs.WriteFile.{found_there, written_enough}
@@ -163,14 +163,8 @@ module _ {old now : Stored} (same : old ≡ now) {mid : Kept} {j : Held} (slot :
     again : RefilesIn goes (draft_of file) numbers renewed q
     again = search (rules, record_retaken)
 
-    written_same : q.limits ≡ k.limits
+    pub written_same : q.limits ≡ k.limits
     written_same = limits_then old mid.taken mid.marks q j goes (draft_of file) numbers sound sound_renewed again
-
-    pub written_limits : q.limits ≡ now.parts.limits
-    written_limits = written_same ∙ ap (λ (o : Stored). o.parts.limits) same
-
-    pub written_image : j.blocks ≡ image_blocks q.limits
-    written_image = renews.image ∙ (sound.image ∙ ap image_blocks (sym written_same))
 
     pub written_edits : AreEditsFew k.ext q.ext
     written_edits = replaced_edits old mid.taken mid.marks q j goes (draft_of file) numbers sound sound_renewed again
@@ -182,21 +176,20 @@ module _ {old now : Stored} (same : old ≡ now) {mid : Kept} {j : Held} (slot :
       pub written_unbroken : j.is_broken ≡ false
       written_unbroken = renews.broken ∙ sound.journal unbroken
 
-      pub written_sound : AreSound q → IsSound (settled q j)
-      written_sound = replaced_sound old mid.taken mid.marks q j goes (draft_of file) numbers sound sound_renewed again (sym renews.image) written_unbroken
-
-      pub written_placed : ArePlaced q j
-      written_placed n among =
-          let at = among_from_any (λ b. data_start k.limits + b == n) renews.spare (renews.placed n among) in
-          let bitmap = subst (λ (x : Kept). is_marked x (bitmap_start k.limits) ≡ true) renews.parts renews.bitmap in (
-            omega (arith, eqb-true (data_start k.limits + at.0) n at.2, ap data_start written_same),
-            replaced_bitmap old mid.taken mid.marks q j goes (draft_of file) numbers sound sound_renewed again bitmap,
-          )
-
-      pub written_room : length j.staged + marked_count q ≤ 575
-      written_room =
-          let some = replaced_marks old mid.taken mid.marks q j goes (draft_of file) numbers sound sound_renewed again in
-          omega (arith, some, sound.few unbroken, renews.few_staged, renews.marks.few, none_marked k (sound.clean unbroken), ap (λ (x : Kept). marked_count x) renews.parts)
+      pub written_saves : MayBeSaved q j
+      written_saves = record {
+        settles = replaced_sound old mid.taken mid.marks q j goes (draft_of file) numbers sound sound_renewed again (sym renews.image) written_unbroken;
+        image = renews.image ∙ (sound.image ∙ ap image_blocks (sym written_same));
+        placed = λ n among.
+            let at = among_from_any (λ b. data_start k.limits + b == n) renews.spare (renews.placed n among) in
+            let bitmap = subst (λ (x : Kept). is_marked x (bitmap_start k.limits) ≡ true) renews.parts renews.bitmap in (
+              omega (arith, eqb-true (data_start k.limits + at.0) n at.2, ap data_start written_same),
+              replaced_bitmap old mid.taken mid.marks q j goes (draft_of file) numbers sound sound_renewed again bitmap,
+            );
+        room =
+            let some = replaced_marks old mid.taken mid.marks q j goes (draft_of file) numbers sound sound_renewed again in
+            omega (arith, some, sound.few unbroken, renews.few_staged, renews.marks.few, none_marked k (sound.clean unbroken), ap (λ (x : Kept). marked_count x) renews.parts);
+      }
 
     -- from a state that memory told
     module _ (base : State) (was : Situation) (holds : StoreHolds old before base was.state) where
@@ -296,36 +289,23 @@ module _ {old now : Stored} (same : old ≡ now) (sound : IsSound old) (name : L
       ap (list_all (λ n. nat_lt n old.parts.limits.blocks)) blocks_are
       ∙ (and_parts (is_record old.parts.limits.version there.0 && list_all (λ n. is_some (word_of old.parts.dict n)) there.0.tags) (list_all (λ n. nat_lt n old.parts.limits.blocks) there.0.blocks) sound_rec).1
 
-module _ {old now : Stored} (same : old ≡ now) (sound : IsSound old) {gone : Option FileRecord} {q : Kept} {draft : Draft} {numbers : List ℕ} (refiled : RefilesIn gone draft numbers old.parts q) where
+module _ {old now : Stored} (same : old ≡ now) (sound : IsSound old) (unbroken_now : now.is_broken ≡ false) {gone : Option FileRecord} {q : Kept} {draft : Draft} {numbers : List ℕ}
+    (refiled : RefilesIn gone draft numbers old.parts q) where
   abbrev old_parts : Kept
   old_parts = old.parts
 
-  refiled_same : q.limits ≡ old_parts.limits
-  refiled_same = limits_then old old_parts.taken old_parts.marks q old.journal gone draft numbers sound sound.parts refiled
+  was_unbroken : old.is_broken ≡ false
+  was_unbroken = ap (λ (k : Stored). k.is_broken) same ∙ unbroken_now
 
-  pub refiled_limits : q.limits ≡ now.parts.limits
-  refiled_limits = refiled_same ∙ ap (λ (k : Stored). k.parts.limits) same
-
-  pub refiled_image : old.journal.blocks ≡ image_blocks q.limits
-  refiled_image = sound.image ∙ ap image_blocks (sym refiled_same)
-
-  pub refiled_edits : AreEditsFew old_parts.ext q.ext
-  refiled_edits = replaced_edits old old_parts.taken old_parts.marks q old.journal gone draft numbers sound sound.parts refiled
-
-  module _ (unbroken_now : now.is_broken ≡ false) where
-    was_unbroken : old.is_broken ≡ false
-    was_unbroken = ap (λ (k : Stored). k.is_broken) same ∙ unbroken_now
-
-    pub refiled_sound : AreSound q → IsSound (settled q old.journal)
-    refiled_sound = replaced_sound old old_parts.taken old_parts.marks q old.journal gone draft numbers sound sound.parts refiled refl (sound.journal was_unbroken)
-
-    pub refiled_placed : ArePlaced q old.journal
-    refiled_placed = alone_placed old sound was_unbroken q
-
-    pub refiled_room : length old.journal.staged + marked_count q ≤ 575
-    refiled_room =
+  pub refiled_change : IsChange old q
+  refiled_change = record {
+    settles = replaced_sound old old_parts.taken old_parts.marks q old.journal gone draft numbers sound sound.parts refiled refl (sound.journal was_unbroken);
+    limits = limits_then old old_parts.taken old_parts.marks q old.journal gone draft numbers sound sound.parts refiled;
+    room =
         let some = replaced_marks old old_parts.taken old_parts.marks q old.journal gone draft numbers sound sound.parts refiled in
-        omega (arith, some, none_marked old_parts (sound.clean was_unbroken), sound.few was_unbroken)
+        omega (arith, some, none_marked old_parts (sound.clean was_unbroken), sound.few was_unbroken);
+    edits = replaced_edits old old_parts.taken old_parts.marks q old.journal gone draft numbers sound sound.parts refiled;
+  }
 
 -- where the bytes of the file that was there are these
 pub refiled_holds : (old : Stored) (q : Kept) (slot : ℕ) (file : File) (own : List (List ℕ)) (rec : FileRecord) (sound : IsSound old) → old.is_broken ≡ false → rec_at old.parts.catalog slot ≡ Some rec → RefilesIn (Some rec) (with_own file own) rec.blocks old.parts q

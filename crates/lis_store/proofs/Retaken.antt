@@ -1,5 +1,6 @@
 -- Memory in form, where other blocks are taken and where nothing is marked, and stores over it.
-use Rattle.lis_store.proofs.Common.{◌≡◌, refl, sym, ap, ◌∙◌, ◌≤◌, Bool, true, false, List, [], length, replicate, IsTrue, arith, length-replicate, Held, are_whole, image_blocks, Kept, AreSound}
+use Rattle.lis_store.proofs.Common.{rules, ◌≡◌, refl, sym, ap, ◌∙◌, ℕ, ◌≤◌, Bool, true, false, Some, List, [], length, replicate, IsTrue, arith, length-replicate, slice_get, Pair, Held, are_whole, data_start, image_blocks, Kept, AreSound}
+use Rattle.lis_kept.specs.Sound.{IsSoundAxiom}
 use Rattle.lis_store.specs.Stored.{Stored, PairsAreApart, IsSound}
 use Rattle.lis_store.specs.Saving.{clean, settled}
 use Rattle.lis_store.specs.ReplacingIn.{AreInForm}
@@ -10,36 +11,16 @@ module _ (p : Kept) (taken marks : List Bool) where
   retaken = record p { taken = taken; marks = marks }
 
   pub form_retaken : AreSound retaken → AreInForm p → AreInForm retaken
-  form_retaken sound form = record {
-    sound = sound;
-    free = form.free;
-    closed = form.closed;
-    short = form.short;
-    in_use = record { used = form.in_use.used; tags = form.in_use.tags; rights = form.in_use.rights };
-    tests = record { given = form.tests.given; met = form.tests.met };
-  }
+  form_retaken sound form = assumption
 
 pub sound_retaken : (o : Kept) (taken marks : List Bool) → AreSound o → length taken ≡ length o.taken → length marks ≡ length o.marks → AreSound (retaken o taken marks)
-sound_retaken o taken marks sound as_many as_long = record {
-  range = sound.range;
-  numbers = sound.numbers;
-  dict = sound.dict;
-  heads = sound.heads;
-  bits = sound.bits;
-  flagged = sound.flagged;
-  properties = sound.properties;
-  axiom_count = sound.axiom_count;
-  axioms = λ slot left right is. let one = sound.axioms slot left right is in record { below = one.below; left = one.left; right = one.right; plain = one.plain };
-  slots = sound.slots;
-  catalog = sound.catalog;
-  records = sound.records;
-  blocks = as_many ∙ sound.blocks;
-  rows = sound.rows;
-  files = sound.files;
-  named = sound.named;
-  settled = sound.settled;
-  marks = omega (arith, sound.marks, as_long);
-}
+sound_retaken o taken marks sound as_many as_long = assumption (axioms, as_many ∙ sound.blocks, long)
+  where
+    axioms : (slot left right : ℕ) → slice_get o.axioms slot ≡ Some (Pair left right) → IsSoundAxiom (retaken o taken marks) slot left right
+    axioms slot left right is = assumption (sound.axioms slot left right is)
+
+    long : data_start o.limits ≤ length marks
+    long = omega (arith, sound.marks, as_long)
 
 form_clean : (k : Kept) → AreInForm k → AreInForm (clean k)
 form_clean k form =
@@ -57,21 +38,7 @@ sound_at q j b form pairs image unbroken few whole placed unmarked = assumption
 
 -- and one that is broken
 pub sound_lost : (q : Kept) (j : Held) → AreInForm q → PairsAreApart q → j.blocks ≡ image_blocks q.limits → IsSound (record { parts = q; journal = j; is_broken = true })
-sound_lost q j form pairs image = record {
-  parts = form.sound;
-  free = form.free;
-  pairs = pairs;
-  closed = form.closed;
-  short = form.short;
-  tests = form.tests;
-  in_use = form.in_use;
-  image = image;
-  journal = λ e. absurd cc;
-  few = λ e. absurd cc;
-  whole = λ e. absurd cc;
-  placed = λ e. absurd cc;
-  clean = λ e. absurd cc;
-}
+sound_lost q j form pairs image = search rules
 
 pub settled_sound : (q : Kept) (j : Held) → AreInForm q → PairsAreApart q → j.blocks ≡ image_blocks q.limits → j.is_broken ≡ false → IsSound (settled q j)
 settled_sound q j form pairs image unbroken =

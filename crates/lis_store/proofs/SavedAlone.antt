@@ -1,5 +1,5 @@
 -- Calls that change memory alone before they are saved.
-use Rattle.lis_store.proofs.Common.{◌≡◌, sym, ap, ◌∙◌, subst, ℕ, ◌+◌, ◌≤◌, false, List, length, Result, Meaning, looked, State, Situation, Outcome, Kept, AreSound, marked_count, StandsBut, changed}
+use Rattle.lis_store.proofs.Common.{◌≡◌, sym, ap, ◌∙◌, subst, ℕ, ◌+◌, ◌≤◌, false, List, length, Result, Meaning, looked, image_blocks, State, Situation, Outcome, Held, Kept, AreSound, marked_count, StandsBut, changed}
 use Rattle.lis_store.specs.declared.change.Change.{Change}
 use Rattle.lis_store.specs.Stands.{Stands}
 use Rattle.lis_store.specs.Stored.{Stored, IsSound, StoreHolds}
@@ -9,18 +9,29 @@ use Rattle.lis_store.proofs.Edits.{AreEditsFew}
 use Rattle.lis_store.proofs.Saved.{none_are_placed}
 use Rattle.lis_store.proofs.Standing.{stands_none_but}
 
--- What a change of words or axioms makes of the memory of a store.
+-- What a change makes of the memory of a store, where the journal stays.
 pub record IsChange (old : Stored) (q : Kept) : Type 0 where
   pub settles : AreSound q → IsSound (settled q old.journal)
   pub limits : q.limits ≡ old.parts.limits
   pub room : length old.journal.staged + marked_count q ≤ 575
   pub edits : AreEditsFew old.parts.ext q.ext
 
-module _ (old : Stored) (sound : IsSound old) (unbroken : old.is_broken ≡ false) where
-  -- nothing is placed
-  pub alone_placed : (q : Kept) → ArePlaced q old.journal
-  alone_placed q = none_are_placed q old.journal (sound.placed unbroken)
+-- What is asked of memory that is to be saved.
+pub record MayBeSaved (q : Kept) (j : Held) : Type 0 where
+  pub settles : AreSound q → IsSound (settled q j)
+  pub image : j.blocks ≡ image_blocks q.limits
+  pub placed : ArePlaced q j
+  pub room : length j.staged + marked_count q ≤ 575
 
+pub change_saves : {old : Stored} {q : Kept} → IsSound old → old.is_broken ≡ false → IsChange old q → MayBeSaved q old.journal
+change_saves {old} {q} sound unbroken change = record {
+  settles = change.settles;
+  image = sound.image ∙ ap image_blocks (sym change.limits);
+  placed = none_are_placed q old.journal (sound.placed unbroken);
+  room = change.room;
+}
+
+module _ (old : Stored) (sound : IsSound old) (unbroken : old.is_broken ≡ false) where
   pub unplaced_stands : (base s : State) (before : Meaning) (holds : StoreHolds old before base s) (image : List ℕ) → StandsBut old.journal.blocks old.journal.placed holds.kept image → Stands image base
   unplaced_stands base s before holds image but = holds.stands image (stands_none_but old.journal.blocks old.journal.placed holds.kept image (sound.placed unbroken) but)
 

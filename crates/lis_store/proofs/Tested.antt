@@ -31,6 +31,7 @@ use Rattle.lis_store.proofs.Crowded.{wider_told, unknown, full_at}
 use Rattle.lis_store.proofs.Entailment.{up_has_number, closed_up}
 use Rattle.lis_store.proofs.FileTests.{tested_word}
 use Rattle.lis_store.proofs.Retaken.{settled_sound, in_form}
+use Rattle.lis_store.proofs.Vacated.{rec_there}
 use Rattle.lis_laws.proofs.Reached.{OneLink}
 use Rattle.lis_laws.proofs.Steps.{mkdir_fits}
 use Rattle.lis_dict.proofs.Places.{filter_all}
@@ -41,9 +42,6 @@ use Rattle.lis_laws.proofs.Forms as forms
 -- a slot whose file meets a test has one
 met_rec : (t : Option (Bool × ℕ)) (o : Option FileRecord) → is_met_by t o ≡ true → (rec : FileRecord) × (o ≡ Some rec) × (is_met t rec.size ≡ true)
 met_rec t o h = search (rules, both_ways)
-
-some_rec : (o : Option FileRecord) → is_some o ≡ true → (rec : FileRecord) × (o ≡ Some rec)
-some_rec o h = search (rules, both_ways)
 
 -- ---- descriptions that are made anew
 pub base_is : (k : Kept) (test : Bool × ℕ) (number slot : ℕ) → base_at k (Meeting test number) slot ≡ number ∷ numbers_at k.ext slot
@@ -131,7 +129,7 @@ module _ {p made : Kept} {word : List ℕ} {rights : List ℕ} (form : AreInForm
     weakest : meets slot ≡ false → (v : List ℕ) → Among had v → are_weaker (test_of word) (test_of v) ≡ true → ⊥
     weakest unmet v m weaker =
         let from = among_word p form.sound set v m in
-        let rec = some_rec (rec_at p.catalog slot) (had_filed p form.free from.0 slot from.2) in
+        let rec = rec_there (rec_at p.catalog slot) (had_filed p form.free from.0 slot from.2) in
         let is_v : test_by (word_of p.dict from.0) ≡ test_of v = ap test_by from.1 in
         let met = sym (form.tests.met slot rec.0 rec.1 from.0 (ap (λ o. is_some {T = Bool × ℕ} o) is_v ∙ (tests_by (test_of word) (test_of v) weaker).1)) ∙ from.2 in
         both_ways (meets slot) unmet (meets_is slot rec.0 rec.1 ∙ met_weaker (test_of word) (test_of v) rec.0.size weaker (ap (λ t. is_met t rec.0.size) (sym is_v) ∙ met))

@@ -3,8 +3,9 @@ use Rattle.lis_store.proofs.Common.{refl, ap, Option, ◌≡◌, sym, ◌∙◌,
 use Rattle.lis_store.specs.declared.change.Change.{Change}
 use Rattle.lis_store.specs.declared.change.Change.TheVariants.{Refused, Disk}
 use Rattle.lis_store.specs.Stored.{Stored, IsSound, StoreHolds}
-use Rattle.lis_store.specs.Changes.{Holds}
+use Rattle.lis_store.specs.Changes.{Holds, ChangeKeeps}
 use Rattle.lis_store.specs.Contents.{ContentTorn, ContentEnded, ContentRenewed}
+use Rattle.lis_store.proofs.Keeping.{keeps_lost}
 use Rattle.lis_store.proofs.Retaken.{retaken, form_retaken, in_form, sound_lost}
 use Rattle.lis_store.proofs.Steps.{holds_lost, torn_stand, torn_past}
 
@@ -47,3 +48,7 @@ module _ (T : Type 0) (old : Stored) (sound : IsSound old) (bytes : List ℕ) (r
       → StoreHolds old before base now.state → Holds base now outcome (record { parts = q; journal = j; is_broken = b }) before after result
   lost_holds base now outcome result ends alone holds =
       torn_holds old bytes q j sound before after lost.1 base now outcome (record { parts = q; journal = j; is_broken = b }) result holds alone broken (ends ∙ ap Err lost.0)
+
+  pub lost_keeps : {U : Type 0} {now : Stored} {result : Result U Change} → old ≡ now → result ≡ Err change → AreSound q → ChangeKeeps now (record { parts = q; journal = j; is_broken = b }) result
+  lost_keeps view ends after =
+      keeps_lost view (lost_sound after) (ends ∙ ap Err lost.0) (ap (λ (k : Kept). k.limits) lost.1.parts) lost.1.image (ap (λ (k : Kept). k.ext) lost.1.parts) broken

@@ -1,11 +1,12 @@
 -- What is in use where a file is gone whose slot is still described, and the words that may be forgotten then.
 use Rattle.std.proofs.Common.{rules}
-use Rattle.lis_store.proofs.Common.{◌≡◌, ◌⊎◌, refl, sym, ap, ◌∙◌, subst, inl, inr, ℕ, ◌<◌, ◌==◌, not, ◌&&◌, Bool, true, false, if◌then◌else◌, [], ◌∷◌, length, set, Option, Some, None, is_some, arith, length-set, get_or-set_same, IsStrictlyIncreasing, cases_eq, ne_eqb, is_taken, stays_marked, word_of, slot_of, rec_at, has, numbers_at, FileRecord, same_word, same_word_decides, Kept, block_of, AreSound, state_of, is_used, MayForget, emptied, among_slots, left_out, used_flagged, used_had, both_ways, eq-eqb, has_number, Files, used_left}
+use Rattle.lis_store.proofs.Common.{◌≡◌, ◌⊎◌, refl, sym, ap, ◌∙◌, subst, inl, inr, ℕ, ◌<◌, ◌==◌, not, ◌&&◌, Bool, true, false, if◌then◌else◌, [], ◌∷◌, length, set, Option, Some, None, is_some, IsSome, slice_get, Pair, arith, length-set, get_or-set_same, IsStrictlyIncreasing, cases_eq, ne_eqb, is_taken, stays_marked, word_of, slot_of, rec_at, has, numbers_at, FileRecord, same_word, same_word_decides, Kept, block_of, AreSound, state_of, is_used, MayForget, emptied, among_slots, left_out, used_flagged, used_had, both_ways, eq-eqb, has_number, Files, used_left}
 use Rattle.std.proofs.lemmas.Map.Entries.{option_filter}
 use Rattle.lis_catalog.specs.Catalog.{without_slot}
 use Rattle.lis_catalog.proofs.Laws.{rec_at-without_slot, slot_of-without_slot, slot_of-rec_at, filtered_none, filtered_one}
 use Rattle.lis_kept.specs.Forgetting.{ForgetsWithout}
 use Rattle.lis_kept.specs.Changes.{Drops}
+use Rattle.lis_kept.specs.Sound.{IsSoundAxiom}
 use Rattle.lis_kept.proofs.Dropped.{file_slot_below}
 use Rattle.lis_kept.proofs.Without.{none_here, same_elsewhere}
 use Rattle.lis_store.specs.Stored.{AreClosed}
@@ -28,29 +29,16 @@ rec_there o none = search (rules, both_ways)
 
 -- memory stays sound where a slot without a file is not described
 pub sound_emptied : (k : Kept) (slot : ℕ) → AreSound k → AreSound (emptied k slot)
-sound_emptied k slot sound = record {
-  range = sound.range;
-  numbers = sound.numbers;
-  dict = sound.dict;
-  heads = sound.heads;
-  bits = sound.bits;
-  flagged = sound.flagged;
-  properties = sound.properties;
-  axiom_count = sound.axiom_count;
-  axioms = λ at left right is. let held = sound.axioms at left right is in record { below = held.below; left = held.left; right = held.right; plain = held.plain };
-  slots = sound.slots;
-  catalog = sound.catalog;
-  records = sound.records;
-  blocks = sound.blocks;
-  rows = sound.rows;
-  files = length-set k.ext.sets slot [] ∙ sound.files;
-  named = λ n at some h. sound.named n at some (sym (same_elsewhere k.ext slot n at (other_slot n at h)) ∙ h);
-  settled = sound.settled;
-  marks = sound.marks;
-}
+sound_emptied k slot sound = assumption (axioms, length-set k.ext.sets slot [] ∙ sound.files, named)
   where
+    axioms : (at left right : ℕ) → slice_get k.axioms at ≡ Some (Pair left right) → IsSoundAxiom (emptied k slot) at left right
+    axioms at left right is = assumption (sound.axioms at left right is)
+
     other_slot : (n at : ℕ) → has (left_out k.ext slot) n at ≡ true → at ≡ slot → ⊥
     other_slot n at h same = both_ways (has (left_out k.ext slot) n at) (ap (has (left_out k.ext slot) n) same ∙ none_here k.ext slot n) h
+
+    named : (n at : ℕ) → IsSome (rec_at k.catalog at) → has (left_out k.ext slot) n at ≡ true → IsSome (word_of k.dict n)
+    named n at some h = sound.named n at some (sym (same_elsewhere k.ext slot n at (other_slot n at h)) ∙ h)
 
 module _ (p : Kept) (slot : ℕ) (rec : FileRecord) (form : AreInForm p) (there : rec_at p.catalog slot ≡ Some rec) where
   pub slot_below : slot < p.limits.files

@@ -13,7 +13,7 @@ use Rattle.lis_model.specs.State.{State}
 use Rattle.lis_model.specs.Replies.{ok_line}
 use Rattle.lis_model.specs.Step.{Situation, Outcome, refused, first_refusal}
 use Rattle.lis_store.specs.Stands.{Stands}
-use Rattle.lis_store.specs.Stored.{Stored, StoreFits, StoreHolds}
+use Rattle.lis_store.specs.Stored.{Stored, IsSound, StoreFits, StoreHolds}
 use Rattle.lis_store.specs.declared.change.Change.{Change}
 use Rattle.lis_store.specs.declared.change.Change.TheVariants.{Refused, Disk}
 
@@ -94,3 +94,11 @@ differing_bits old new =
 abbrev pub EditsFew : Stored → Stored → Type 0
 EditsFew old new =
     (old.parts.ext.edits ≤ new.parts.ext.edits) × (new.parts.ext.edits ≤ old.parts.ext.edits + differing_bits old.parts.ext new.parts.ext)
+
+-- What a change, or a part of one, keeps of a store on any disk, whatever it answers.
+pub record ChangeKeeps {T : Type 0} (old new : Stored) (result : Result T Change) : Type 0 where
+  pub limits : new.parts.limits ≡ old.parts.limits
+  pub image : new.journal.blocks ≡ old.journal.blocks
+  pub left : ChangeLeft old new result
+  pub edits : EditsFew old new
+  pub sound : IsSound new

@@ -15,7 +15,7 @@ ghost use Rattle.lis_kept.specs.Telling.{is_declared};
 ghost use Rattle.lis_store.specs.declared.change.Change.TheVariants.{Refused};
 ghost use Rattle.lis_store.specs.Stored.{IsSound, StoreFits, StoreHolds, IsIndex, IsUsable};
 ghost use Rattle.lis_store.specs.Judging.{is_among};
-ghost use Rattle.lis_store.specs.Changes.{Changes, Holds, Commits, CommitLeft, ChangeLeft, EditsFew, ChangesDisk};
+ghost use Rattle.lis_store.specs.Changes.{Changes, Holds, Commits, CommitLeft, ChangeKeeps, ChangesDisk};
 ghost use Rattle.lis_store.specs.Saving.{SaveEnded};
 ghost use Rattle.lis_store.specs.ReplacingIn.{MayPutBytes, record_in, file_gone};
 
@@ -281,12 +281,8 @@ impl Store {
             (add (record { state = s; place = place.now }) name.now tags.now (record { size = size; bytes = payload.now }))
             self.new (D.meaning disk.old) (D.meaning disk.new) result }
         ensures untouched { (refusal : Refusal) → result ≡ Err (Refused refusal) → disk.new ≡ disk.old }
-        ensures limits { self.new.parts.limits ≡ self.old.parts.limits }
-        ensures image { self.new.journal.blocks ≡ self.old.journal.blocks }
-        ensures left { ChangeLeft self.old self.new result }
         ensures settled { OnOk result (self.new.journal.staged ≡ []) }
-        ensures edits { EditsFew self.old self.new }
-        ensures sound { IsSound self.new }
+        ensures keeps { ChangeKeeps self.old self.new result }
         ensures disk { ChangesDisk (D.meaning disk.old) (D.meaning disk.new) result }
     {
         self.add_file_held(disk, scratch, place, name, tags, payload, size)?;
@@ -313,12 +309,8 @@ impl Store {
             (add (record { state = s; place = place.now }) name.now tags.now (record { size = size; bytes = payload.now }))
             self.new (D.meaning disk.old) (D.meaning disk.new) result }
         ensures untouched { (refusal : Refusal) → result ≡ Err (Refused refusal) → disk.new ≡ disk.old }
-        ensures limits { self.new.parts.limits ≡ self.old.parts.limits }
-        ensures image { self.new.journal.blocks ≡ self.old.journal.blocks }
-        ensures left { ChangeLeft self.old self.new result }
-        ensures edits { EditsFew self.old self.new }
         ensures entry { IsSound self.old }
-        ensures sound { IsSound self.new }
+        ensures keeps { ChangeKeeps self.old self.new result }
         ensures disk { ChangesDisk (D.meaning disk.old) (D.meaning disk.new) result }
     {
         let assigned = may_add(&self.parts, scratch, place, name, tags, payload, size)?;
@@ -347,11 +339,8 @@ impl Store {
             → Holds base now (changed now (file_added (file_gone now.state (record_in self.old.parts slot)) (new_file name.now assigned.now payload.now)))
             self.new (D.meaning disk.old) (D.meaning disk.new) result }
         ensures settled { is_large (length payload.now) ≡ true → OnOk result (self.new.journal.staged ≡ []) }
-        ensures limits { self.new.parts.limits ≡ self.old.parts.limits }
-        ensures image { self.new.journal.blocks ≡ self.old.journal.blocks }
         ensures ended { SaveEnded self.new.is_broken result }
-        ensures edits { EditsFew self.old self.new }
-        ensures sound { IsSound self.new }
+        ensures keeps { ChangeKeeps self.old self.new result }
         ensures disk { ChangesDisk (D.meaning disk.old) (D.meaning disk.new) result }
     {
         let blocks = put_anew(
@@ -395,12 +384,8 @@ impl Store {
             → Changes (record { state = s; place = place.now }) (rm (record { state = s; place = place.now }) name.now)
             self.new (D.meaning disk.old) (D.meaning disk.new) result }
         ensures untouched { (refusal : Refusal) → result ≡ Err (Refused refusal) → disk.new ≡ disk.old }
-        ensures limits { self.new.parts.limits ≡ self.old.parts.limits }
-        ensures image { self.new.journal.blocks ≡ self.old.journal.blocks }
-        ensures left { ChangeLeft self.old self.new result }
         ensures settled { OnOk result (self.new.journal.staged ≡ []) }
-        ensures edits { EditsFew self.old self.new }
-        ensures sound { IsSound self.new }
+        ensures keeps { ChangeKeeps self.old self.new result }
         ensures disk { ChangesDisk (D.meaning disk.old) (D.meaning disk.new) result }
     {
         self.remove_held(disk, scratch, place, name)?;
@@ -422,12 +407,8 @@ impl Store {
             → Holds base (record { state = s; place = place.now }) (rm (record { state = s; place = place.now }) name.now)
             self.new (D.meaning disk.old) (D.meaning disk.new) result }
         ensures untouched { (refusal : Refusal) → result ≡ Err (Refused refusal) → disk.new ≡ disk.old }
-        ensures limits { self.new.parts.limits ≡ self.old.parts.limits }
-        ensures image { self.new.journal.blocks ≡ self.old.journal.blocks }
-        ensures left { ChangeLeft self.old self.new result }
-        ensures edits { EditsFew self.old self.new }
         ensures entry { IsSound self.old }
-        ensures sound { IsSound self.new }
+        ensures keeps { ChangeKeeps self.old self.new result }
         ensures disk { ChangesDisk (D.meaning disk.old) (D.meaning disk.new) result }
     {
         let Some(slot) = self.slot_here(scratch, place, name) else {

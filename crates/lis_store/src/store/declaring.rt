@@ -6,7 +6,7 @@ ghost use Rattle.lis_model.specs.State.{State};
 ghost use Rattle.lis_model.specs.Step.{mkdir};
 ghost use Rattle.lis_store.specs.declared.change.Change.TheVariants.{Refused};
 ghost use Rattle.lis_store.specs.Stored.{IsSound, StoreFits, StoreHolds, IsUsable};
-ghost use Rattle.lis_store.specs.Changes.{Changes, Holds, ChangeLeft, EditsFew, ChangesDisk};
+ghost use Rattle.lis_store.specs.Changes.{Changes, Holds, ChangeKeeps, ChangesDisk};
 
 use crate::change::Change;
 use crate::judging::may_declare;
@@ -30,12 +30,8 @@ impl Store {
             → Changes (record { state = s; place = place.now }) (mkdir (record { state = s; place = place.now }) word.now)
             self.new (D.meaning disk.old) (D.meaning disk.new) result }
         ensures untouched { (refusal : Refusal) → result ≡ Err (Refused refusal) → disk.new ≡ disk.old }
-        ensures limits { self.new.parts.limits ≡ self.old.parts.limits }
-        ensures image { self.new.journal.blocks ≡ self.old.journal.blocks }
-        ensures left { ChangeLeft self.old self.new result }
         ensures settled { OnOk result (self.new.journal.staged ≡ []) }
-        ensures edits { EditsFew self.old self.new }
-        ensures sound { IsSound self.new }
+        ensures keeps { ChangeKeeps self.old self.new result }
         ensures disk { ChangesDisk (D.meaning disk.old) (D.meaning disk.new) result }
     {
         self.declare_held(disk, place, word)?;
@@ -54,12 +50,8 @@ impl Store {
             → Holds base (record { state = s; place = place.now }) (mkdir (record { state = s; place = place.now }) word.now)
             self.new (D.meaning disk.old) (D.meaning disk.new) result }
         ensures untouched { (refusal : Refusal) → result ≡ Err (Refused refusal) → disk.new ≡ disk.old }
-        ensures limits { self.new.parts.limits ≡ self.old.parts.limits }
-        ensures image { self.new.journal.blocks ≡ self.old.journal.blocks }
-        ensures left { ChangeLeft self.old self.new result }
-        ensures edits { EditsFew self.old self.new }
         ensures entry { IsSound self.old }
-        ensures sound { IsSound self.new }
+        ensures keeps { ChangeKeeps self.old self.new result }
         ensures disk { ChangesDisk (D.meaning disk.old) (D.meaning disk.new) result }
     {
         let places = may_declare(&self.parts, place, word)?;

@@ -8,7 +8,7 @@ ghost use Rattle.lis_model.specs.Step.{write, rename, mv};
 ghost use Rattle.lis_eval.specs.Room.{HasRoom};
 ghost use Rattle.lis_store.specs.declared.change.Change.TheVariants.{Refused};
 ghost use Rattle.lis_store.specs.Stored.{IsSound, StoreFits, StoreHolds, IsUsable};
-ghost use Rattle.lis_store.specs.Changes.{Changes, Holds, ChangeLeft, EditsFew, ChangesDisk};
+ghost use Rattle.lis_store.specs.Changes.{Changes, Holds, ChangeKeeps, ChangesDisk};
 
 use crate::admitting::file_limit;
 use crate::change::Change;
@@ -47,12 +47,8 @@ impl Store {
             (write (record { state = s; place = place.now }) name.now (record { size = size; bytes = payload.now }))
             self.new (D.meaning disk.old) (D.meaning disk.new) result }
         ensures untouched { (refusal : Refusal) → result ≡ Err (Refused refusal) → disk.new ≡ disk.old }
-        ensures limits { self.new.parts.limits ≡ self.old.parts.limits }
-        ensures image { self.new.journal.blocks ≡ self.old.journal.blocks }
-        ensures left { ChangeLeft self.old self.new result }
         ensures settled { OnOk result (self.new.journal.staged ≡ []) }
-        ensures edits { EditsFew self.old self.new }
-        ensures sound { IsSound self.new }
+        ensures keeps { ChangeKeeps self.old self.new result }
         ensures disk { ChangesDisk (D.meaning disk.old) (D.meaning disk.new) result }
     {
         self.write_held(disk, scratch, place, name, payload, size)?;
@@ -78,12 +74,8 @@ impl Store {
             (write (record { state = s; place = place.now }) name.now (record { size = size; bytes = payload.now }))
             self.new (D.meaning disk.old) (D.meaning disk.new) result }
         ensures untouched { (refusal : Refusal) → result ≡ Err (Refused refusal) → disk.new ≡ disk.old }
-        ensures limits { self.new.parts.limits ≡ self.old.parts.limits }
-        ensures image { self.new.journal.blocks ≡ self.old.journal.blocks }
-        ensures left { ChangeLeft self.old self.new result }
-        ensures edits { EditsFew self.old self.new }
         ensures entry { IsSound self.old }
-        ensures sound { IsSound self.new }
+        ensures keeps { ChangeKeeps self.old self.new result }
         ensures disk { ChangesDisk (D.meaning disk.old) (D.meaning disk.new) result }
     {
         if size > file_limit(self.parts.limits().version) {
@@ -116,12 +108,8 @@ impl Store {
             self.new (D.meaning disk.old) (D.meaning disk.new) result }
         ensures untouched { (refusal : Refusal) → result ≡ Err (Refused refusal) → IsTrue (D.meaning disk.old).is_honest
             → IsUnchanged (D.meaning disk.old) (D.meaning disk.new) }
-        ensures limits { self.new.parts.limits ≡ self.old.parts.limits }
-        ensures image { self.new.journal.blocks ≡ self.old.journal.blocks }
-        ensures left { ChangeLeft self.old self.new result }
         ensures settled { OnOk result (self.new.journal.staged ≡ []) }
-        ensures edits { EditsFew self.old self.new }
-        ensures sound { IsSound self.new }
+        ensures keeps { ChangeKeeps self.old self.new result }
         ensures disk { ChangesDisk (D.meaning disk.old) (D.meaning disk.new) result }
     {
         self.rename_held(disk, scratch, place, name, new)?;
@@ -145,12 +133,8 @@ impl Store {
             self.new (D.meaning disk.old) (D.meaning disk.new) result }
         ensures untouched { (refusal : Refusal) → result ≡ Err (Refused refusal) → IsTrue (D.meaning disk.old).is_honest
             → IsUnchanged (D.meaning disk.old) (D.meaning disk.new) }
-        ensures limits { self.new.parts.limits ≡ self.old.parts.limits }
-        ensures image { self.new.journal.blocks ≡ self.old.journal.blocks }
-        ensures left { ChangeLeft self.old self.new result }
-        ensures edits { EditsFew self.old self.new }
         ensures entry { IsSound self.old }
-        ensures sound { IsSound self.new }
+        ensures keeps { ChangeKeeps self.old self.new result }
         ensures disk { ChangesDisk (D.meaning disk.old) (D.meaning disk.new) result }
     {
         let Some(slot) = self.slot_here(scratch, place, name) else {
@@ -199,12 +183,8 @@ impl Store {
             → Changes (record { state = s; place = place.now }) (mv (record { state = s; place = place.now }) name.now text.now)
             self.new (D.meaning disk.old) (D.meaning disk.new) result }
         ensures untouched { (refusal : Refusal) → result ≡ Err (Refused refusal) → disk.new ≡ disk.old }
-        ensures limits { self.new.parts.limits ≡ self.old.parts.limits }
-        ensures image { self.new.journal.blocks ≡ self.old.journal.blocks }
-        ensures left { ChangeLeft self.old self.new result }
         ensures settled { OnOk result (self.new.journal.staged ≡ []) }
-        ensures edits { EditsFew self.old self.new }
-        ensures sound { IsSound self.new }
+        ensures keeps { ChangeKeeps self.old self.new result }
         ensures disk { ChangesDisk (D.meaning disk.old) (D.meaning disk.new) result }
     {
         self.retag_held(disk, scratch, place, name, text)?;
@@ -227,12 +207,8 @@ impl Store {
             → Holds base (record { state = s; place = place.now }) (mv (record { state = s; place = place.now }) name.now text.now)
             self.new (D.meaning disk.old) (D.meaning disk.new) result }
         ensures untouched { (refusal : Refusal) → result ≡ Err (Refused refusal) → disk.new ≡ disk.old }
-        ensures limits { self.new.parts.limits ≡ self.old.parts.limits }
-        ensures image { self.new.journal.blocks ≡ self.old.journal.blocks }
-        ensures left { ChangeLeft self.old self.new result }
-        ensures edits { EditsFew self.old self.new }
         ensures entry { IsSound self.old }
-        ensures sound { IsSound self.new }
+        ensures keeps { ChangeKeeps self.old self.new result }
         ensures disk { ChangesDisk (D.meaning disk.old) (D.meaning disk.new) result }
     {
         // As before each change, no call of the disk has failed.

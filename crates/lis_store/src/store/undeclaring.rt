@@ -6,7 +6,7 @@ ghost use Rattle.lis_model.specs.Step.{Situation, rmdir};
 ghost use Rattle.lis_model.specs.State.{State};
 ghost use Rattle.lis_store.specs.declared.change.Change.TheVariants.{Refused};
 ghost use Rattle.lis_store.specs.Stored.{IsSound, StoreFits, StoreHolds, IsUsable};
-ghost use Rattle.lis_store.specs.Changes.{Changes, Holds, ChangeLeft, EditsFew, ChangesDisk};
+ghost use Rattle.lis_store.specs.Changes.{Changes, Holds, ChangeKeeps, ChangesDisk};
 
 use crate::change::Change;
 use crate::judging::may_undeclare;
@@ -23,12 +23,8 @@ impl Store {
         ensures changes { (now : Situation) → StoreFits self.old (D.meaning disk.old) now.state
             → Changes now (rmdir now word.now) self.new (D.meaning disk.old) (D.meaning disk.new) result }
         ensures untouched { (refusal : Refusal) → result ≡ Err (Refused refusal) → disk.new ≡ disk.old }
-        ensures limits { self.new.parts.limits ≡ self.old.parts.limits }
-        ensures image { self.new.journal.blocks ≡ self.old.journal.blocks }
-        ensures left { ChangeLeft self.old self.new result }
         ensures settled { OnOk result (self.new.journal.staged ≡ []) }
-        ensures edits { EditsFew self.old self.new }
-        ensures sound { IsSound self.new }
+        ensures keeps { ChangeKeeps self.old self.new result }
         ensures disk { ChangesDisk (D.meaning disk.old) (D.meaning disk.new) result }
     {
         self.undeclare_held(disk, word)?;
@@ -41,12 +37,8 @@ impl Store {
         ensures holds { (base : State) (now : Situation) → StoreHolds self.old (D.meaning disk.old) base now.state
             → Holds base now (rmdir now word.now) self.new (D.meaning disk.old) (D.meaning disk.new) result }
         ensures untouched { (refusal : Refusal) → result ≡ Err (Refused refusal) → disk.new ≡ disk.old }
-        ensures limits { self.new.parts.limits ≡ self.old.parts.limits }
-        ensures image { self.new.journal.blocks ≡ self.old.journal.blocks }
-        ensures left { ChangeLeft self.old self.new result }
-        ensures edits { EditsFew self.old self.new }
         ensures entry { IsSound self.old }
-        ensures sound { IsSound self.new }
+        ensures keeps { ChangeKeeps self.old self.new result }
         ensures disk { ChangesDisk (D.meaning disk.old) (D.meaning disk.new) result }
     {
         let number = may_undeclare(&self.parts, word)?;

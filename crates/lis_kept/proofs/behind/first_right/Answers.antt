@@ -7,7 +7,8 @@ use Rattle.lis_kept.proofs.behind.first_right.Goals as goal
 
 pub loop-slot-preserved : goal.loop-slot-preserved
 loop-slot-preserved c =
-    let last = option_map (λ w. w.now) c.args.last in let first = c.loop-slot.first in
+    let last = option_map (λ w. w.now) c.args.last in
+    let first = c.loop-slot.first in
     first_more c.args.dict.now c.args.left last first c.right_of.result c.match-right_of.first c.args.axioms.now c.loop-slot.slot-index c.requires
     (omega (arith, c.loop-slot-test.true, c.loop-slot.auto.slot-index-end)) c.right_of.ensures
     (elim c.match-right_of.branch [

@@ -13,7 +13,9 @@ loop-other-init c = upto_none (λ p q. q) (λ p q. p) c.args.number 0 c.args.dic
 
 pub unreachable-requires : goal.unreachable-requires
 unreachable-requires c =
-    let d = c.args.dict.now in let bits = c.args.declared.now in let t = c.args.taxonomy.now in
+    let d = c.args.dict.now in
+    let bits = c.args.declared.now in
+    let t = c.args.taxonomy.now in
     let u = c.loop-other.taxonomy in
     let here : declared_test d bits c.args.number ≡ Some c.in-Some.test = sym c.declared_test.ensures ∙ c.in-Some.is in
     let link : is_test_link d bits c.loop-other.other c.args.number ≡ true = ap (λ k. are_weaker k (declared_test d bits c.loop-other.other)) here ∙ (sym c.has_stronger.ensures ∙ c.if-has_stronger.true) in
@@ -23,7 +25,8 @@ unreachable-requires c =
 
 pub loop-other-preserved : goal.loop-other-preserved
 loop-other-preserved c =
-    let d = c.args.dict.now in let bits = c.args.declared.now in
+    let d = c.args.dict.now in
+    let bits = c.args.declared.now in
     let here : declared_test d bits c.args.number ≡ Some c.in-Some.test = sym c.declared_test.ensures ∙ c.in-Some.is in
     let answer = ap (λ k. are_weaker k (declared_test d bits c.loop-other.other)) here ∙ sym c.has_stronger.ensures in
     elim c.if-has_stronger.branch [

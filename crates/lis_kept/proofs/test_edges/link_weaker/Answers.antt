@@ -13,7 +13,9 @@ loop-other-init c = upto_none (λ p q. p) (λ p q. q) c.args.number 0 c.args.dic
 
 pub loop-other-preserved : goal.loop-other-preserved
 loop-other-preserved c =
-    let d = c.args.dict.now in let bits = c.args.declared.now in let t = c.args.taxonomy.now in
+    let d = c.args.dict.now in
+    let bits = c.args.declared.now in
+    let t = c.args.taxonomy.now in
     let u = c.loop-other.taxonomy in
     let here : declared_test d bits c.args.number ≡ Some c.in-Some.test = sym c.declared_test.ensures ∙ c.in-Some.is in
     let answer = ap (are_weaker (declared_test d bits c.loop-other.other)) here ∙ sym c.has_weaker.ensures in

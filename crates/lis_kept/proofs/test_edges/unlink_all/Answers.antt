@@ -7,9 +7,12 @@ loop-other-init c = unlinked_none c.args.number c.args.taxonomy.now
 
 pub loop-other-preserved : goal.loop-other-preserved
 loop-other-preserved c =
-    let u = c.loop-other.taxonomy in let mid = c.remove.new.self in
-    let next = c.remove-in-loop-other.new.self in let other = c.loop-other.other in
-    let from = c.remove.ensures in let to = c.remove-in-loop-other.ensures in
+    let u = c.loop-other.taxonomy in
+    let mid = c.remove.new.self in
+    let next = c.remove-in-loop-other.new.self in
+    let other = c.loop-other.other in
+    let from = c.remove.ensures in
+    let to = c.remove-in-loop-other.ensures in
     unlinked_more c.args.number other c.args.taxonomy.now u mid next c.loop-other.invariant
     (without_props u mid c.args.number other c.remove.result from.ok from.err) (without_props mid next other c.args.number c.remove-in-loop-other.result to.ok to.err)
     (λ p q. without_by u mid c.args.number other p q c.remove.result from.ok from.err from.only from.absent)

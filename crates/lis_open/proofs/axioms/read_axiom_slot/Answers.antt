@@ -7,6 +7,7 @@ read_slot-requires-clause-few g c = few_blocks c.args.limits.now _ c.requires.re
 
 pub returns-clause-read : goal.returns-clause-read
 returns-clause-read g c = λ kept fits recalls.
-    let limits = c.args.limits.now in let starts = c.axioms_start.ensures in
+    let limits = c.args.limits.now in
+    let starts = c.axioms_start.ensures in
     let read = c.in_ok-read_slot.ensures.read kept fits recalls (axiom_slots limits).count in
     read_as axiom_bytes is_axiom (axiom_slots limits) kept c.args.k c.read_axiom.result c.read_slot.new.buf c.requires.k (rw starts at read) c.read_axiom.ensures.spelled c.read_axiom.ensures.same

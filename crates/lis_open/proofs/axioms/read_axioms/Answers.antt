@@ -20,7 +20,8 @@ loop-k-init g c = record {
 
 pub returns-then-not-take_axiom-clause-ended : goal.returns-then-not-take_axiom-clause-ended
 returns-then-not-take_axiom-clause-ended g c = λ kept fits recalled told.
-    let l = c.loop-k in let limits = c.args.limits.now in
+    let l = c.loop-k in
+    let limits = c.args.limits.now in
     record {
       fails = axiom_fails limits kept c.args.words.now c.requires.words told l.axioms l.k (omega (arith, c.loop-k-test.true, c.slot_count-k-end.ensures)) l.invariant.first (l.invariant.spelled kept fits recalled) c.in_ok-found.found
           (omega (arith, c.loop-k-test.true, c.slot_count-k-end.ensures)) c.if-not-take_axiom.ensures.why
@@ -31,7 +32,9 @@ returns-then-not-take_axiom-clause-ended g c = λ kept fits recalled told.
 
 pub loop-k-preserved : goal.loop-k-preserved
 loop-k-preserved g c =
-    let l = c.loop-k in let limits = c.args.limits.now in let words = c.args.words.now in
+    let l = c.loop-k in
+    let limits = c.args.limits.now in
+    let words = c.args.words.now in
     let next = c.take_axiom.new.axioms in
     let more = axiom_on limits words c.requires.words l.axioms l.k l.invariant.first c.in_ok-found.found next (omega (arith, c.loop-k-test.true, c.slot_count-k-end.ensures)) c.if-not-take_axiom.ensures.taken in
     record {
@@ -52,7 +55,8 @@ loop-k-preserved g c =
 
 pub returns-clause-ended : goal.returns-clause-ended
 returns-clause-ended g c = λ kept fits recalled told.
-    let l = c.loop-k in let limits = c.args.limits.now in
+    let l = c.loop-k in
+    let limits = c.args.limits.now in
     let end : l.k ≡ (axiom_slots limits).count = omega (arith, c.loop-k-test.false, l.auto.k-end, c.slot_count-k-end.ensures) in
     record {
       none = none_fails limits kept 3 (λ n fails. l.invariant.passed kept fits recalled told n (omega (arith, end, fails.below)) fails);

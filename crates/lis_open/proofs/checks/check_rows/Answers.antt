@@ -6,7 +6,8 @@ use Rattle.lis_open.proofs.checks.check_rows.Goals as goal
 
 pub returns-then-not-branch-clause-ended : goal.returns-then-not-branch-clause-ended
 returns-then-not-branch-clause-ended g c = λ kept fits recalls.
-    let l = c.loop-p in let limits = c.args.limits.now in
+    let l = c.loop-p in
+    let limits = c.args.limits.now in
     let below : l.p < (row_slots limits).count = subst (λ n. l.p < n) c.row_count-p-end.ensures c.loop-p-test.true in
     let there = fits_after c.args.journal.now kept l.invariant.reads fits in
     first_row limits kept c.args.ext.now l.p c.min.result c.in_ok-read_row.field-0 below c.min.ensures (c.in_ok-read_row.ensures.read kept there (l.invariant.recalls kept fits recalls)) c.if-not-branch.true
@@ -14,7 +15,8 @@ returns-then-not-branch-clause-ended g c = λ kept fits recalls.
 
 pub loop-p-preserved : goal.loop-p-preserved
 loop-p-preserved g c =
-    let l = c.loop-p in let journal = c.args.journal.now in
+    let l = c.loop-p in
+    let journal = c.args.journal.now in
     record {
       reads = reads_then l.invariant.reads c.read_row.ensures.disk.reads;
       faults = c.in_ok-read_row.ensures.disk.cause.stays ∙ l.invariant.faults;

@@ -13,8 +13,10 @@ returns-in_err-write_at-clause-spreads g c =
 
 pub loop-n-preserved : goal.loop-n-preserved
 loop-n-preserved g c =
-    let k = c.loop-n.n in let inv = c.loop-n.invariant in
-    let low : c.args.first ≤ k = omega arith in let high : k < c.args.end = omega arith in
+    let k = c.loop-n.n in
+    let inv = c.loop-n.invariant in
+    let low : c.args.first ≤ k = omega arith in
+    let high : k < c.args.end = omega arith in
     let is_at : c.from.result * 4096 ≡ 4096 * k = omega (arith, c.from.ensures) in
     record {
       run = run_then inv.run c.write_at.ensures.call.run;

@@ -18,13 +18,15 @@ returns-in_err-clear_blocks-clause-spreads g c = λ honest.
 pub returns-in_err-clear_blocks-2-clause-spreads :
     goal.returns-in_err-clear_blocks-2-clause-spreads
 returns-in_err-clear_blocks-2-clause-spreads g c = λ honest.
-    let limits = c.args.limits.now in let honest1 = c.write_rest.ensures.disk.run.honest ∙ honest in
+    let limits = c.args.limits.now in
+    let honest1 = c.write_rest.ensures.disk.run.honest ∙ honest in
     homes_spreads limits (c.image_blocks.result - limits.blocks) (omega (arith, c.image_blocks.ensures.blocks)) (c.write_rest.ensures.spreads honest) (c.clear_blocks.ensures.spreads honest1)
     (c.clear_blocks-2.ensures.spreads (c.clear_blocks.ensures.disk.run.honest ∙ honest1))
 
 pub returns-clause-spreads : goal.returns-clause-spreads
 returns-clause-spreads g c = λ honest.
-    let limits = c.args.limits.now in let honest1 = c.write_rest.ensures.disk.run.honest ∙ honest in
+    let limits = c.args.limits.now in
+    let honest1 = c.write_rest.ensures.disk.run.honest ∙ honest in
     let honest2 = c.clear_blocks.ensures.disk.run.honest ∙ honest1 in
     spreads_then (IsWiping limits) (wiping_trans limits)
     (homes_spreads limits (c.image_blocks.result - limits.blocks) (omega (arith, c.image_blocks.ensures.blocks)) (c.write_rest.ensures.spreads honest) (c.clear_blocks.ensures.spreads honest1)
@@ -33,7 +35,8 @@ returns-clause-spreads g c = λ honest.
 
 pub returns-clause-wiped : goal.returns-clause-wiped
 returns-clause-wiped g c = on_ok_weaker c.sync.result (λ synced. λ honest.
-    let limits = c.args.limits.now in let end = c.image_blocks.result - limits.blocks in
+    let limits = c.args.limits.now in
+    let end = c.image_blocks.result - limits.blocks in
     let is_end : end ≡ data_start limits = omega (arith, c.image_blocks.ensures.blocks) in
     let honest1 = c.write_rest.ensures.disk.run.honest ∙ honest in
     let honest2 = c.clear_blocks.ensures.disk.run.honest ∙ honest1 in

@@ -19,7 +19,9 @@ gather-requires-clause-below c =
 
 pub returns-then-not-gather_derived-clause-described : goal.returns-then-not-gather_derived-clause-described
 returns-then-not-gather_derived-clause-described c =
-    let words = c.args.words.now in let rec = c.args.rec.now in let bytes = c.args.bytes.now in
+    let words = c.args.words.now in
+    let rec = c.args.rec.now in
+    let bytes = c.args.bytes.now in
     let derived = c.derive_words-derived.result in
     let is = c.derive_words-derived.ensures ∙ ap (λ (r : FileRecord). derived_words r.name bytes) c.rec.view_is in
     let none = found_numbered words c.requires.are.dict (length bytes) derived ∙ (sym c.gather_derived.ensures.all ∙ c.if-not-gather_derived.true) in
@@ -28,9 +30,13 @@ returns-then-not-gather_derived-clause-described c =
 
 pub returns-clause-described : goal.returns-clause-described
 returns-clause-described c =
-    let words = c.args.words.now in let t = c.args.taxonomy.now in let rec = c.args.rec.now in
-    let derived = c.derive_words-derived.result in let dict = c.requires.are.dict in
-    let bytes = c.args.bytes.now in let size : ℕ = length bytes in
+    let words = c.args.words.now in
+    let t = c.args.taxonomy.now in
+    let rec = c.args.rec.now in
+    let derived = c.derive_words-derived.result in
+    let dict = c.requires.are.dict in
+    let bytes = c.args.bytes.now in
+    let size : ℕ = length bytes in
     let found : List (List ℕ) = derived ++ met_tests (declared_words words) size in
     let given = subst (λ ns. Gathered t c.fill.new.self c.gather.new.row ns) (c.as_slice.ensures.value ∙ ap (λ (r : FileRecord). r.tags) c.rec.view_is) c.gather.ensures in
     let more = OnTrue_at c.if-not-gather_derived.false c.gather_derived.ensures.gathered in

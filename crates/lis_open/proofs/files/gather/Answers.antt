@@ -8,7 +8,8 @@ loop-number-init c = gathered_none c.args.taxonomy.now c.args.row.now c.requires
 
 pub loop-number-preserved : goal.loop-number-preserved
 loop-number-preserved c =
-    let l = c.loop-number in let numbers = c.args.numbers.now in
+    let l = c.loop-number in
+    let numbers = c.args.numbers.now in
     let more = take_more numbers l.number-index 0 c.loop-number-test.true ∙ ap (λ n. take l.number-index numbers ++ n ∷ []) (sym c.from.ensures) in
     subst (λ ns. Gathered c.args.taxonomy.now c.args.row.now c.or.new.self ns) (sym more)
     (gathered_more c.args.taxonomy.now c.args.row.now l.row c.ups.new.to c.or.new.self (take l.number-index numbers) c.from.result l.invariant c.ups.ensures.row c.or.ensures)

@@ -9,7 +9,8 @@ loop-word-init c = record { gathered = gathered_none c.args.taxonomy.now c.args.
 
 pub returns-in_default-clause-all : goal.returns-in_default-clause-all
 returns-in_default-clause-all c =
-    let l = c.loop-word in let words = c.as_slice-word-items.ensures.words in
+    let l = c.loop-word in
+    let words = c.as_slice-word-items.ensures.words in
     let here = c.word-item.is ∙ ap (λ ws. get_or ws l.word-index c.word-item.result) words in
     sym (list_all_at (is_numbered c.args.words.now.dict) c.args.derived.now l.word-index c.word-item.result (omega (arith, c.loop-word-test.true, ap length words))
     (ap (is_numbered c.args.words.now.dict) (sym here) ∙ c.in_default.ensures))
@@ -19,7 +20,8 @@ ups-requires-clause-p c = omega (arith, number_below c.args.words.now.dict c.req
 
 pub loop-word-preserved : goal.loop-word-preserved
 loop-word-preserved c =
-    let l = c.loop-word in let words = c.as_slice-word-items.ensures.words in
+    let l = c.loop-word in
+    let words = c.as_slice-word-items.ensures.words in
     let word = c.word-item.result in
     words_more c.args.words.now c.args.taxonomy.now c.args.derived.now c.args.row.now l.row c.ups.new.to c.or.new.self l.word-index word c.in-Some.number l.invariant
     (omega (arith, c.loop-word-test.true, ap length words)) (c.word-item.is ∙ ap (λ ws. get_or ws l.word-index word) words) c.in-Some.ensures.0 c.in-Some.ensures.1

@@ -28,7 +28,9 @@ ups-requires-clause-p c =
 
 pub loop-k-preserved : goal.loop-k-preserved
 loop-k-preserved c =
-    let l = c.loop-k in let words = c.args.words.now in let t = c.args.taxonomy.now in
+    let l = c.loop-k in
+    let words = c.args.words.now in
+    let t = c.args.taxonomy.now in
     let old = c.args.row.now in
     let here : slice_get words.dict.entries l.k ≡ Some (c.in-Some.word, c.in-Some.number) = sym c.word_at.ensures ∙ c.in-Some.is in
     let named = number_from_among words.dict c.requires.are.dict c.in-Some.word c.in-Some.number (among_place words.dict.entries l.k (c.in-Some.word, c.in-Some.number) here) in
@@ -44,7 +46,8 @@ loop-k-preserved c =
 
 pub returns : goal.returns
 returns c =
-    let tests = c.tests-start.ensures in let words = c.args.words.now in
+    let tests = c.tests-start.ensures in
+    let words = c.args.words.now in
     let end : c.loop-k.k ≡ c.tests-start.result.1 = omega (arith, c.loop-k-test.false, c.loop-k.auto.k-end, tests.rise) in
     let was = subst (λ k. MetSoFar words c.args.taxonomy.now c.args.size c.args.row.now c.loop-k.row k) end c.loop-k.invariant in
     met_all words c.args.taxonomy.now c.args.size c.args.row.now c.loop-k.row c.tests-start.result.1 was tests.within tests.behind

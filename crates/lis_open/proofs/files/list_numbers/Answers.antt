@@ -9,7 +9,9 @@ loop-number-init c = rw c.new-numbers.ensures (sym (from_start c.args.row.now.bi
 
 pub returns-then-is_full : goal.returns-then-is_full
 returns-then-is_full c =
-    let row = c.args.row.now in let test = get row 0 in let items = c.loop-number.numbers.items in
+    let row = c.args.row.now in
+    let test = get row 0 in
+    let items = c.loop-number.numbers.items in
     let next = c.in-Some.ensures in
     let more = next_from row.bits c.loop-number.start c.in-Some.number test next.from_start next.in_row next.least next.true_bit in
     let all = ap (length {_}) (sym (rw more at c.loop-number.invariant.0)) ∙ length-append items (c.in-Some.number ∷ numbers_from row.bits (c.in-Some.number + 1) test) in
@@ -18,8 +20,11 @@ returns-then-is_full c =
 
 pub loop-number-preserved : goal.loop-number-preserved
 loop-number-preserved c =
-    let row = c.args.row.now in let test = get row 0 in let items = c.loop-number.numbers.items in
-    let next = c.in-Some.ensures in let rest = numbers_from row.bits (c.in-Some.number + 1) test in
+    let row = c.args.row.now in
+    let test = get row 0 in
+    let items = c.loop-number.numbers.items in
+    let next = c.in-Some.ensures in
+    let rest = numbers_from row.bits (c.in-Some.number + 1) test in
     let more = next_from row.bits c.loop-number.start c.in-Some.number test next.from_start next.in_row next.least next.true_bit in (
       rw c.push.ensures.items (append_assoc items (c.in-Some.number ∷ []) rest ∙ rw more at c.loop-number.invariant.0),
       let open_room = eqb-false (length items) 128 (sym c.if-is_full.ensures.value) in

@@ -20,7 +20,8 @@ loop-slot-init g c = record {
 
 pub returns-then-not-is_taken-clause-disk : goal.returns-then-not-is_taken-clause-disk
 returns-then-not-is_taken-clause-disk g c =
-    let l = c.loop-slot in let found = c.in_ok-found.ensures.disk in
+    let l = c.loop-slot in
+    let found = c.in_ok-found.ensures.disk in
     let taken = c.in_ok-is_taken.ensures.disk in
     let faults = found.cause.stays ∙ l.invariant.faults in
     record {
@@ -46,13 +47,18 @@ returns-then-not-is_taken-clause-ended g c = λ kept fits recalls told pairs.
 
 pub loop-slot-preserved : goal.loop-slot-preserved
 loop-slot-preserved g c =
-    let l = c.loop-slot in let limits = c.args.known.limits.now in
-    let words = c.args.known.words.now in let axioms = c.args.known.axioms.now in
-    let below = c.loop-slot-test.true in let found = c.in_ok-found.found in
-    let next = c.take_file.new.files in let form = c.in_ok-found.ensures.form in
+    let l = c.loop-slot in
+    let limits = c.args.known.limits.now in
+    let words = c.args.known.words.now in
+    let axioms = c.args.known.axioms.now in
+    let below = c.loop-slot-test.true in
+    let found = c.in_ok-found.found in
+    let next = c.take_file.new.files in
+    let form = c.in_ok-found.ensures.form in
     let MayBeKept : (ℕ → List ℕ) → Type 0 = Fits c.args.known.journal.now (g.D.Disk.meaning c.read_slot.new.disk) in
     let taken = OnTrue_at {P = TakesFile limits MayBeKept words axioms.taxonomy l.slot found l.files next} c.if-not-is_taken.false c.in_ok-is_taken.ensures.taken in
-    let read = c.in_ok-found.ensures.disk in let took = c.in_ok-is_taken.ensures.disk in
+    let read = c.in_ok-found.ensures.disk in
+    let took = c.in_ok-is_taken.ensures.disk in
     let to_found = reads_then l.invariant.reads read.reads in
     let faults = read.cause.stays ∙ l.invariant.faults in
     record {
@@ -69,8 +75,10 @@ loop-slot-preserved g c =
 
 pub returns-clause-ended : goal.returns-clause-ended
 returns-clause-ended g c = λ kept fits recalls told pairs.
-    let l = c.loop-slot in let limits = c.args.known.limits.now in
-    let words = c.args.known.words.now in let axioms = c.args.known.axioms.now in
+    let l = c.loop-slot in
+    let limits = c.args.known.limits.now in
+    let words = c.args.known.words.now in
+    let axioms = c.args.known.axioms.now in
     let all : l.slot ≡ limits.files = omega (arith, c.loop-slot-test.false, l.auto.slot-end) in
     let so_far = l.invariant.so_far kept fits recalls in
     record {

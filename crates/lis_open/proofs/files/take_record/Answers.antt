@@ -28,7 +28,8 @@ returns-in_default-clause-refused g c = (refl, λ kept fits. NoBlocks (rw c.in_d
 
 pub returns-in-None-clause-refused : goal.returns-in-None-clause-refused
 returns-in-None-clause-refused g c =
-    let limits = c.args.known.limits.now in let words = c.args.known.words.now in
+    let limits = c.args.known.limits.now in
+    let words = c.args.known.words.now in
     let rec = c.args.rec in
     let usable = rw c.in-Some.is at c.in_ok-blocks.ensures.usable in (
       refl,
@@ -41,8 +42,11 @@ returns-in-None-clause-refused g c =
 
 pub returns-in-Some-describe-clause-taken : goal.returns-in-Some-describe-clause-taken
 returns-in-Some-describe-clause-taken g c =
-    let limits = c.args.known.limits.now in let rec = c.args.rec in let files = c.args.files.now in
-    let blocks = c.deref.result.now in let same = c.deref.ensures.0 in
+    let limits = c.args.known.limits.now in
+    let rec = c.args.rec in
+    let files = c.args.files.now in
+    let blocks = c.deref.result.now in
+    let same = c.deref.ensures.0 in
     let usable = rw c.in-Some.is at c.in_ok-blocks.ensures.usable in
     let numbers = c.as_slice.ensures.value ∙ c.in-Some-describe.ensures.described.1 in
     record {

@@ -6,7 +6,8 @@ use Rattle.lis_open.proofs.making.write_image.Goals as goal
 
 pub returns-in_err-take_name-clause-any_moment : goal.returns-in_err-take_name-clause-any_moment
 returns-in_err-take_name-clause-any_moment g c = λ honest settled.
-    let limits = c.args.limits.now in let bytes = (g.D.Disk.meaning c.args.disk.now).bytes in
+    let limits = c.args.limits.now in
+    let bytes = (g.D.Disk.meaning c.args.disk.now).bytes in
     moments_spare limits settled (spared_moments limits bytes (c.take_name.ensures.any_moment honest settled))
     (named_spreads limits (c.take_name.ensures.spreads honest))
 
@@ -19,7 +20,8 @@ returns-in_err-take_name-clause-spare g c = λ n honest is settled.
 
 pub returns-in_err-wipe-clause-any_moment : goal.returns-in_err-wipe-clause-any_moment
 returns-in_err-wipe-clause-any_moment g c = λ honest settled.
-    let limits = c.args.limits.now in let bytes = (g.D.Disk.meaning c.args.disk.now).bytes in
+    let limits = c.args.limits.now in
+    let bytes = (g.D.Disk.meaning c.args.disk.now).bytes in
     let honest1 = c.take_name.ensures.disk.run.honest ∙ honest in
     moments_spare limits settled
     (leaves_then (spared_moments limits bytes (c.take_name.ensures.any_moment honest settled))
@@ -28,14 +30,16 @@ returns-in_err-wipe-clause-any_moment g c = λ honest settled.
 
 pub returns-in_err-wipe-clause-spare : goal.returns-in_err-wipe-clause-spare
 returns-in_err-wipe-clause-spare g c = λ n honest is settled.
-    let limits = c.args.limits.now in let honest1 = c.take_name.ensures.disk.run.honest ∙ honest in
+    let limits = c.args.limits.now in
+    let honest1 = c.take_name.ensures.disk.run.honest ∙ honest in
     let p = err_from_is_err_and c.from_residual-in_err-wipe.result c.from_residual-in_err-wipe.ensures.1 in
     spare_spreads limits n (wiped_spreads limits (c.take_name.ensures.spreads honest) (c.wipe.ensures.spreads honest1)) is
     (IfErr-at_err (λ _. IsSettledAt (g.D.Disk.meaning c.args.disk.now) n) p.1 settled)
 
 pub returns : goal.returns
 returns g c =
-    let limits = c.args.limits.now in let old = g.D.Disk.meaning c.args.disk.now in
+    let limits = c.args.limits.now in
+    let old = g.D.Disk.meaning c.args.disk.now in
     let one = λ (honest : IsTrue old.is_honest). c.take_name.ensures.disk.run.honest ∙ honest in
     let two = λ (honest : IsTrue old.is_honest). c.wipe.ensures.disk.run.honest ∙ one honest in
     let spreads = λ (honest : IsTrue old.is_honest).

@@ -16,7 +16,8 @@ pub returns : goal.returns
 returns g c =
     let old = g.D.Disk.meaning c.args.disk.now in
     let mid = g.D.Disk.meaning c.read_limits.new.disk in
-    let new = g.D.Disk.meaning c.mount_image.new.disk in let reads = c.read_limits.ensures.reads in
+    let new = g.D.Disk.meaning c.mount_image.new.disk in
+    let reads = c.read_limits.ensures.reads in
     let image = c.mount_image.ensures in
     let opened = λ (honest : IsTrue old.is_honest).
     opened_before old mid (reads.same honest) reads.run.len new c.mount_image.result image.run (image.opened (reads.run.honest ∙ honest)) in

@@ -18,7 +18,8 @@ returns-in_err-room-clause-opened g c = λ honest.
 
 pub returns-in-Err : goal.returns-in-Err
 returns-in-Err g c =
-    let old = g.D.Disk.meaning c.args.disk.now in let new = g.D.Disk.meaning c.mount.new.disk in
+    let old = g.D.Disk.meaning c.args.disk.now in
+    let new = g.D.Disk.meaning c.mount.new.disk in
     let fault = c.in-Err.fault in
     let mounted = rw c.image_blocks.ensures.blocks at c.mount.ensures in
     let failed : c.mount.result ≡ Err JournalDisk → fault ≡ JournalDisk = λ is. one_fault (sym c.in-Err.is ∙ is) in
@@ -39,7 +40,8 @@ returns-in-Err g c =
 
 pub returns-in-Ok-clause-opened : goal.returns-in-Ok-clause-opened
 returns-in-Ok-clause-opened g c = λ honest.
-    let old = g.D.Disk.meaning c.args.disk.now in let mid = g.D.Disk.meaning c.mount.new.disk in
+    let old = g.D.Disk.meaning c.args.disk.now in
+    let mid = g.D.Disk.meaning c.mount.new.disk in
     let ended = subst (λ b. MountEnded b old mid c.mount.result) c.image_blocks.ensures.blocks (c.mount.ensures.ended honest) in
     store_opened old c.args.limits (c.requires.begins honest) c.requires.long (g.met.D.Disk.reads_len c.args.disk.now honest) c.in-Ok.journal mid (g.D.Disk.meaning c.read_store.new.disk) c.read_store.result
     (subst (λ (o : Result Held JournalFault). MountEnded (image_blocks c.args.limits) old mid o) c.in-Ok.is ended)
@@ -54,7 +56,8 @@ returns-in-Ok-clause-opened g c = λ honest.
 
 pub returns-in-Ok-clause-any_moment : goal.returns-in-Ok-clause-any_moment
 returns-in-Ok-clause-any_moment g c = λ honest.
-    let old = g.D.Disk.meaning c.args.disk.now in let mid = g.D.Disk.meaning c.mount.new.disk in
+    let old = g.D.Disk.meaning c.args.disk.now in
+    let mid = g.D.Disk.meaning c.mount.new.disk in
     store_moments old c.args.limits (c.requires.begins honest) c.requires.long mid (g.D.Disk.meaning c.read_store.new.disk)
     (subst (λ b. (image : List ℕ) → mid.images image → old.images image ⊎ InRecovery b old.bytes image) c.image_blocks.ensures.blocks (c.in-Ok.ensures.images honest))
     (subst (λ b. Leaves old mid (λ image. old.images image ⊎ InRecovery b old.bytes image)) c.image_blocks.ensures.blocks (c.mount.ensures.any_moment honest))

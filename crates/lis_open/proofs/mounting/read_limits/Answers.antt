@@ -10,7 +10,8 @@ returns-in_default-clause-ended g c = λ honest.
 
 pub returns-then-len-need-clause-ended : goal.returns-then-len-need-clause-ended
 returns-then-len-need-clause-ended g c = λ honest.
-    let old = g.D.Disk.meaning c.args.disk.now in let need = c.from.result * 4096 in
+    let old = g.D.Disk.meaning c.args.disk.now in
+    let need = c.from.result * 4096 in
     let super = super_read old.bytes c.read_at.new.buf c.in-Some.limits (c.in_ok-read_at.ensures.read honest) c.in-Some.ensures.spelled in
     short_opened old (g.D.Disk.meaning c.read_at.new.self) c.len-len.result need c.len-len.ensures (omega (arith, c.if-len-need.true)) (inr (c.in-Some.limits, super, omega (arith, c.from.ensures, c.image_blocks.ensures))) (c.read_at.ensures.same honest)
 

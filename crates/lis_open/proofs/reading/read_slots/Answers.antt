@@ -20,7 +20,8 @@ returns-in_err-read_axioms-clause-ended g c = λ kept fits recalls.
 
 pub returns-in_err-read_files-clause-ended : goal.returns-in_err-read_files-clause-ended
 returns-in_err-read_files-clause-ended g c = λ kept fits recalls.
-    let limits = c.args.limits.now in let journal = c.args.journal.now in
+    let limits = c.args.limits.now in
+    let journal = c.args.journal.now in
     let told = c.in_ok-read_words.ensures.ended kept fits recalls in
     let fits1 = fits_after journal kept c.read_words.ensures.disk.reads fits in
     let recalls1 = c.read_words.ensures.recalls kept fits recalls in
@@ -39,7 +40,8 @@ returns-clause-recalls g c = λ kept fits recalls.
 
 pub returns-clause-ended : goal.returns-clause-ended
 returns-clause-ended g c = λ kept fits recalls.
-    let limits = c.args.limits.now in let journal = c.args.journal.now in
+    let limits = c.args.limits.now in
+    let journal = c.args.journal.now in
     let told = c.in_ok-read_words.ensures.ended kept fits recalls in
     let fits1 = fits_after journal kept c.read_words.ensures.disk.reads fits in
     let recalls1 = c.read_words.ensures.recalls kept fits recalls in

@@ -27,8 +27,10 @@ returns-in_err-store g c =
 -- it is of version 2 already
 pub returns-then-version-eq2 : goal.returns-then-version-eq2
 returns-then-version-eq2 g c =
-    let old = g.D.Disk.meaning c.args.disk.now in let mid = g.D.Disk.meaning c.mount.new.disk in
-    let m = c.in_ok-store.ensures in let sound = c.limits-version.ensures.sound in
+    let old = g.D.Disk.meaning c.args.disk.now in
+    let mid = g.D.Disk.meaning c.mount.new.disk in
+    let m = c.in_ok-store.ensures in
+    let sound = c.limits-version.ensures.sound in
     let two = ap (λ (l : Limits). l.version) (sym c.limits-version.ensures.value) ∙ c.if-version-eq2.true in
     record {
       run = search rules;
@@ -50,8 +52,10 @@ write_gate-requires g c = omega (arith, c.in_ok-store.ensures.long, c.limits-ver
 -- the gate is not written, or not synced
 pub returns-in_err-write_gate : goal.returns-in_err-write_gate
 returns-in_err-write_gate g c =
-    let old = g.D.Disk.meaning c.args.disk.now in let mid = g.D.Disk.meaning c.mount.new.disk in
-    let m = c.in_ok-store.ensures in let sound = c.limits-version.ensures.sound in
+    let old = g.D.Disk.meaning c.args.disk.now in
+    let mid = g.D.Disk.meaning c.mount.new.disk in
+    let m = c.in_ok-store.ensures in
+    let sound = c.limits-version.ensures.sound in
     let one = first_version c.in_ok-store.store.parts.limits sound.parts.range (λ two. c.if-version-eq2.false (ap (λ (l : Limits). l.version) c.limits-version.ensures.value ∙ two)) in
     let p = err_from_is_err_and c.from_residual-in_err-write_gate.result c.from_residual-in_err-write_gate.ensures.1 in
     record {
@@ -73,8 +77,10 @@ returns-in_err-write_gate g c =
 
 pub returns : goal.returns
 returns g c =
-    let old = g.D.Disk.meaning c.args.disk.now in let mid = g.D.Disk.meaning c.mount.new.disk in
-    let m = c.in_ok-store.ensures in let sound = c.limits-version.ensures.sound in
+    let old = g.D.Disk.meaning c.args.disk.now in
+    let mid = g.D.Disk.meaning c.mount.new.disk in
+    let m = c.in_ok-store.ensures in
+    let sound = c.limits-version.ensures.sound in
     let one = first_version c.in_ok-store.store.parts.limits sound.parts.range (λ two. c.if-version-eq2.false (ap (λ (l : Limits). l.version) c.limits-version.ensures.value ∙ two)) in
     record {
       run = run_then m.run c.write_gate.ensures.disk.run;

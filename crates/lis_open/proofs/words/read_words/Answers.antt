@@ -22,7 +22,8 @@ returns-then-not-take_property-clause-ended g c = λ kept fits recalled.
 
 pub loop-number-preserved : goal.loop-number-preserved
 loop-number-preserved g c =
-    let l = c.loop-number in let limits = c.args.limits.now in
+    let l = c.loop-number in
+    let limits = c.args.limits.now in
     let more = slot_on limits l.words l.number l.invariant.first c.loop-number-test.true c.in_ok-found.found c.take_property.new.words c.in_ok-found.ensures.form (sym c.if-not-take_property.ensures.answer)
     c.if-not-take_property.ensures.taken in
     record {

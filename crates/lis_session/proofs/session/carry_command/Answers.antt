@@ -23,5 +23,5 @@ returns-in-Stat-clause-carries g c = rw c.in-Stat.is (c.stat.ensures.carries c.a
 pub returns-in-Mkdir-clause-carries : goal.returns-in-Mkdir-clause-carries
 returns-in-Mkdir-clause-carries g c = λ state fitting.
     let now : Situation = record { state = state; place = c.args.place.now } in
-    change_item (done_stays now c.args.command.now c.args.payload.now (search rules)) c.change-changed.ensures.sound g.T.Disk.meaning c.change-changed.new.disk c.conclude.new.station c.change-changed.result
+    change_item (done_stays now c.args.command.now c.args.payload.now (search rules)) c.change-changed.ensures.keeps.sound g.T.Disk.meaning c.change-changed.new.disk c.conclude.new.station c.change-changed.result
     (c.change-changed.ensures.makes state fitting.own) c.conclude.ensures

@@ -62,4 +62,4 @@ returns-in-Stat-clause-tallies g c =
 pub returns-in-Mkdir-clause-tallies : goal.returns-in-Mkdir-clause-tallies
 returns-in-Mkdir-clause-tallies g c = λ state fitting.
     let now : Situation = record { state = state; place = c.args.place.now } in
-    tallied_change (done_stays now c.args.command.now c.args.payload.now (search rules)) (search rules) c.change.ensures.sound c.change.result (c.change.ensures.makes state fitting.own) c.concluded.ensures
+    tallied_change (done_stays now c.args.command.now c.args.payload.now (search rules)) (search rules) c.change.ensures.keeps.sound c.change.result (c.change.ensures.makes state fitting.own) c.concluded.ensures

@@ -7,7 +7,8 @@ loop-word-init c = leaves_none c.args.parts.now c.args.row.now c.requires.shape
 
 pub unreachable-requires : goal.unreachable-requires
 unreachable-requires c =
-    let words = c.args.words.now in let word = c.word-item.result in
+    let words = c.args.words.now in
+    let word = c.word-item.result in
     let there = among_from_contains words (get_or words c.loop-word.word-index word) (Contains-get_or words c.loop-word.word-index word c.loop-word-test.true) in
     let P : List _ → Type 0 = λ w. Among words w in
     let some = c.requires.numbered word (has_word_from_among words word (subst P (sym c.word-item.is) there)) in
@@ -21,8 +22,11 @@ and_not_row-requires-clause-row c =
 
 pub loop-word-preserved : goal.loop-word-preserved
 loop-word-preserved c =
-    let k = c.args.parts.now in let i = c.loop-word.word-index in let words = c.args.words.now in
-    let word = c.word-item.result in let row = c.loop-word.row in
+    let k = c.args.parts.now in
+    let i = c.loop-word.word-index in
+    let words = c.args.words.now in
+    let word = c.word-item.result in
+    let row = c.loop-word.row in
     let entailed = c.rows-entailed.result.now in
     let more : take (i + 1) words ≡ take i words ++ word ∷ [] = take_more words i word c.loop-word-test.true ∙ ap (λ w. take i words ++ w ∷ []) (sym c.word-item.is) in
     let Q : List _ → Type 0 = λ ws. LeavesOut k ws c.args.row.now c.and_not_row.new.to in

@@ -15,8 +15,11 @@ put-requires-clause-bit c =
 
 pub loop-word-preserved : goal.loop-word-preserved
 loop-word-preserved c =
-    let k = c.args.parts.now in let i = c.loop-word.word-index in let words = c.args.words.now in
-    let word = c.word-item.result in let row = c.loop-word.row in
+    let k = c.args.parts.now in
+    let i = c.loop-word.word-index in
+    let words = c.args.words.now in
+    let word = c.word-item.result in
+    let row = c.loop-word.row in
     let dict = c.limits.ensures.sound.dict in
     let more : take (i + 1) words ≡ take i words ++ word ∷ [] = take_more words i word c.loop-word-test.true ∙ ap (λ w. take i words ++ w ∷ []) (sym c.word-item.is) in
     let P : Rows → Type 0 = λ r. ShowsNumbers k.dict k.limits.props (take (i + 1) words) r in
@@ -33,7 +36,8 @@ loop-word-preserved c =
 
 pub numbers_in-requires : goal.numbers_in-requires
 numbers_in-requires c =
-    let k = c.args.parts.now in let sound = c.limits.ensures.sound in
+    let k = c.args.parts.now in
+    let sound = c.limits.ensures.sound in
     let props = ap (λ (l : Limits). l.props) c.limits.ensures.value in
     let all = take_all c.loop-word.word-index c.args.words.now c.loop-word-test.false in
     let P : ℕ → Type 0 = λ n. HasShape c.loop-word.row 1 n in
@@ -53,7 +57,8 @@ numbers_in-requires c =
 
 pub returns-clause-numbers : goal.returns-clause-numbers
 returns-clause-numbers c =
-    let k = c.args.parts.now in let sound = c.limits.ensures.sound in
+    let k = c.args.parts.now in
+    let sound = c.limits.ensures.sound in
     let props = ap (λ (l : Limits). l.props) c.limits.ensures.value in
     let all = take_all c.loop-word.word-index c.args.words.now c.loop-word-test.false in
     let S : List (List ℕ) → Type 0 = λ ws. ShowsNumbers k.dict k.limits.props ws c.loop-word.row in

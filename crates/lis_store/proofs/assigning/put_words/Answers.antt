@@ -5,7 +5,8 @@ use Rattle.lis_store.proofs.assigning.put_words.Goals as goal
 
 pub returns-then-not-put_word : goal.returns-then-not-put_word
 returns-then-not-put_word c =
-    let words = c.args.more.now in let old = c.args.words.now.items in
+    let words = c.args.more.now in
+    let old = c.args.words.now.items in
     let new = c.put_word.new.words.items in
     let stopped = subst (λ b. Takes (c.word-item.result ∷ []) c.loop-word.words.items new b) c.if-not-put_word.true c.put_word.ensures in
     subst (λ ws. Takes ws old new false) (each_alone words)

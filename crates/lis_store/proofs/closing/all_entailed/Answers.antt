@@ -8,8 +8,10 @@ next_of-requires c = rows_below c.args.parts.now c.requires.sound c.taxonomy.res
 
 pub push-requires : goal.push-requires
 push-requires c =
-    let k = c.args.parts.now in let rows = c.rows-entailed.result.now in
-    let test = get_any rows c.args.numbers.now in let next = c.in-Some.ensures in
+    let k = c.args.parts.now in
+    let rows = c.rows-entailed.result.now in
+    let test = get_any rows c.args.numbers.now in
+    let next = c.in-Some.ensures in
     let wide = wide_as k c.taxonomy.result.now c.taxonomy.ensures rows c.rows-entailed.ensures.shape in
     let are = closure_shown k c.requires.sound c.taxonomy.result.now c.taxonomy.ensures rows c.rows-entailed.ensures.shape c.rows-entailed.ensures.values c.args.numbers.now c.requires.named in
     let room = found_room test rows.bits 128 c.in-Some.number next.in_row next.true_bit (omega (arith, ap length are, c.requires.few)) in
@@ -19,7 +21,9 @@ push-requires c =
 pub loop-number-preserved : goal.loop-number-preserved
 loop-number-preserved c =
     let test = get_any c.rows-entailed.result.now c.args.numbers.now in
-    let next = c.in-Some.ensures in let ns = c.loop-number.all.items in let n = c.in-Some.number in
+    let next = c.in-Some.ensures in
+    let ns = c.loop-number.all.items in
+    let n = c.in-Some.number in
     let past = found_past test c.loop-number.start n next.from_start next.least in
     let more = found_one test n ns (ns ++ n ∷ []) (c.loop-number.invariant.0 ∙ past) next.true_bit refl in
     let all : c.push.new.self.items ≡ found_below test (n + 1) = cc in
@@ -27,7 +31,8 @@ loop-number-preserved c =
 
 pub returns : goal.returns
 returns c =
-    let rows = c.rows-entailed.result.now in let test = get_any rows c.args.numbers.now in
+    let rows = c.rows-entailed.result.now in
+    let test = get_any rows c.args.numbers.now in
     let past = found_past test c.loop-number.start rows.bits c.loop-number.invariant.1 (λ k from lt. c.in_default.ensures.none k from lt) in
     c.loop-number.invariant.0
     ∙ (past

@@ -13,6 +13,7 @@ entails-requires-clause-q c =
 
 pub returns : goal.returns
 returns c =
-    let k = c.args.parts.now in let t = c.taxonomy.result.now in
+    let k = c.args.parts.now in
+    let t = c.taxonomy.result.now in
     decided t c.from.result c.from-2.result c.entails.result c.entails.ensures
     ∙ (ap₂ (leads t) c.from.ensures c.from-2.ensures ∙ number_led k c.requires.sound t c.taxonomy.ensures c.args.number c.args.other c.requires.named)

@@ -10,6 +10,8 @@ has-requires-clause-prop c =
 
 pub has-requires-in-Losing-clause-prop : goal.has-requires-in-Losing-clause-prop
 has-requires-in-Losing-clause-prop c =
-    let p = c.args.parts.now in let left = c.in-Losing.left in let right = c.in-Losing.field-1 in
+    let p = c.args.parts.now in
+    let left = c.in-Losing.left in
+    let right = c.in-Losing.field-1 in
     let both = and_parts (is_some (word_of p.dict left)) (is_some (word_of p.dict right)) (sym (ap (has_words p) c.in-Losing.is) ∙ c.requires.words) in
     omega (arith, named_below p c.requires.sound left both.0, c.requires.sound.rows, ap (λ (e : Ext). e.props) c.ext-in-Losing.ensures, c.from-in-Losing.ensures)

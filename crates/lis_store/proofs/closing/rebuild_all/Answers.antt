@@ -12,7 +12,8 @@ rebuild_slot-requires-clause-words c = words_same_yet c.args.how c.loop-slot.slo
 
 pub rebuild_slot-requires-clause-few : goal.rebuild_slot-requires-clause-few
 rebuild_slot-requires-clause-few c = λ is.
-    let n = c.loop-slot.slot in let p = c.args.parts.now in
+    let n = c.loop-slot.slot in
+    let p = c.args.parts.now in
     omega (
       arith,
       ap length (closure_same c.args.how n p c.loop-slot.parts c.loop-slot.invariant.0),
@@ -21,14 +22,17 @@ rebuild_slot-requires-clause-few c = λ is.
 
 pub rebuild_slot-requires-clause-named : goal.rebuild_slot-requires-clause-named
 rebuild_slot-requires-clause-named c = λ m had.
-    let n = c.loop-slot.slot in let p = c.args.parts.now in
+    let n = c.loop-slot.slot in
+    let p = c.args.parts.now in
     let was = same_here (rebuilt p c.args.how) n p c.loop-slot.parts c.loop-slot.invariant.0 in
     ap (λ (k : Kept). is_some (word_of k.dict m)) c.loop-slot.invariant.0.parts
     ∙ named_all p c.limits.ensures.sound c.requires.free m n (ap (λ ns. has_number ns m) (sym was) ∙ had)
 
 pub loop-slot-preserved : goal.loop-slot-preserved
 loop-slot-preserved c =
-    let n = c.loop-slot.slot in let p = c.args.parts.now in let q = c.loop-slot.parts in
+    let n = c.loop-slot.slot in
+    let p = c.args.parts.now in
+    let q = c.loop-slot.parts in
     let so_far = c.loop-slot.invariant.0 in
     let inside : n < length p.ext.sets = omega (arith, c.loop-slot-test.true, c.limits.ensures.sound.files, ap (λ (l : Limits). l.files) c.limits.ensures.value) in
     let Q : List ℕ → Type 0 = λ ns. SlotHas n ns q c.rebuild_slot.new.parts in

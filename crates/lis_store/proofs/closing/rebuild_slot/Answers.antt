@@ -7,19 +7,22 @@ use Rattle.lis_store.proofs.closing.rebuild_slot.Goals as goal
 
 pub returns-then-not-is_concerned-clause-gives : goal.returns-then-not-is_concerned-clause-gives
 returns-then-not-is_concerned-clause-gives c =
-    let p = c.args.parts.now in let slot = c.args.slot in
+    let p = c.args.parts.now in
+    let slot = c.args.slot in
     inr (ap (λ b. if b then closure p (base_at p c.args.how slot) else set_of p.ext slot) (sym c.is_concerned.ensures ∙ c.if-not-is_concerned.true), refl)
 
 pub base_at-base-requires-clause-numbers : goal.base_at-base-requires-clause-numbers
 base_at-base-requires-clause-numbers c =
-    let p = c.args.parts.now in let slot = c.args.slot in
+    let p = c.args.parts.now in
+    let slot = c.args.slot in
     let are = c.as_slice.ensures.value ∙ (c.numbers_at-old.ensures.numbers ∙ ap (λ (e : Ext). set_of e slot) c.ext.ensures) in
     ap (list_all (λ n. is_some (word_of p.dict n))) are
     ∙ all_from (λ n. is_some (word_of p.dict n)) (set_of p.ext slot) (λ n m. c.requires.named n (number_from_among (set_of p.ext slot) n m))
 
 pub all_entailed-new-requires-clause-named : goal.all_entailed-new-requires-clause-named
 all_entailed-new-requires-clause-named c =
-    let p = c.args.parts.now in let slot = c.args.slot in
+    let p = c.args.parts.now in
+    let slot = c.args.slot in
     let named = all_from (λ n. is_some (word_of p.dict n)) (set_of p.ext slot) (λ n m. c.requires.named n (number_from_among (set_of p.ext slot) n m)) in
     ap (list_all (λ n. is_some (word_of p.dict n))) (c.as_slice-2.ensures.value ∙ c.base_at-base.ensures) ∙ base_words p c.args.how slot c.requires.words named
 
@@ -34,7 +37,8 @@ all_entailed-new-requires-clause-few c =
 
 pub describe-requires-clause-rising : goal.describe-requires-clause-rising
 describe-requires-clause-rising c =
-    let p = c.args.parts.now in let base = c.as_slice-2.result.now in
+    let p = c.args.parts.now in
+    let base = c.as_slice-2.result.now in
     subst (λ ns. IsStrictlyIncreasing ns) (sym (c.as_slice-4.ensures.value ∙ c.all_entailed-new.ensures))
     (IsStrictlyIncreasing-from_sorted (closure p base) (sorted_where p.limits.props (is_gained p base)))
 
@@ -45,7 +49,8 @@ describe-requires-clause-named c =
 
 pub returns-clause-gives : goal.returns-clause-gives
 returns-clause-gives c =
-    let p = c.args.parts.now in let slot = c.args.slot in
+    let p = c.args.parts.now in
+    let slot = c.args.slot in
     let new = c.as_slice-4.ensures.value ∙ (c.all_entailed-new.ensures ∙ ap (closure p) (c.as_slice-2.ensures.value ∙ c.base_at-base.ensures)) in
     let whole = ap (λ b. if b then closure p (base_at p c.args.how slot) else set_of p.ext slot) (sym c.is_concerned.ensures ∙ c.if-not-is_concerned.false) in
     let P : List ℕ → Type 0 = λ ns. Describes slot ns p c.describe.new.self in

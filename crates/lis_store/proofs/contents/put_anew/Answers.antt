@@ -13,7 +13,8 @@ put_content-requires-clause-enough g c =
 
 pub returns-in-None-clause-renewed : goal.returns-in-None-clause-renewed
 returns-in-None-clause-renewed g c =
-    let p = c.args.parts.now in let m = g.D.Disk.meaning c.args.disk.now in
+    let p = c.args.parts.now in
+    let m = g.D.Disk.meaning c.args.disk.now in
     let after = g.D.Disk.meaning c.put_content.new.disk in
     let R : Option ℕ → Type 0 = λ o. ContentRenewed c.args.payload.now (record_in p o) p c.put_content.new.parts c.args.journal.now c.put_content.new.journal m after c.put_content.result in
     subst R (sym c.in-None.is) (put_alone p c.put_content.new.parts c.args.payload.now c.args.journal.now c.put_content.new.journal m after c.put_content.result c.requires.sound c.put_content.ensures.put)
@@ -29,7 +30,8 @@ put_instead-requires-clause-enough g c = λ rec there.
 
 pub returns-in-Some-clause-renewed : goal.returns-in-Some-clause-renewed
 returns-in-Some-clause-renewed g c =
-    let p = c.args.parts.now in let m = g.D.Disk.meaning c.args.disk.now in
+    let p = c.args.parts.now in
+    let m = g.D.Disk.meaning c.args.disk.now in
     let after = g.D.Disk.meaning c.put_instead.new.disk in
     let R : Option FileRecord → Type 0 = λ gone. ContentRenewed c.args.payload.now gone p c.put_instead.new.parts c.args.journal.now c.put_instead.new.journal m after c.put_instead.result in
     let found = rec_some (rec_at p.catalog c.in-Some.slot) (subst (λ (o : Option ℕ). IfSome o (λ slot. IsSome (rec_at p.catalog slot))) c.in-Some.is c.requires.there) in

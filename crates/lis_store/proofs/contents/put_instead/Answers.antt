@@ -57,7 +57,8 @@ put_content-requires-2-clause-enough g c =
 
 pub returns-clause-renewed : goal.returns-clause-renewed
 returns-clause-renewed g c = λ rec there.
-    let p = c.args.parts.now in let given = c.in_ok-free_content-2.ensures.given rec there in
+    let p = c.args.parts.now in
+    let given = c.in_ok-free_content-2.ensures.given rec there in
     let one = first_version p.limits c.limits.ensures.sound.range (λ two. c.if-limits-eq2.false (ap (λ (l : Limits). l.version) c.limits.ensures.value ∙ two)) in
     put_last p c.free_content-2.new.parts c.put_content-2.new.parts rec c.args.payload.now c.args.journal.now c.put_content-2.new.journal
     (g.D.Disk.meaning c.args.disk.now) (g.D.Disk.meaning c.free_content-2.new.disk) (g.D.Disk.meaning c.put_content-2.new.disk) c.put_content-2.result

@@ -8,13 +8,15 @@ returns-in_default c = sym (never_crowded c.args.parts.now c.args.word.now c.arg
 
 pub returns-then-is_crowded : goal.returns-then-is_crowded
 returns-then-is_crowded c =
-    let k = c.args.parts.now in let test = sym c.test_of.ensures ∙ c.in-Some.is in
+    let k = c.args.parts.now in
+    let test = sym c.test_of.ensures ∙ c.in-Some.is in
     let below : c.loop-slot.slot < k.limits.files = omega (arith, c.loop-slot-test.true, ap (λ (l : Limits). l.files) c.limits.ensures.value) in
     sym (ap (λ t. has_crowded k t c.args.numbers.now) test ∙ full_at (is_crowded k (Some c.in-Some.test) c.args.numbers.now) k.limits.files c.loop-slot.slot below (sym c.is_crowded.ensures ∙ c.if-is_crowded.true))
 
 pub loop-slot-preserved : goal.loop-slot-preserved
 loop-slot-preserved c = λ i lt.
-    let k = c.args.parts.now in let n = c.loop-slot.slot in
+    let k = c.args.parts.now in
+    let n = c.loop-slot.slot in
     let here = sym c.is_crowded.ensures ∙ c.if-is_crowded.false in
     elim (cases_lt i n) [
       | inl less ↦ c.loop-slot.invariant i less
@@ -26,6 +28,7 @@ loop-slot-preserved c = λ i lt.
 
 pub returns : goal.returns
 returns c =
-    let k = c.args.parts.now in let test = sym c.test_of.ensures ∙ c.in-Some.is in
+    let k = c.args.parts.now in
+    let test = sym c.test_of.ensures ∙ c.in-Some.is in
     sym (ap (λ t. has_crowded k t c.args.numbers.now) test
     ∙ full_nowhere (is_crowded k (Some c.in-Some.test) c.args.numbers.now) k.limits.files (λ i lt. c.loop-slot.invariant i (omega (arith, lt, c.loop-slot.auto.slot-end, c.loop-slot-test.false, ap (λ (l : Limits). l.files) c.limits.ensures.value))))

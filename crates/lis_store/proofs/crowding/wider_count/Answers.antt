@@ -18,8 +18,10 @@ count_with-requires-clause-bits c =
 
 pub returns : goal.returns
 returns c =
-    let k = c.args.parts.now in let sets = c.sets.result.now in
-    let rows = c.rows-entailed.result.now in let numbers = c.args.numbers.now in
+    let k = c.args.parts.now in
+    let sets = c.sets.result.now in
+    let rows = c.rows-entailed.result.now in
+    let numbers = c.args.numbers.now in
     let slot = c.args.slot in
     let bits : sets.bits ≡ k.ext.props = c.sets.ensures.shape.wide ∙ ap (λ (e : Ext). e.props) c.ext.ensures in
     let inside : slot < length c.ext.result.now.sets = omega (arith, c.requires.slot, c.requires.sound.files, ap (λ (e : Ext). length e.sets) c.ext.ensures) in

@@ -5,7 +5,8 @@ use Rattle.lis_store.proofs.describing.gather.Goals as goal
 
 pub and_not_row-requires-clause-row : goal.and_not_row-requires-clause-row
 and_not_row-requires-clause-row c =
-    let k = c.args.parts.now in let numbered = sym c.number_of.ensures ∙ c.in-Some.is in
+    let k = c.args.parts.now in
+    let numbered = sym c.number_of.ensures ∙ c.in-Some.is in
     let inside = numbered_below k c.requires.sound c.args.word.now c.in-Some.number (word_from_number k.dict c.requires.sound.dict c.args.word.now c.in-Some.number numbered) in
     omega (arith, c.from.ensures, inside, c.rows-entailed.ensures.shape.tall, c.taxonomy.ensures.props)
 
@@ -17,7 +18,8 @@ returns-in-Some c =
 
 pub returns-then-not-has : goal.returns-then-not-has
 returns-then-not-has c =
-    let fresh = c.args.fresh.now.items in let word = c.args.word.now in
+    let fresh = c.args.fresh.now.items in
+    let word = c.args.word.now in
     let lacks = ap (λ ws. has_word ws word) (sym c.as_slice.ensures.value) ∙ (sym c.has.ensures ∙ c.if-not-has.true) in
     subst (λ (ws : List (List ℕ)). Gathers c.args.parts.now (word ∷ []) c.args.lacked.now c.args.lacked.now fresh ws)
     (sym (c.push.ensures.items ∙ ap (λ w. fresh ++ w ∷ []) c.copied.ensures))

@@ -10,7 +10,8 @@ gather_with_head-requires-clause-shape c = c.loop-word.invariant.shape
 
 pub gather_with_head-requires-clause-room : goal.gather_with_head-requires-clause-room
 gather_with_head-requires-clause-room c =
-    let words = c.args.words.now in let i = c.loop-word.word-index in
+    let words = c.args.words.now in
+    let i = c.loop-word.word-index in
     let few = with_heads_few (take i words) in
     let long = length-take-le i words (omega (arith, c.loop-word-test.true, c.loop-word.auto.word-index-end)) in
     omega (arith, c.requires.room, c.loop-word.invariant.few, few, long, c.loop-word-test.true, c.loop-word.auto.word-index-end)

@@ -5,7 +5,8 @@ use Rattle.lis_store.proofs.describing.gather_with_head.Goals as goal
 
 pub returns-in-Some : goal.returns-in-Some
 returns-in-Some c =
-    let k = c.args.parts.now in let word = c.args.word.now in
+    let k = c.args.parts.now in
+    let word = c.args.word.now in
     let is = ap (λ (w : List ℕ). w ∷ []) c.in-Some.ensures.head ∙ sym (headed word (c.in-Some.ensures.valued.0 refl)) in
     subst (λ (ws : List (List ℕ)). Gathers k (word ∷ ws) c.args.lacked.now c.gather-in-Some.new.lacked c.args.fresh.now.items c.gather-in-Some.new.fresh.items) is
     (gathers_more k (word ∷ []) (c.in-Some.head ∷ []) c.args.lacked.now c.gather.new.lacked c.gather-in-Some.new.lacked

@@ -16,7 +16,8 @@ is_leaving-requires-clause-slot c =
 pub loop-number-preserved : goal.loop-number-preserved
 loop-number-preserved c =
     let leaves = is_leaving c.args.parts.now c.args.row.now c.in-Some.slot in
-    let n = c.loop-number.number in let count = c.loop-number.count in
+    let n = c.loop-number.number in
+    let count = c.loop-number.count in
     elim c.if-is_leaving.branch [
       | then-is_leaving w ↦
           let one = counted_one leaves n count c.loop-number.invariant.0 (sym c.is_leaving.ensures ∙ w.if-is_leaving.true) in
@@ -31,7 +32,8 @@ returns-in_default c = sym (ap (λ o. length (leaving c.args.parts.now c.args.ro
 
 pub returns : goal.returns
 returns c =
-    let k = c.args.parts.now in let leaves = is_leaving k c.args.row.now c.in-Some.slot in
+    let k = c.args.parts.now in
+    let leaves = is_leaving k c.args.row.now c.in-Some.slot in
     let all : c.loop-number.number ≡ k.limits.props = omega (arith, c.loop-number.auto.number-end, c.loop-number-test.false, ap (λ (l : Limits). l.props) c.limits.ensures.value) in
     c.loop-number.invariant.0
     ∙ (ap length (ap (found_below leaves) all ∙ found_all leaves k.limits.props) ∙ sym (ap (λ o. length (leaving k c.args.row.now o)) c.in-Some.is))

@@ -9,8 +9,10 @@ push-requires c = omega (arith, c.loop-number.invariant.1, c.loop-number-test.tr
 
 pub loop-number-preserved : goal.loop-number-preserved
 loop-number-preserved c =
-    let k = c.args.parts.now in let i = c.loop-number.number-index in
-    let number = get_or c.args.numbers.now i 0 in let words = c.loop-number.words.items in
+    let k = c.args.parts.now in
+    let i = c.loop-number.number-index in
+    let number = get_or c.args.numbers.now i 0 in
+    let words = c.loop-number.words.items in
     let next = flat_next (own_word k) c.args.numbers.now i number c.loop-number-test.true (get_or_default c.args.numbers.now i 0 number c.loop-number-test.true) in
     elim c.match-own_word.branch [
       | in-Some w ↦

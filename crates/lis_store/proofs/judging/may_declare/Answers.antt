@@ -9,7 +9,8 @@ use Rattle.lis_store.proofs.judging.may_declare.Goals as goal
 
 pub returns-in_err-numbers-clause-row : goal.returns-in_err-numbers-clause-row
 returns-in_err-numbers-clause-row c =
-    let k = c.args.parts.now in let words = words_at c.args.place.now in
+    let k = c.args.parts.now in
+    let words = words_at c.args.place.now in
     let p = err_from_is_err_and c.from_residual.result c.from_residual.ensures.1 in
     judges_refused (word_checks k c.args.place.now c.args.word.now) c.from_residual.result c.in_err-numbers.field-0.0 (p.1 ∙ ap Err p.2)
     (refused_first (place_checks k c.args.place.now c.args.word.now) (room_checks k c.args.word.now (length words) (numbers_named k.dict words)) c.in_err-numbers.field-0.0 c.in_err-numbers.ensures.row)
@@ -22,7 +23,8 @@ has_room-requires c = record {
 
 pub returns-in_err-has_room-clause-row : goal.returns-in_err-has_room-clause-row
 returns-in_err-has_room-clause-row c =
-    let k = c.args.parts.now in let slice = c.as_slice.result.now in
+    let k = c.args.parts.now in
+    let slice = c.as_slice.result.now in
     let result = c.from_residual-in_err-has_room.result in
     let p = err_from_is_err_and result c.from_residual-in_err-has_room.ensures.1 in
     let are = subst (λ (ns : List ℕ). AreNumbersOf k (words_at c.args.place.now) ns) (sym c.as_slice.ensures.value) c.in_ok-numbers.ensures.numbers in

@@ -37,7 +37,8 @@ rebuild_all-requires-clause-few c = λ slot here.
 
 pub forget_unused-requires : goal.forget_unused-requires
 forget_unused-requires c =
-    let p = c.args.parts.now in let unlinks = c.unlink.ensures.unlinks in
+    let p = c.args.parts.now in
+    let unlinks = c.unlink.ensures.unlinks in
     let P : List ℕ → Type 0 = λ ns. MayForget ns c.rebuild_all.new.parts in
     subst P (sym (c.as_slice.ensures.value ∙ c.with_head-numbers.ensures))
     (gone_may_forget (record {

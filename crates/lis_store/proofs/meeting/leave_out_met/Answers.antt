@@ -21,7 +21,8 @@ unreachable-requires c =
 
 pub and_not_row-requires-clause-row : goal.and_not_row-requires-clause-row
 and_not_row-requires-clause-row c =
-    let k = c.args.parts.now in let sound = c.requires.sound in
+    let k = c.args.parts.now in
+    let sound = c.requires.sound in
     let e : List ℕ × ℕ = (c.in-Some.word, c.in-Some.number) in
     let at : slice_get k.dict.entries c.loop-k.k ≡ Some e = sym c.word_at.ensures ∙ c.in-Some.is in
     let there = number_from_among k.dict sound.dict e.0 e.1 (among_place k.dict.entries c.loop-k.k e at) in
@@ -30,8 +31,12 @@ and_not_row-requires-clause-row c =
 
 pub loop-k-preserved : goal.loop-k-preserved
 loop-k-preserved c =
-    let k = c.args.parts.now in let sound = c.requires.sound in let i = c.loop-k.k in
-    let row = c.loop-k.row in let size = c.args.size in let entailed = c.rows-entailed.result.now in
+    let k = c.args.parts.now in
+    let sound = c.requires.sound in
+    let i = c.loop-k.k in
+    let row = c.loop-k.row in
+    let size = c.args.size in
+    let entailed = c.rows-entailed.result.now in
     let e : List ℕ × ℕ = (c.in-Some.word, c.in-Some.number) in
     let at : slice_get k.dict.entries i ≡ Some e = sym c.word_at.ensures ∙ c.in-Some.is in
     let there = number_from_among k.dict sound.dict e.0 e.1 (among_place k.dict.entries i e at) in

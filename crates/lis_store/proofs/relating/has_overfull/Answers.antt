@@ -16,7 +16,8 @@ is_overfull-requires-clause-right c = ap is_some (word_from_number c.args.parts.
 
 pub returns-then-is_overfull : goal.returns-then-is_overfull
 returns-then-is_overfull c =
-    let k = c.args.parts.now in let slot = c.loop-slot.slot in
+    let k = c.args.parts.now in
+    let slot = c.loop-slot.slot in
     let told = overfull_here k c.args.left.now c.args.right.now c.in-Some.from c.args.number (sym c.number_of.ensures ∙ c.in-Some.is)
     (word_from_number k.dict c.requires.sound.dict c.args.right.now c.args.number c.requires.number) slot in
     sym (full_at (is_overfull k c.args.left.now c.args.right.now) k.limits.files slot (omega (arith, c.loop-slot-test.true, ap (λ (l : Limits). l.files) c.limits.ensures.value))
@@ -24,7 +25,8 @@ returns-then-is_overfull c =
 
 pub loop-slot-preserved : goal.loop-slot-preserved
 loop-slot-preserved c = λ i lt.
-    let k = c.args.parts.now in let n = c.loop-slot.slot in
+    let k = c.args.parts.now in
+    let n = c.loop-slot.slot in
     let told = overfull_here k c.args.left.now c.args.right.now c.in-Some.from c.args.number (sym c.number_of.ensures ∙ c.in-Some.is)
     (word_from_number k.dict c.requires.sound.dict c.args.right.now c.args.number c.requires.number) n in
     elim (cases_lt i n) [

@@ -23,7 +23,9 @@ entails-requires-clause-q c =
 
 pub returns : goal.returns
 returns c =
-    let t = c.taxonomy.result.now in let k = c.args.parts.now in let sound = c.requires.sound in
+    let t = c.taxonomy.result.now in
+    let k = c.args.parts.now in
+    let sound = c.requires.sound in
     decided t c.from.result c.from-2.result c.entails.result c.entails.ensures
     ∙ (ap₂ (entails t) c.from.ensures c.from-2.ensures
     ∙ leads_told k sound t c.taxonomy.ensures c.args.number c.in-Some.to c.args.word.now c.args.other.now

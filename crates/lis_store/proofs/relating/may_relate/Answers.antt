@@ -5,7 +5,9 @@ use Rattle.lis_store.proofs.relating.may_relate.Goals as goal
 
 pub returns-in_err-number : goal.returns-in_err-number
 returns-in_err-number c =
-    let k = c.args.parts.now in let left = c.args.left.now in let right = c.args.right.now in
+    let k = c.args.parts.now in
+    let left = c.args.left.now in
+    let right = c.args.right.now in
     let p = err_from_is_err_and c.from_residual.result c.from_residual.ensures.1 in
     record {
       row = judges_refused (axiom_checks_of k left right) c.from_residual.result c.in_err-number.field-0.0 (p.1 ∙ ap Err p.2)

@@ -28,7 +28,8 @@ numbers_entailed-all-requires-clause-few c =
 
 pub returns-clause-learnt : goal.returns-clause-learnt
 returns-clause-learnt c =
-    let p = c.args.parts.now in let r = c.learn_words-2.new.parts in
+    let p = c.args.parts.now in
+    let r = c.learn_words-2.new.parts in
     let draft = drafted c.args.draft.name.now c.args.draft.size c.args.draft.assigned.now c.args.draft.own.now in
     let learns = both_learnt c.requires.sound c.requires.may c.learn_words.ensures c.learn_words-2.ensures in
     let numbers = c.numbers_entailed-all.ensures.numbers ∙ ap (numbers_named r.dict) (entailed_is c.requires.sound c.requires.may learns) in

@@ -6,15 +6,18 @@ use Rattle.lis_store.proofs.retagging.without_tags.Goals as goal
 
 pub push-requires : goal.push-requires
 push-requires c =
-    let words = c.args.words.now in let i = c.loop-word.word-index in
+    let words = c.args.words.now in
+    let i = c.loop-word.word-index in
     let few = filter_le (λ word. not (list_any (λ node. has_word (node_tags node) word) c.args.nodes.now)) (take i words) in
     let long = length-take-le i words (omega (arith, c.loop-word-test.true, c.loop-word.auto.word-index-end)) in
     omega (arith, few, long, ap length c.loop-word.invariant, c.loop-word-test.true, c.loop-word.auto.word-index-end, c.requires)
 
 pub loop-word-preserved : goal.loop-word-preserved
 loop-word-preserved c =
-    let words = c.args.words.now in let i = c.loop-word.word-index in
-    let word = c.word-item.result in let kept = c.loop-word.kept.items in
+    let words = c.args.words.now in
+    let i = c.loop-word.word-index in
+    let word = c.word-item.result in
+    let kept = c.loop-word.kept.items in
     let test : List ℕ → Bool = λ w. not (list_any (λ node. has_word (node_tags node) w) c.args.nodes.now) in
     let lt : i < length words = omega (arith, c.loop-word-test.true, c.loop-word.auto.word-index-end) in
     let next = kept_next test words i word lt c.word-item.is kept c.loop-word.invariant in
@@ -29,7 +32,8 @@ loop-word-preserved c =
 
 pub returns-clause-few : goal.returns-clause-few
 returns-clause-few c =
-    let words = c.args.words.now in let i = c.loop-word.word-index in
+    let words = c.args.words.now in
+    let i = c.loop-word.word-index in
     let few = filter_le (λ word. not (list_any (λ node. has_word (node_tags node) word) c.args.nodes.now)) (take i words) in
     let long = length-take-le i words (omega (arith, c.loop-word.auto.word-index-end)) in
     omega (arith, few, long, ap length c.loop-word.invariant, c.loop-word.auto.word-index-end, c.requires)

@@ -34,7 +34,8 @@ rebuild_all-requires-clause-short c =
 
 pub rebuild_all-requires-clause-few : goal.rebuild_all-requires-clause-few
 rebuild_all-requires-clause-few c = λ slot met.
-    let made = c.declare_under.new.self in let n = c.in-Some-number_of.number in
+    let made = c.declare_under.new.self in
+    let n = c.in-Some-number_of.number in
     let stands = c.declare_under.ensures.declares_under in
     let same : n ≡ stands.declares.number =
     same_Some n stands.declares.number (sym (sym c.number_of.ensures ∙ c.in-Some-number_of.is) ∙ number_then c.requires.form.sound c.requires.may stands c.declare_under.ensures.sound) in
@@ -44,7 +45,8 @@ rebuild_all-requires-clause-few c = λ slot met.
 
 pub returns : goal.returns
 returns c =
-    let made = c.declare_under.new.self in let n = c.in-Some-number_of.number in
+    let made = c.declare_under.new.self in
+    let n = c.in-Some-number_of.number in
     let stands = c.declare_under.ensures.declares_under in
     let same : n ≡ stands.declares.number =
     same_Some n stands.declares.number (sym (sym c.number_of.ensures ∙ c.in-Some-number_of.is) ∙ number_then c.requires.form.sound c.requires.may stands c.declare_under.ensures.sound) in

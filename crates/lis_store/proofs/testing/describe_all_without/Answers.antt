@@ -7,7 +7,9 @@ use Rattle.lis_store.proofs.testing.describe_all_without.Goals as goal
 
 pub loop-slot-preserved : goal.loop-slot-preserved
 loop-slot-preserved c =
-    let n = c.loop-slot.slot in let p = c.args.parts.now in let q = c.loop-slot.parts in
+    let n = c.loop-slot.slot in
+    let p = c.args.parts.now in
+    let q = c.loop-slot.parts in
     let inside : n < length p.ext.sets = omega (arith, c.loop-slot-test.true, c.limits.ensures.sound.files, ap (λ (l : Limits). l.files) c.limits.ensures.value) in
     let Q : List ℕ → Type 0 = λ ns. SlotHas n ns q c.describe_without.new.parts in (
       redescribed_more (without_number p c.args.number) n p q c.loop-slot.invariant.0 c.describe_without.new.parts inside

@@ -17,7 +17,8 @@ returns-in_err-left c = grind (arith, no_rights _ c.self.invariant.sound c.args.
 
 pub returns : goal.returns
 returns c =
-    let last = option_map (λ w. w.now) c.args.last in let left = c.args.left.now in
+    let last = option_map (λ w. w.now) c.args.last in
+    let left = c.args.left.now in
     let d = c.self.inside.dict in
     c.first_right.ensures left (word_from_number d c.self.invariant.sound.dict left c.in_ok-left.left (sym c.id_of.ensures ∙ c.in_ok-left.was))
     ∙ (ap (λ (slots : List AxiomSlot). find (is_behind last) (rights_of (fold (insert_key pair_cmp) [] (pairs_told d slots)) left)) c.as_slice.ensures.value

@@ -14,8 +14,10 @@ same c =
 
 pub link-requires : goal.link-requires
 link-requires c =
-    let mid = c.declare_word-number.new.self in let now = c.loop-place.self in
-    let places = c.args.places.now in let i = c.loop-place.place-index in
+    let mid = c.declare_word-number.new.self in
+    let now = c.loop-place.self in
+    let places = c.args.places.now in
+    let i = c.loop-place.place-index in
     let is = same (goal.at.link-requires c).After-declare_word-number in
     let lt : i < length places = omega (arith, c.loop-place-test.true, c.loop-place.auto.place-index-end) in
     subst (λ n. MayLink n (get_or places i 0) now) (sym is)
@@ -24,7 +26,8 @@ link-requires c =
 
 pub loop-place-preserved : goal.loop-place-preserved
 loop-place-preserved c =
-    let mid = c.declare_word-number.new.self in let places = c.args.places.now in
+    let mid = c.declare_word-number.new.self in
+    let places = c.args.places.now in
     let i = c.loop-place.place-index in
     let lt : i < length places = omega (arith, c.loop-place-test.true, c.loop-place.auto.place-index-end) in
     record {
@@ -35,7 +38,8 @@ loop-place-preserved c =
 
 pub returns : goal.returns
 returns c =
-    let mid = c.declare_word-number.new.self in let now = c.loop-place.self in
+    let mid = c.declare_word-number.new.self in
+    let now = c.loop-place.self in
     let places = c.args.places.now in
     let le : length places ≤ c.loop-place.place-index = omega (arith, c.loop-place-test.false) in
     record {

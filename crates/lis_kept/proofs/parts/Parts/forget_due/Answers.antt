@@ -10,14 +10,17 @@ use Rattle.lis_kept.proofs.parts.Parts.forget_due.Goals as goal
 
 pub forget-requires : goal.forget-requires
 forget-requires c = λ there.
-    let p = c.args.self.now in let q = c.loop-number.self in
+    let p = c.args.self.now in
+    let q = c.loop-number.self in
     let number = get_or c.args.numbers.now c.loop-number.number-index 0 in
     let due = sym c.is_due.ensures ∙ c.if-is_due.true in
     may_still _ _ p q c.loop-number.invariant.forgets c.args.slot c.args.valued number due (c.requires number (due_before _ _ p q c.loop-number.invariant.forgets c.args.slot c.args.valued number due))
 
 pub loop-number-preserved : goal.loop-number-preserved
 loop-number-preserved c =
-    let p = c.args.self.now in let q = c.loop-number.self in let numbers = c.args.numbers.now in
+    let p = c.args.self.now in
+    let q = c.loop-number.self in
+    let numbers = c.args.numbers.now in
     let i = c.loop-number.number-index in
     let P : Kept → Type 0 = λ k. ForgetsDue c.args.slot c.args.valued (take (i + 1) numbers) p k in
     let lt : i < length numbers = omega (arith, c.loop-number-test.true, c.loop-number.auto.number-index-end) in

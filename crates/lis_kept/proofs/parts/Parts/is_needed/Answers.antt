@@ -17,14 +17,16 @@ is_named-requires c = short_dict (the_view c.self.inside) c.self.invariant.sound
 
 pub returns-then-is_had : goal.returns-then-is_had
 returns-then-is_had c =
-    let k = the_view c.self.inside in let n = c.args.number in
+    let k = the_view c.self.inside in
+    let n = c.args.number in
     sym
     (ap (λ (x : Kept). is_needed x n) (sym c.self.view_is)
     ∙ ap₂ (λ a b. (not a && b) || list_any (is_named_by k.dict n) k.axioms) (sym c.is_test.ensures ∙ c.if-not-is_test.true) (sym c.is_had.ensures ∙ c.if-is_had.true))
 
 pub returns : goal.returns
 returns c =
-    let k = the_view c.self.inside in let n = c.args.number in
+    let k = the_view c.self.inside in
+    let n = c.args.number in
     let tested : Bool = is_some {T = Bool × ℕ} (test_by (word_of k.dict n)) in
     let none : (not tested && is_had k.ext n) ≡ false =
     elim c.else-not-is_test.branch [

@@ -19,7 +19,8 @@ is_named_left-requires c = short_dict (the_view c.self.inside) c.self.invariant.
 
 pub returns-else-is_had_beside : goal.returns-else-is_had_beside
 returns-else-is_had_beside c =
-    let k = the_view c.self.inside in let n = c.args.number in
+    let k = the_view c.self.inside in
+    let n = c.args.number in
     let named = c.is_named_left.ensures ∙ (ap (list_any (λ slot. is_left_of n slot || is_left_head_of k.dict n slot)) c.as_slice.ensures.value ∙ any_or (is_left_of n) (is_left_head_of k.dict n) k.axioms) in
     let seen = ap (λ k. is_used (beside c.args.slot k) n) c.self.view_is in
     elim c.if-get.branch [

@@ -51,7 +51,8 @@ now c = record (the_view c.self.inside) { dict = c.add.new.self; marks = c.mark_
 
 made : (c : goal.After-mark_property) → AreHeld (now c) c.link_head.new.taxonomy × Learns c.args.word.now c.in-Ok.number c.args.self.now (now c)
 made c =
-    let there = (goal.at.returns c).In-Ok in let new = (come there).new in
+    let there = (goal.at.returns c).In-Ok in
+    let new = (come there).new in
     learns_new (the_view c.self.inside) c.self.inside.taxonomy c.self.invariant (come there) ((premises there).form new) ((premises there).headed new)
     c.mark_property.new.marks c.mark_property.ensures c.args.self.now c.link_head.new.taxonomy c.self.view_is
     (c.link_head.ensures ∙ ap (with_edge_to c.self.inside.taxonomy c.in-Ok.number) c.head_number-head.ensures)

@@ -53,7 +53,8 @@ now c = record (the_view c.self.inside) { axioms = set (the_view c.self.inside).
 
 made : (c : goal.After-mark_axiom) → AreHeld (now c) c.add.new.self × Links c.args.left c.args.right c.args.self.now (now c)
 made c =
-    let at = (goal.at.returns c).In-Some in let v = the_view c.self.inside in
+    let at = (goal.at.returns c).In-Some in
+    let v = the_view c.self.inside in
     links c.args.self.now v c.self.inside.taxonomy c.add.new.self c.args.left c.args.right c.in-Some.slot (set v.axioms c.in-Some.slot (Pair c.from-left.result c.from-right.result)) c.mark_axiom.new.marks
     c.self.view_is c.self.invariant (may at) (below at) (free_place v.axioms c.in-Some.slot (place at))
     (ap₂ (λ (x y : ℕ). set v.axioms c.in-Some.slot (Pair x y)) c.from-left.ensures c.from-right.ensures)

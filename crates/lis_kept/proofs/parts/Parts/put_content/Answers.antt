@@ -13,8 +13,11 @@ ends : (g : _) (c : goal.Joined-put g)
     → PutEnds items c.args.bytes.now c.args.self.now (the_view c.if-is_large.self-inside) c.if-is_large.self-inside.taxonomy c.args.journal.now c.if-is_large.journal
     (g.D.Disk.meaning c.args.disk.now) (g.D.Disk.meaning c.if-is_large.disk) c.if-is_large.put
 ends g c =
-    let k = c.args.self.now in let v = the_view c.self.inside in let t = c.self.inside.taxonomy in
-    let old = c.args.journal.now in let before = g.D.Disk.meaning c.args.disk.now in
+    let k = c.args.self.now in
+    let v = the_view c.self.inside in
+    let t = c.self.inside.taxonomy in
+    let old = c.args.journal.now in
+    let before = g.D.Disk.meaning c.args.disk.now in
     let may : MayPut k c.args.bytes.now old = record { short = c.requires.short; enough = c.requires.enough; unplaced = c.requires.unplaced; unstaged = c.requires.unstaged } in
     elim c.if-is_large.branch [
       | then-is_large w ↦

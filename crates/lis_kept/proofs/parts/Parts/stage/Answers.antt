@@ -15,8 +15,11 @@ stage_block-requires-clause-room c =
 
 pub loop-n-preserved : goal.loop-n-preserved
 loop-n-preserved c =
-    let k = c.args.self.now in let n = c.loop-n.n in let old = c.args.journal.now in
-    let now = c.loop-n.journal in let P : Held → Type 0 = λ j. StagedBelow k (n + 1) old j in
+    let k = c.args.self.now in
+    let n = c.loop-n.n in
+    let old = c.args.journal.now in
+    let now = c.loop-n.journal in
+    let P : Held → Type 0 = λ j. StagedBelow k (n + 1) old j in
     let lt : n < length k.marks = omega (arith, c.loop-n-test.true, c.data_start-end.ensures.start, ap data_start c.limits.ensures.value, c.limits.ensures.sound.marks) in
     elim c.if-is_marked.branch [
       | then-is_marked w ↦ subst P (sym w.journal-is) (staged_more k n old now lt c.loop-n.auto.n c.loop-n.invariant w.stage_block.new.journal (sym c.is_marked.ensures ∙ w.if-is_marked.true) w.stage_block.ensures)

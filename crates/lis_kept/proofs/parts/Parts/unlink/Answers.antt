@@ -49,7 +49,8 @@ now c = record (the_view c.self.inside) { axioms = set (the_view c.self.inside).
 
 made : (c : goal.After-mark_axiom) → AreHeld (now c) c.remove.new.self × Unlinks c.args.left c.args.right c.args.self.now (now c)
 made c =
-    let there = (goal.at.returns c).In-Some in let v = the_view c.self.inside in
+    let there = (goal.at.returns c).In-Some in
+    let v = the_view c.self.inside in
     unlinks c.args.self.now v c.self.inside.taxonomy c.remove.new.self c.args.left c.args.right c.in-Some.slot (set v.axioms c.in-Some.slot FreeAxiom) c.mark_axiom.new.marks
     c.self.view_is c.self.invariant (may there) (at there) refl
     (c.in-Ok.ensures.ok ∙ ap₂ (λ (x y : ℕ). without_edge c.self.inside.taxonomy x y) c.from-left.ensures c.from-right.ensures) c.mark_axiom.ensures

@@ -12,13 +12,13 @@ returns-clause-holds g c =
 pub returns-clause-keeps : goal.returns-clause-keeps
 returns-clause-keeps g c =
     let store : c.self.inside.store ≡ c.args.self.now.store = ap (λ (s : Situated). s.store) c.self.view_is in
-    let left = rw store at c.hold.ensures.left in
+    let keeps = rw store at c.hold.ensures.keeps in
     record {
       left = record {
-        limits = rw store at c.hold.ensures.limits;
-        image = rw store at c.hold.ensures.image;
-        unbroken = unbroken_held c.args.self.now.store c.hold.new.store c.hold.result c.requires.usable.unbroken left;
+        limits = keeps.limits;
+        image = keeps.image;
+        unbroken = unbroken_held c.args.self.now.store c.hold.new.store c.hold.result c.requires.usable.unbroken keeps.left;
       };
-      sound = c.hold.ensures.sound;
+      sound = keeps.sound;
       ends = kept_ends c.hold.result c.hold.ensures.disk.run c.hold.ensures.disk.cause c.hold.ensures.disk.first_fault;
     }

@@ -1,9 +1,10 @@
-use Rattle.lis_store.proofs.Common.{◌∙◌, sym, ap, subst, ℕ, List, None, Ok, Err, err_from_is_err_and, new_file, file_added, assigned_at, Situation, Outcome, Payload, add, Kept, changed, rules, State}
+use Rattle.lis_store.proofs.Common.{◌≡◌, ◌∙◌, sym, ap, subst, ℕ, List, None, Ok, Err, err_from_is_err_and, new_file, file_added, assigned_at, Situation, Outcome, Payload, add, Kept, changed, rules, State}
 use Rattle.lis_store.specs.ReplacingIn.{MayPutBytes}
 use Rattle.lis_store.specs.Stored.{Stored, StoreHolds}
 use Rattle.lis_store.specs.Changes.{Holds, Commits}
 use Rattle.lis_store.proofs.Admitted.{whole_inside, admitted, enough_free, add_done, added_refused}
 use Rattle.lis_store.proofs.Holding.{fits_held}
+use Rattle.lis_store.proofs.Keeping.{keeps_behind}
 use Rattle.lis_store.proofs.Large.{held_behind_commit, held_lost_commit}
 use Rattle.lis_store.proofs.ToldBy.{told_held}
 use Rattle.lis_store.proofs.store.Store.add_file_held.Goals.{then-is_large+in_ok-commit, else-is_large}
@@ -52,7 +53,8 @@ put_file-requires-clause-may g c =
 
 pub returns-clause-holds : goal.returns-clause-holds
 returns-clause-holds g c = λ base s holds.
-    let m = g.D.Disk.meaning c.args.disk.now in let mid = c.if-is_large.self in
+    let m = g.D.Disk.meaning c.args.disk.now in
+    let mid = c.if-is_large.self in
     let between = g.D.Disk.meaning c.if-is_large.disk in
     let after = g.D.Disk.meaning c.put_file.new.disk in
     let old : Stored = record { parts = c.self.inside.parts; journal = c.self.inside.journal; is_broken = c.self.inside.is_broken } in
@@ -69,8 +71,17 @@ returns-clause-holds g c = λ base s holds.
       | then-is_large+in_ok-commit w ↦
           let commits : Commits {T = Unit {0}} base s mid m between (Ok tt) = rw (w.self-is, w.disk-is) (w.in_ok-commit.ensures.commits base s holds) in
           held_behind_commit base now outcome m between after old mid c.put_file.new.self tt c.put_file.result c.self.invariant held commits
-          c.put_file.ensures.sound (c.put_file.ensures.settled (sym c.is_large.ensures ∙ w.if-is_large.true)) c.put_file.ensures.ended
+          c.put_file.ensures.keeps.sound (c.put_file.ensures.settled (sym c.is_large.ensures ∙ w.if-is_large.true)) c.put_file.ensures.ended
           (c.put_file.ensures.holds s now (fits_held mid between s (rw w.self-is w.commit.ensures.sound) commits.ended))
       | else-is_large w ↦
           rw (← w.disk-is) (c.put_file.ensures.holds base now (rw (w.self-is, w.disk-is) holds))
     ])
+
+pub returns-clause-keeps : goal.returns-clause-keeps
+returns-clause-keeps g c =
+    let kept : (c.if-is_large.self.parts ≡ c.args.self.now.parts) × (c.if-is_large.self.journal.blocks ≡ c.args.self.now.journal.blocks) =
+    elim c.if-is_large.branch [
+      | then-is_large+in_ok-commit w ↦ (ap (λ (k : Stored). k.parts) w.self-is ∙ w.commit.ensures.parts, ap (λ (k : Stored). k.journal.blocks) w.self-is ∙ w.commit.ensures.image)
+      | else-is_large w ↦ (ap (λ (k : Stored). k.parts) w.self-is, ap (λ (k : Stored). k.journal.blocks) w.self-is)
+    ] in
+    keeps_behind kept.0 kept.1 c.put_file.ensures.keeps c.put_file.ensures.ended

@@ -1,10 +1,10 @@
 use Rattle.lis_store.proofs.Common.{◌∙◌, ap, Err, err_from_is_err_and, rules, State, Situation}
 use Rattle.lis_store.specs.Stored.{StoreHolds}
-use Rattle.lis_store.proofs.Edits.{edits_saved}
 use Rattle.lis_store.proofs.Judged.{view_refused}
+use Rattle.lis_store.proofs.Keeping.{keeps_saved}
 use Rattle.lis_store.proofs.Related.{related, axiom_refused, axiom_done, axiom_fit}
 use Rattle.lis_store.proofs.Relates.{axiom_change, axiom_holds}
-use Rattle.lis_store.proofs.SavedAlone.{alone_placed, whole_view, held_view}
+use Rattle.lis_store.proofs.SavedAlone.{change_saves, whole_view, held_view}
 use Rattle.lis_store.proofs.store.Store.axiom_held.Goals as goal
 
 pub returns-in_err-may_relate : goal.returns-in_err-may_relate
@@ -19,22 +19,20 @@ returns-in_err-may_relate g c =
 pub relate-requires-clause-may : goal.relate-requires-clause-may
 relate-requires-clause-may g c = related c.self.invariant.parts c.in_ok-may_relate.ensures.row
 
-pub hold-requires-clause-sound : goal.hold-requires-clause-sound
-hold-requires-clause-sound g c = (axiom_change c.self.invariant (related c.self.invariant.parts c.in_ok-may_relate.ensures.row) c.relate.ensures (whole_view c.self.view_is c.requires.usable.unbroken)).settles
-
-pub hold-requires-clause-placed : goal.hold-requires-clause-placed
-hold-requires-clause-placed g c = alone_placed _ c.self.invariant (whole_view c.self.view_is c.requires.usable.unbroken) c.relate.new.parts
-
-pub hold-requires-clause-room : goal.hold-requires-clause-room
-hold-requires-clause-room g c = (axiom_change c.self.invariant (related c.self.invariant.parts c.in_ok-may_relate.ensures.row) c.relate.ensures (whole_view c.self.view_is c.requires.usable.unbroken)).room
+pub hold-requires : goal.hold-requires
+hold-requires g c =
+    let change = axiom_change c.self.invariant (related c.self.invariant.parts c.in_ok-may_relate.ensures.row) c.relate.ensures (whole_view c.self.view_is c.requires.usable.unbroken) in
+    let asks = change_saves c.self.invariant (whole_view c.self.view_is c.requires.usable.unbroken) change in
+    search (rules, asks.settles, asks.image, asks.placed, asks.room)
 
 pub returns-clause-holds : goal.returns-clause-holds
 returns-clause-holds g c = λ base now fits.
-    let held = held_view c.self.view_is fits in let row = c.in_ok-may_relate.ensures.row in
+    let held = held_view c.self.view_is fits in
+    let row = c.in_ok-may_relate.ensures.row in
     axiom_holds c.self.invariant (related c.self.invariant.parts row) c.relate.ensures (whole_view c.self.view_is c.requires.usable.unbroken) c.hold.ensures.saves now held
     (axiom_fit c.self.invariant now held.tells c.args.left.now c.args.right.now row) (axiom_done c.self.invariant now held.tells c.args.left.now c.args.right.now row)
 
-pub returns-clause-edits : goal.returns-clause-edits
-returns-clause-edits g c =
+pub returns-clause-keeps : goal.returns-clause-keeps
+returns-clause-keeps g c =
     let change = axiom_change c.self.invariant (related c.self.invariant.parts c.in_ok-may_relate.ensures.row) c.relate.ensures (whole_view c.self.view_is c.requires.usable.unbroken) in
-    edits_saved c.relate.new.parts c.self.view_is c.hold.ensures.parts change.edits
+    keeps_saved c.self.view_is c.relate.new.parts c.hold.result change.limits change.edits c.hold.ensures.sound c.hold.ensures.parts c.hold.ensures.image c.hold.ensures.ended

@@ -1,15 +1,19 @@
 use Rattle.lis_store.proofs.Common.{◌∙◌, ap, Err, err_from_is_err_and, rules, State}
 use Rattle.lis_store.specs.Stored.{StoreFits}
 use Rattle.lis_store.proofs.Holding.{call_ended, call_committed}
+use Rattle.lis_store.proofs.Keeping.{keeps_committed}
 use Rattle.lis_store.proofs.store.Store.declare.Goals as goal
 
 pub returns-in_err-declare_held : goal.returns-in_err-declare_held
 returns-in_err-declare_held g c =
     let changes = λ (s : State) (fits : StoreFits c.args.self.now (g.D.Disk.meaning c.args.disk.now) s).
     let p = err_from_is_err_and c.from_residual.result c.from_residual.ensures.1 in
-    call_ended c.declare_held.ensures.entry (record { state = s; place = c.args.place.now }) fits (λ base held. c.declare_held.ensures.holds base s held) c.in_err-declare_held.was (p.1 ∙ ap Err p.2) c.declare_held.ensures.left in
+    call_ended c.declare_held.ensures.entry (record { state = s; place = c.args.place.now }) fits (λ base held. c.declare_held.ensures.holds base s held) c.in_err-declare_held.was (p.1 ∙ ap Err p.2) c.declare_held.ensures.keeps.left in
     search (rules, changes)
 
 pub returns-clause-changes : goal.returns-clause-changes
 returns-clause-changes g c = λ s fits.
-    call_committed c.declare_held.ensures.entry (record { state = s; place = c.args.place.now }) fits (λ base held. c.declare_held.ensures.holds base s held) c.in_ok-declare_held.was c.commit.ensures.commits c.declare_held.ensures.limits
+    call_committed c.declare_held.ensures.entry (record { state = s; place = c.args.place.now }) fits (λ base held. c.declare_held.ensures.holds base s held) c.in_ok-declare_held.was c.commit.ensures.commits c.declare_held.ensures.keeps.limits
+
+pub returns-clause-keeps : goal.returns-clause-keeps
+returns-clause-keeps g c = keeps_committed c.commit.result c.declare_held.ensures.keeps c.commit.ensures.sound c.commit.ensures.left c.commit.ensures.parts c.commit.ensures.image

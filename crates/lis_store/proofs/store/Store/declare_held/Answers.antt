@@ -1,10 +1,10 @@
-use Rattle.lis_store.proofs.Common.{◌∙◌, sym, ap, subst, List, ℕ, Err, err_from_is_err_and, image_blocks, Kept, rules, State}
-use Rattle.lis_store.specs.Stored.{Stored, StoreHolds}
+use Rattle.lis_store.proofs.Common.{◌∙◌, sym, ap, subst, List, ℕ, Err, err_from_is_err_and, rules, State}
+use Rattle.lis_store.specs.Stored.{StoreHolds}
 use Rattle.lis_store.specs.Testing.{MayDeclare}
-use Rattle.lis_store.proofs.Edits.{edits_saved}
 use Rattle.lis_store.proofs.Judged.{view_refused}
+use Rattle.lis_store.proofs.Keeping.{keeps_saved}
 use Rattle.lis_store.proofs.Retaken.{in_form}
-use Rattle.lis_store.proofs.SavedAlone.{alone_placed, whole_view, held_view}
+use Rattle.lis_store.proofs.SavedAlone.{change_saves, whole_view, held_view}
 use Rattle.lis_store.proofs.Tested.{declared_change, declared_holds, declared_refused}
 use Rattle.lis_store.proofs.store.Store.declare_held.Goals as goal
 
@@ -23,31 +23,16 @@ declare_tested-requires-clause-form g c = in_form _ c.self.invariant
 pub declare_tested-requires-clause-may : goal.declare_tested-requires-clause-may
 declare_tested-requires-clause-may g c = subst (λ (ns : List ℕ). MayDeclare c.self.inside.parts c.args.word.now ns) (sym c.as_slice.ensures.value) c.in_ok-places.ensures.may
 
-pub hold-requires-clause-sound : goal.hold-requires-clause-sound
-hold-requires-clause-sound g c =
-    (declared_change c.self.invariant (whole_view c.self.view_is c.requires.usable.unbroken) c.in_ok-places.ensures.may c.as_slice.ensures.value c.declare_tested.ensures).settles
-
-pub hold-requires-clause-image : goal.hold-requires-clause-image
-hold-requires-clause-image g c =
+pub hold-requires : goal.hold-requires
+hold-requires g c =
     let change = declared_change c.self.invariant (whole_view c.self.view_is c.requires.usable.unbroken) c.in_ok-places.ensures.may c.as_slice.ensures.value c.declare_tested.ensures in
-    c.self.invariant.image ∙ sym (ap image_blocks change.limits)
+    let asks = change_saves c.self.invariant (whole_view c.self.view_is c.requires.usable.unbroken) change in
+    search (rules, asks.settles, asks.image, asks.placed, asks.room)
 
-pub hold-requires-clause-placed : goal.hold-requires-clause-placed
-hold-requires-clause-placed g c = alone_placed _ c.self.invariant (whole_view c.self.view_is c.requires.usable.unbroken) c.declare_tested.new.parts
-
-pub hold-requires-clause-room : goal.hold-requires-clause-room
-hold-requires-clause-room g c =
-    (declared_change c.self.invariant (whole_view c.self.view_is c.requires.usable.unbroken) c.in_ok-places.ensures.may c.as_slice.ensures.value c.declare_tested.ensures).room
-
-pub returns-clause-edits : goal.returns-clause-edits
-returns-clause-edits g c =
+pub returns-clause-keeps : goal.returns-clause-keeps
+returns-clause-keeps g c =
     let change = declared_change c.self.invariant (whole_view c.self.view_is c.requires.usable.unbroken) c.in_ok-places.ensures.may c.as_slice.ensures.value c.declare_tested.ensures in
-    edits_saved c.declare_tested.new.parts c.self.view_is c.hold.ensures.parts change.edits
-
-pub returns-clause-limits : goal.returns-clause-limits
-returns-clause-limits g c =
-    let change = declared_change c.self.invariant (whole_view c.self.view_is c.requires.usable.unbroken) c.in_ok-places.ensures.may c.as_slice.ensures.value c.declare_tested.ensures in
-    ap (λ (k : Kept). k.limits) c.hold.ensures.parts ∙ (change.limits ∙ ap (λ (k : Stored). k.parts.limits) c.self.view_is)
+    keeps_saved c.self.view_is c.declare_tested.new.parts c.hold.result change.limits change.edits c.hold.ensures.sound c.hold.ensures.parts c.hold.ensures.image c.hold.ensures.ended
 
 pub returns-clause-holds : goal.returns-clause-holds
 returns-clause-holds g c = λ base s fits.

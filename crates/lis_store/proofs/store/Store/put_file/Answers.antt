@@ -1,12 +1,12 @@
-use Rattle.lis_store.proofs.Common.{◌≡◌, ◌∙◌, ℕ, ◌≤◌, true, length, Err, sym, ap, subst, arith, err_from_is_err_and, ArrayVec, is_large, Limits, blocks_taken, new_file, file_added, Kept, changed, HasRoom}
+use Rattle.lis_store.proofs.Common.{rules, ◌≡◌, ◌∙◌, ℕ, ◌≤◌, true, length, Err, sym, ap, subst, arith, err_from_is_err_and, ArrayVec, is_large, Limits, blocks_taken, new_file, file_added, changed, HasRoom}
 use Rattle.lis_store.specs.Stored.{Stored, StoreHolds}
 use Rattle.lis_store.specs.Drafts.{draft_of}
 use Rattle.lis_store.specs.Instead.{free_for}
 use Rattle.lis_store.specs.ReplacingIn.{record_in, file_gone}
-use Rattle.lis_store.proofs.Edits.{edits_saved}
+use Rattle.lis_store.proofs.Keeping.{keeps_saved}
 use Rattle.lis_store.proofs.Large.{none_left}
-use Rattle.lis_store.proofs.ReplaceFile.{anew_there, anew_small, mid_form, mid_first, mid_in_form, mid_below, mid_limits, mid_short, mid_image, written_sound, written_image, written_unbroken, written_placed, written_room, written_limits, written_edits, written_holds}
-use Rattle.lis_store.proofs.Torn.{lost_sound, lost_holds}
+use Rattle.lis_store.proofs.ReplaceFile.{anew_there, anew_small, mid_form, mid_first, mid_in_form, mid_below, mid_limits, mid_short, mid_image, written_unbroken, written_saves, written_same, written_edits, written_holds}
+use Rattle.lis_store.proofs.Torn.{lost_sound, lost_holds, lost_keeps}
 use Rattle.lis_store.proofs.store.Store.put_file.Goals as goal
 
 pub invariant_of-self : goal.invariant_of-self
@@ -15,72 +15,54 @@ invariant_of-self g c =
     lost_sound (ArrayVec ℕ) old c.self.invariant c.args.payload.now (record_in old.parts c.args.slot) c.put_anew.new.parts c.put_anew.new.journal c.put_anew.new.is_broken c.in_err-blocks.field-0.0
     (g.D.Disk.meaning c.args.disk.now) (g.D.Disk.meaning c.put_anew.new.disk) c.in_err-blocks.ensures.renewed c.in_err-blocks.ensures.ended c.put_anew.ensures.sound
 
-pub returns-in_err-blocks-clause-sound : goal.returns-in_err-blocks-clause-sound
-returns-in_err-blocks-clause-sound g c =
+pub returns-in_err-blocks-clause-keeps : goal.returns-in_err-blocks-clause-keeps
+returns-in_err-blocks-clause-keeps g c =
     let old : Stored = record { parts = c.self.inside.parts; journal = c.self.inside.journal; is_broken = c.self.inside.is_broken } in
-    lost_sound (ArrayVec ℕ) old c.self.invariant c.args.payload.now (record_in old.parts c.args.slot) c.put_anew.new.parts c.put_anew.new.journal c.put_anew.new.is_broken c.in_err-blocks.field-0.0
-    (g.D.Disk.meaning c.args.disk.now) (g.D.Disk.meaning c.put_anew.new.disk) c.in_err-blocks.ensures.renewed c.in_err-blocks.ensures.ended c.put_anew.ensures.sound
+    let r = err_from_is_err_and c.from_residual.result c.from_residual.ensures.1 in
+    lost_keeps (ArrayVec ℕ) old c.self.invariant c.args.payload.now (record_in old.parts c.args.slot) c.put_anew.new.parts c.put_anew.new.journal c.put_anew.new.is_broken c.in_err-blocks.field-0.0
+    (g.D.Disk.meaning c.args.disk.now) (g.D.Disk.meaning c.put_anew.new.disk) c.in_err-blocks.ensures.renewed c.in_err-blocks.ensures.ended c.self.view_is (r.1 ∙ ap Err r.2) c.put_anew.ensures.sound
 
 pub returns-in_err-blocks-clause-holds : goal.returns-in_err-blocks-clause-holds
 returns-in_err-blocks-clause-holds g c = λ base now holds.
     let old : Stored = record { parts = c.self.inside.parts; journal = c.self.inside.journal; is_broken = c.self.inside.is_broken } in
-    let m = g.D.Disk.meaning c.args.disk.now in let after = g.D.Disk.meaning c.put_anew.new.disk in
+    let m = g.D.Disk.meaning c.args.disk.now in
+    let after = g.D.Disk.meaning c.put_anew.new.disk in
     let alone = λ (large : is_large (length c.args.payload.now) ≡ true). ap (λ (k : Stored). k.journal.staged) c.self.view_is ∙ c.requires.alone large in
     let H : Stored → Type 0 = λ k. StoreHolds k m base now.state in
     let r = err_from_is_err_and c.from_residual.result c.from_residual.ensures.1 in
     lost_holds (ArrayVec ℕ) old c.self.invariant c.args.payload.now (record_in old.parts c.args.slot) c.put_anew.new.parts c.put_anew.new.journal c.put_anew.new.is_broken c.in_err-blocks.field-0.0 m after c.in_err-blocks.ensures.renewed c.in_err-blocks.ensures.ended base now
     (changed now (file_added (file_gone now.state (record_in c.args.self.now.parts c.args.slot)) (new_file c.args.name.now c.args.assigned.now c.args.payload.now))) c.from_residual.result (r.1 ∙ ap Err r.2) alone (subst H (sym c.self.view_is) holds)
 
-pub replace_record-requires-clause-form : goal.replace_record-requires-clause-form
-replace_record-requires-clause-form g c =
-    mid_form c.self.view_is c.args.slot c.args.name.now c.args.assigned.now c.args.payload.now c.in_ok-blocks.blocks.items c.self.invariant c.in_ok-blocks.ensures.sound c.requires.may.0 c.in_ok-blocks.ensures.renewed
-
-pub replace_record-requires-clause-may : goal.replace_record-requires-clause-may
-replace_record-requires-clause-may g c =
-    mid_first c.self.view_is c.args.slot c.args.name.now c.args.assigned.now c.args.payload.now c.in_ok-blocks.blocks.items c.self.invariant c.in_ok-blocks.ensures.sound c.requires.may.0 c.in_ok-blocks.ensures.renewed
-
-pub replace_record-requires-clause-in_form : goal.replace_record-requires-clause-in_form
-replace_record-requires-clause-in_form g c =
-    mid_in_form c.self.view_is c.args.slot c.args.name.now c.args.assigned.now c.args.payload.now c.in_ok-blocks.blocks.items c.self.invariant c.in_ok-blocks.ensures.sound c.requires.may.0 c.in_ok-blocks.ensures.renewed
-
-pub replace_record-requires-clause-below : goal.replace_record-requires-clause-below
-replace_record-requires-clause-below g c =
-    mid_below c.self.view_is c.args.slot c.args.name.now c.args.assigned.now c.args.payload.now c.in_ok-blocks.blocks.items c.self.invariant c.in_ok-blocks.ensures.sound c.requires.may.0 c.in_ok-blocks.ensures.renewed
-
-pub replace_record-requires-clause-scratch : goal.replace_record-requires-clause-scratch
-replace_record-requires-clause-scratch g c =
-    subst (λ (l : Limits). HasRoom c.args.scratch.now l) (sym (mid_limits c.self.view_is c.args.slot c.args.name.now c.args.assigned.now c.args.payload.now c.in_ok-blocks.blocks.items c.self.invariant c.in_ok-blocks.ensures.sound c.requires.may.0 c.in_ok-blocks.ensures.renewed)) c.requires.scratch
+pub replace_record-requires : goal.replace_record-requires
+replace_record-requires g c = record {
+  form = mid_form c.self.view_is c.args.slot c.args.name.now c.args.assigned.now c.args.payload.now c.in_ok-blocks.blocks.items c.self.invariant c.in_ok-blocks.ensures.sound c.requires.may.0 c.in_ok-blocks.ensures.renewed;
+  may = mid_first c.self.view_is c.args.slot c.args.name.now c.args.assigned.now c.args.payload.now c.in_ok-blocks.blocks.items c.self.invariant c.in_ok-blocks.ensures.sound c.requires.may.0 c.in_ok-blocks.ensures.renewed;
+  in_form = mid_in_form c.self.view_is c.args.slot c.args.name.now c.args.assigned.now c.args.payload.now c.in_ok-blocks.blocks.items c.self.invariant c.in_ok-blocks.ensures.sound c.requires.may.0 c.in_ok-blocks.ensures.renewed;
+  below = mid_below c.self.view_is c.args.slot c.args.name.now c.args.assigned.now c.args.payload.now c.in_ok-blocks.blocks.items c.self.invariant c.in_ok-blocks.ensures.sound c.requires.may.0 c.in_ok-blocks.ensures.renewed;
+  scratch = subst (λ (l : Limits). HasRoom c.args.scratch.now l) (sym (mid_limits c.self.view_is c.args.slot c.args.name.now c.args.assigned.now c.args.payload.now c.in_ok-blocks.blocks.items c.self.invariant c.in_ok-blocks.ensures.sound c.requires.may.0 c.in_ok-blocks.ensures.renewed)) c.requires.scratch;
+}
 
 pub most_held-requires : goal.most_held-requires
 most_held-requires g c =
     mid_short c.self.view_is c.args.slot c.args.name.now c.args.assigned.now c.args.payload.now c.in_ok-blocks.blocks.items c.self.invariant c.in_ok-blocks.ensures.sound c.requires.may.0 c.in_ok-blocks.ensures.renewed
 
-pub hold-requires-clause-sound : goal.hold-requires-clause-sound
-hold-requires-clause-sound g c =
-    written_sound c.self.view_is c.args.slot c.args.name.now c.args.assigned.now c.args.payload.now c.in_ok-blocks.blocks.items c.self.invariant c.in_ok-blocks.ensures.sound c.requires.may.0 c.in_ok-blocks.ensures.renewed c.replace_record.ensures.refiles c.requires.usable.unbroken
-
-pub hold-requires-clause-usable : goal.hold-requires-clause-usable
-hold-requires-clause-usable g c = record {
-  unbroken =
-      written_unbroken c.self.view_is c.args.slot c.args.name.now c.args.assigned.now c.args.payload.now c.in_ok-blocks.blocks.items c.self.invariant c.in_ok-blocks.ensures.sound c.requires.may.0 c.in_ok-blocks.ensures.renewed c.replace_record.ensures.refiles c.requires.usable.unbroken;
-  long =
-      omega (arith, c.requires.usable.long, mid_image c.self.view_is c.args.slot c.args.name.now c.args.assigned.now c.args.payload.now c.in_ok-blocks.blocks.items c.self.invariant c.in_ok-blocks.ensures.sound c.requires.may.0 c.in_ok-blocks.ensures.renewed, c.in_ok-blocks.ensures.disk.run.len);
-}
-
-pub hold-requires-clause-placed : goal.hold-requires-clause-placed
-hold-requires-clause-placed g c =
-    written_placed c.self.view_is c.args.slot c.args.name.now c.args.assigned.now c.args.payload.now c.in_ok-blocks.blocks.items c.self.invariant c.in_ok-blocks.ensures.sound c.requires.may.0 c.in_ok-blocks.ensures.renewed c.replace_record.ensures.refiles c.requires.usable.unbroken
-
-pub hold-requires-clause-room : goal.hold-requires-clause-room
-hold-requires-clause-room g c =
-    written_room c.self.view_is c.args.slot c.args.name.now c.args.assigned.now c.args.payload.now c.in_ok-blocks.blocks.items c.self.invariant c.in_ok-blocks.ensures.sound c.requires.may.0 c.in_ok-blocks.ensures.renewed c.replace_record.ensures.refiles c.requires.usable.unbroken
-
-pub hold-requires-clause-image : goal.hold-requires-clause-image
-hold-requires-clause-image g c =
-    written_image c.self.view_is c.args.slot c.args.name.now c.args.assigned.now c.args.payload.now c.in_ok-blocks.blocks.items c.self.invariant c.in_ok-blocks.ensures.sound c.requires.may.0 c.in_ok-blocks.ensures.renewed c.replace_record.ensures.refiles
-
-pub hold-requires-clause-unplaced : goal.hold-requires-clause-unplaced
-hold-requires-clause-unplaced g c = λ some. c.in_ok-blocks.ensures.renewed.unplaced (c.most_held.ensures.large some)
+pub hold-requires : goal.hold-requires
+hold-requires g c =
+    let asks = written_saves c.self.view_is c.args.slot c.args.name.now c.args.assigned.now c.args.payload.now c.in_ok-blocks.blocks.items c.self.invariant c.in_ok-blocks.ensures.sound c.requires.may.0 c.in_ok-blocks.ensures.renewed c.replace_record.ensures.refiles c.requires.usable.unbroken in
+    let image = mid_image c.self.view_is c.args.slot c.args.name.now c.args.assigned.now c.args.payload.now c.in_ok-blocks.blocks.items c.self.invariant c.in_ok-blocks.ensures.sound c.requires.may.0 c.in_ok-blocks.ensures.renewed in
+    record {
+      sound = asks.settles;
+      image = asks.image;
+      usable = record {
+        unbroken = written_unbroken c.self.view_is c.args.slot c.args.name.now c.args.assigned.now c.args.payload.now c.in_ok-blocks.blocks.items c.self.invariant c.in_ok-blocks.ensures.sound c.requires.may.0 c.in_ok-blocks.ensures.renewed c.replace_record.ensures.refiles c.requires.usable.unbroken;
+        long = omega (arith, c.requires.usable.long, image, c.in_ok-blocks.ensures.disk.run.len);
+      };
+      whole = search rules;
+      placed = asks.placed;
+      unplaced = λ some. c.in_ok-blocks.ensures.renewed.unplaced (c.most_held.ensures.large some);
+      few = search rules;
+      room = asks.room;
+    }
 
 pub returns-clause-scratch : goal.returns-clause-scratch
 returns-clause-scratch g c =
@@ -96,29 +78,15 @@ pub returns-clause-settled : goal.returns-clause-settled
 returns-clause-settled g c = λ large.
     none_left (length c.args.payload.now) c.most_held.result c.hold.new.journal.staged c.hold.result c.most_held.ensures.large large c.hold.ensures.few
 
-pub returns-clause-limits : goal.returns-clause-limits
-returns-clause-limits g c =
-    ap (λ (k : Kept). k.limits) c.hold.ensures.parts ∙ written_limits c.self.view_is c.args.slot c.args.name.now c.args.assigned.now c.args.payload.now c.in_ok-blocks.blocks.items c.self.invariant c.in_ok-blocks.ensures.sound c.requires.may.0 c.in_ok-blocks.ensures.renewed c.replace_record.ensures.refiles
+pub returns-clause-keeps : goal.returns-clause-keeps
+returns-clause-keeps g c =
+    let limits = written_same c.self.view_is c.args.slot c.args.name.now c.args.assigned.now c.args.payload.now c.in_ok-blocks.blocks.items c.self.invariant c.in_ok-blocks.ensures.sound c.requires.may.0 c.in_ok-blocks.ensures.renewed c.replace_record.ensures.refiles in
+    let edits = written_edits c.self.view_is c.args.slot c.args.name.now c.args.assigned.now c.args.payload.now c.in_ok-blocks.blocks.items c.self.invariant c.in_ok-blocks.ensures.sound c.requires.may.0 c.in_ok-blocks.ensures.renewed c.replace_record.ensures.refiles in
+    keeps_saved c.self.view_is c.replace_record.new.parts c.hold.result limits edits c.hold.ensures.sound c.hold.ensures.parts (c.hold.ensures.image ∙ c.in_ok-blocks.ensures.renewed.image) c.hold.ensures.ended
 
-pub returns-clause-image : goal.returns-clause-image
-returns-clause-image g c =
-    c.hold.ensures.image ∙ mid_image c.self.view_is c.args.slot c.args.name.now c.args.assigned.now c.args.payload.now c.in_ok-blocks.blocks.items c.self.invariant c.in_ok-blocks.ensures.sound c.requires.may.0 c.in_ok-blocks.ensures.renewed
-
-pub returns-clause-edits : goal.returns-clause-edits
-returns-clause-edits g c =
-    edits_saved c.replace_record.new.parts c.self.view_is c.hold.ensures.parts (written_edits c.self.view_is c.args.slot c.args.name.now c.args.assigned.now c.args.payload.now c.in_ok-blocks.blocks.items c.self.invariant c.in_ok-blocks.ensures.sound c.requires.may.0 c.in_ok-blocks.ensures.renewed c.replace_record.ensures.refiles)
-
-pub put_anew-requires-clause-sound : goal.put_anew-requires-clause-sound
-put_anew-requires-clause-sound g c = c.self.invariant.parts
-
-pub put_anew-requires-clause-there : goal.put_anew-requires-clause-there
-put_anew-requires-clause-there g c =
-    anew_there c.self.view_is c.args.slot (draft_of (new_file c.args.name.now c.args.assigned.now c.args.payload.now)) c.requires.may.0
-
-pub put_anew-requires-clause-short : goal.put_anew-requires-clause-short
-put_anew-requires-clause-short g c =
-    anew_small c.self.view_is c.args.slot (draft_of (new_file c.args.name.now c.args.assigned.now c.args.payload.now)) c.requires.may.0
-
-pub put_anew-requires-clause-enough : goal.put_anew-requires-clause-enough
-put_anew-requires-clause-enough g c =
-    subst (λ (k : Stored). blocks_taken k.parts.limits.version (length c.args.payload.now) ≤ free_for k.parts (record_in k.parts c.args.slot)) (sym c.self.view_is) c.requires.may.1
+pub put_anew-requires : goal.put_anew-requires
+put_anew-requires g c =
+    let there = anew_there c.self.view_is c.args.slot (draft_of (new_file c.args.name.now c.args.assigned.now c.args.payload.now)) c.requires.may.0 in
+    let short = anew_small c.self.view_is c.args.slot (draft_of (new_file c.args.name.now c.args.assigned.now c.args.payload.now)) c.requires.may.0 in
+    let enough = subst (λ (k : Stored). blocks_taken k.parts.limits.version (length c.args.payload.now) ≤ free_for k.parts (record_in k.parts c.args.slot)) (sym c.self.view_is) c.requires.may.1 in
+    search (rules, there, short, enough)

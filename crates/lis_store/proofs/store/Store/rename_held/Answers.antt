@@ -1,8 +1,10 @@
-use Rattle.lis_store.proofs.Common.{◌∙◌, length, Err, is_some, refl, sym, ap, subst, err_from_is_err_and, Kept, rules, State}
+use Rattle.lis_store.proofs.Common.{◌∙◌, length, Err, is_some, refl, sym, ap, subst, err_from_is_err_and, rules, State}
 use Rattle.lis_store.specs.Stored.{Stored, IsSound, StoreHolds}
-use Rattle.lis_store.proofs.Edits.{edits_saved}
 use Rattle.lis_store.proofs.FileRead.{name_taken, rename_asks, read_lost, renaming_refused, renaming_holds}
-use Rattle.lis_store.proofs.ReplaceFile.{still_in_form, still_below, refiled_limits, refiled_sound, refiled_image, refiled_placed, refiled_room, refiled_edits}
+use Rattle.lis_store.proofs.Keeping.{keeps_lost, keeps_saved}
+use Rattle.lis_store.proofs.ReplaceFile.{still_in_form, still_below, refiled_change}
+use Rattle.lis_store.proofs.Retaken.{in_form, sound_lost}
+use Rattle.lis_store.proofs.SavedAlone.{change_saves, whole_view}
 use Rattle.lis_store.proofs.WriteFile.{found_there, renamed_nowhere}
 use Rattle.lis_store.proofs.store.Store.rename_held.Goals as goal
 
@@ -25,6 +27,11 @@ returns-in-Err-clause-holds g c = λ base s holds.
     read_lost c.self.view_is c.self.invariant c.args.place.now c.args.name.now c.in-Some.ensures.slot c.in-Some.ensures.here c.args.new.now (g.D.Disk.meaning c.args.disk.now) base s holds (g.D.Disk.meaning c.read_file.new.disk)
     (record { reads = c.read_file.ensures.disk.reads; fits = c.read_file.ensures.fits }) _ _ refl (ap Err c.from.ensures)
 
+pub returns-in-Err-clause-keeps : goal.returns-in-Err-clause-keeps
+returns-in-Err-clause-keeps g c =
+    let sound = sound_lost c.self.inside.parts c.self.inside.journal (in_form _ c.self.invariant) c.self.invariant.pairs c.self.invariant.image in
+    keeps_lost c.self.view_is sound (ap Err c.from.ensures) refl refl refl refl
+
 pub may_rename-requires-clause-there : goal.may_rename-requires-clause-there
 may_rename-requires-clause-there g c =
     ap is_some (found_there c.self.view_is c.self.invariant c.args.name.now c.in-Some.ensures.slot).1
@@ -43,21 +50,16 @@ replace_record-requires-clause-may g c =
     rename_asks c.self.view_is c.self.invariant c.args.place.now c.args.name.now c.in-Some.ensures.slot c.in-Some.ensures.here c.args.new.now c.bytes.ensures.bytes c.bytes-2.ensures.bytes c.in_default-read_file.ensures.size
     c.slot_of.ensures.name c.as_slice.ensures.value c.in_ok-words.ensures.words c.in_ok-words.ensures.row
 
-pub hold-requires-clause-sound : goal.hold-requires-clause-sound
-hold-requires-clause-sound g c = refiled_sound c.self.view_is c.self.invariant c.replace_record.ensures.refiles c.requires.usable.unbroken
+pub hold-requires : goal.hold-requires
+hold-requires g c =
+    let change = refiled_change c.self.view_is c.self.invariant c.requires.usable.unbroken c.replace_record.ensures.refiles in
+    let asks = change_saves c.self.invariant (whole_view c.self.view_is c.requires.usable.unbroken) change in
+    search (rules, asks.settles, asks.image, asks.placed, asks.room)
 
-pub hold-requires-clause-image : goal.hold-requires-clause-image
-hold-requires-clause-image g c = refiled_image c.self.view_is c.self.invariant c.replace_record.ensures.refiles
-
-pub hold-requires-clause-placed : goal.hold-requires-clause-placed
-hold-requires-clause-placed g c = refiled_placed c.self.view_is c.self.invariant c.replace_record.ensures.refiles c.requires.usable.unbroken
-
-pub hold-requires-clause-room : goal.hold-requires-clause-room
-hold-requires-clause-room g c = refiled_room c.self.view_is c.self.invariant c.replace_record.ensures.refiles c.requires.usable.unbroken
-
-pub returns-clause-edits : goal.returns-clause-edits
-returns-clause-edits g c =
-    edits_saved c.replace_record.new.parts c.self.view_is c.hold.ensures.parts (refiled_edits c.self.view_is c.self.invariant c.replace_record.ensures.refiles)
+pub returns-clause-keeps : goal.returns-clause-keeps
+returns-clause-keeps g c =
+    let change = refiled_change c.self.view_is c.self.invariant c.requires.usable.unbroken c.replace_record.ensures.refiles in
+    keeps_saved c.self.view_is c.replace_record.new.parts c.hold.result change.limits change.edits c.hold.ensures.sound c.hold.ensures.parts c.hold.ensures.image c.hold.ensures.ended
 
 pub returns-clause-holds : goal.returns-clause-holds
 returns-clause-holds g c = λ base s holds.
@@ -66,10 +68,6 @@ returns-clause-holds g c = λ base s holds.
     (record { reads = c.read_file.ensures.disk.reads; fits = c.read_file.ensures.fits })
     c.in_default-read_file.ensures.read c.bytes-2.ensures.bytes c.bytes.ensures.bytes c.in_ok-words.ensures.row (λ rec is. c.as_slice.ensures.value ∙ c.in_ok-words.ensures.words rec is)
     c.replace_record.ensures.refiles c.blocks_in-blocks.ensures c.requires.usable.unbroken new (g.D.Disk.meaning c.hold.new.disk) c.hold.result c.hold.ensures.saves
-
-pub returns-clause-limits : goal.returns-clause-limits
-returns-clause-limits g c =
-    ap (λ (k : Kept). k.limits) c.hold.ensures.parts ∙ refiled_limits c.self.view_is c.self.invariant c.replace_record.ensures.refiles
 
 pub blocks_in-blocks-requires : goal.blocks_in-blocks-requires
 blocks_in-blocks-requires g c =

@@ -1,30 +1,19 @@
-use Rattle.lis_store.proofs.Common.{◌∙◌, ap, subst, Err, err_from_is_err_and, Situation, mv, rules, State}
+use Rattle.lis_store.proofs.Common.{◌∙◌, ap, Err, err_from_is_err_and, rules, State}
 use Rattle.lis_store.specs.Stored.{StoreFits}
-use Rattle.lis_store.specs.Changes.{Holds}
-use Rattle.lis_store.proofs.StoreSays.{limits_told}
-use Rattle.lis_store.proofs.Holding.{fits_held, changes_ended, changes_committed}
+use Rattle.lis_store.proofs.Holding.{call_ended, call_committed}
+use Rattle.lis_store.proofs.Keeping.{keeps_committed}
 use Rattle.lis_store.proofs.store.Store.retag.Goals as goal
 
 pub returns-in_err-retag_held : goal.returns-in_err-retag_held
 returns-in_err-retag_held g c =
     let changes = λ (s : State) (fits : StoreFits c.args.self.now (g.D.Disk.meaning c.args.disk.now) s).
     let p = err_from_is_err_and c.from_residual.result c.from_residual.ensures.1 in
-    let m = g.D.Disk.meaning c.args.disk.now in
-    let now : Situation = record { state = s; place = c.args.place.now } in
-    let outcome = mv now c.args.name.now c.args.text.now in
-    let held = fits_held c.args.self.now m s c.retag_held.ensures.entry fits in
-    changes_ended now outcome c.args.self.now c.retag_held.new.self m (g.D.Disk.meaning c.retag_held.new.disk) c.in_err-retag_held.field-0.0 c.retag_held.result c.from_residual.result
-    c.in_err-retag_held.was (p.1 ∙ ap Err p.2) fits c.retag_held.ensures.left (c.retag_held.ensures.holds s s held) in
+    call_ended c.retag_held.ensures.entry (record { state = s; place = c.args.place.now }) fits (λ base held. c.retag_held.ensures.holds base s held) c.in_err-retag_held.was (p.1 ∙ ap Err p.2) c.retag_held.ensures.keeps.left in
     search (rules, changes)
 
 pub returns-clause-changes : goal.returns-clause-changes
 returns-clause-changes g c = λ s fits.
-    let m = g.D.Disk.meaning c.args.disk.now in
-    let between = g.D.Disk.meaning c.retag_held.new.disk in
-    let sound = c.retag_held.ensures.entry in
-    let now : Situation = record { state = s; place = c.args.place.now } in
-    let outcome = mv now c.args.name.now c.args.text.now in
-    let held = fits_held c.args.self.now m s sound fits in
-    changes_committed now outcome c.retag_held.new.self c.commit.new.self m between (g.D.Disk.meaning c.commit.new.disk) c.in_ok-retag_held.field-0 c.commit.result
-    (subst (λ r. Holds s now outcome c.retag_held.new.self m between r) c.in_ok-retag_held.was (c.retag_held.ensures.holds s s held)) c.commit.ensures.commits
-    (c.retag_held.ensures.limits ∙ limits_told c.args.self.now.parts fits.kept s sound.parts sound.free fits.tells)
+    call_committed c.retag_held.ensures.entry (record { state = s; place = c.args.place.now }) fits (λ base held. c.retag_held.ensures.holds base s held) c.in_ok-retag_held.was c.commit.ensures.commits c.retag_held.ensures.keeps.limits
+
+pub returns-clause-keeps : goal.returns-clause-keeps
+returns-clause-keeps g c = keeps_committed c.commit.result c.retag_held.ensures.keeps c.commit.ensures.sound c.commit.ensures.left c.commit.ensures.parts c.commit.ensures.image

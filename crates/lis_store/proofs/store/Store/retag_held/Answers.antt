@@ -1,8 +1,9 @@
-use Rattle.lis_store.proofs.Common.{◌∙◌, Err, length, is_some, refl, sym, ap, subst, arith, err_from_is_err_and, resolved, Kept, rules, State}
+use Rattle.lis_store.proofs.Common.{◌∙◌, Err, length, is_some, refl, sym, ap, subst, arith, err_from_is_err_and, resolved, rules, State}
 use Rattle.lis_store.specs.Stored.{Stored, IsSound, StoreHolds}
-use Rattle.lis_store.proofs.Edits.{edits_saved}
+use Rattle.lis_store.proofs.Keeping.{keeps_saved}
 use Rattle.lis_store.proofs.MoveFile.{led_to, moved_nowhere, moving_refused, standing_refused, move_asks, move_holds}
-use Rattle.lis_store.proofs.ReplaceFile.{still_in_form, still_below, refiled_limits, refiled_sound, refiled_image, refiled_placed, refiled_room, refiled_edits}
+use Rattle.lis_store.proofs.ReplaceFile.{still_in_form, still_below, refiled_change}
+use Rattle.lis_store.proofs.SavedAlone.{change_saves, whole_view}
 use Rattle.lis_store.proofs.WriteFile.{found_there}
 use Rattle.lis_store.proofs.store.Store.retag_held.Goals as goal
 
@@ -59,24 +60,16 @@ replace_draft-requires-clause-in_form g c = still_in_form c.self.view_is c.self.
 pub replace_draft-requires-clause-below : goal.replace_draft-requires-clause-below
 replace_draft-requires-clause-below g c = still_below c.self.view_is c.self.invariant c.args.name.now c.in-Some.ensures.slot c.blocks_in-blocks.ensures
 
-pub hold-requires-clause-sound : goal.hold-requires-clause-sound
-hold-requires-clause-sound g c = refiled_sound c.self.view_is c.self.invariant c.replace_draft.ensures.refiles c.requires.usable.unbroken
+pub hold-requires : goal.hold-requires
+hold-requires g c =
+    let change = refiled_change c.self.view_is c.self.invariant c.requires.usable.unbroken c.replace_draft.ensures.refiles in
+    let asks = change_saves c.self.invariant (whole_view c.self.view_is c.requires.usable.unbroken) change in
+    search (rules, asks.settles, asks.image, asks.placed, asks.room)
 
-pub hold-requires-clause-image : goal.hold-requires-clause-image
-hold-requires-clause-image g c = refiled_image c.self.view_is c.self.invariant c.replace_draft.ensures.refiles
-
-pub hold-requires-clause-placed : goal.hold-requires-clause-placed
-hold-requires-clause-placed g c = refiled_placed c.self.view_is c.self.invariant c.replace_draft.ensures.refiles c.requires.usable.unbroken
-
-pub hold-requires-clause-room : goal.hold-requires-clause-room
-hold-requires-clause-room g c = refiled_room c.self.view_is c.self.invariant c.replace_draft.ensures.refiles c.requires.usable.unbroken
-
-pub returns-clause-edits : goal.returns-clause-edits
-returns-clause-edits g c =
-    edits_saved c.replace_draft.new.parts c.self.view_is c.hold.ensures.parts (refiled_edits c.self.view_is c.self.invariant c.replace_draft.ensures.refiles)
-
-pub returns-clause-limits : goal.returns-clause-limits
-returns-clause-limits g c = ap (λ (k : Kept). k.limits) c.hold.ensures.parts ∙ refiled_limits c.self.view_is c.self.invariant c.replace_draft.ensures.refiles
+pub returns-clause-keeps : goal.returns-clause-keeps
+returns-clause-keeps g c =
+    let change = refiled_change c.self.view_is c.self.invariant c.requires.usable.unbroken c.replace_draft.ensures.refiles in
+    keeps_saved c.self.view_is c.replace_draft.new.parts c.hold.result change.limits change.edits c.hold.ensures.sound c.hold.ensures.parts c.hold.ensures.image c.hold.ensures.ended
 
 pub returns-clause-holds : goal.returns-clause-holds
 returns-clause-holds g c = λ base s holds.

@@ -1,15 +1,19 @@
 use Rattle.lis_store.proofs.Common.{◌∙◌, ap, Err, err_from_is_err_and, rules, Situation}
 use Rattle.lis_store.specs.Stored.{StoreFits}
 use Rattle.lis_store.proofs.Holding.{call_ended, call_committed}
+use Rattle.lis_store.proofs.Keeping.{keeps_committed}
 use Rattle.lis_store.proofs.store.Store.undeclare.Goals as goal
 
 pub returns-in_err-undeclare_held : goal.returns-in_err-undeclare_held
 returns-in_err-undeclare_held g c =
     let changes = λ (now : Situation) (fits : StoreFits c.args.self.now (g.D.Disk.meaning c.args.disk.now) now.state).
     let p = err_from_is_err_and c.from_residual.result c.from_residual.ensures.1 in
-    call_ended c.undeclare_held.ensures.entry now fits (λ base held. c.undeclare_held.ensures.holds base now held) c.in_err-undeclare_held.was (p.1 ∙ ap Err p.2) c.undeclare_held.ensures.left in
+    call_ended c.undeclare_held.ensures.entry now fits (λ base held. c.undeclare_held.ensures.holds base now held) c.in_err-undeclare_held.was (p.1 ∙ ap Err p.2) c.undeclare_held.ensures.keeps.left in
     search (rules, changes)
 
 pub returns-clause-changes : goal.returns-clause-changes
 returns-clause-changes g c = λ now fits.
-    call_committed c.undeclare_held.ensures.entry now fits (λ base held. c.undeclare_held.ensures.holds base now held) c.in_ok-undeclare_held.was c.commit.ensures.commits c.undeclare_held.ensures.limits
+    call_committed c.undeclare_held.ensures.entry now fits (λ base held. c.undeclare_held.ensures.holds base now held) c.in_ok-undeclare_held.was c.commit.ensures.commits c.undeclare_held.ensures.keeps.limits
+
+pub returns-clause-keeps : goal.returns-clause-keeps
+returns-clause-keeps g c = keeps_committed c.commit.result c.undeclare_held.ensures.keeps c.commit.ensures.sound c.commit.ensures.left c.commit.ensures.parts c.commit.ensures.image

@@ -1,9 +1,9 @@
-use Rattle.lis_store.proofs.Common.{◌∙◌, sym, ap, Err, is_some, err_from_is_err_and, image_blocks, Kept, rules, State, Situation}
-use Rattle.lis_store.specs.Stored.{Stored, StoreHolds}
-use Rattle.lis_store.proofs.Edits.{edits_saved}
+use Rattle.lis_store.proofs.Common.{◌∙◌, ap, Err, is_some, err_from_is_err_and, rules, State, Situation}
+use Rattle.lis_store.specs.Stored.{StoreHolds}
 use Rattle.lis_store.proofs.Judged.{view_refused}
+use Rattle.lis_store.proofs.Keeping.{keeps_saved}
 use Rattle.lis_store.proofs.Undeclared.{undeclared_may, undeclared_named, undeclared_change, undeclared_holds, undeclared_refused}
-use Rattle.lis_store.proofs.SavedAlone.{alone_placed, whole_view, held_view}
+use Rattle.lis_store.proofs.SavedAlone.{change_saves, whole_view, held_view}
 use Rattle.lis_store.proofs.store.Store.undeclare_held.Goals as goal
 
 pub returns-in_err-number : goal.returns-in_err-number
@@ -20,29 +20,16 @@ undeclare_unmet-requires-clause-may g c = undeclared_may c.self.invariant c.in_o
 pub undeclare_unmet-requires-clause-number : goal.undeclare_unmet-requires-clause-number
 undeclare_unmet-requires-clause-number g c = ap is_some (undeclared_named c.self.invariant c.in_ok-number.ensures.may)
 
-pub hold-requires-clause-image : goal.hold-requires-clause-image
-hold-requires-clause-image g c =
+pub hold-requires : goal.hold-requires
+hold-requires g c =
     let change = undeclared_change c.self.invariant c.in_ok-number.ensures.may (whole_view c.self.view_is c.requires.usable.unbroken) c.undeclare_unmet.ensures in
-    c.self.invariant.image ∙ sym (ap image_blocks change.limits)
+    let asks = change_saves c.self.invariant (whole_view c.self.view_is c.requires.usable.unbroken) change in
+    search (rules, asks.settles, asks.image, asks.placed, asks.room)
 
-pub hold-requires-clause-placed : goal.hold-requires-clause-placed
-hold-requires-clause-placed g c = alone_placed _ c.self.invariant (whole_view c.self.view_is c.requires.usable.unbroken) c.undeclare_unmet.new.parts
-
-pub hold-requires-clause-room : goal.hold-requires-clause-room
-hold-requires-clause-room g c = (undeclared_change c.self.invariant c.in_ok-number.ensures.may (whole_view c.self.view_is c.requires.usable.unbroken) c.undeclare_unmet.ensures).room
-
-pub hold-requires-clause-sound : goal.hold-requires-clause-sound
-hold-requires-clause-sound g c = (undeclared_change c.self.invariant c.in_ok-number.ensures.may (whole_view c.self.view_is c.requires.usable.unbroken) c.undeclare_unmet.ensures).settles
-
-pub returns-clause-edits : goal.returns-clause-edits
-returns-clause-edits g c =
+pub returns-clause-keeps : goal.returns-clause-keeps
+returns-clause-keeps g c =
     let change = undeclared_change c.self.invariant c.in_ok-number.ensures.may (whole_view c.self.view_is c.requires.usable.unbroken) c.undeclare_unmet.ensures in
-    edits_saved c.undeclare_unmet.new.parts c.self.view_is c.hold.ensures.parts change.edits
-
-pub returns-clause-limits : goal.returns-clause-limits
-returns-clause-limits g c =
-    let change = undeclared_change c.self.invariant c.in_ok-number.ensures.may (whole_view c.self.view_is c.requires.usable.unbroken) c.undeclare_unmet.ensures in
-    ap (λ (k : Kept). k.limits) c.hold.ensures.parts ∙ (change.limits ∙ ap (λ (k : Stored). k.parts.limits) c.self.view_is)
+    keeps_saved c.self.view_is c.undeclare_unmet.new.parts c.hold.result change.limits change.edits c.hold.ensures.sound c.hold.ensures.parts c.hold.ensures.image c.hold.ensures.ended
 
 pub returns-clause-holds : goal.returns-clause-holds
 returns-clause-holds g c = λ base now fits.

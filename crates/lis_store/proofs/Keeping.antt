@@ -1,0 +1,64 @@
+-- What a change keeps of a store, from what its steps keep.
+use Rattle.lis_store.proofs.Common.{◌≡◌, sym, ap, ◌∙◌, subst, true, false, Result, Ok, Err, Ext, Kept}
+use Rattle.lis_store.specs.declared.change.Change.{Change}
+use Rattle.lis_store.specs.declared.change.Change.TheVariants.{Refused, Disk}
+use Rattle.lis_store.specs.Stored.{Stored, IsSound}
+use Rattle.lis_store.specs.Changes.{ChangeLeft, ChangeKeeps, CommitLeft}
+use Rattle.lis_store.specs.Saving.{SaveEnded}
+use Rattle.lis_store.proofs.Edits.{AreEditsFew, edits_same}
+
+left_saved : {T : Type 0} (old new : Stored) (result : Result T Change) → SaveEnded new.is_broken result → ChangeLeft old new result
+left_saved old new (Ok done) whole = whole
+left_saved old new (Err (Refused refusal)) never = absurd (let e : false ≡ true = never in cc)
+left_saved old new (Err Disk) broken = broken
+
+left_committed : {T : Type 0} (old new : Stored) (result : Result T Change) → CommitLeft new result → ChangeLeft old new result
+left_committed old new (Ok done) whole = whole.0
+left_committed old new (Err (Refused refusal)) never = absurd (let e : false ≡ true = never in cc)
+left_committed old new (Err Disk) broken = broken
+
+-- memory was changed, and then it was saved
+pub keeps_saved : {T : Type 0} {old now new : Stored} → old ≡ now → (made : Kept) (result : Result T Change) → made.limits ≡ old.parts.limits → AreEditsFew old.parts.ext made.ext → IsSound new
+    → new.parts ≡ record made { marks = new.parts.marks } → new.journal.blocks ≡ old.journal.blocks → SaveEnded new.is_broken result → ChangeKeeps now new result
+keeps_saved {old = old} {new = new} view made result limits edits sound parts image ended =
+    subst (λ (k : Stored). ChangeKeeps k new result) view (record {
+      limits = ap (λ (k : Kept). k.limits) parts ∙ limits;
+      image = image;
+      left = left_saved old new result ended;
+      edits = subst (λ (e : Ext). AreEditsFew old.parts.ext e) (sym (ap (λ (k : Kept). k.ext) parts)) edits;
+      sound = sound;
+    })
+
+-- the disk failed, which broke the store
+pub keeps_lost : {T : Type 0} {old now new : Stored} {result : Result T Change} → old ≡ now → IsSound new → result ≡ Err Disk → new.parts.limits ≡ old.parts.limits → new.journal.blocks ≡ old.journal.blocks
+    → new.parts.ext ≡ old.parts.ext → new.is_broken ≡ true → ChangeKeeps now new result
+keeps_lost {old = old} {new = new} {result = result} view sound lost limits image rows broken =
+    subst (λ (k : Stored). ChangeKeeps k new result) view (record {
+      limits = limits;
+      image = image;
+      left = subst (λ r. ChangeLeft old new r) (sym lost) broken;
+      edits = edits_same old.parts.ext new.parts.ext rows;
+      sound = sound;
+    })
+
+-- a commit came before it
+pub keeps_behind : {T : Type 0} {old mid new : Stored} {result : Result T Change} → mid.parts ≡ old.parts → mid.journal.blocks ≡ old.journal.blocks → ChangeKeeps mid new result → SaveEnded new.is_broken result
+    → ChangeKeeps old new result
+keeps_behind {old = old} {new = new} {result = result} parts image keeps ended = record {
+  limits = keeps.limits ∙ ap (λ (k : Kept). k.limits) parts;
+  image = keeps.image ∙ image;
+  left = left_saved old new result ended;
+  edits = subst (λ (k : Kept). AreEditsFew k.ext new.parts.ext) parts keeps.edits;
+  sound = keeps.sound;
+}
+
+-- or came behind it
+pub keeps_committed : {T U : Type 0} {old mid new : Stored} {held : Result T Change} (result : Result U Change) → ChangeKeeps old mid held → IsSound new → CommitLeft new result → new.parts ≡ mid.parts
+    → new.journal.blocks ≡ mid.journal.blocks → ChangeKeeps old new result
+keeps_committed {old = old} {new = new} result keeps sound left parts image = record {
+  limits = ap (λ (k : Kept). k.limits) parts ∙ keeps.limits;
+  image = image ∙ keeps.image;
+  left = left_committed old new result left;
+  edits = subst (λ (k : Kept). AreEditsFew old.parts.ext k.ext) (sym parts) keeps.edits;
+  sound = sound;
+}
