@@ -1,10 +1,9 @@
 //! The first call that fails is the last one, of whichever object, in every word of the program.
 
 use crate::images::{fresh, used};
-use crate::tests::{Outside, SOUND, source};
+use crate::tests::{Outside, SOUND, run_program, source};
 use lis_memdisk::MemStation;
 use lis_shell::status::Status;
-use lis_shell::top::lisfs;
 use std::alloc::Global;
 use std::test::Fail;
 
@@ -126,7 +125,7 @@ fn carried(
         log,
     };
     station.station.step = SHOW_STEP;
-    let status = lisfs(alloc, words, &mut input, &mut station);
+    let status = run_program(alloc, words, &mut input, &mut station);
     Ok(Ended {
         status,
         calls: log.calls(),

@@ -105,9 +105,9 @@ fn station(alloc: Global, outside: &Outside) -> Result<MemStation, AllocError> {
     Ok(station)
 }
 
-// The program over any input and any station, since what is known of those in memory would stand in each step of its check. Asked of it is
-// only that a recorded station stays one.
-fn run_program<S: Source, T: Station>(
+/// The program over any input and any station, since what is known of those in memory would stand in each step of its check. Asked of it is
+/// only that a recorded station stays one.
+pub fn run_program<S: Source, T: Station>(
     alloc: Global,
     words: &[String],
     input: &mut S,
