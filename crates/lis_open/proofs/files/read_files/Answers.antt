@@ -1,4 +1,4 @@
-use Rattle.lis_open.proofs.Common.{◌≡◌, ℕ, List, refl, sym, subst, ◌∙◌, arith, ends_none, ends_then, among_from_contains, Fits, filed_rec}
+use Rattle.lis_open.proofs.Common.{rules, ◌≡◌, ℕ, List, refl, sym, subst, ◌∙◌, arith, ends_none, ends_then, among_from_contains, Fits, filed_rec}
 use Rattle.std.proofs.lemmas.Bool.{OnTrue_at, OnFalse_at}
 use Rattle.lis_open.specs.declared.files.Files.{Files}
 use Rattle.lis_open.specs.ReadFiles.{AreFirstFiles, TakesFile}
@@ -91,3 +91,11 @@ returns-clause-ended g c = λ kept fits recalls told pairs.
             (filed_rec l.files.catalog l.invariant.first.catalog f (among_from_contains l.files.catalog.entries f m));
       };
     }
+
+pub returns-in_err-found : goal.returns-in_err-found
+returns-in_err-found g c = search rules
+
+pub returns-in_err-is_taken : goal.returns-in_err-is_taken
+returns-in_err-is_taken g c =
+    let reads = reads_then (reads_then c.loop-slot.invariant.reads c.in_ok-found.ensures.disk.reads) c.take_file.ensures.disk.reads in
+    search (rules, reads)

@@ -1,4 +1,4 @@
-use Rattle.lis_open.proofs.Common.{◌≡◌, refl, sym, ap, subst, ◌∙◌, length, false, are_free, are_distinct, are_below}
+use Rattle.lis_open.proofs.Common.{rules, ◌≡◌, refl, sym, ap, subst, ◌∙◌, length, false, are_free, are_distinct, are_below}
 use Rattle.lis_open.specs.ReadFiles.{found_words, own_numbers, may_describe, TakesNumbers}
 use Rattle.lis_open.specs.ReadFiles.RecordFault.{NoBlocks, NotDescribed}
 use Rattle.lis_open.proofs.FilesRead.{tags_below, free_below}
@@ -66,3 +66,15 @@ returns-in-Some-describe-clause-taken g c =
             blocks_are = same ∙ found.1;
           };
     }
+
+pub returns-in-None-clause-disk : goal.returns-in-None-clause-disk
+returns-in-None-clause-disk g c = search rules
+
+pub returns-in-Some-describe-clause-disk : goal.returns-in-Some-describe-clause-disk
+returns-in-Some-describe-clause-disk g c = search rules
+
+pub file-requires-clause-distinct : goal.file-requires-clause-distinct
+file-requires-clause-distinct g c = search rules
+
+pub file-requires-clause-free : goal.file-requires-clause-free
+file-requires-clause-free g c = search rules
