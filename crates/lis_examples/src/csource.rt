@@ -108,7 +108,7 @@ fn sources() -> &'static [(&'static [u8], &'static [u8])] {
 fn words_of_sources(rt: HostRuntime) -> Result<(), Fail> {
     for (source, words) in sources() {
         let found = words_of(rt.alloc(), source)?;
-        assert!(rt; found.as_slice() == *words);
+        assert!(rt; found.as_slice() == *words, "{words:?}");
     }
     Ok(())
 }

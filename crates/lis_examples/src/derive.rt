@@ -56,7 +56,7 @@ fn files() -> &'static [(&'static [u8], &'static [u8], &'static [u8])] {
 fn files_give_their_words(rt: HostRuntime) -> Result<(), Fail> {
     for (name, bytes, wanted) in files() {
         let words = words_of(rt.alloc(), name, bytes)?;
-        assert!(rt; words.as_slice() == *wanted);
+        assert!(rt; words.as_slice() == *wanted, "{name:?}");
     }
     Ok(())
 }

@@ -2,9 +2,15 @@
 #![tactic(auto)]
 
 #[cfg(test)]
+mod blockmap;
+#[cfg(test)]
+mod catalog;
+#[cfg(test)]
 mod csource;
 #[cfg(test)]
 mod derive;
+#[cfg(test)]
+mod dict;
 #[cfg(test)]
 mod formula;
 #[cfg(test)]

@@ -167,7 +167,7 @@ fn mails() -> &'static [(&'static [u8], &'static [u8])] {
 fn words_of_mails(rt: HostRuntime) -> Result<(), Fail> {
     for (mail, words) in mails() {
         let found = words_of(rt.alloc(), mail)?;
-        assert!(rt; found.as_slice() == *words);
+        assert!(rt; found.as_slice() == *words, "{words:?}");
     }
     Ok(())
 }

@@ -303,7 +303,7 @@ fn assert_found(
 ) -> Result<(), Fail> {
     for (damage, spot) in damages {
         let answer = opening_with(alloc, changes, damage)?;
-        assert!(rt; answer == Answer::Damaged(*spot));
+        assert!(rt; answer == Answer::Damaged(*spot), "{damage:?}");
     }
     Ok(())
 }
