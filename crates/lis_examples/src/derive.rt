@@ -17,6 +17,15 @@ pub fn spaced(alloc: Global, words: &[Word]) -> Result<Vec<u8>, AllocError> {
     Ok(text)
 }
 
+/// What a row of a table in one text has before its `$`, and behind it.
+pub fn fields(row: &[u8]) -> Result<(&[u8], &[u8]), Fail> {
+    let mut fields = row.splitn(2, |byte| *byte == b'$');
+    match (fields.next(), fields.next()) {
+        (Some(before), Some(behind)) => Ok((before, behind)),
+        _ => Err("a row has no `$`".into()),
+    }
+}
+
 fn words_of(alloc: Global, name: &[u8], bytes: &[u8]) -> Result<Vec<u8>, AllocError> {
     match read_name(name) {
         None => Ok(Vec::new(alloc)),

@@ -8,7 +8,8 @@ use std::alloc::Global;
 use std::fs::{self, File, OpenOptions};
 use std::test::Fail;
 
-fn over(alloc: Global, file: File) -> FileStation<Vec<u8>>
+// A station over a file whose length it tells as nine bytes. Nothing was shown.
+fn station_over(alloc: Global, file: File) -> FileStation<Vec<u8>>
     ensures { result.len ≡ 9 }
 {
     FileStation {
@@ -56,7 +57,7 @@ fn is_shown<T: Station>(station: &mut T) -> bool {
 fn a_file_reads_back_what_was_written(rt: HostRuntime) -> Result<(), Fail> {
     fs::write(&rt, "disk", b"abcdefgh".as_slice())?;
     let file = OpenOptions::new().read(true).write(true).open(&rt, "disk")?;
-    let mut station = over(rt.alloc(), file);
+    let mut station = station_over(rt.alloc(), file);
     let mut buf = [0; 4];
     assert!(rt; write_and_read(&mut station, &mut buf).is_ok());
     assert!(rt; buf == *b"bXYe");
@@ -71,7 +72,7 @@ fn a_file_reads_back_what_was_written(rt: HostRuntime) -> Result<(), Fail> {
 #[test]
 fn a_file_that_cannot_be_synced_fails(rt: HostRuntime) -> Result<(), Fail> {
     let file = OpenOptions::new().write(true).open(&rt, "/dev/null")?;
-    let mut station = over(rt.alloc(), file);
+    let mut station = station_over(rt.alloc(), file);
     let mut buf = [0; 4];
     assert!(rt; is_write_lost(&mut station));
     assert!(rt; station.disk_faults == 1);

@@ -70,18 +70,12 @@ fn shown_at(station: &MemStation, call: u64) -> u64
 
 // Whether this is the state behind so many commands.
 fn is_behind(script: &Script, left: &str, commands: u64) -> bool {
-    match script.states.get(commands as usize) {
-        None => false,
-        Some(state) => left == *state,
-    }
+    script.state(commands as usize) == Some(left)
 }
 
 // Whether this is the state behind all of them.
 fn is_last(script: &Script, left: &str) -> bool {
-    match script.states.last() {
-        None => false,
-        Some(state) => left == *state,
-    }
+    script.states.split_terminator('\n').last() == Some(left)
 }
 
 // It is the state behind the commands whose replies were shown whole, or behind one more; and that one where its reply was begun.
@@ -164,12 +158,9 @@ fn loaded(alloc: Global, words: &[&str], script: &Script, step: usize) -> Result
 
 // It is the state behind some commands, those among them whose replies were shown whole or begun.
 fn is_kept(script: &Script, left: &str, shown: u64) -> bool {
-    let behind = script
-        .states
-        .iter()
-        .skip(shown.div_ceil(REPLY_LEN) as usize);
-    for state in behind {
-        if left == *state {
+    let begun = shown.div_ceil(REPLY_LEN) as usize;
+    for state in script.states.split_terminator('\n').skip(begun) {
+        if left == state {
             return true;
         }
     }
@@ -336,6 +327,6 @@ fn an_opening_that_is_stopped_leaves_the_state_that_it_found(rt: HostRuntime) ->
             stops = stops.saturating_add(1);
         }
     }
-    assert!(rt; stops == 9);
+    assert!(rt; stops == 9, "{stops}");
     Ok(())
 }

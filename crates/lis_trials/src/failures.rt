@@ -53,10 +53,7 @@ fn is_front(shown: &str, len: usize) -> bool {
 
 // Whether this is the state behind so many commands.
 fn is_behind(left: &str, commands: usize) -> bool {
-    match ONE_FILE.states.get(commands) {
-        None => false,
-        Some(state) => left == *state,
-    }
+    ONE_FILE.state(commands) == Some(left)
 }
 
 // The replies were shown whole, and the image has the state behind their commands or behind one more.

@@ -19,85 +19,45 @@ const OUTSIDE: Outside = Outside { step: 7, ..SOUND };
 
 const SHOW_STEP: usize = 7;
 
-/// Words of the program, a session that makes the image with which they begin, the input, and the kinds of calls that they make.
-type Case = (
-    &'static [&'static str],
-    &'static str,
-    &'static str,
-    &'static [Kind],
-);
+/// A row of the table: words of the program, a session that makes the image with which they begin, the input, and the kinds of calls that they
+/// make.
+#[derive(Clone, Copy)]
+struct Case<'a> {
+    words: &'a str,
+    before: &'a str,
+    row: &'a str,
+    kinds: &'a str,
+}
 
-/// The session leaves open records, so that the opening brings them home.
-fn cases() -> &'static [Case] {
-    &[
-        (
-            &["try", "64", "64", "8"],
-            "",
-            "mkdir music;create a music;add m 5;hello;frob;ls;cat m;cd music;pwd;props a;way a;stat;rm a;ls",
-            &[Kind::Take, Kind::Show],
-        ),
-        (
-            &["make", "i", "64", "64", "8"],
-            "mkdir old;create o old;",
-            "ls;",
-            &[Kind::Disk],
-        ),
-        (
-            &["make", "i", "64", "64", "8", "v2"],
-            "mkdir old;create o old;",
-            "ls;",
-            &[Kind::Disk],
-        ),
-        (
-            &["run", "i"],
-            "mkdir old;create o old;",
-            "mkdir music;mkdir rock;create s1 rock;add m 5 music;hello;axiom rock music;ls;cat m;frob;write m 2;hi;rename s1 s2.c;cd music;pwd;props m;way m;stat;cd /;unaxiom rock music;mv s2.c /music;rm m;rmdir nosuch;ls",
-            &[Kind::Take, Kind::Disk, Kind::Show],
-        ),
-        (
-            &["load", "i"],
-            "mkdir old;create o old;",
-            "mkdir music;mkdir rock;create s1 rock;add m 5 music;hello;axiom rock music;ls;cat m;frob;write m 2;hi;rename s1 s2.c;cd music;stat;unaxiom rock music;rm m;rmdir nosuch;ls",
-            &[Kind::Take, Kind::Disk, Kind::Show],
-        ),
-        (
-            &["rooms", "i"],
-            "mkdir old;create o old;",
-            "@0 cd old;@7 mkdir music;@0 create p music;@0 pwd;@7 pwd;@7 ls;@3;ls;@1 add m 5 music;hello;@0 cat m;@7 rm o;@0 way p;@1 stat",
-            &[Kind::Take, Kind::Disk, Kind::Show],
-        ),
-        (
-            &["dump", "i"],
-            "mkdir old;mkdir k:;mkdir new;axiom old new;create o old;add f 5 k:1 k:2 k:3 k:4 k:5 k:6 k:7 k:8 k:9;hello;",
-            "ls;",
-            &[Kind::Disk, Kind::Show],
-        ),
-        (
-            &["view", "i", "notes.txt", "word:alpha"],
-            "mkdir old;add notes.txt 25 old;alpha one;beta;;alpha two;",
-            "ls;",
-            &[Kind::Disk, Kind::Show],
-        ),
-        (
-            &["put", "i", "notes.txt", "word:alpha"],
-            "mkdir old;add notes.txt 25 old;alpha one;beta;;alpha two;",
-            "+alpha 1;@1 2;+alpha 2;+end;",
-            &[Kind::Take, Kind::Disk, Kind::Show],
-        ),
-        (
-            &["upgrade", "i"],
-            "mkdir old;create o old;",
-            "ls;",
-            &[Kind::Disk],
-        ),
-        // There is room for the words of the first lines alone: no more files are made.
-        (
-            &["grow", "i", "7"],
-            "mkdir k:;create a k:10 k:11 k:12 k:13 k:14 k:15 k:16 k:17 k:18 k:19 k:20 k:21 k:22 k:23 k:24 k:25;create b k:26 k:27 k:28 k:29 k:30 k:31 k:32 k:33 k:34 k:35 k:36 k:37 k:38 k:39 k:40 k:41;create c k:42 k:43 k:44 k:45 k:46 k:47;",
-            "ls;",
-            &[Kind::Disk, Kind::Show],
-        ),
-    ]
+fn case_of(line: &str) -> Result<Case<'_>, Fail> {
+    let mut fields = line.split(" => ");
+    match (fields.next(), fields.next(), fields.next(), fields.next()) {
+        (Some(words), Some(before), Some(row), Some(kinds)) => Ok(Case {
+            words,
+            before,
+            row,
+            kinds,
+        }),
+        _ => Err("a row is too short".into()),
+    }
+}
+
+/// The session leaves open records, so that the opening brings them home. For `grow` there is room for the words of the first lines alone: no
+/// more files are made.
+fn cases() -> &'static str {
+    "\
+try|64|64|8 =>  => mkdir music;create a music;add m 5;hello;frob;ls;cat m;cd music;pwd;props a;way a;stat;rm a;ls => take,show
+make|i|64|64|8 => mkdir old;create o old; => ls; => disk
+make|i|64|64|8|v2 => mkdir old;create o old; => ls; => disk
+run|i => mkdir old;create o old; => mkdir music;mkdir rock;create s1 rock;add m 5 music;hello;axiom rock music;ls;cat m;frob;write m 2;hi;rename s1 s2.c;cd music;pwd;props m;way m;stat;cd /;unaxiom rock music;mv s2.c /music;rm m;rmdir nosuch;ls => take,disk,show
+load|i => mkdir old;create o old; => mkdir music;mkdir rock;create s1 rock;add m 5 music;hello;axiom rock music;ls;cat m;frob;write m 2;hi;rename s1 s2.c;cd music;stat;unaxiom rock music;rm m;rmdir nosuch;ls => take,disk,show
+rooms|i => mkdir old;create o old; => @0 cd old;@7 mkdir music;@0 create p music;@0 pwd;@7 pwd;@7 ls;@3;ls;@1 add m 5 music;hello;@0 cat m;@7 rm o;@0 way p;@1 stat => take,disk,show
+dump|i => mkdir old;mkdir k:;mkdir new;axiom old new;create o old;add f 5 k:1 k:2 k:3 k:4 k:5 k:6 k:7 k:8 k:9;hello; => ls; => disk,show
+view|i|notes.txt|word:alpha => mkdir old;add notes.txt 25 old;alpha one;beta;;alpha two; => ls; => disk,show
+put|i|notes.txt|word:alpha => mkdir old;add notes.txt 25 old;alpha one;beta;;alpha two; => +alpha 1;@1 2;+alpha 2;+end; => take,disk,show
+upgrade|i => mkdir old;create o old; => ls; => disk
+grow|i|7 => mkdir k:;create a k:10 k:11 k:12 k:13 k:14 k:15 k:16 k:17 k:18 k:19 k:20 k:21 k:22 k:23 k:24 k:25;create b k:26 k:27 k:28 k:29 k:30 k:31 k:32 k:33 k:34 k:35 k:36 k:37 k:38 k:39 k:40 k:41;create c k:42 k:43 k:44 k:45 k:46 k:47; => ls; => disk,show
+"
 }
 
 /// How words ended of whose calls one was to fail: how many calls there were of both objects, and the number of the one that failed.
@@ -145,18 +105,17 @@ fn is_named(status: &Status, kind: Kind) -> bool {
 // The first call of this kind that fails and is not the last one of both objects, or ends the words with another status. 0 where there is
 // none, and they make calls of this kind just where they are to.
 fn first_wrong(alloc: Global, case: &Case, kind: Kind) -> Result<u64, Fail> {
-    let (names, before, row, kinds) = case;
     let mut words = Vec::new(alloc);
-    for name in *names {
+    for name in case.words.split('|') {
         words.push(String::from_str(alloc, name)?)?;
     }
     // Its records are open.
-    let image = used(alloc, &fresh(alloc)?, &[before])?;
+    let image = used(alloc, &fresh(alloc)?, &[case.before])?;
     for fails in 1..MANY_CALLS {
         let log = Log::new(kind, fails);
-        let ended = carried(alloc, &words, &image, row, &log)?;
+        let ended = carried(alloc, &words, &image, case.row, &log)?;
         if ended.failed == 0 && ended.status == Status::DONE {
-            let is_made = kinds.iter().any(|made| *made == kind);
+            let is_made = case.kinds.split(',').any(|made| made == kind.name());
             return Ok(if is_made == (fails > 1) { 0 } else { fails });
         }
         if ended.failed != ended.calls || !is_named(&ended.status, kind) {
@@ -169,9 +128,9 @@ fn first_wrong(alloc: Global, case: &Case, kind: Kind) -> Result<u64, Fail> {
 // A body that mounts again behind a failed sync is refused, and one that takes or shows behind it.
 #[test]
 fn nothing_is_mounted_again_behind_a_failed_sync(rt: HostRuntime) -> Result<(), Fail> {
-    for case in cases() {
-        let wrong = first_wrong(rt.alloc(), case, Kind::Disk)?;
-        assert!(rt; wrong == 0, "{:?}", case.0);
+    for line in cases().split_terminator('\n') {
+        let wrong = first_wrong(rt.alloc(), &case_of(line)?, Kind::Disk)?;
+        assert!(rt; wrong == 0, "{line}");
     }
     Ok(())
 }
@@ -179,18 +138,18 @@ fn nothing_is_mounted_again_behind_a_failed_sync(rt: HostRuntime) -> Result<(), 
 // So is one that takes input again behind a fault of it, and one that shows or changes more.
 #[test]
 fn nothing_is_taken_again_behind_a_fault_of_the_input(rt: HostRuntime) -> Result<(), Fail> {
-    for case in cases() {
-        let wrong = first_wrong(rt.alloc(), case, Kind::Take)?;
-        assert!(rt; wrong == 0, "{:?}", case.0);
+    for line in cases().split_terminator('\n') {
+        let wrong = first_wrong(rt.alloc(), &case_of(line)?, Kind::Take)?;
+        assert!(rt; wrong == 0, "{line}");
     }
     Ok(())
 }
 
 #[test]
 fn nothing_is_done_behind_a_failed_show(rt: HostRuntime) -> Result<(), Fail> {
-    for case in cases() {
-        let wrong = first_wrong(rt.alloc(), case, Kind::Show)?;
-        assert!(rt; wrong == 0, "{:?}", case.0);
+    for line in cases().split_terminator('\n') {
+        let wrong = first_wrong(rt.alloc(), &case_of(line)?, Kind::Show)?;
+        assert!(rt; wrong == 0, "{line}");
     }
     Ok(())
 }

@@ -35,7 +35,7 @@ fn measure(n: u32, step: usize) -> (u64, u32) {
 fn sessions_are_those_of_another_program(rt: HostRuntime) {
     for (n, len, sum) in &SESSIONS {
         for step in [1, 7, 100] {
-            assert!(rt; measure(*n, step) == (*len, *sum));
+            assert!(rt; measure(*n, step) == (*len, *sum), "{n} by {step}");
         }
     }
 }

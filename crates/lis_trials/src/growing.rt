@@ -49,7 +49,7 @@ fn a_session_of_a_number_is_always_the_same(rt: HostRuntime) -> Result<(), Fail>
         "replies 1241;refused 0;files 800;axioms 15;free 28;listed 81;replies 1241;refused 832;files 800;axioms 15;free 28;listed 81;";
     for (times, wanted) in [(1, once), (1, once), (2, twice)] {
         let shown = grown(rt.alloc(), times)?;
-        assert!(rt; shown.as_str() == wanted);
+        assert!(rt; shown.as_str() == wanted, "{times} times");
     }
     Ok(())
 }

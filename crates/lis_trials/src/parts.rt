@@ -2,7 +2,7 @@
 
 use crate::images::{MAKES, bytes_of, made, session, used};
 use crate::tests::tables::{NOTES, NOTES_LEFT, part_cases};
-use crate::tests::{Outside, SOUND, call, row_of};
+use crate::tests::{Outside, SOUND, call, row_of, words_of};
 use lis_memdisk::MemStation;
 use lis_shell::status::Status;
 use std::alloc::Global;
@@ -61,19 +61,53 @@ fn carried_on(
     carry_on(alloc, words, row, outside, &mut station)
 }
 
+/// A row of the table.
+#[derive(Clone, Copy)]
+struct Part<'a> {
+    words: &'a str,
+    row: &'a str,
+    wanted: &'a str,
+    left: &'a str,
+}
+
+impl Part<'_> {
+    // `view` takes nothing of its input, and `put` all of it.
+    fn taken(&self) -> usize {
+        if self.words.starts_with("put") {
+            self.row.len()
+        } else {
+            0
+        }
+    }
+}
+
+fn part_of(line: &str) -> Result<Part<'_>, Fail> {
+    let mut fields = line.split(" => ");
+    match (fields.next(), fields.next(), fields.next()) {
+        (Some(words), Some(row), Some(wanted)) => Ok(Part {
+            words,
+            row,
+            wanted,
+            left: fields.next().unwrap_or(NOTES_LEFT),
+        }),
+        _ => Err("a row is too short".into()),
+    }
+}
+
 #[test]
 fn parts_show_and_leave_the_same_in_any_pieces(rt: HostRuntime) -> Result<(), Fail> {
     let alloc = rt.alloc();
     for (step, makes) in [(1, MAKES[0]), (7, MAKES[1]), (4_096, MAKES[0])] {
         let image = noted(alloc, makes)?;
         let outside = Outside { step, ..SOUND };
-        for (words, row, is_taken, wanted, left) in part_cases() {
-            let seen = carried_on(alloc, &image, words, row, &outside)?;
-            let taken = if *is_taken { row.len() } else { 0 };
-            assert!(rt; seen.status == Status::DONE, "{words:?} with {row}");
-            assert!(rt; seen.shown.as_str() == *wanted, "{words:?} with {row}");
-            assert!(rt; seen.taken == taken, "{words:?} with {row}");
-            assert!(rt; seen.left.as_str() == *left, "{words:?} with {row}");
+        for line in part_cases().split_terminator('\n') {
+            let case = part_of(line)?;
+            let words = words_of(alloc, case.words)?;
+            let seen = carried_on(alloc, &image, &words, case.row, &outside)?;
+            assert!(rt; seen.status == Status::DONE, "{line}");
+            assert!(rt; seen.shown.as_str() == case.wanted, "{line}");
+            assert!(rt; seen.taken == case.taken(), "{line}");
+            assert!(rt; seen.left.as_str() == case.left, "{line}");
         }
     }
     Ok(())

@@ -87,6 +87,17 @@ pub fn row_of(alloc: Global, bytes: &[u8]) -> Result<String, AllocError> {
     Ok(row)
 }
 
+/// The words of a line with `|` between two of them; none of an empty line.
+pub fn words_of(alloc: Global, line: &str) -> Result<Vec<&str>, AllocError> {
+    let mut words = Vec::new(alloc);
+    if !line.is_empty() {
+        for word in line.split('|') {
+            words.push(word)?;
+        }
+    }
+    Ok(words)
+}
+
 pub fn source(alloc: Global, row: &str, outside: &Outside) -> Result<MemSource, AllocError> {
     Ok(MemSource {
         bytes: bytes_of(alloc, row)?,
@@ -105,8 +116,8 @@ fn station(alloc: Global, outside: &Outside) -> Result<MemStation, AllocError> {
     Ok(station)
 }
 
-/// The program over any input and any station, since what is known of those in memory would stand in each step of its check. Asked of it is
-/// only that a recorded station stays one.
+/// The program over any input and any station, since what is known of those in memory would stand in each step of its check. Its
+/// clause hands on only that a recorded station stays one.
 pub fn run_program<S: Source, T: Station>(
     alloc: Global,
     words: &[String],
@@ -157,14 +168,18 @@ fn is_whole(seen: &Seen, row: &str) -> bool {
 // They are done: no clause can say that there is memory, so a body that gives up would be proved.
 #[test]
 fn sessions_show_the_same_in_any_pieces(rt: HostRuntime) -> Result<(), Fail> {
-    for (row, wanted) in sessions() {
+    for line in sessions().split_terminator('\n') {
+        let Some((row, wanted)) = line.split_once(" => ") else {
+            assert!(rt; line.starts_with("# "), "{line}");
+            continue;
+        };
         for (words, step) in &PIECES {
             let outside = Outside {
                 step: *step,
                 ..SOUND
             };
             let seen = run(rt.alloc(), words, row, &outside)?;
-            assert!(rt; seen.shown.as_str() == *wanted, "{row}");
+            assert!(rt; seen.shown.as_str() == wanted, "{row}");
             assert!(rt; is_whole(&seen, row), "{row}");
         }
     }
@@ -271,7 +286,7 @@ pub fn built_sessions(alloc: Global) -> Result<Vec<(String, String)>, AllocError
 fn sessions_of_long_lines_and_many_words_show_the_same(rt: HostRuntime) -> Result<(), Fail> {
     for (row, wanted) in &built_sessions(rt.alloc())? {
         let seen = run(rt.alloc(), &WORDS, row.as_str(), &SOUND)?;
-        assert!(rt; seen.shown.as_str() == wanted.as_str());
+        assert!(rt; seen.shown.as_str() == wanted.as_str(), "{row}");
     }
     Ok(())
 }
@@ -283,20 +298,22 @@ fn is_untouched(seen: &Seen) -> bool {
 
 #[test]
 fn wrong_words_are_refused_before_anything_is_taken_or_shown(rt: HostRuntime) -> Result<(), Fail> {
-    for words in wrong_words() {
-        let seen = run(rt.alloc(), words, "mkdir a;", &SOUND)?;
-        assert!(rt; seen.status == Status::Usage, "{words:?}");
-        assert!(rt; is_untouched(&seen), "{words:?}");
+    for line in wrong_words().split_terminator('\n') {
+        let words = words_of(rt.alloc(), line)?;
+        let seen = run(rt.alloc(), &words, "mkdir a;", &SOUND)?;
+        assert!(rt; seen.status == Status::Usage, "{line}");
+        assert!(rt; is_untouched(&seen), "{line}");
     }
     Ok(())
 }
 
 #[test]
 fn right_words_are_carried_out(rt: HostRuntime) -> Result<(), Fail> {
-    for words in right_words() {
-        let seen = run(rt.alloc(), words, "mkdir a;", &SOUND)?;
-        assert!(rt; seen.status == Status::DONE, "{words:?}");
-        assert!(rt; seen.shown.as_str() == "ok;", "{words:?}");
+    for line in right_words().split_terminator('\n') {
+        let words = words_of(rt.alloc(), line)?;
+        let seen = run(rt.alloc(), &words, "mkdir a;", &SOUND)?;
+        assert!(rt; seen.status == Status::DONE, "{line}");
+        assert!(rt; seen.shown.as_str() == "ok;", "{line}");
     }
     Ok(())
 }

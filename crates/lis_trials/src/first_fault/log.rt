@@ -16,6 +16,17 @@ pub enum Kind {
     Show,
 }
 
+impl Kind {
+    /// Its name in tables.
+    pub fn name(self) -> &'static str {
+        match self {
+            Kind::Take => "take",
+            Kind::Disk => "disk",
+            Kind::Show => "show",
+        }
+    }
+}
+
 /// How many calls there were, how many of the kind of which one is to fail, and the number of the last call that failed, 0 for none.
 #[derive(Drop)]
 pub struct Log {
