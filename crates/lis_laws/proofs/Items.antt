@@ -10,7 +10,7 @@ use Rattle.lis_model.specs.declared.refusal.Refusal.TheVariants.{BadLine, LongLi
 use Rattle.lis_model.specs.declared.command.Command.TheVariants.{Mkdir, Rmdir, Axiom, Unaxiom, Create, Add, Write, Cat, Mv, Rename, Rm, Cd, Pwd, Ls, Props, Way, Stat}
 use Rattle.lis_model.specs.Step.{Item, Payload, no_payload}
 use Rattle.lis_model.specs.Step.Item.{Do, Bad}
-use Rattle.lis_model.specs.Script.{bad_line, one_form, two_form, any_word, tags_form, with_tags, create_form, add_form, alone_form, form_of, item_of_words, item_of, line_words, is_long, payload_limit, payload_of, payload_size, before_feed, after_feed, First, first_ended, first_with, first_by, first_of, items_within, all_items, whole_within, whole_items, script}
+use Rattle.lis_model.specs.Script.{bad_line, one_word_form, two_words_form, any_word, tags_form, with_tags, create_form, add_form, alone_form, form_of, item_of_words, item_of, line_words, is_long, payload_limit, payload_of, payload_size, before_feed, after_feed, First, first_ended, first_with, first_by, first_of, items_within, all_items, whole_within, whole_items, script}
 use Rattle.lis_laws.specs.Steps.{is_payload, is_formed}
 use Rattle.lis_words.specs.Bytes.{is_feed}
 
@@ -33,14 +33,14 @@ payload_formed size bytes is = by (nat_le size payload_limit)
     by false = refl
 
 one_formed : (fits : List ℕ → Bool) (item : List ℕ → Item) → ((word : List ℕ) → fits word ≡ true → is_formed (item word) ≡ true)
-    → (words : List (List ℕ)) → is_formed (one_form fits item words) ≡ true
+    → (words : List (List ℕ)) → is_formed (one_word_form fits item words) ≡ true
 one_formed fits item formed [] = refl
 one_formed fits item formed (word ∷ []) = tested (fits word) (item word) (formed word)
 one_formed fits item formed (word ∷ more ∷ words) = refl
 
 two_formed : (fits_left fits_right : List ℕ → Bool) (item : List ℕ → List ℕ → Item)
     → ((left right : List ℕ) → fits_left left ≡ true → fits_right right ≡ true → is_formed (item left right) ≡ true)
-    → (words : List (List ℕ)) → is_formed (two_form fits_left fits_right item words) ≡ true
+    → (words : List (List ℕ)) → is_formed (two_words_form fits_left fits_right item words) ≡ true
 two_formed fits_left fits_right item formed [] = refl
 two_formed fits_left fits_right item formed (left ∷ []) = refl
 two_formed fits_left fits_right item formed (left ∷ right ∷ []) = tested (fits_left left && fits_right right) (item left right) both

@@ -9,7 +9,7 @@ use Rattle.lis_model.specs.declared.command.Command.{Command}
 use Rattle.lis_model.specs.declared.command.Command.TheVariants.{Add, Write, Stat}
 use Rattle.lis_model.specs.Step.{Item, Payload, no_payload}
 use Rattle.lis_model.specs.Step.Item.{Do, Bad}
-use Rattle.lis_model.specs.Script.{bad_line, two_form, tags_form, with_tags, add_form, form_of, item_of, item_of_words, is_long, line_words, size_of_words, payload_size}
+use Rattle.lis_model.specs.Script.{bad_line, two_words_form, tags_form, with_tags, add_form, form_of, item_of, item_of_words, is_long, line_words, size_of_words, payload_size}
 use Rattle.lis_line.specs.Forms.{command_with, line_asks}
 use Rattle.lis_line.specs.Reading.{item_with}
 
@@ -28,7 +28,7 @@ add_with name size words payload other command = by (is_file_name name && is_cou
     by false is = absurd (cc)
 
 write_with : (name size : List ℕ) (words : List (List ℕ)) (payload other : Payload) (command : Command)
-    → two_form is_file_name is_count (λ name size. Do (Write name) payload) (name ∷ size ∷ words) ≡ Do command other → other ≡ payload
+    → two_words_form is_file_name is_count (λ name size. Do (Write name) payload) (name ∷ size ∷ words) ≡ Do command other → other ≡ payload
 write_with name size [] payload other command is = by (is_file_name name && is_count size) is
   where
     by : (t : Bool) → cond t (Do (Write name) payload) bad_line ≡ Do command other → other ≡ payload

@@ -9,8 +9,8 @@ pub record TakesFew (limit : ℕ) (left_before left : Option (List ℕ)) : Type 
   pub consumed : Consumes left_before left taken
   pub few : length taken ≤ limit + 1
 
--- What a run of calls of a source owes where it ends with one answer: it fails only where a call failed, and that one was the last. By how
--- many calls failed, and how many had failed when the last one began.
+-- What a run of calls of a source owes where it ends with one answer: it fails only where a call failed, and that one was the last. It is
+-- said by two counts: how many calls failed, and how many had failed when the last one began.
 pub record UsesSource {T E : Type 0} (faults_before faults behind_before behind : ℕ) (result : Result T E) : Type 0 where
   pub cause : HasCause faults_before faults result
   pub first_fault : FaultEnds faults_before behind_before behind

@@ -18,8 +18,7 @@ use lis_words::read_count;
 /// What a line asks for, without the payload behind it.
 pub type Request = Result<Command, Refusal>;
 
-/// Whether the first word is this one. What a check sees of a literal stands in each step behind it, and behind a call it does not: so
-/// this is a function.
+/// Whether the first word is this one. It is a function, since what a check sees of a literal stands in each step behind it.
 fn is_word(first: &[u8], word: &[u8]) -> bool
     ensures { result ≡ same_word first.now word.now }
 {

@@ -5,7 +5,7 @@ ghost use Rattle.lis_words.specs.Words.{is_property, is_file_name, is_count};
 ghost use Rattle.lis_model.specs.Step.{Item, Payload, no_payload};
 ghost use Rattle.lis_model.specs.Step.Item.{Do};
 ghost use Rattle.lis_model.specs.declared.command.Command.TheVariants.{Mkdir, Rmdir, Axiom, Unaxiom, Write, Cat, Mv, Rename, Rm, Cd, Pwd, Ls, Props, Way, Stat};
-ghost use Rattle.lis_model.specs.Script.{words_of, one_form, two_form, any_word, tags_form, create_form, add_form, alone_form};
+ghost use Rattle.lis_model.specs.Script.{words_of, one_word_form, two_words_form, any_word, tags_form, create_form, add_form, alone_form};
 ghost use Rattle.lis_line.specs.Forms.{asked_of, word_asks, pair_asks};
 
 use crate::line::{next_word, no_words, only_word, two_words};
@@ -27,7 +27,7 @@ fn read_property(bytes: &[u8]) -> Option<Word>
 
 /// The only word of a text, where it may be a property.
 fn property(text: &[u8]) -> Option<Word>
-    ensures { (item : List ℕ → Item) → word_asks item result ≡ one_form is_property item (words_of text.now) }
+    ensures { (item : List ℕ → Item) → word_asks item result ≡ one_word_form is_property item (words_of text.now) }
 {
     let word = only_word(text)?;
     match read_property(word) {
@@ -38,7 +38,7 @@ fn property(text: &[u8]) -> Option<Word>
 
 /// The two words of a text that has no others, where both may be properties.
 fn two_properties(text: &[u8]) -> Option<(Word, Word)>
-    ensures { (item : List ℕ → List ℕ → Item) → pair_asks item result ≡ two_form is_property is_property item (words_of text.now) }
+    ensures { (item : List ℕ → List ℕ → Item) → pair_asks item result ≡ two_words_form is_property is_property item (words_of text.now) }
 {
     let (first, second) = two_words(text)?;
     let left = read_property(first)?;
@@ -48,14 +48,14 @@ fn two_properties(text: &[u8]) -> Option<(Word, Word)>
 
 /// The only word of a text, where it is the name of a file.
 fn file_name(text: &[u8]) -> Option<Name>
-    ensures { (item : List ℕ → Item) → word_asks item result ≡ one_form is_file_name item (words_of text.now) }
+    ensures { (item : List ℕ → Item) → word_asks item result ≡ one_word_form is_file_name item (words_of text.now) }
 {
     let word = only_word(text)?;
     read_name(word)
 }
 
 pub fn mkdir_form(text: &[u8]) -> Result<Command, Refusal>
-    ensures { (payload : Payload) → asked_of payload result ≡ one_form is_property (λ word. Do (Mkdir word) no_payload) (words_of text.now) }
+    ensures { (payload : Payload) → asked_of payload result ≡ one_word_form is_property (λ word. Do (Mkdir word) no_payload) (words_of text.now) }
 {
     match property(text) {
         None => Err(Refusal::BadLine),
@@ -64,7 +64,7 @@ pub fn mkdir_form(text: &[u8]) -> Result<Command, Refusal>
 }
 
 pub fn rmdir_form(text: &[u8]) -> Result<Command, Refusal>
-    ensures { (payload : Payload) → asked_of payload result ≡ one_form is_property (λ word. Do (Rmdir word) no_payload) (words_of text.now) }
+    ensures { (payload : Payload) → asked_of payload result ≡ one_word_form is_property (λ word. Do (Rmdir word) no_payload) (words_of text.now) }
 {
     match property(text) {
         None => Err(Refusal::BadLine),
@@ -73,7 +73,7 @@ pub fn rmdir_form(text: &[u8]) -> Result<Command, Refusal>
 }
 
 pub fn axiom_form(text: &[u8]) -> Result<Command, Refusal>
-    ensures { (payload : Payload) → asked_of payload result ≡ two_form is_property is_property (λ left right. Do (Axiom left right) no_payload) (words_of text.now) }
+    ensures { (payload : Payload) → asked_of payload result ≡ two_words_form is_property is_property (λ left right. Do (Axiom left right) no_payload) (words_of text.now) }
 {
     match two_properties(text) {
         None => Err(Refusal::BadLine),
@@ -82,7 +82,7 @@ pub fn axiom_form(text: &[u8]) -> Result<Command, Refusal>
 }
 
 pub fn unaxiom_form(text: &[u8]) -> Result<Command, Refusal>
-    ensures { (payload : Payload) → asked_of payload result ≡ two_form is_property is_property (λ left right. Do (Unaxiom left right) no_payload) (words_of text.now) }
+    ensures { (payload : Payload) → asked_of payload result ≡ two_words_form is_property is_property (λ left right. Do (Unaxiom left right) no_payload) (words_of text.now) }
 {
     match two_properties(text) {
         None => Err(Refusal::BadLine),
@@ -153,7 +153,7 @@ pub fn add_form(text: &[u8]) -> Result<Command, Refusal>
 }
 
 pub fn write_form(text: &[u8]) -> Result<Command, Refusal>
-    ensures { (payload : Payload) → asked_of payload result ≡ two_form is_file_name is_count (λ name size. Do (Write name) payload) (words_of text.now) }
+    ensures { (payload : Payload) → asked_of payload result ≡ two_words_form is_file_name is_count (λ name size. Do (Write name) payload) (words_of text.now) }
 {
     let Some((first, size)) = two_words(text) else {
         return Err(Refusal::BadLine);
@@ -168,7 +168,7 @@ pub fn write_form(text: &[u8]) -> Result<Command, Refusal>
 }
 
 pub fn cat_form(text: &[u8]) -> Result<Command, Refusal>
-    ensures { (payload : Payload) → asked_of payload result ≡ one_form is_file_name (λ name. Do (Cat name) no_payload) (words_of text.now) }
+    ensures { (payload : Payload) → asked_of payload result ≡ one_word_form is_file_name (λ name. Do (Cat name) no_payload) (words_of text.now) }
 {
     match file_name(text) {
         None => Err(Refusal::BadLine),
@@ -178,7 +178,7 @@ pub fn cat_form(text: &[u8]) -> Result<Command, Refusal>
 
 pub fn mv_form(text: &[u8]) -> Result<Command, Refusal>
     requires { length text.now ≤ 1024 }
-    ensures { (payload : Payload) → asked_of payload result ≡ two_form is_file_name any_word (λ name word. Do (Mv name word) no_payload) (words_of text.now) }
+    ensures { (payload : Payload) → asked_of payload result ≡ two_words_form is_file_name any_word (λ name word. Do (Mv name word) no_payload) (words_of text.now) }
 {
     let Some((first, path)) = two_words(text) else {
         return Err(Refusal::BadLine);
@@ -193,7 +193,7 @@ pub fn mv_form(text: &[u8]) -> Result<Command, Refusal>
 }
 
 pub fn rename_form(text: &[u8]) -> Result<Command, Refusal>
-    ensures { (payload : Payload) → asked_of payload result ≡ two_form is_file_name is_file_name (λ name other. Do (Rename name other) no_payload) (words_of text.now) }
+    ensures { (payload : Payload) → asked_of payload result ≡ two_words_form is_file_name is_file_name (λ name other. Do (Rename name other) no_payload) (words_of text.now) }
 {
     let Some((first, second)) = two_words(text) else {
         return Err(Refusal::BadLine);
@@ -208,7 +208,7 @@ pub fn rename_form(text: &[u8]) -> Result<Command, Refusal>
 }
 
 pub fn rm_form(text: &[u8]) -> Result<Command, Refusal>
-    ensures { (payload : Payload) → asked_of payload result ≡ one_form is_file_name (λ name. Do (Rm name) no_payload) (words_of text.now) }
+    ensures { (payload : Payload) → asked_of payload result ≡ one_word_form is_file_name (λ name. Do (Rm name) no_payload) (words_of text.now) }
 {
     match file_name(text) {
         None => Err(Refusal::BadLine),
@@ -218,7 +218,7 @@ pub fn rm_form(text: &[u8]) -> Result<Command, Refusal>
 
 pub fn cd_form(text: &[u8]) -> Result<Command, Refusal>
     requires { length text.now ≤ 1024 }
-    ensures { (payload : Payload) → asked_of payload result ≡ one_form any_word (λ word. Do (Cd word) no_payload) (words_of text.now) }
+    ensures { (payload : Payload) → asked_of payload result ≡ one_word_form any_word (λ word. Do (Cd word) no_payload) (words_of text.now) }
 {
     let Some(word) = only_word(text) else {
         return Err(Refusal::BadLine);
@@ -250,7 +250,7 @@ pub fn ls_form(text: &[u8]) -> Result<Command, Refusal>
 }
 
 pub fn props_form(text: &[u8]) -> Result<Command, Refusal>
-    ensures { (payload : Payload) → asked_of payload result ≡ one_form is_file_name (λ name. Do (Props name) no_payload) (words_of text.now) }
+    ensures { (payload : Payload) → asked_of payload result ≡ one_word_form is_file_name (λ name. Do (Props name) no_payload) (words_of text.now) }
 {
     match file_name(text) {
         None => Err(Refusal::BadLine),
@@ -259,7 +259,7 @@ pub fn props_form(text: &[u8]) -> Result<Command, Refusal>
 }
 
 pub fn way_form(text: &[u8]) -> Result<Command, Refusal>
-    ensures { (payload : Payload) → asked_of payload result ≡ one_form is_file_name (λ name. Do (Way name) no_payload) (words_of text.now) }
+    ensures { (payload : Payload) → asked_of payload result ≡ one_word_form is_file_name (λ name. Do (Way name) no_payload) (words_of text.now) }
 {
     match file_name(text) {
         None => Err(Refusal::BadLine),

@@ -32,17 +32,17 @@ words_of text = filter is_some_bytes (pieces_on [] text)
 abbrev pub bad_line : Item
 bad_line = Bad BadLine
 
--- one word, if it fits, and two, if each does
-abbrev pub one_form : (List ℕ → Bool) → (List ℕ → Item) → List (List ℕ) → Item
-one_form fits item [] = bad_line
-one_form fits item (word ∷ []) = if fits word then item word else bad_line
-one_form fits item (word ∷ more ∷ words) = bad_line
+-- one word behind the first, which fits, and two that each fit
+abbrev pub one_word_form : (List ℕ → Bool) → (List ℕ → Item) → List (List ℕ) → Item
+one_word_form fits item [] = bad_line
+one_word_form fits item (word ∷ []) = if fits word then item word else bad_line
+one_word_form fits item (word ∷ more ∷ words) = bad_line
 
-abbrev pub two_form : (List ℕ → Bool) → (List ℕ → Bool) → (List ℕ → List ℕ → Item) → List (List ℕ) → Item
-two_form fits_left fits_right item [] = bad_line
-two_form fits_left fits_right item (left ∷ []) = bad_line
-two_form fits_left fits_right item (left ∷ right ∷ []) = if fits_left left && fits_right right then item left right else bad_line
-two_form fits_left fits_right item (left ∷ right ∷ more ∷ words) = bad_line
+abbrev pub two_words_form : (List ℕ → Bool) → (List ℕ → Bool) → (List ℕ → List ℕ → Item) → List (List ℕ) → Item
+two_words_form fits_left fits_right item [] = bad_line
+two_words_form fits_left fits_right item (left ∷ []) = bad_line
+two_words_form fits_left fits_right item (left ∷ right ∷ []) = if fits_left left && fits_right right then item left right else bad_line
+two_words_form fits_left fits_right item (left ∷ right ∷ more ∷ words) = bad_line
 
 -- any word of the line fits
 abbrev pub any_word : List ℕ → Bool
@@ -70,7 +70,7 @@ add_form (name ∷ []) payload = bad_line
 add_form (name ∷ size ∷ words) payload =
     if is_file_name name && is_count size then with_tags (λ tags. Do (Add name tags) payload) (tags_form words) else bad_line
 
--- no word
+-- no word behind the first
 abbrev pub alone_form : Item → List (List ℕ) → Item
 alone_form item [] = item
 alone_form item (word ∷ words) = bad_line
@@ -78,22 +78,22 @@ alone_form item (word ∷ words) = bad_line
 -- the lines of all commands
 abbrev pub form_of : List ℕ → List (List ℕ) → Payload → Item
 form_of first words payload =
-    if same_word first (codes "mkdir") then one_form is_property (λ word. Do (Mkdir word) no_payload) words
-    else if same_word first (codes "rmdir") then one_form is_property (λ word. Do (Rmdir word) no_payload) words
-    else if same_word first (codes "axiom") then two_form is_property is_property (λ left right. Do (Axiom left right) no_payload) words
-    else if same_word first (codes "unaxiom") then two_form is_property is_property (λ left right. Do (Unaxiom left right) no_payload) words
+    if same_word first (codes "mkdir") then one_word_form is_property (λ word. Do (Mkdir word) no_payload) words
+    else if same_word first (codes "rmdir") then one_word_form is_property (λ word. Do (Rmdir word) no_payload) words
+    else if same_word first (codes "axiom") then two_words_form is_property is_property (λ left right. Do (Axiom left right) no_payload) words
+    else if same_word first (codes "unaxiom") then two_words_form is_property is_property (λ left right. Do (Unaxiom left right) no_payload) words
     else if same_word first (codes "create") then create_form words
     else if same_word first (codes "add") then add_form words payload
-    else if same_word first (codes "write") then two_form is_file_name is_count (λ name size. Do (Write name) payload) words
-    else if same_word first (codes "cat") then one_form is_file_name (λ name. Do (Cat name) no_payload) words
-    else if same_word first (codes "mv") then two_form is_file_name any_word (λ name word. Do (Mv name word) no_payload) words
-    else if same_word first (codes "rename") then two_form is_file_name is_file_name (λ name other. Do (Rename name other) no_payload) words
-    else if same_word first (codes "rm") then one_form is_file_name (λ name. Do (Rm name) no_payload) words
-    else if same_word first (codes "cd") then one_form any_word (λ word. Do (Cd word) no_payload) words
+    else if same_word first (codes "write") then two_words_form is_file_name is_count (λ name size. Do (Write name) payload) words
+    else if same_word first (codes "cat") then one_word_form is_file_name (λ name. Do (Cat name) no_payload) words
+    else if same_word first (codes "mv") then two_words_form is_file_name any_word (λ name word. Do (Mv name word) no_payload) words
+    else if same_word first (codes "rename") then two_words_form is_file_name is_file_name (λ name other. Do (Rename name other) no_payload) words
+    else if same_word first (codes "rm") then one_word_form is_file_name (λ name. Do (Rm name) no_payload) words
+    else if same_word first (codes "cd") then one_word_form any_word (λ word. Do (Cd word) no_payload) words
     else if same_word first (codes "pwd") then alone_form (Do Pwd no_payload) words
     else if same_word first (codes "ls") then alone_form (Do Ls no_payload) words
-    else if same_word first (codes "props") then one_form is_file_name (λ name. Do (Props name) no_payload) words
-    else if same_word first (codes "way") then one_form is_file_name (λ name. Do (Way name) no_payload) words
+    else if same_word first (codes "props") then one_word_form is_file_name (λ name. Do (Props name) no_payload) words
+    else if same_word first (codes "way") then one_word_form is_file_name (λ name. Do (Way name) no_payload) words
     else if same_word first (codes "stat") then alone_form (Do Stat no_payload) words
     else bad_line
 
