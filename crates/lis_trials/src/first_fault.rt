@@ -61,14 +61,14 @@ grow|i|7 => mkdir k:;create a k:10 k:11 k:12 k:13 k:14 k:15 k:16 k:17 k:18 k:19 
 }
 
 /// How words ended of whose calls one was to fail: how many calls there were of both objects, and the number of the one that failed.
-#[derive(Drop)]
+#[derive(Clone, Copy)]
 struct Ended {
     status: Status,
     calls: u64,
     failed: u64,
 }
 
-// What the words do where this call of a kind fails.
+// What the words do where the call fails that the log names.
 fn carried(
     alloc: Global,
     words: &[String],
@@ -102,20 +102,31 @@ fn is_named(status: &Status, kind: Kind) -> bool {
     }
 }
 
+// The same of this call of a kind.
+fn carried_up_to(
+    alloc: Global,
+    words: &[String],
+    image: &[u8],
+    row: &str,
+    (kind, fails): (Kind, u64),
+) -> Result<Ended, Fail> {
+    let log = Log::new(kind, fails);
+    carried(alloc, words, image, row, &log)
+}
+
 // The first call of this kind that fails and is not the last one of both objects, or ends the words with another status. 0 where there is
 // none, and they make calls of this kind just where they are to.
-fn first_wrong(alloc: Global, case: &Case, kind: Kind) -> Result<u64, Fail> {
-    let mut words = Vec::new(alloc);
-    for name in case.words.split('|') {
-        words.push(String::from_str(alloc, name)?)?;
-    }
-    // Its records are open.
-    let image = used(alloc, &fresh(alloc)?, &[case.before])?;
+fn wrong_call(
+    alloc: Global,
+    words: &[String],
+    image: &[u8],
+    case: &Case,
+    kind: Kind,
+) -> Result<u64, Fail> {
     for fails in 1..MANY_CALLS {
-        let log = Log::new(kind, fails);
-        let ended = carried(alloc, &words, &image, case.row, &log)?;
+        let ended = carried_up_to(alloc, words, image, case.row, (kind, fails))?;
         if ended.failed == 0 && ended.status == Status::DONE {
-            let is_made = case.kinds.split(',').any(|made| made == kind.name());
+            let is_made = case.kinds.contains(kind.name());
             return Ok(if is_made == (fails > 1) { 0 } else { fails });
         }
         if ended.failed != ended.calls || !is_named(&ended.status, kind) {
@@ -123,6 +134,16 @@ fn first_wrong(alloc: Global, case: &Case, kind: Kind) -> Result<u64, Fail> {
         }
     }
     Err("the words make more calls".into())
+}
+
+// The same of the words over their image, whose records are open.
+fn first_wrong(alloc: Global, case: &Case, kind: Kind) -> Result<u64, Fail> {
+    let mut words = Vec::new(alloc);
+    for name in case.words.split('|') {
+        words.push(String::from_str(alloc, name)?)?;
+    }
+    let image = used(alloc, &fresh(alloc)?, &[case.before])?;
+    wrong_call(alloc, &words, &image, case, kind)
 }
 
 // A body that mounts again behind a failed sync is refused, and one that takes or shows behind it.
