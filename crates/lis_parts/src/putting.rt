@@ -88,39 +88,45 @@ fn carry_back<T: Station>(
     }
 }
 
-// Puts the edited view back, which was taken whole.
+/// An edited view, which was taken whole, the name of its file and the text of its formula.
+#[derive(Clone, Copy)]
+struct Edit<'a> {
+    name: &'a Name,
+    text: &'a [u8],
+    edited: &'a [u8],
+}
+
+// Puts the edited view back.
 fn put_back_file<T: Station>(
     store: &mut Store,
     scratch: &mut Scratch,
     file: &mut Payload,
     made: &mut Payload,
-    edited: &[u8],
     station: &mut T,
-    name: &Name,
-    text: &[u8],
+    edit: Edit,
 ) -> Result<(), End>
     requires scratch { HasRoom scratch.old store.old.parts.limits }
-    requires short { length edited.now ≤ view_limit }
+    requires short { length edit.edited.now ≤ view_limit }
     requires sound { IsSound store.old }
     requires usable { IsUsable store.old (T.meaning station.old) }
-    ensures puts { Does (λ (now : Situation). put now name.now text.now edited.now) (StoreFits store.old (T.meaning station.old)) []
+    ensures puts { Does (λ (now : Situation). put now edit.entry.name.now edit.entry.text.now edit.entry.edited.now) (StoreFits store.old (T.meaning station.old)) []
         (T.meaning station.old) (T.meaning station.new) result (StoreFits store.new (T.meaning station.new)) [] }
     ensures ends { Ends (T.meaning station.old) (T.meaning station.new) result }
     ensures left { StoreLeft store.old store.new result }
     ensures sound { IsSound store.new }
     ensures scratch { HasRoom scratch.new store.old.parts.limits }
 {
-    let place = match read_place(text) {
+    let place = match read_place(edit.text) {
         Ok(place) => place,
         Err(refusal) => return answer_refusal(station, &refusal),
     };
-    let Some(slot) = store.slot_of(name) else {
+    let Some(slot) = store.slot_of(edit.name) else {
         return answer_refusal(station, &Refusal::NoFileHere);
     };
-    let Ok(returned) = make_new(store, file, made, station, slot, &place, edited) else {
+    let Ok(returned) = make_new(store, file, made, station, slot, &place, edit.edited) else {
         return Err(End::DiskFault);
     };
-    carry_back(store, scratch, station, name, returned, made)
+    carry_back(store, scratch, station, edit.name, returned, made)
 }
 
 /// Reads an edited view of the file of that name under the formula of the text, and writes what it makes of the file: the hidden lines
@@ -157,15 +163,18 @@ pub fn put_file<S: Source, T: Station>(
         Ok(false) => return Halt::Limit,
         Err(_) => return Halt::InputFault,
     }
+    let edit = Edit {
+        name,
+        text,
+        edited: parts.edited.bytes(),
+    };
     let put = put_back_file(
         store,
         &mut parts.scratch,
         &mut parts.file,
         &mut parts.made,
-        parts.edited.bytes(),
         station,
-        name,
-        text,
+        edit,
     );
     match put {
         Ok(()) => Halt::End,
