@@ -23,6 +23,14 @@ const MOST_BLOCKS: usize = 256;
 /// How many numbers of blocks a slot has.
 const SLOT_BLOCKS: u32 = 16;
 
+/// Where the content of a file lies: the first data block of the image, the numbers in the file's slot, and how many bytes it has.
+#[derive(Clone, Copy)]
+pub struct Laid<'a> {
+    pub base: u32,
+    pub blocks: &'a [u16],
+    pub size: u32,
+}
+
 /// Whether so many bytes take more blocks than a slot numbers.
 pub fn is_large(size: u32) -> bool
     requires { size ≤ 1048576 }
@@ -61,27 +69,26 @@ fn read_home<D: Disk>(journal: &Journal, disk: &mut D, n: u32, buf: &mut [u8]) -
 pub fn read_index_block<D: Disk>(
     journal: &Journal,
     disk: &mut D,
-    base: u32,
-    blocks: &[u16],
-    size: u32,
+    laid: Laid,
     buf: &mut [u8],
 ) -> Result<(), Failed>
-    requires few { size ≤ 1048576 }
-    requires count { length blocks.now ≡ slot_count size }
-    requires home { 578 ≤ base }
-    requires within { IsTrue (are_within base journal.now.blocks blocks.now) }
+    requires few { laid.size ≤ 1048576 }
+    requires count { length laid.blocks.now ≡ slot_count laid.size }
+    requires home { 578 ≤ laid.base }
+    requires within { IsTrue (are_within laid.base journal.now.blocks laid.blocks.now) }
     requires whole { length buf.old ≡ 4096 }
     requires usable { JournalIsUsable journal.now (D.meaning disk.old) }
-    ensures held { OnOk result (IsTrue (D.meaning disk.old).is_honest → is_large size ≡ true
-        → buf.new ≡ held_in journal.now (D.meaning disk.old).bytes (index_home base blocks.now)) }
+    ensures held { OnOk result (IsTrue (D.meaning disk.old).is_honest → is_large laid.entry.size ≡ true
+        → buf.new ≡ held_in journal.now (D.meaning disk.old).bytes (index_home laid.entry.base laid.entry.blocks.now)) }
     ensures disk { ReadsDisk (D.meaning disk.old) (D.meaning disk.new) result }
     ensures fits { (kept : ℕ → List ℕ) → Fits journal.now (D.meaning disk.old) kept
         → Fits journal.now (D.meaning disk.new) kept }
 {
-    if !is_large(size) {
+    if !is_large(laid.size) {
         return Ok(());
     }
-    read_home(journal, disk, home(journal.blocks(), base, blocks[0]), buf)
+    let first = home(journal.blocks(), laid.base, laid.blocks[0]);
+    read_home(journal, disk, first, buf)
 }
 
 // The number at a place of a block, counted by numbers.
@@ -138,31 +145,29 @@ fn read_within<D: Disk>(
 pub fn read_block_by<D: Disk>(
     journal: &Journal,
     disk: &mut D,
-    base: u32,
-    blocks: &[u16],
-    size: u32,
+    laid: Laid,
     index: &[u8],
     n: u32,
     buf: &mut [u8],
 ) -> Result<(), Failed>
-    requires few { size ≤ 1048576 }
-    requires count { length blocks.now ≡ slot_count size }
-    requires home { 578 ≤ base }
-    requires within { IsTrue (are_within base journal.now.blocks blocks.now) }
-    requires inside { n < blocks_needed size }
+    requires few { laid.size ≤ 1048576 }
+    requires count { length laid.blocks.now ≡ slot_count laid.size }
+    requires home { 578 ≤ laid.base }
+    requires within { IsTrue (are_within laid.base journal.now.blocks laid.blocks.now) }
+    requires inside { n < blocks_needed laid.size }
     requires index { length index.now ≡ 4096 }
     requires whole { length buf.old ≡ 4096 }
     requires usable { JournalIsUsable journal.now (D.meaning disk.old) }
     ensures read { OnOk result ((kept : ℕ → List ℕ) → Fits journal.now (D.meaning disk.old) kept
-        → (is_large size ≡ true → index.now ≡ looked journal.now.staged kept (index_home base blocks.now))
-        → buf.new ≡ block_within base journal.now.blocks (looked journal.now.staged kept)
-        (slice_index (content_blocks base blocks.now size (looked journal.now.staged kept)) n)) }
+        → (is_large laid.entry.size ≡ true → index.now ≡ looked journal.now.staged kept (index_home laid.entry.base laid.entry.blocks.now))
+        → buf.new ≡ block_within laid.entry.base journal.now.blocks (looked journal.now.staged kept)
+        (slice_index (content_blocks laid.entry.base laid.entry.blocks.now laid.entry.size (looked journal.now.staged kept)) n)) }
     ensures disk { ReadsDisk (D.meaning disk.old) (D.meaning disk.new) result }
     ensures fits { (kept : ℕ → List ℕ) → Fits journal.now (D.meaning disk.old) kept
         → Fits journal.now (D.meaning disk.new) kept }
 {
-    let number = number_of(blocks, size, index, n);
-    read_within(journal, disk, base, number, buf)
+    let number = number_of(laid.blocks, laid.size, index, n);
+    read_within(journal, disk, laid.base, number, buf)
 }
 
 /// Reads the n-th block of a file's content. Behind the content's end it has any bytes. Where the index block gives a
@@ -170,29 +175,27 @@ pub fn read_block_by<D: Disk>(
 pub fn read_block<D: Disk>(
     journal: &Journal,
     disk: &mut D,
-    base: u32,
-    blocks: &[u16],
-    size: u32,
+    laid: Laid,
     n: u32,
     buf: &mut [u8],
 ) -> Result<(), Failed>
-    requires few { size ≤ 1048576 }
-    requires count { length blocks.now ≡ slot_count size }
-    requires home { 578 ≤ base }
-    requires within { IsTrue (are_within base journal.now.blocks blocks.now) }
-    requires inside { n < blocks_needed size }
+    requires few { laid.size ≤ 1048576 }
+    requires count { length laid.blocks.now ≡ slot_count laid.size }
+    requires home { 578 ≤ laid.base }
+    requires within { IsTrue (are_within laid.base journal.now.blocks laid.blocks.now) }
+    requires inside { n < blocks_needed laid.size }
     requires whole { length buf.old ≡ 4096 }
     requires usable { JournalIsUsable journal.now (D.meaning disk.old) }
     ensures read { OnOk result ((kept : ℕ → List ℕ) → Fits journal.now (D.meaning disk.old) kept
-        → buf.new ≡ block_within base journal.now.blocks (looked journal.now.staged kept)
-        (slice_index (content_blocks base blocks.now size (looked journal.now.staged kept)) n)) }
+        → buf.new ≡ block_within laid.entry.base journal.now.blocks (looked journal.now.staged kept)
+        (slice_index (content_blocks laid.entry.base laid.entry.blocks.now laid.entry.size (looked journal.now.staged kept)) n)) }
     ensures disk { ReadsDisk (D.meaning disk.old) (D.meaning disk.new) result }
     ensures fits { (kept : ℕ → List ℕ) → Fits journal.now (D.meaning disk.old) kept
         → Fits journal.now (D.meaning disk.new) kept }
 {
     let mut index = [0; BLOCK_LEN];
-    read_index_block(journal, disk, base, blocks, size, &mut index)?;
-    read_block_by(journal, disk, base, blocks, size, &index, n, buf)
+    read_index_block(journal, disk, laid, &mut index)?;
+    read_block_by(journal, disk, laid, &index, n, buf)
 }
 
 // Gives a block back, where it is taken.

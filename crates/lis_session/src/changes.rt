@@ -13,7 +13,7 @@ use lis_model::command::Command;
 use lis_place::Place;
 use lis_ports::Disk;
 use lis_store::laws::create_is_add;
-use lis_store::{Change, Store};
+use lis_store::{Change, NewFile, Store};
 
 /// Whether a command asks for a change of the store.
 pub fn is_change(command: &Command) -> bool
@@ -55,9 +55,23 @@ pub(crate) fn change<D: Disk>(
         Command::Create(name, tags) => {
             // To create a file is to add one without bytes.
             create_is_add();
-            store.add_file(disk, scratch, place, name, tags, &[], 0)
+            let file = NewFile {
+                name,
+                tags,
+                bytes: &[],
+                size: 0,
+            };
+            store.add_file(disk, scratch, place, file)
         }
-        Command::Add(name, tags) => store.add_file(disk, scratch, place, name, tags, bytes, size),
+        Command::Add(name, tags) => {
+            let file = NewFile {
+                name,
+                tags,
+                bytes,
+                size,
+            };
+            store.add_file(disk, scratch, place, file)
+        }
         Command::Write(name) => store.write(disk, scratch, place, name, bytes, size),
         Command::Mv(name, text) => store.retag(disk, scratch, place, name, text),
         Command::Rename(name, other) => store.rename(disk, scratch, place, name, other),
@@ -94,11 +108,23 @@ pub(crate) fn hold<D: Disk>(
         Command::Create(name, tags) => {
             // To create a file is to add one without bytes.
             create_is_add();
-            store.add_file_held(disk, scratch, place, name, tags, &[], 0)
+            let file = NewFile {
+                name,
+                tags,
+                bytes: &[],
+                size: 0,
+            };
+            store.add_file_held(disk, scratch, place, file)
         }
-        Command::Add(name, tags) => store.add_file_held(
-            disk, scratch, place, name, tags, bytes, size,
-        ),
+        Command::Add(name, tags) => {
+            let file = NewFile {
+                name,
+                tags,
+                bytes,
+                size,
+            };
+            store.add_file_held(disk, scratch, place, file)
+        }
         Command::Write(name) => store.write_held(disk, scratch, place, name, bytes, size),
         Command::Mv(name, text) => store.retag_held(disk, scratch, place, name, text),
         Command::Rename(name, other) => store.rename_held(disk, scratch, place, name, other),

@@ -48,6 +48,15 @@ pub(crate) fn blocks_taken(version: u32, size: u64) -> u64
     }
 }
 
+/// A file that is to be made: its name, the words that it is given, and its bytes, of which there are to be `size`.
+#[derive(Clone, Copy)]
+pub struct NewFile<'a> {
+    pub name: &'a Name,
+    pub tags: &'a Tags,
+    pub bytes: &'a [u8],
+    pub size: u64,
+}
+
 // Whether one of the words is built in.
 fn has_built_in(words: &[Word]) -> bool
     ensures { result ≡ list_any is_built_in words.now }
@@ -73,24 +82,18 @@ fn has_head_or_test(words: &[Word]) -> bool
 }
 
 // The words that a new file would be given, or what its size, its name, its place and the named words are refused for.
-fn may_name(
-    parts: &Parts,
-    place: &Place,
-    name: &Name,
-    tags: &Tags,
-    payload: &[u8],
-    size: u64,
-) -> Result<ArrayVec<Word, 16>, Refusal>
-    ensures row { Judges ((nat_lt (file_limit parts.now.limits.version) size, LargeFile) ∷ named_checks parts.now place.now tags.now
-        (new_file name.now (assigned_at place.now tags.now) payload.now)) result }
-    ensures words { IfOk result (λ words. words.items ≡ assigned_at place.now tags.now) }
+fn may_name(parts: &Parts, place: &Place, file: NewFile) -> Result<ArrayVec<Word, 16>, Refusal>
+    ensures row { Judges ((nat_lt (file_limit parts.now.limits.version) file.entry.size, LargeFile) ∷ named_checks parts.now place.now file.entry.tags.now
+        (new_file file.entry.name.now (assigned_at place.now file.entry.tags.now) file.entry.bytes.now)) result }
+    ensures words { IfOk result (λ words. words.items ≡ assigned_at place.now file.entry.tags.now) }
     ensures few { IfOk result (λ words. length words.items ≤ 16) }
-    ensures name { IfOk result (λ words. IsTrue (is_file_name name.now)) }
+    ensures name { IfOk result (λ words. IsTrue (is_file_name file.entry.name.now)) }
 {
-    if size > file_limit(parts.limits().version) {
+    let tags = file.tags;
+    if file.size > file_limit(parts.limits().version) {
         return Err(Refusal::LargeFile);
     }
-    if parts.slot_of(name).is_some() {
+    if parts.slot_of(file.name).is_some() {
         return Err(Refusal::NameTaken);
     }
     if !has_words(place) {
@@ -146,24 +149,22 @@ fn has_room_for(
 fn has_room(
     parts: &Parts,
     scratch: &mut Scratch,
-    name: &Name,
+    file: NewFile,
     words: &[Word],
-    payload: &[u8],
-    size: u64,
 ) -> Result<(), Refusal>
     requires few { length words.now ≤ 16 }
     requires room { HasRoom scratch.old parts.now.limits }
     ensures room { HasRoom scratch.new parts.now.limits }
-    ensures row { Judges (room_checks parts.now (draft_of (new_file name.now words.now payload.now)) size) result }
+    ensures row { Judges (room_checks parts.now (draft_of (new_file file.entry.name.now words.now file.entry.bytes.now)) file.entry.size) result }
 {
-    let derived = derive_words(name, payload);
+    let derived = derive_words(file.name, file.bytes);
     let draft = Draft {
-        name,
-        size: payload.len() as u64,
+        name: file.name,
+        size: file.bytes.len() as u64,
         assigned: words,
         own: derived.as_slice(),
     };
-    has_room_for(parts, scratch, draft, size)
+    has_room_for(parts, scratch, draft, file.size)
 }
 
 /// The words that a new file is given, or what it is refused for. Where there are more bytes than a file may have, only their
@@ -172,18 +173,15 @@ pub(crate) fn may_add(
     parts: &Parts,
     scratch: &mut Scratch,
     place: &Place,
-    name: &Name,
-    tags: &Tags,
-    payload: &[u8],
-    size: u64,
+    file: NewFile,
 ) -> Result<ArrayVec<Word, 16>, Refusal>
     requires room { HasRoom scratch.old parts.now.limits }
     ensures room { HasRoom scratch.new parts.now.limits }
-    ensures row { Judges (add_checks_of parts.now place.now name.now tags.now payload.now size) result }
-    ensures words { IfOk result (λ words. words.items ≡ assigned_at place.now tags.now) }
-    ensures name { IfOk result (λ words. IsTrue (is_file_name name.now)) }
+    ensures row { Judges (add_checks_of parts.now place.now file.entry.name.now file.entry.tags.now file.entry.bytes.now file.entry.size) result }
+    ensures words { IfOk result (λ words. words.items ≡ assigned_at place.now file.entry.tags.now) }
+    ensures name { IfOk result (λ words. IsTrue (is_file_name file.entry.name.now)) }
 {
-    let words = may_name(parts, place, name, tags, payload, size)?;
-    has_room(parts, scratch, name, words.as_slice(), payload, size)?;
+    let words = may_name(parts, place, file)?;
+    has_room(parts, scratch, file, words.as_slice())?;
     Ok(words)
 }

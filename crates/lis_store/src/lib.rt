@@ -30,6 +30,7 @@ mod store;
 mod tags;
 mod testing;
 
+pub use admitting::NewFile;
 pub use change::Change;
 pub use counting::Counts;
 pub use store::{Built, Store};

@@ -25,18 +25,17 @@ mod replacing;
 mod undeclaring;
 mod unlinking;
 
-use crate::admitting::may_add;
+use crate::admitting::{NewFile, may_add};
 use crate::change::Change;
 use crate::contents::{free_content, put_anew};
 use crate::removing::take_out;
 use crate::replacing::replace_record;
 use crate::saving::{MOST_HELD, commit, hold, most_held};
-use lis_content::{Buffer, is_large, read_block, read_block_by, read_index_block};
+use lis_content::{Buffer, Laid, is_large, read_block, read_block_by, read_index_block};
 use lis_eval::{Scratch, View, evaluate, found};
 use lis_ext::Ext;
 use lis_journal::Journal;
 use lis_kept::{Parts, data_start};
-use lis_model::command::Tags;
 use lis_model::limits::Limits;
 use lis_model::refusal::Refusal;
 use lis_place::Place;
@@ -169,15 +168,12 @@ impl Store {
         let Some(rec) = self.parts.rec(slot) else {
             unreachable!()
         };
-        read_block(
-            &self.journal,
-            disk,
+        let laid = Laid {
             base,
-            rec.blocks.as_slice(),
-            rec.size,
-            n,
-            buf,
-        )
+            blocks: rec.blocks.as_slice(),
+            size: rec.size,
+        };
+        read_block(&self.journal, disk, laid, n, buf)
     }
 
     /// Reads the index block of a file, where it has one, to be handed to `content_by`.
@@ -195,14 +191,12 @@ impl Store {
         let Some(rec) = self.parts.rec(slot) else {
             unreachable!()
         };
-        read_index_block(
-            &self.journal,
-            disk,
+        let laid = Laid {
             base,
-            rec.blocks.as_slice(),
-            rec.size,
-            index,
-        )
+            blocks: rec.blocks.as_slice(),
+            size: rec.size,
+        };
+        read_index_block(&self.journal, disk, laid, index)
     }
 
     /// The n-th block of a file's bytes, by the index block that `index` read. At its end the last block holds any bytes.
@@ -230,16 +224,12 @@ impl Store {
         let Some(rec) = self.parts.rec(slot) else {
             unreachable!()
         };
-        read_block_by(
-            &self.journal,
-            disk,
+        let laid = Laid {
             base,
-            rec.blocks.as_slice(),
-            rec.size,
-            index,
-            n,
-            buf,
-        )
+            blocks: rec.blocks.as_slice(),
+            size: rec.size,
+        };
+        read_block_by(&self.journal, disk, laid, index, n, buf)
     }
 
     /// The slot of the file of that name, where the file is in the extension of the place.
@@ -267,25 +257,22 @@ impl Store {
         disk: &mut D,
         scratch: &mut Scratch,
         place: &Place,
-        name: &Name,
-        tags: &Tags,
-        payload: &[u8],
-        size: u64,
+        file: NewFile,
     ) -> Result<(), Change>
-        requires whole { size ≤ file_limit self.old.parts.limits.version → length payload.now ≡ size }
+        requires whole { file.size ≤ file_limit self.old.parts.limits.version → length file.bytes.now ≡ file.size }
         requires scratch { HasRoom scratch.old self.old.parts.limits }
         requires usable { IsUsable self.old (D.meaning disk.old) }
         ensures scratch { HasRoom scratch.new self.old.parts.limits }
         ensures changes { (s : State) → StoreFits self.old (D.meaning disk.old) s
             → Changes (record { state = s; place = place.now })
-            (add (record { state = s; place = place.now }) name.now tags.now (record { size = size; bytes = payload.now }))
+            (add (record { state = s; place = place.now }) file.entry.name.now file.entry.tags.now (record { size = file.entry.size; bytes = file.entry.bytes.now }))
             self.new (D.meaning disk.old) (D.meaning disk.new) result }
         ensures untouched { (refusal : Refusal) → result ≡ Err (Refused refusal) → disk.new ≡ disk.old }
         ensures settled { OnOk result (self.new.journal.staged ≡ []) }
         ensures keeps { ChangeKeeps self.old self.new result }
         ensures disk { ChangesDisk (D.meaning disk.old) (D.meaning disk.new) result }
     {
-        self.add_file_held(disk, scratch, place, name, tags, payload, size)?;
+        self.add_file_held(disk, scratch, place, file)?;
         self.commit(disk)
     }
 
@@ -295,29 +282,33 @@ impl Store {
         disk: &mut D,
         scratch: &mut Scratch,
         place: &Place,
-        name: &Name,
-        tags: &Tags,
-        payload: &[u8],
-        size: u64,
+        file: NewFile,
     ) -> Result<(), Change>
-        requires whole { size ≤ file_limit self.old.parts.limits.version → length payload.now ≡ size }
+        requires whole { file.size ≤ file_limit self.old.parts.limits.version → length file.bytes.now ≡ file.size }
         requires scratch { HasRoom scratch.old self.old.parts.limits }
         requires usable { IsUsable self.old (D.meaning disk.old) }
         ensures scratch { HasRoom scratch.new self.old.parts.limits }
         ensures holds { (base : State) (s : State) → StoreHolds self.old (D.meaning disk.old) base s
             → Holds base (record { state = s; place = place.now })
-            (add (record { state = s; place = place.now }) name.now tags.now (record { size = size; bytes = payload.now }))
+            (add (record { state = s; place = place.now }) file.entry.name.now file.entry.tags.now (record { size = file.entry.size; bytes = file.entry.bytes.now }))
             self.new (D.meaning disk.old) (D.meaning disk.new) result }
         ensures untouched { (refusal : Refusal) → result ≡ Err (Refused refusal) → disk.new ≡ disk.old }
         ensures entry { IsSound self.old }
         ensures keeps { ChangeKeeps self.old self.new result }
         ensures disk { ChangesDisk (D.meaning disk.old) (D.meaning disk.new) result }
     {
-        let assigned = may_add(&self.parts, scratch, place, name, tags, payload, size)?;
-        if is_large(payload.len() as u32) {
+        let assigned = may_add(&self.parts, scratch, place, file)?;
+        if is_large(file.bytes.len() as u32) {
             self.commit(disk)?;
         }
-        self.put_file(disk, scratch, None, name, assigned.as_slice(), payload)
+        self.put_file(
+            disk,
+            scratch,
+            None,
+            file.name,
+            assigned.as_slice(),
+            file.bytes,
+        )
     }
 
     // Puts a file in, in the place of the one in the slot if one is told. A large one is committed at once.

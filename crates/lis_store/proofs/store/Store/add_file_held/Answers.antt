@@ -17,11 +17,11 @@ returns-in_err-assigned g c =
     let m = g.D.Disk.meaning c.args.disk.now in
     let old : Stored = record { parts = c.self.inside.parts; journal = c.self.inside.journal; is_broken = c.self.inside.is_broken } in
     let now : Situation = record { state = s; place = c.args.place.now } in
-    let payload : Payload = record { size = c.args.size; bytes = c.args.payload.now } in
+    let payload : Payload = record { size = c.args.file.size; bytes = c.args.file.bytes.now } in
     let H : Stored → Type 0 = λ k. StoreHolds k m base s in
-    let Q : Stored → Type 0 = λ k. Holds base now (add now c.args.name.now c.args.tags.now payload) k m m c.from_residual.result in
+    let Q : Stored → Type 0 = λ k. Holds base now (add now c.args.file.name.now c.args.file.tags.now payload) k m m c.from_residual.result in
     subst Q c.self.view_is
-    (added_refused old m c.args.place.now c.args.name.now c.args.tags.now payload c.in_err-assigned.field-0.0 c.from_residual.result c.self.invariant
+    (added_refused old m c.args.place.now c.args.file.name.now c.args.file.tags.now payload c.in_err-assigned.field-0.0 c.from_residual.result c.self.invariant
     c.in_err-assigned.ensures.row (p.1 ∙ ap Err p.2) base s (subst H (sym c.self.view_is) holds)) in
     search (rules, holds)
 
@@ -31,18 +31,18 @@ returns-in_err-commit g c =
     let p = err_from_is_err_and c.from_residual-in_err-commit.result c.from_residual-in_err-commit.ensures.1 in
     let m = g.D.Disk.meaning c.args.disk.now in
     let now : Situation = record { state = s; place = c.args.place.now } in
-    held_lost_commit base now (add now c.args.name.now c.args.tags.now (record { size = c.args.size; bytes = c.args.payload.now })) m m (g.D.Disk.meaning c.commit.new.disk)
+    held_lost_commit base now (add now c.args.file.name.now c.args.file.tags.now (record { size = c.args.file.size; bytes = c.args.file.bytes.now })) m m (g.D.Disk.meaning c.commit.new.disk)
     c.commit.new.self c.in_err-commit.field-0.0 c.from_residual-in_err-commit.result (c.in_err-commit.ensures.commits base s holds) (p.1 ∙ ap Err p.2) in
     search (rules, holds)
 
 pub put_file-requires-clause-may : goal.put_file-requires-clause-may
 put_file-requires-clause-may g c =
     let k = c.self.inside.parts in
-    let whole = whole_inside c.args.payload.now c.args.size c.self.view_is c.requires.whole in
-    let M : List (List ℕ) → Kept → Type 0 = λ ws k. MayPutBytes k None (new_file c.args.name.now ws c.args.payload.now) in
-    let one : M (assigned_at c.args.place.now c.args.tags.now) k = (
-      admitted k c.args.place.now c.args.name.now c.args.tags.now c.args.payload.now c.args.size c.in_ok-assigned.ensures.name whole c.in_ok-assigned.ensures.row,
-      enough_free k c.args.place.now c.args.name.now c.args.tags.now c.args.payload.now c.args.size c.in_ok-assigned.ensures.name whole c.in_ok-assigned.ensures.row,
+    let whole = whole_inside c.args.file.bytes.now c.args.file.size c.self.view_is c.requires.whole in
+    let M : List (List ℕ) → Kept → Type 0 = λ ws k. MayPutBytes k None (new_file c.args.file.name.now ws c.args.file.bytes.now) in
+    let one : M (assigned_at c.args.place.now c.args.file.tags.now) k = (
+      admitted k c.args.place.now c.args.file.name.now c.args.file.tags.now c.args.file.bytes.now c.args.file.size c.in_ok-assigned.ensures.name whole c.in_ok-assigned.ensures.row,
+      enough_free k c.args.place.now c.args.file.name.now c.args.file.tags.now c.args.file.bytes.now c.args.file.size c.in_ok-assigned.ensures.name whole c.in_ok-assigned.ensures.row,
     ) in
     let A = M c.as_slice.result.now in
     let there = subst (λ (k : Stored). A k.parts) c.self.view_is (subst (λ ws. M ws k) (sym (c.as_slice.ensures.value ∙ c.in_ok-assigned.ensures.words)) one) in
@@ -59,12 +59,12 @@ returns-clause-holds g c = λ base s holds.
     let after = g.D.Disk.meaning c.put_file.new.disk in
     let old : Stored = record { parts = c.self.inside.parts; journal = c.self.inside.journal; is_broken = c.self.inside.is_broken } in
     let now : Situation = record { state = s; place = c.args.place.now } in
-    let payload : Payload = record { size = c.args.size; bytes = c.args.payload.now } in
-    let made : List (List ℕ) → Outcome = λ ws. changed now (file_added s (new_file c.args.name.now ws c.args.payload.now)) in
+    let payload : Payload = record { size = c.args.file.size; bytes = c.args.file.bytes.now } in
+    let made : List (List ℕ) → Outcome = λ ws. changed now (file_added s (new_file c.args.file.name.now ws c.args.file.bytes.now)) in
     let outcome = made c.as_slice.result.now in
     let H : Stored → Type 0 = λ k. StoreHolds k m base s in
     let held = subst H (sym c.self.view_is) holds in
-    let is = add_done old s c.self.invariant (told_held old m base s c.self.invariant held) c.args.place.now c.args.tags.now c.args.name.now payload c.in_ok-assigned.ensures.row ∙ ap made (sym (c.as_slice.ensures.value ∙ c.in_ok-assigned.ensures.words)) in
+    let is = add_done old s c.self.invariant (told_held old m base s c.self.invariant held) c.args.place.now c.args.file.tags.now c.args.file.name.now payload c.in_ok-assigned.ensures.row ∙ ap made (sym (c.as_slice.ensures.value ∙ c.in_ok-assigned.ensures.words)) in
     let O : Outcome → Type 0 = λ o. Holds base now o c.put_file.new.self m after c.put_file.result in
     subst O (sym is)
     (elim c.if-is_large.branch [
