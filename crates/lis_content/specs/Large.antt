@@ -1,7 +1,7 @@
 -- Files with up to 256 blocks of content. Where there are more than 16, a block of its own has their numbers, and the slot has the number
 -- of that index block alone.
-use Rattle.std.specs.Prelude.{◌≡◌, ℕ, ◌+◌, ◌*◌, ◌^◌, nat_lt, Bool, true, if◌then◌else◌, List, ◌++◌, map, drop, replicate, slice_index}
-use Rattle.std.specs.List.{flat_map, list_all, range_with_len}
+use Rattle.std.specs.Prelude.{◌≡◌, ℕ, ◌+◌, ◌*◌, nat_lt, Bool, true, if◌then◌else◌, List, ◌++◌, map, drop, replicate, slice_index}
+use Rattle.std.specs.List.{flat_map, range_with_len}
 use Rattle.byteorder.specs.Endian.{little_bytes, little_number}
 use Rattle.lis_model.specs.State.{blocks_needed}
 use Rattle.lis_words.specs.Bytes.{padded}
@@ -14,10 +14,6 @@ is_large size = nat_lt 16 (blocks_needed size)
 -- how many numbers a slot has for so many bytes
 abbrev pub slot_count : ℕ → ℕ
 slot_count size = if is_large size then 1 else blocks_needed size
-
--- each number is one of two bytes
-abbrev pub are_short : List ℕ → Bool
-are_short ns = list_all (λ n. nat_lt n (2 ^ 16)) ns
 
 -- an index block: the numbers in order, two bytes each with the lowest first, and zeros
 abbrev pub index_bytes : List ℕ → List ℕ

@@ -8,7 +8,7 @@ ghost use Rattle.lis_ports.specs.Calls.{DiskFaultEnds, UsesDisk};
 ghost use Rattle.lis_journal.specs.Images.{JournalIsUsable};
 ghost use Rattle.lis_model.specs.State.{blocks_needed, blocks_taken};
 ghost use Rattle.lis_blockmap.specs.Bitmap.{free_count, is_taken};
-ghost use Rattle.lis_content.specs.Large.{are_short};
+ghost use Rattle.lis_model.specs.Sets.{are_short};
 ghost use Rattle.lis_content.specs.Placing.{AreUnstaged, IsLaid, IsPlaced, IsTornOff, IsUnplaced, HasPlaceCause, TakesRow, RowOf, RowTorn, OnePlaced};
 ghost use Rattle.lis_content.specs.declared.fault.PutFault.TheVariants.{NoSpace};
 

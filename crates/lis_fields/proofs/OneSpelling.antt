@@ -6,7 +6,7 @@ use Rattle.lis_graph.specs.Graph.{is_rising}
 use Rattle.lis_model.specs.Ranges.{are_in_range}
 use Rattle.lis_words.specs.Bytes.{padded}
 use Rattle.lis_fields.specs.Records.{FileRecord}
-use Rattle.lis_fields.specs.Layouts.{zeros, text_bytes, numbers, gate_version, SpellsSuper, prop_bytes, is_prop, axiom_bytes, is_axiom, file_start, record_bytes, is_record, file_bytes, is_file, are_short, are_tags, slot_blocks, are_blocks}
+use Rattle.lis_fields.specs.Layouts.{zeros, text_bytes, numbers, gate_version, SpellsSuper, prop_bytes, is_prop, axiom_bytes, is_axiom, file_start, record_bytes, is_record, file_bytes, is_file, are_tags, slot_blocks, are_blocks}
 use Rattle.lis_model.specs.declared.limits.Limits.{Limits}
 use Rattle.lis_fields.specs.declared.slots.PropSlot.{PropSlot}
 use Rattle.lis_fields.specs.declared.slots.PropSlot.TheVariants.{Free as FreeProp, Known, Declared}
@@ -21,7 +21,7 @@ use Rattle.lis_fields.proofs.Texts.{name_short}
 use Rattle.lis_fields.proofs.Pairs.{left_number, right_number, axiom_spelled, axiom_fits}
 use Rattle.lis_fields.proofs.Parts.{text_parts, length_start, length_numbers, few_tags, few_blocks, few_numbers, size_fits, record_tests, file_parts, same_record, undeclared_word, declarable_word}
 use Rattle.lis_fields.proofs.Supers.{super_fits, super_parts, same_super}
-use Rattle.lis_model.specs.Sets.{are_distinct}
+use Rattle.lis_model.specs.Sets.{are_distinct, are_short}
 
 same_text : (a b : List ℕ) → length a ≤ 60 → text_bytes a ≡ text_bytes b → a ≡ b
 unfolding zeros

@@ -7,7 +7,7 @@ use Rattle.lis_words.proofs.Bytes.{length_padded}
 use Rattle.lis_words.proofs.Tests.{word_is_property, property_short}
 use Rattle.lis_model.specs.State.{is_declarable, file_limit, blocks_needed}
 use Rattle.lis_fields.specs.Records.{FileRecord}
-use Rattle.lis_fields.specs.Layouts.{zeros, text_bytes, named, prop_bytes, is_prop, is_undeclared, file_start, numbers, record_bytes, file_bytes, are_short, are_tags, slot_blocks, are_blocks, is_record, is_file}
+use Rattle.lis_fields.specs.Layouts.{zeros, text_bytes, named, prop_bytes, is_prop, is_undeclared, file_start, numbers, record_bytes, file_bytes, are_tags, slot_blocks, are_blocks, is_record, is_file}
 use Rattle.lis_fields.specs.declared.slots.PropSlot.{PropSlot}
 use Rattle.lis_fields.specs.declared.slots.PropSlot.TheVariants.{Free as FreeProp, Known, Declared}
 use Rattle.lis_fields.specs.declared.slots.FileSlot.{FileSlot}
@@ -15,7 +15,7 @@ use Rattle.lis_fields.specs.declared.slots.FileSlot.TheVariants.{Free as FreeFil
 use Rattle.lis_fields.proofs.Widths.{front_is, behind_is, joined, length_zeros}
 use Rattle.lis_fields.proofs.Texts.{length_text, name_short}
 use Rattle.lis_fields.proofs.Shorts.{shorts, length_shorts}
-use Rattle.lis_model.specs.Sets.{are_distinct}
+use Rattle.lis_model.specs.Sets.{are_distinct, are_short}
 
 pub same_found : {A B : Type 0} (a c : A) (b d : B) → ◌≡◌ {A = Option (A × B)} (Some (a, b)) (Some (c, d)) → (a ≡ c) × (b ≡ d)
 same_found {A} {B} a c b d e = let pair : ◌≡◌ {A = A × B} (a, b) (c, d) = cc in (ap (λ p. p.0) pair, ap (λ p. p.1) pair)

@@ -3,7 +3,7 @@ use Rattle.std.proofs.Common.{◌≡◌, refl, ap, ap₂, ◌∙◌, ℕ, suc, �
 use Rattle.std.specs.List.{flat_map}
 use Rattle.std.proofs.lemmas.Bool.{and_parts, and_from, ltb-true, lt-ltb}
 use Rattle.byteorder.specs.Endian.{little_bytes, little_number, IsRead}
-use Rattle.lis_fields.specs.Layouts.{are_short}
+use Rattle.lis_model.specs.Sets.{are_short}
 use Rattle.lis_fields.proofs.Widths.{same_number}
 
 abbrev pub shorts : List ℕ → List ℕ

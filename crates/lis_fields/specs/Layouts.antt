@@ -1,13 +1,13 @@
 -- The parts of an image as they are spelled, each whole, and which values they may have. The lowest byte of a number comes first.
 use Rattle.std.specs.Prelude.{◌≡◌, ℕ, ◌+◌, ◌-◌, ◌^◌, ◌==◌, nat_lt, nat_le, Bool, true, not, ◌&&◌, ◌||◌, if◌then◌else◌, List, [], ◌∷◌, ◌++◌, length, replicate, codes}
-use Rattle.std.specs.List.{list_any, list_all, flat_map}
+use Rattle.std.specs.List.{flat_map}
 use Rattle.std.specs.Ordering.{nat_cmp}
 use Rattle.byteorder.specs.Endian.{little_bytes}
 use Rattle.lis_graph.specs.Graph.{is_rising}
 use Rattle.lis_words.specs.Bytes.{padded}
 use Rattle.lis_words.specs.Words.{is_head, is_valued, is_built_in, is_file_name}
 use Rattle.lis_model.specs.declared.limits.Limits.{Limits}
-use Rattle.lis_model.specs.Sets.{are_distinct}
+use Rattle.lis_model.specs.Sets.{are_distinct, are_short}
 use Rattle.lis_model.specs.State.{is_declarable, file_limit, blocks_needed}
 use Rattle.lis_fields.specs.Records.{FileRecord}
 use Rattle.lis_fields.specs.declared.slots.PropSlot.{PropSlot}
@@ -103,10 +103,6 @@ record_bytes rec =
 unfoldable pub file_bytes : FileSlot → List ℕ
 file_bytes FreeFile = zeros 256
 file_bytes (Used rec) = record_bytes rec
-
--- each number is one of two bytes
-abbrev pub are_short : List ℕ → Bool
-are_short ns = list_all (λ n. nat_lt n (2 ^ 16)) ns
 
 -- at most 16 slot numbers, strictly rising
 abbrev pub are_tags : List ℕ → Bool

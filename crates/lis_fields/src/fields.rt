@@ -3,7 +3,8 @@
 ghost use Rattle.std.specs.Prelude.{◌≡◌, ℕ, ◌*◌, ◌≤◌, ◌==◌, List, length, IfSome, IsSomeAnd, IsTrue};
 ghost use Rattle.std.specs.List.{list_all, flat_map};
 ghost use Rattle.byteorder.specs.Endian.{little_bytes};
-ghost use Rattle.lis_fields.specs.Layouts.{text_bytes, zeros, numbers, are_short};
+ghost use Rattle.lis_fields.specs.Layouts.{text_bytes, zeros, numbers};
+ghost use Rattle.lis_model.specs.Sets.{are_short};
 
 use arrayvec::ArrayVec;
 use byteorder::{ByteOrder, LittleEndian};

@@ -19,7 +19,7 @@ use Rattle.lis_content.proofs.Numbers.{are_below, below_from_free, within_if_bel
 use Rattle.lis_content.proofs.Indexes.{small_blocks, small_content, small_size}
 use Rattle.lis_content.proofs.Files.{slot_were_free}
 use Rattle.lis_content.proofs.Laying.{among_homes}
-use Rattle.lis_fields.specs.Layouts.{are_short, are_blocks}
+use Rattle.lis_fields.specs.Layouts.{are_blocks}
 use Rattle.lis_model.specs.Image.{image_blocks}
 use Rattle.lis_model.specs.State.{file_limit, blocks_needed, blocks_taken}
 use Rattle.lis_kept.specs.Kept.{Kept}
@@ -31,7 +31,7 @@ use Rattle.lis_kept.proofs.InArea.{few_blocks}
 use Rattle.lis_kept.proofs.Formed.{held_files, record_parts}
 use Rattle.lis_kept.proofs.Marking.{block_marked}
 use Rattle.lis_kept.proofs.Contents.{slot_blocks_counted}
-use Rattle.lis_model.specs.Sets.{has_number}
+use Rattle.lis_model.specs.Sets.{has_number, are_short}
 
 -- ---- other blocks are taken, over what memory kept
 module _ (k p : Kept) (t : Taxonomy) (taken marks : List Bool) (is : p ≡ k) (held : AreHeld p t) (len : length taken ≡ length p.taken) (marked_is : marks ≡ set p.marks (bitmap_start p.limits) true) where

@@ -1,7 +1,7 @@
--- Sets of words: lists in byte order, without repeats; and lists of numbers of which none stands twice.
-use Rattle.std.specs.Prelude.{ℕ, ◌==◌, Bool, true, not, ◌&&◌, List, [], ◌∷◌}
+-- Sets of words: lists in byte order, without repeats; and lists of numbers: of two bytes, and of which none stands twice.
+use Rattle.std.specs.Prelude.{ℕ, ◌==◌, ◌^◌, nat_lt, Bool, true, not, ◌&&◌, List, [], ◌∷◌}
 use Rattle.std.specs.BTreeSet.{insert_key}
-use Rattle.std.specs.List.{list_any}
+use Rattle.std.specs.List.{list_all, list_any}
 use Rattle.lis_graph.specs.Graph.{with_more}
 use Rattle.lis_words.specs.Words.{word_cmp}
 
@@ -17,6 +17,11 @@ with_words words more = with_more word_cmp words more
 abbrev pub set_of : List (List ℕ) → List (List ℕ)
 set_of words = with_words [] words
 
+-- each number is one of two bytes
+abbrev pub are_short : List ℕ → Bool
+are_short ns = list_all (λ n. nat_lt n (2 ^ 16)) ns
+
+-- the number is one of the list
 abbrev pub has_number : List ℕ → ℕ → Bool
 has_number ns n = list_any (λ m. m == n) ns
 

@@ -1,10 +1,6 @@
 -- How often rows are edited: at most as often as bits of them differ, and the count does not fall.
 use Rattle.lis_store.proofs.Common.{◌≡◌, ap, ap₂, inl, inr, ℕ, ◌+◌, ◌<◌, ◌≤◌, List, [], ◌∷◌, length, map, sum, arith, range_with_len, Among, range_among, Ext, numbers_at, differs, sum_by-cons, numbers_where}
-use Rattle.lis_store.specs.Changes.{differing_bits}
-
--- as the contracts say it of stores
-abbrev pub AreEditsFew : Ext → Ext → Type 0
-AreEditsFew p q = (p.edits ≤ q.edits) × (q.edits ≤ p.edits + differing_bits p q)
+use Rattle.lis_store.specs.Changes.{AreEditsFew}
 
 -- a sum is no less than one of its terms
 sum_has : (f : ℕ → ℕ) (xs : List ℕ) (x : ℕ) → Among xs x → f x ≤ sum (map f xs)

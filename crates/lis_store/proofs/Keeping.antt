@@ -3,9 +3,9 @@ use Rattle.lis_store.proofs.Common.{◌≡◌, sym, ap, ◌∙◌, subst, true, 
 use Rattle.lis_store.specs.declared.change.Change.{Change}
 use Rattle.lis_store.specs.declared.change.Change.TheVariants.{Refused, Disk}
 use Rattle.lis_store.specs.Stored.{Stored, IsSound}
-use Rattle.lis_store.specs.Changes.{ChangeLeft, ChangeKeeps, CommitLeft}
+use Rattle.lis_store.specs.Changes.{ChangeLeft, ChangeKeeps, CommitLeft, AreEditsFew}
 use Rattle.lis_store.specs.Saving.{SaveEnded}
-use Rattle.lis_store.proofs.Edits.{AreEditsFew, edits_same}
+use Rattle.lis_store.proofs.Edits.{edits_same}
 
 left_saved : {T : Type 0} (old new : Stored) (result : Result T Change) → SaveEnded new.is_broken result → ChangeLeft old new result
 left_saved old new (Ok done) whole = whole

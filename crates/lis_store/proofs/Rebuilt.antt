@@ -4,12 +4,12 @@ use Rattle.lis_store.proofs.Common.{◌≡◌, ◌⊎◌, inl, inr, refl, subst,
 use Rattle.lis_kept.proofs.Marking.{marked_within, marked_only}
 use Rattle.std.proofs.lemmas.List.FromFn.{sum_by-map-range_with_len_more}
 use Rattle.lis_store.specs.Redescribing.{SlotHas, turned_at, IsTurnedRow, Redescribes}
-use Rattle.lis_store.proofs.Edits.{AreEditsFew}
 use Rattle.std.proofs.lemmas.List.Filters.{length-filter_both}
 use Rattle.lis_kept.proofs.WordLess.{had_from}
 use Rattle.lis_store.specs.Closing.{is_concerned, added, base_at, has_words, closure, anew, rebuilt}
 use Rattle.lis_store.specs.declared.closing.Rebuild.{Rebuild}
 use Rattle.lis_store.specs.Stored.{AreClosed, DescriptionsAreShort, TestsAreMet}
+use Rattle.lis_store.specs.Changes.{AreEditsFew}
 use Rattle.lis_store.proofs.Closed.{closure_closed}
 use Rattle.lis_store.proofs.FileTests.{tests_stay}
 

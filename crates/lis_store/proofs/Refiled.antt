@@ -7,8 +7,8 @@ use Rattle.lis_store.specs.Drafts.{Draft, with_own, AreOwnWords}
 use Rattle.lis_store.specs.Replacing.{MayReplace}
 use Rattle.lis_store.specs.ReplacingIn.{AreInForm, MayPut, MayComeIn, MakesRoom, IsVacant, RefilesIn, record_in, file_gone}
 use Rattle.lis_store.specs.Contents.{blocks_gone}
+use Rattle.lis_store.specs.Changes.{AreEditsFew}
 use Rattle.lis_store.proofs.Differing.{none_rising}
-use Rattle.lis_store.proofs.Edits.{AreEditsFew}
 use Rattle.lis_store.proofs.Housed.{IsHoused, housed_given}
 use Rattle.lis_store.proofs.Unfiled.{left_is, coming, tells_without}
 use Rattle.lis_store.proofs.PutIn.{may_come, none_has}

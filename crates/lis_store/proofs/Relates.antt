@@ -34,9 +34,8 @@ use Rattle.lis_store.proofs.Declared.{slot_pair}
 use Rattle.lis_store.proofs.StoreSays.{known_told}
 use Rattle.lis_store.proofs.Cleaned.{none_marked}
 use Rattle.lis_store.proofs.FileTests.{test_flagged, flagged_before, tests_stay}
-use Rattle.lis_store.proofs.Edits.{AreEditsFew}
 use Rattle.lis_store.specs.declared.change.Change.{Change}
-use Rattle.lis_store.specs.Changes.{Holds}
+use Rattle.lis_store.specs.Changes.{Holds, AreEditsFew}
 use Rattle.lis_store.proofs.SavedAlone.{IsChange, saves_alone}
 use Rattle.lis_store.proofs.Retaken.{settled_sound}
 use Rattle.lis_store.proofs.Told.{retold, few_with}

@@ -5,7 +5,7 @@ use Rattle.lis_store.specs.declared.change.Change.{Change}
 use Rattle.lis_store.specs.declared.change.Change.TheVariants.{Refused, Disk}
 use Rattle.lis_store.specs.Stored.{Stored, IsSound, StoreHolds}
 use Rattle.lis_store.specs.Contents.{ContentGiven, ContentEnded}
-use Rattle.lis_store.specs.Changes.{Holds, ChangeKeeps}
+use Rattle.lis_store.specs.Changes.{Holds, ChangeKeeps, AreEditsFew}
 use Rattle.lis_store.specs.Judging.{is_among}
 use Rattle.lis_store.specs.Saving.{IsReady, Saves}
 use Rattle.lis_store.specs.Removing.{TakesOut}
@@ -13,7 +13,6 @@ use Rattle.lis_store.specs.ReplacingIn.{AreInForm}
 use Rattle.lis_store.proofs.StoreSays.{here_told}
 use Rattle.lis_store.proofs.Judged.{change_refused}
 use Rattle.lis_store.proofs.Cleaned.{none_marked}
-use Rattle.lis_store.proofs.Edits.{AreEditsFew}
 use Rattle.lis_store.proofs.Keeping.{keeps_lost}
 use Rattle.lis_store.proofs.Removed.{end_is, form_removed, few_marked, few_edits, ready_removed}
 use Rattle.lis_store.proofs.Retaken.{in_form, settled_sound}

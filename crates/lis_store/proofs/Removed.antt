@@ -3,8 +3,9 @@ use Rattle.lis_store.proofs.Common.{◌≡◌, refl, sym, ap, ◌∙◌, subst, 
 use Rattle.lis_store.specs.Saving.{IsReady}
 use Rattle.lis_store.specs.ReplacingIn.{AreInForm}
 use Rattle.lis_store.specs.Removing.{TakesOut}
+use Rattle.lis_store.specs.Changes.{AreEditsFew}
 use Rattle.lis_store.proofs.Differing.{differ_few, none_rising}
-use Rattle.lis_store.proofs.Edits.{AreEditsFew, edits_at}
+use Rattle.lis_store.proofs.Edits.{edits_at}
 use Rattle.lis_store.proofs.Unfiled.{gone, set_gone, form_gone, tells_without}
 use Rattle.lis_store.proofs.Vacated.{slot_below}
 

@@ -6,7 +6,7 @@ use Rattle.lis_laws.proofs.Counts.{filter_sum_drops}
 use Rattle.lis_store.specs.declared.change.Change.{Change}
 use Rattle.lis_store.specs.Stands.{Stands}
 use Rattle.lis_store.specs.Stored.{Stored, IsSound, StoreHolds}
-use Rattle.lis_store.specs.Changes.{Holds}
+use Rattle.lis_store.specs.Changes.{Holds, AreEditsFew}
 use Rattle.lis_store.specs.Contents.{blocks_gone, IsRenewed, Renews, Trades}
 use Rattle.lis_store.specs.Saving.{settled, Saves}
 use Rattle.lis_store.specs.Drafts.{Draft, with_own, draft_of, AreOwnWords}
@@ -19,7 +19,6 @@ use Rattle.lis_store.proofs.StoreSays.{size_of_filed, file_of_filed}
 use Rattle.lis_store.proofs.FreeBlocks.{used_told, version_told}
 use Rattle.lis_store.proofs.Housed.{IsHoused, stay_housed, trades_housed, alone_housed}
 use Rattle.lis_store.proofs.Renewed.{stands_same}
-use Rattle.lis_store.proofs.Edits.{AreEditsFew}
 use Rattle.lis_store.proofs.Refiled.{form_refiled, limits_refiled, axioms_refiled, saved_refiled, marked_refiled, edits_refiled, few_refiled, tells_refiled, may_there}
 use Rattle.lis_store.proofs.Retaken.{in_form, settled_sound, retaken, form_retaken}
 use Rattle.lis_store.proofs.SavedAlone.{IsChange, MayBeSaved, unplaced_stands}

@@ -6,8 +6,9 @@ use Rattle.lis_store.specs.Drafts.{Draft}
 use Rattle.lis_store.specs.Admitting.{described_by}
 use Rattle.lis_store.specs.Adding.{numbers_named}
 use Rattle.lis_store.specs.ReplacingIn.{MayComeIn, IsVacant, SettlesIn}
+use Rattle.lis_store.specs.Changes.{AreEditsFew}
 use Rattle.lis_store.proofs.Differing.{differ_few}
-use Rattle.lis_store.proofs.Edits.{AreEditsFew, edits_at}
+use Rattle.lis_store.proofs.Edits.{edits_at}
 use Rattle.lis_store.proofs.PutIn.{no_more_known, named_rising}
 use Rattle.lis_store.proofs.Told.{few_with}
 use Rattle.lis_store.proofs.Settled.{described_is, set_here}

@@ -15,7 +15,8 @@ use Rattle.lis_slots.specs.Slots.{slot}
 use Rattle.lis_bits.specs.Bytes.{bits_bytes}
 use Rattle.lis_bits.proofs.Numbers.{bytes_same}
 use Rattle.lis_dict.proofs.Laws.{number_from_among}
-use Rattle.lis_fields.specs.Layouts.{is_axiom, is_file, are_short, slot_blocks}
+use Rattle.lis_fields.specs.Layouts.{is_axiom, is_file, slot_blocks}
+use Rattle.lis_model.specs.Sets.{are_short}
 use Rattle.lis_fields.proofs.Parts.{record_tests, few_blocks}
 use Rattle.lis_fields.specs.declared.slots.PropSlot.{PropSlot}
 use Rattle.lis_fields.specs.declared.slots.PropSlot.TheVariants.{Free as FreeProp, Declared}

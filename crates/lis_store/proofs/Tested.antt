@@ -10,12 +10,11 @@ use Rattle.lis_store.specs.Redescribing.{Redescribes}
 use Rattle.lis_store.specs.Stored.{DescriptionsAreShort, TestsAreMet, Stored, PairsAreApart, IsSound, StoreHolds}
 use Rattle.lis_store.specs.Testing.{is_crowded, has_crowded, tested, DeclaresTested, MayDeclare}
 use Rattle.lis_store.proofs.HeadsUsed.{use_stays}
-use Rattle.lis_store.proofs.Edits.{AreEditsFew}
 use Rattle.lis_store.proofs.Closed.{few_within, closure_told, closure_named, closure_has, led_plain}
 use Rattle.lis_model.specs.Step.{mkdir_checks, first_refusal}
 use Rattle.lis_store.specs.Saving.{settled, Saves}
 use Rattle.lis_store.specs.Judging.{word_checks}
-use Rattle.lis_store.specs.Changes.{Holds}
+use Rattle.lis_store.specs.Changes.{Holds, AreEditsFew}
 use Rattle.lis_store.specs.declared.change.Change.{Change}
 use Rattle.lis_store.proofs.Cleaned.{none_marked}
 use Rattle.lis_store.proofs.SavedAlone.{IsChange, saves_alone}

@@ -27,7 +27,6 @@ use Rattle.lis_laws.proofs.Sources.{rights_are, right_plain}
 use Rattle.lis_kept.specs.Edges.{head_number}
 use Rattle.lis_kept.proofs.AxiomTaken.{axiom_back, taken_unfelt}
 use Rattle.lis_store.specs.Saving.{settled, IsReady, Saves}
-use Rattle.lis_store.proofs.Edits.{AreEditsFew}
 use Rattle.lis_store.proofs.Cleaned.{none_marked}
 use Rattle.lis_store.proofs.Forgot.{word_before, word_stays, known_used}
 use Rattle.lis_store.proofs.FileTests.{tests_stay}
@@ -36,7 +35,7 @@ use Rattle.lis_store.proofs.Told.{words_same, retold}
 use Rattle.lis_model.specs.declared.refusal.Refusal.TheVariants.{NoAxiom}
 use Rattle.lis_model.specs.Step.{unaxiom}
 use Rattle.lis_store.specs.declared.change.Change.{Change}
-use Rattle.lis_store.specs.Changes.{Holds}
+use Rattle.lis_store.specs.Changes.{Holds, AreEditsFew}
 use Rattle.lis_store.proofs.SavedAlone.{IsChange, saves_alone}
 use Rattle.lis_store.proofs.Retaken.{settled_sound}
 use Rattle.lis_store.specs.ReplacingIn.{AreInForm}

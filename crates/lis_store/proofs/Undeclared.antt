@@ -19,14 +19,13 @@ use Rattle.lis_store.specs.Judging.{is_needed_by, undeclare_checks, IsUndeclarab
 use Rattle.lis_store.specs.Redescribing.{IsTurnedRow}
 use Rattle.lis_store.specs.ReplacingIn.{AreInForm}
 use Rattle.lis_store.specs.Testing.{without_number, undescribed, UndeclaresUnmet}
-use Rattle.lis_store.specs.Changes.{Holds}
+use Rattle.lis_store.specs.Changes.{Holds, AreEditsFew}
 use Rattle.lis_store.specs.declared.change.Change.{Change}
 use Rattle.lis_store.proofs.SavedAlone.{IsChange, saves_alone}
 use Rattle.lis_store.proofs.StoreSays.{described_told, file_of_filed}
 use Rattle.lis_store.proofs.HeadsUsed.{use_stays}
 use Rattle.lis_store.proofs.Judged.{judged_refused, judged_done, same_first}
 use Rattle.lis_store.proofs.Cleaned.{none_marked}
-use Rattle.lis_store.proofs.Edits.{AreEditsFew}
 use Rattle.lis_store.proofs.Rebuilt.{given_then, redescribed_edits, marked_more, unturned}
 use Rattle.lis_store.proofs.Told.{words_same, retold}
 use Rattle.lis_store.proofs.Declared.{declared_told}

@@ -91,14 +91,13 @@ differing_bits old new =
     sum (map (λ slot. length (numbers_where old.props (differs (set_of old slot) (set_of new slot)))) (range_with_len 0 (length old.sets)))
 
 -- Whatever the answer, the count of edits does not fall, and the rows are edited at most as often as bits of them differ.
-abbrev pub EditsFew : Stored → Stored → Type 0
-EditsFew old new =
-    (old.parts.ext.edits ≤ new.parts.ext.edits) × (new.parts.ext.edits ≤ old.parts.ext.edits + differing_bits old.parts.ext new.parts.ext)
+abbrev pub AreEditsFew : Ext → Ext → Type 0
+AreEditsFew old new = (old.edits ≤ new.edits) × (new.edits ≤ old.edits + differing_bits old new)
 
 -- What a change, or a part of one, keeps of a store on any disk, whatever it answers.
 pub record ChangeKeeps {T : Type 0} (old new : Stored) (result : Result T Change) : Type 0 where
   pub limits : new.parts.limits ≡ old.parts.limits
   pub image : new.journal.blocks ≡ old.journal.blocks
   pub left : ChangeLeft old new result
-  pub edits : EditsFew old new
+  pub edits : AreEditsFew old.parts.ext new.parts.ext
   pub sound : IsSound new

@@ -1,7 +1,8 @@
 use Rattle.std.proofs.Common.{◌≡◌, false, true, length, sym, ◌∙◌, subst}
 use Rattle.std.specs.List.{flat_map}
 use Rattle.byteorder.specs.Endian.{little_bytes}
-use Rattle.lis_content.specs.Large.{is_large, are_short}
+use Rattle.lis_content.specs.Large.{is_large}
+use Rattle.lis_model.specs.Sets.{are_short}
 use Rattle.lis_content.specs.Placing.{OnePlaced}
 use Rattle.lis_content.proofs.Laying.{unstaged_still, lays_torn, placed_small, placed_large, failed_as}
 use Rattle.lis_content.proofs.placing.place_all.Goals as goal

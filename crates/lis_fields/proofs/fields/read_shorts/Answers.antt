@@ -1,5 +1,5 @@
 use Rattle.std.proofs.Common.{◌≡◌, ◌∙◌, sym, ap, arith, subst, rules, IsTrue}
-use Rattle.lis_fields.specs.Layouts.{are_short}
+use Rattle.lis_model.specs.Sets.{are_short}
 use Rattle.lis_fields.proofs.Shorts.{shorts, read_shorts}
 use Rattle.lis_fields.proofs.fields.read_shorts.Goals as goal
 
