@@ -1,5 +1,5 @@
 -- Blocks that are placed row by row.
-use Rattle.std.proofs.Common.{drop, ◌≡◌, ◌⊎◌, ℕ, zero, suc, ◌+◌, ◌*◌, ◌<◌, ◌≤◌, ◌==◌, Bool, true, false, ◌||◌, List, [], ◌∷◌, ◌++◌, length, take, set, Option, Some, None, IsSomeAnd, Result, Ok, Err, IsErr, MatchResult, refl, sym, ◌∙◌, ap, subst, inl, inr, arith, append_assoc, length-append, length-drop, eqb}
+use Rattle.std.proofs.Common.{drop, ◌≡◌, ℕ, zero, suc, ◌+◌, ◌*◌, ◌<◌, ◌≤◌, ◌==◌, Bool, true, false, ◌||◌, List, [], ◌∷◌, ◌++◌, length, take, set, Option, Some, None, IsSomeAnd, Result, Ok, Err, IsErr, MatchResult, refl, sym, ◌∙◌, ap, subst, inr, arith, append_assoc, length-append, length-drop, eqb}
 use Rattle.std.specs.List.{flat_map, range_with_len}
 use Rattle.std.proofs.lemmas.Bool.{eqb-false, eq-eqb, ne_eqb, cond-true, cond-false, false≢true}
 use Rattle.std.proofs.lemmas.Grind.{flat_map-append}

@@ -1,6 +1,6 @@
 //! Reading through joined lines, byte by byte.
 
-ghost use Rattle.std.specs.Prelude.{◌≡◌, ℕ, ◌<◌, ◌≤◌, List, [], ◌∷◌, length, MatchOption, IfSome};
+ghost use Rattle.std.specs.Prelude.{◌≡◌, ◌<◌, ◌≤◌, [], ◌∷◌, length, MatchOption, IfSome};
 ghost use Rattle.lis_transducers.specs.Joined.{joined};
 ghost use Rattle.lis_csource.specs.Joints.{joint_len};
 

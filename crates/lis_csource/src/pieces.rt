@@ -1,7 +1,7 @@
 //! The pieces of a source, one after another.
 
-ghost use Rattle.std.specs.Prelude.{◌≡◌, ℕ, ◌<◌, ◌≤◌, List, [], ◌∷◌, length, true, false, MatchOption, IfSome};
-ghost use Rattle.lis_transducers.specs.Bytes.{is_white, is_name_start, begins_with, past, but_first};
+ghost use Rattle.std.specs.Prelude.{◌≡◌, ◌<◌, ◌≤◌, [], ◌∷◌, length, true, false, MatchOption, IfSome};
+ghost use Rattle.lis_transducers.specs.Bytes.{is_white, is_name_start, past, but_first};
 ghost use Rattle.lis_transducers.specs.Joined.{joined};
 ghost use Rattle.lis_transducers.specs.Pieces.{IsFirst, read, piece_of, pieces, after_block, after_literal, is_in_path, has_close, close_of, slash_piece, quote_piece, is_open, open_piece, first_piece, context_after};
 ghost use Rattle.lis_words.specs.Bytes.{is_blank};

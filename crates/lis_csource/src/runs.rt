@@ -1,7 +1,7 @@
 //! Runs of bytes of one kind.
 
-ghost use Rattle.std.specs.Prelude.{◌≡◌, ℕ, ◌<◌, ◌≤◌, ◌++◌, List, [], ◌∷◌, length, MatchOption};
-ghost use Rattle.lis_transducers.specs.Bytes.{is_name_byte, is_number_byte, past, front};
+ghost use Rattle.std.specs.Prelude.{◌≡◌, ◌<◌, ◌≤◌, ◌++◌, length, MatchOption};
+ghost use Rattle.lis_transducers.specs.Bytes.{is_name_byte, is_number_byte, past};
 ghost use Rattle.lis_transducers.specs.Joined.{joined};
 
 use crate::joined::next_byte;

@@ -1,13 +1,13 @@
 //! What counts in a source, and the words that it gives.
 
-ghost use Rattle.std.specs.Prelude.{◌≡◌, ℕ, ◌+◌, ◌-◌, ◌^◌, ◌<◌, ◌≤◌, ◌==◌, ◌&&◌, List, [], ◌∷◌, true, false, Some, None};
+ghost use Rattle.std.specs.Prelude.{◌≡◌, ◌+◌, ◌-◌, ◌^◌, ◌<◌, ◌≤◌, ◌==◌, ◌&&◌, List, [], ◌∷◌, true, false, Some, None};
 ghost use Rattle.lis_model.specs.Noted.{noted_all};
 ghost use Rattle.lis_transducers.specs.Joined.{joined};
 ghost use Rattle.lis_transducers.specs.Bytes.{front, is_name_byte};
 ghost use Rattle.lis_transducers.specs.Pieces.{Piece, piece_of, context_after, is_in_path};
-ghost use Rattle.lis_transducers.specs.Entries.{counts, entries, is_token, tokens};
-ghost use Rattle.lis_transducers.specs.Source.{is_byte, depth_after, braces_after, parens_after, is_candidate, included_word, words_at, source_words};
-ghost use Rattle.lis_csource.specs.Reading.{noted_words, comes_true, stage_after, with_name, right_words, IsSoundStage};
+ghost use Rattle.lis_transducers.specs.Entries.{counts, entries, is_token};
+ghost use Rattle.lis_transducers.specs.Source.{is_byte, depth_after, braces_after, parens_after, is_candidate, included_word, source_words};
+ghost use Rattle.lis_csource.specs.Reading.{noted_words, stage_after, with_name, IsSoundStage};
 
 use crate::pieces::{Found, context_after, first_piece};
 use crate::words::{is_keyword, note_defined, note_included};

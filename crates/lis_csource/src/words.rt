@@ -1,7 +1,6 @@
 //! Words and names from the bytes of a source.
 
-ghost use Rattle.std.specs.Prelude.{◌≡◌, ℕ, ◌<◌, ◌≤◌, ◌↔◌, ◌++◌, List, [], ◌∷◌, length, codes, filter, IsTrue, IsSome, IfSome};
-ghost use Rattle.std.specs.List.{list_any};
+ghost use Rattle.std.specs.Prelude.{◌≡◌, ◌<◌, ◌↔◌, ◌++◌, List, [], ◌∷◌, codes, filter, IsTrue, IsSome, IfSome};
 ghost use Rattle.lis_words.specs.Words.{is_word, has_word, same_word};
 ghost use Rattle.lis_model.specs.Noted.{noted_all};
 ghost use Rattle.lis_transducers.specs.Bytes.{is_name_byte, front};

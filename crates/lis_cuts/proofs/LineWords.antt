@@ -1,16 +1,15 @@
 -- Which words a line has, by their heads.
-use Rattle.std.proofs.Common.{◌≡◌, ◌≢◌, ℕ, ◌<◌, Bool, true, false, cond, ◌&&◌, ◌||◌, nat_eq, List, [], ◌∷◌, ◌++◌, length, take, drop, map, filter, codes, Option, Some, None, MatchOption, Bor, refl, sym, ap, subst, ◌∙◌, arith, ◌≤◌, le-leb}
-use Rattle.std.specs.List.{list_all, list_any, slice_split}
+use Rattle.std.proofs.Common.{◌≡◌, ℕ, ◌<◌, Bool, true, false, cond, ◌&&◌, ◌||◌, nat_eq, List, [], ◌∷◌, ◌++◌, length, take, drop, map, filter, codes, refl, sym, ap, ◌∙◌, arith, ◌≤◌, le-leb}
+use Rattle.std.specs.List.{list_any, slice_split}
 use Rattle.std.specs.Cmp.Lexicographic.{pointwise}
 use Rattle.std.proofs.lemmas.Bool.{false_from_ne_true, lt-leb}
-use Rattle.std.proofs.lemmas.Bool.Decides.{Decides-eqb}
 use Rattle.std.proofs.lemmas.List.{take-append-drop}
 use Rattle.std.proofs.lemmas.List.Folds.{list_any-append}
 use Rattle.std.proofs.lemmas.Map.Views.{any-filter_same}
 use Rattle.std.proofs.lemmas.Slice.Eq.{bytes_eq-Decides}
 use Rattle.lis_words.specs.Words.{same_word, has_word}
 use Rattle.lis_transducers.specs.Tokens.{is_between}
-use Rattle.lis_views.specs.Truth.{is_bare, kind_of, is_directive, line_kinds, is_short, short_runs, with_head, line_words}
+use Rattle.lis_views.specs.Truth.{line_kinds, is_short, short_runs, with_head, line_words}
 use Rattle.lis_cuts.specs.Words.{has_value}
 use Rattle.lis_words.specs.Bytes.{is_some_bytes}
 

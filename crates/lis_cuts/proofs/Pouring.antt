@@ -1,6 +1,6 @@
 -- A content that is put together of the lines of an edited view and the runs of the old content.
 use Rattle.std.proofs.Common.{◌≡◌, ℕ, ◌+◌, ◌<◌, ◌≤◌, Bool, true, false, cond, ◌&&◌, ◌||◌, Option, Some, None, is_some, MatchOption, List, [], ◌∷◌, ◌++◌, length, map, filter, flat_map, codes, refl, sym, ap, subst, ◌∙◌, arith, append_assoc, append-nil, length-append, inl, inr, le-leb}
-use Rattle.std.specs.List.{list_all, AllByRecursion}
+use Rattle.std.specs.List.{list_all}
 use Rattle.std.specs.Cmp.Lexicographic.{pointwise}
 use Rattle.std.proofs.lemmas.Bool.{and_parts, cases_lt, lt-leb}
 use Rattle.lis_words.specs.Words.{same_word}
@@ -14,7 +14,7 @@ use Rattle.lis_views.specs.Lines.{lines_of, joined_lines}
 use Rattle.lis_views.specs.Truth.{line_holds}
 use Rattle.lis_views.specs.Views.{Piece, pieces, texts_in, runs_of, mark_of, piece_lines}
 use Rattle.lis_views.specs.Views.Piece.{Shown, Hidden}
-use Rattle.lis_views.specs.Edits.{is_kept, is_mark, is_edited, marked, new_texts, has_marks, view_marks}
+use Rattle.lis_views.specs.Edits.{is_kept, is_mark, is_edited, marked, new_texts, has_marks}
 use Rattle.lis_views.proofs.Pieces.{AreSome, pieces_some}
 use Rattle.lis_views.proofs.Backs.{kept_no_mark, words_decide, edited, pieces_mean}
 use Rattle.lis_cuts.specs.Returns.{Holds, feed_unless, are_none}

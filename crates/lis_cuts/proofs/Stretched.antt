@@ -1,19 +1,18 @@
 -- How far the lines of a content were passed, and the pieces that they make.
-use Rattle.std.proofs.Common.{◌≡◌, ◌⊎◌, ℕ, ◌+◌, ◌-◌, ◌<◌, ◌≤◌, Bool, true, false, not, cond, Option, Some, None, List, [], ◌∷◌, ◌++◌, length, take, refl, sym, ap, subst, ◌∙◌, arith, append_assoc, append-nil, length-append, inl, inr}
+use Rattle.std.proofs.Common.{◌≡◌, ◌⊎◌, ℕ, ◌+◌, ◌-◌, Bool, true, false, not, cond, Some, None, List, [], ◌∷◌, ◌++◌, length, take, refl, sym, ap, subst, ◌∙◌, arith, append_assoc, append-nil, length-append, inl, inr}
 use Rattle.std.specs.List.{list_all}
 use Rattle.std.proofs.lemmas.Bool.{and_parts, and_from, not-true, not_from_false}
 use Rattle.std.proofs.lemmas.List.{take_at}
 use Rattle.std.proofs.lemmas.List.Folds.{list_all-append}
 use Rattle.lis_grammar.specs.Formula.{Formula}
-use Rattle.lis_views.specs.Lines.{Lines, byte_before, before, lines_of}
+use Rattle.lis_views.specs.Lines.{Lines, before, lines_of}
 use Rattle.lis_views.specs.Truth.{line_holds}
-use Rattle.lis_views.specs.Views.{Piece, hidden_before, pieces_by, pieces, runs_of}
-use Rattle.lis_views.specs.Views.Piece.{Shown, Hidden}
+use Rattle.lis_views.specs.Views.{Piece, hidden_before, pieces_by, pieces}
+use Rattle.lis_views.specs.Views.Piece.{Shown}
 use Rattle.lis_views.proofs.Cutting.{lines, line_cut}
 use Rattle.lis_cuts.specs.Cuts.{IsFirst, IsClosed}
 use Rattle.lis_cuts.specs.Stretches.{run_piece, shown_piece}
 use Rattle.lis_cuts.proofs.Cut.{closed_cut, feed_closed, open_text, first_texts}
-use Rattle.lis_words.specs.Bytes.{is_feed}
 
 -- ---- pieces behind hidden texts
 module _ (test : List ℕ → Bool) where

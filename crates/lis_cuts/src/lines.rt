@@ -1,6 +1,6 @@
 //! The lines of a content, one after another.
 
-ghost use Rattle.std.specs.Prelude.{◌≡◌, ◌⊎◌, ℕ, ◌+◌, ◌<◌, ◌≤◌, true, List, [], ◌∷◌, ◌++◌, length, MatchOption, IfSome};
+ghost use Rattle.std.specs.Prelude.{◌≡◌, ◌+◌, ◌<◌, ◌≤◌, true, [], ◌∷◌, ◌++◌, length, MatchOption, IfSome};
 ghost use Rattle.lis_views.specs.Lines.{lines_of, joined_lines};
 ghost use Rattle.lis_cuts.specs.Cuts.{IsFirst, IsTrimmed};
 

@@ -1,6 +1,6 @@
 //! A content in stretches, by which of its lines a formula holds of.
 
-ghost use Rattle.std.specs.Prelude.{◌≡◌, ℕ, ◌+◌, ◌<◌, ◌≤◌, List, [], ◌∷◌, ◌++◌, length, MatchOption, IfSome, IfNone, option_copied};
+ghost use Rattle.std.specs.Prelude.{◌≡◌, ◌+◌, ◌<◌, ◌≤◌, [], ◌∷◌, ◌++◌, length, MatchOption, IfSome, IfNone, option_copied};
 ghost use Rattle.lis_views.specs.Lines.{lines_of};
 ghost use Rattle.lis_views.specs.Views.{pieces, runs_of};
 ghost use Rattle.lis_cuts.specs.Stretches.{run_piece, shown_piece};

@@ -1,6 +1,6 @@
 //! Of which lines a formula holds.
 
-ghost use Rattle.std.specs.Prelude.{◌≡◌, ℕ, ◌&&◌, List, length};
+ghost use Rattle.std.specs.Prelude.{◌≡◌, ◌&&◌, List};
 ghost use Rattle.std.specs.List.{list_all, list_any, slice_split};
 ghost use Rattle.lis_words.specs.Words as words;
 ghost use Rattle.lis_words.specs.Words.{same_word};

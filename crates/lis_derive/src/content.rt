@@ -1,6 +1,6 @@
 //! The words of a file's bytes, by its suffix.
 
-ghost use Rattle.std.specs.Prelude.{◌≡◌, ℕ, Some, List, length};
+ghost use Rattle.std.specs.Prelude.{◌≡◌, Some};
 ghost use Rattle.lis_model.specs.Noted.{noted_all};
 ghost use Rattle.lis_model.specs.Derived.{content_words};
 

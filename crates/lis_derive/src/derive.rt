@@ -1,6 +1,6 @@
 //! All words that are derived from a file.
 
-ghost use Rattle.std.specs.Prelude.{◌≡◌, ℕ, ◌≤◌, List, length};
+ghost use Rattle.std.specs.Prelude.{◌≡◌};
 ghost use Rattle.lis_model.specs.Derived.{derived_words};
 
 use crate::content::note_content;

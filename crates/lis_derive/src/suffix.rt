@@ -1,6 +1,6 @@
 //! The end of a file's name, and its word.
 
-ghost use Rattle.std.specs.Prelude.{◌≡◌, ◌↔◌, ℕ, ◌≤◌, ◌<◌, None, Some, List, ◌++◌, length, codes, IsSome, IfSome, IsTrue, MatchOption};
+ghost use Rattle.std.specs.Prelude.{◌≡◌, ◌↔◌, ◌≤◌, ◌<◌, None, Some, ◌++◌, length, codes, IsSome, IfSome, IsTrue, MatchOption};
 ghost use Rattle.lis_words.specs.Words.{is_word};
 ghost use Rattle.lis_model.specs.Noted.{noted_all};
 ghost use Rattle.lis_model.specs.Derived.{behind_stop, suffix_of, suffix_words};

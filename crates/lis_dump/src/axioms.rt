@@ -1,6 +1,6 @@
 //! The axioms of a dump.
 
-ghost use Rattle.std.specs.Prelude.{◌≡◌, slice_get, option_to_list};
+ghost use Rattle.std.specs.Prelude.{slice_get, option_to_list};
 ghost use Rattle.std.specs.List.{flat_map};
 ghost use Rattle.lis_kept.specs.Telling.{axioms_of};
 ghost use Rattle.lis_replay.specs.Dump.{axiom_line};

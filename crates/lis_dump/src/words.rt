@@ -1,6 +1,6 @@
 //! The declared words of a dump.
 
-ghost use Rattle.std.specs.Prelude.{◌≡◌, slice_get, option_to_list};
+ghost use Rattle.std.specs.Prelude.{slice_get, option_to_list};
 ghost use Rattle.std.specs.List.{flat_map};
 ghost use Rattle.lis_replay.specs.Dump.{mkdir_line};
 ghost use Rattle.lis_store.specs.Stored.{IsSound};

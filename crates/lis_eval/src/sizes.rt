@@ -1,6 +1,6 @@
 //! Rows of the files of some size.
 
-ghost use Rattle.std.specs.Prelude.{◌≡◌, ℕ, ◌<◌, ◌==◌, nat_le, ◌&&◌, ◌||◌, Some};
+ghost use Rattle.std.specs.Prelude.{◌≡◌, ◌<◌, ◌==◌, nat_le, ◌&&◌, ◌||◌, Some};
 ghost use Rattle.lis_bits.specs.Rows.{get, SetsBits};
 ghost use Rattle.lis_model.specs.Table.{Entry};
 ghost use Rattle.lis_eval.specs.View.{Placed, file_in, slot_passes};

@@ -1,6 +1,6 @@
 //! Property slots.
 
-ghost use Rattle.std.specs.Prelude.{◌≡◌, ℕ, ◌^◌, ◌<◌, List, length, Option, Some, IfSome, IsTrue};
+ghost use Rattle.std.specs.Prelude.{◌≡◌, ℕ, ◌<◌, List, length, Option, Some, IfSome, IsTrue};
 ghost use Rattle.lis_words.specs.Words.{is_property};
 ghost use Rattle.lis_model.specs.State.{is_declarable};
 ghost use Rattle.lis_fields.specs.Layouts.{named, prop_bytes, is_prop, is_undeclared};

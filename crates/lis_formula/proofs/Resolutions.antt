@@ -7,7 +7,7 @@ use Rattle.lis_words.specs.Words.{same_word}
 use Rattle.lis_grammar.specs.Formula.{Formula}
 use Rattle.lis_grammar.specs.Machine.{text_steps, broken_at}
 use Rattle.lis_grammar.specs.Places.{IsPlace, is_place, without_last, within_limits, steps_from, resolved_path, resolved}
-use Rattle.lis_grammar.specs.Places.Resolution.{NewPlace, BeyondLimits, Unreadable}
+use Rattle.lis_grammar.specs.Places.Resolution.{NewPlace, BeyondLimits}
 use Rattle.lis_grammar.proofs.Placed.{test_from_place, no_place}
 use Rattle.lis_place.specs.declared.place.Path.{Path}
 use Rattle.lis_formula.specs.declared.fault.FormulaFault.{FormulaFault}

@@ -1,6 +1,6 @@
 //! The lines of the session.
 
-ghost use Rattle.std.specs.Prelude.{◌≡◌, ℕ, ◌+◌, ◌<◌, ◌≤◌, List, ◌++◌, length, codes};
+ghost use Rattle.std.specs.Prelude.{◌≡◌, ◌+◌, ◌<◌, ◌≤◌, ◌++◌, length, codes};
 ghost use Rattle.lis_model.specs.Replies.{line};
 ghost use Rattle.lis_grow.specs.Grow.{mkdir_line, axiom_line, file_words, create_line, add_lines, file_lines, rm_lines, last_lines};
 

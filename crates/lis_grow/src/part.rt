@@ -1,6 +1,6 @@
 //! The parts of the session, one after another.
 
-ghost use Rattle.std.specs.Prelude.{◌≡◌, ℕ, ◌<◌, ◌≤◌, ◌≢◌, List, ◌++◌, length};
+ghost use Rattle.std.specs.Prelude.{◌≡◌, ◌<◌, ◌≢◌, ◌++◌, length};
 ghost use Rattle.lis_grow.specs.Grow.{drawn};
 ghost use Rattle.lis_grow.specs.Coming.{coming, steps_left};
 ghost use Rattle.lis_grow.specs.declared.part.Part.TheVariants.{Nothing};

@@ -1,9 +1,7 @@
 //! The session as a source.
 
 ghost use Rattle.std.specs.Prelude.{◌≡◌, ℕ, ◌+◌, ◌-◌, ◌≤◌, List, ◌++◌, Some, length, take, drop, min};
-ghost use Rattle.lis_ports.specs.Sources.{IsTake};
 ghost use Rattle.lis_grow.specs.Coming.{coming};
-ghost use Rattle.lis_grow.specs.declared.part.Part.TheVariants.{Nothing};
 
 use crate::part::{Part, Step, some_step};
 use crate::piece::Piece;

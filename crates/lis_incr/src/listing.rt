@@ -1,6 +1,6 @@
 //! The listing of a place.
 
-ghost use Rattle.std.specs.Prelude.{◌≡◌, ℕ, ◌<◌, ◌≤◌, [], ◌∷◌, List, MatchOption};
+ghost use Rattle.std.specs.Prelude.{◌≡◌, ◌<◌, ◌≤◌, [], ◌∷◌, List, MatchOption};
 ghost use Rattle.lis_bits.specs.Rows.{HasShape};
 ghost use Rattle.lis_eval.specs.View.{IsView, table_of};
 ghost use Rattle.lis_eval.specs.Room.{HasRoom};

@@ -1,9 +1,9 @@
 //! The route to a file.
 
-ghost use Rattle.std.specs.Prelude.{◌≡◌, ℕ, ◌<◌, ◌≤◌, [], ◌∷◌, List, None, length, take, drop, IsTrue, IfNone, IfSome, MatchOption, true, false};
-ghost use Rattle.lis_eval.specs.View.{IsView, table_of};
+ghost use Rattle.std.specs.Prelude.{◌≡◌, ℕ, ◌<◌, [], ◌∷◌, List, None, IfNone, IfSome, MatchOption, true, false};
+ghost use Rattle.lis_eval.specs.View.{table_of};
 ghost use Rattle.lis_eval.specs.Room.{HasRoom};
-ghost use Rattle.lis_incr.specs.Ways.{AreKnown, IsWay, file_here, words_of};
+ghost use Rattle.lis_incr.specs.Ways.{IsWay, file_here};
 ghost use Rattle.lis_incr.specs.Left.{words_left, HasRoute};
 
 use crate::walk::{count_found, walk};

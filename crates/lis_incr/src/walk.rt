@@ -1,14 +1,13 @@
 //! The way to a file, step by step.
 
-ghost use Rattle.std.specs.Prelude.{◌≡◌, ℕ, ◌<◌, ◌≤◌, ◌&&◌, Some, None, List, length, take, filter, slice_get, find, IfSome, MatchOption};
+ghost use Rattle.std.specs.Prelude.{◌≡◌, ◌<◌, ◌≤◌, Some, None, List, length, take, filter};
 ghost use Rattle.std.specs.List.{Contains};
 ghost use Rattle.lis_grammar.specs.Formula.{Formula};
-ghost use Rattle.lis_words.specs.Words.{has_word};
 ghost use Rattle.lis_bits.specs.Rows.{HasShape, get};
-ghost use Rattle.lis_model.specs.Listing.{holds_all, is_candidate};
-ghost use Rattle.lis_model.specs.Route.{first_increment, route_within};
+ghost use Rattle.lis_model.specs.Listing.{holds_all};
+ghost use Rattle.lis_model.specs.Route.{route_within};
 ghost use Rattle.lis_eval.specs.View.{Placed, IsView, TellsTest, table_of};
-ghost use Rattle.lis_incr.specs.Marked.{Finds, found_files};
+ghost use Rattle.lis_incr.specs.Marked.{Finds};
 ghost use Rattle.lis_incr.specs.Ways.{AreKnown, words_of};
 ghost use Rattle.lis_incr.specs.Walking.{IsFirst};
 

@@ -1,6 +1,6 @@
 //! Staged blocks, each in a frame, in the order of their homes.
 
-ghost use Rattle.std.specs.Prelude.{if◌then◌else◌, false, [], ◌∷◌, ◌≡◌, ◌⊎◌, ◌+◌, ◌*◌, ◌^◌, ◌<◌, ◌≤◌, ◌==◌, ◌↔◌, ℕ, List, Option, Some, length, take, IsTrue, IfOk, IfSome, IfNone, OnSome, MatchResult, MatchOption, true, slice_index, slice_index_or, vec_len, vec_capacity, nat_eq};
+ghost use Rattle.std.specs.Prelude.{if◌then◌else◌, false, [], ◌≡◌, ◌⊎◌, ◌+◌, ◌<◌, ◌≤◌, ◌==◌, ℕ, List, Option, Some, length, take, IsTrue, IfOk, IfSome, IfNone, OnSome, MatchResult, true, slice_index_or, vec_capacity};
 ghost use Rattle.lis_region.specs.Region as region;
 ghost use Rattle.lis_journal.specs.Record.{rises};
 ghost use Rattle.lis_journal.specs.Inside.{home_list, FoundAt, PlaceFor};

@@ -1,6 +1,6 @@
 //! What memory keeps, as one value.
 
-ghost use Rattle.std.specs.Prelude.{◌≡◌, ℕ, ◌+◌, ◌<◌, ◌≤◌, false, length, replicate, IsTrue};
+ghost use Rattle.std.specs.Prelude.{◌≡◌, ℕ, ◌+◌, ◌<◌, ◌≤◌, false, length, replicate};
 ghost use Rattle.lis_journal.specs.Images.{is_among};
 ghost use Rattle.lis_model.specs.Image.{bitmap_start, data_start, image_blocks};
 

@@ -1,6 +1,6 @@
 //! Blocks of slots, spelled by what memory keeps.
 
-ghost use Rattle.std.specs.Prelude.{◌≡◌, ℕ, ◌+◌, ◌*◌, ◌<◌, ◌≤◌, List, length, IsTrue};
+ghost use Rattle.std.specs.Prelude.{◌≡◌, ℕ, ◌+◌, ◌*◌, ◌<◌, ◌≤◌, length, IsTrue};
 ghost use Rattle.lis_ports.specs.Bytes.{part};
 ghost use Rattle.lis_fields.specs.Layouts.{prop_bytes, is_prop, axiom_bytes, is_axiom, file_bytes, is_file};
 ghost use Rattle.lis_kept.specs.Kept.{property_at, axiom_at, record_at};

@@ -1,6 +1,6 @@
 //! What a line asks for, and how many bytes are to follow it.
 
-ghost use Rattle.std.specs.Prelude.{◌≡◌, ℕ, ◌≤◌, List, length, ◌||◌, codes};
+ghost use Rattle.std.specs.Prelude.{◌≡◌, ◌≤◌, length, ◌||◌, codes};
 ghost use Rattle.lis_words.specs.Words.{same_word};
 ghost use Rattle.lis_model.specs.Step.{Payload};
 ghost use Rattle.lis_model.specs.Script.{words_of, form_of, item_of, payload_size};

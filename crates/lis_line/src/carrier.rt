@@ -1,6 +1,6 @@
 //! The one loop over an input: an item after another is read, and carried out.
 
-ghost use Rattle.std.specs.Prelude.{◌≡◌, ℕ, ◌+◌, ◌≤◌, ◌^◌, List, [], ◌∷◌, ◌++◌, IfOk, IfSome, IsSome, MatchResult};
+ghost use Rattle.std.specs.Prelude.{ℕ, ◌+◌, ◌≤◌, ◌^◌, List, [], ◌∷◌, ◌++◌, IfOk, IfSome, IsSome, MatchResult};
 ghost use Rattle.lis_ports.specs.Calls.{FaultEnds};
 ghost use Rattle.lis_ports.specs.Meaning.{Meaning};
 ghost use Rattle.lis_line.specs.Taking.{TakesFew};

@@ -1,6 +1,6 @@
 //! Inputs of any kind of items, taken part by part.
 
-ghost use Rattle.std.specs.Prelude.{◌≡◌, ℕ, ◌<◌, ◌≤◌, length, Option, Some, ⊤};
+ghost use Rattle.std.specs.Prelude.{◌≡◌, ◌<◌, ◌≤◌, length, Option, Some, ⊤};
 ghost use Rattle.lis_model.specs.Step.{Payload as Told};
 ghost use Rattle.lis_model.specs.Script.{Cut};
 ghost use Rattle.lis_line.specs.Reading.{GivesPart};

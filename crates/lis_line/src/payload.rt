@@ -1,6 +1,6 @@
 //! The bytes that come behind a command's line.
 
-ghost use Rattle.std.specs.Prelude.{◌≡◌, ℕ, ◌+◌, ◌<◌, ◌≤◌, ◌^◌, [], ◌++◌, length, take, drop, IfOk};
+ghost use Rattle.std.specs.Prelude.{◌≡◌, ◌+◌, ◌<◌, ◌≤◌, ◌^◌, [], ◌++◌, length, take, drop, IfOk};
 ghost use Rattle.lis_model.specs.Step.{no_payload};
 ghost use Rattle.lis_model.specs.Script.{payload_limit};
 ghost use Rattle.lis_line.specs.Inside.{frame_bytes, IsKept};

@@ -1,6 +1,6 @@
 //! The reader of items.
 
-ghost use Rattle.std.specs.Prelude.{◌≡◌, ℕ, ◌^◌, ◌≤◌, false, [], length, IfOk, IsTrue};
+ghost use Rattle.std.specs.Prelude.{◌≡◌, ◌^◌, ◌≤◌, false, [], length, IfOk, IsTrue};
 ghost use Rattle.lis_model.specs.Script.{session_cut};
 ghost use Rattle.lis_line.specs.Taking.{UsesSource};
 

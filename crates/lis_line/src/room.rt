@@ -1,6 +1,6 @@
 //! The eight rooms, and their tags.
 
-ghost use Rattle.std.specs.Prelude.{◌≡◌, ℕ, ◌<◌, Some};
+ghost use Rattle.std.specs.Prelude.{◌≡◌, ◌<◌, Some};
 ghost use Rattle.std.specs.Option.{option_map};
 ghost use Rattle.lis_line.specs.Tagged.{room_of};
 

@@ -1,6 +1,6 @@
 //! Bytes out of a source, one by one or by runs, whatever pieces it gives; and lines out of bytes.
 
-ghost use Rattle.std.specs.Prelude.{◌≡◌, ℕ, ◌+◌, ◌-◌, ◌<◌, ◌≤◌, ◌^◌, List, [], ◌∷◌, ◌↔◌, length, take, drop, IsTrue};
+ghost use Rattle.std.specs.Prelude.{◌≡◌, ◌+◌, ◌-◌, ◌<◌, ◌≤◌, [], ◌∷◌, ◌↔◌, length, take, drop, IsTrue};
 ghost use Rattle.lis_line.specs.Stock.{Stocked, GivesByte, Refills, Meets, ReadsLine};
 ghost use Rattle.lis_line.specs.Taking.{UsesSource};
 ghost use Rattle.lis_words.specs.Bytes.{is_feed};

@@ -1,6 +1,6 @@
 //! What the input asks for, out of a stock of bytes.
 
-ghost use Rattle.std.specs.Prelude.{◌≡◌, ℕ, ◌<◌, ◌≤◌, length};
+ghost use Rattle.std.specs.Prelude.{◌<◌, ◌≤◌, length};
 ghost use Rattle.lis_line.specs.Reading.{GivesAsked};
 ghost use Rattle.lis_line.specs.Taking.{UsesSource};
 

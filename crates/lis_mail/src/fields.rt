@@ -1,6 +1,6 @@
 //! The fields of a mail's header, and their kinds.
 
-ghost use Rattle.std.specs.Prelude.{◌≡◌, ℕ, ◌<◌, ◌≤◌, List, [], ◌∷◌, length, if◌then◌else◌};
+ghost use Rattle.std.specs.Prelude.{◌≡◌, ◌<◌, List, [], if◌then◌else◌};
 ghost use Rattle.std.specs.List.{list_all, after_first};
 ghost use Rattle.lis_transducers.specs.Lines.{is_name_byte, is_field_name};
 ghost use Rattle.lis_transducers.specs.Mail.{small_kind, kind_of, begun_kind};

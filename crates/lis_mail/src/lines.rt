@@ -1,6 +1,6 @@
 //! The lines of a mail's header.
 
-ghost use Rattle.std.specs.Prelude.{◌≡◌, ℕ, ◌<◌, ◌≤◌, List, [], ◌∷◌, length, if◌then◌else◌};
+ghost use Rattle.std.specs.Prelude.{◌≡◌, ◌<◌, ◌≤◌, [], ◌∷◌, length, if◌then◌else◌};
 ghost use Rattle.lis_transducers.specs.Lines.{header, is_folded};
 ghost use Rattle.lis_words.specs.Bytes.{is_some_bytes, without_return};
 

@@ -1,6 +1,6 @@
 //! The words of a mail's fields, in order.
 
-ghost use Rattle.std.specs.Prelude.{◌≡◌, ℕ, List, [], ◌∷◌, filter};
+ghost use Rattle.std.specs.Prelude.{◌≡◌, [], ◌∷◌, filter};
 ghost use Rattle.lis_words.specs.Words.{is_word};
 ghost use Rattle.lis_model.specs.Noted.{noted_all};
 ghost use Rattle.lis_transducers.specs.Tokens.{tokens};

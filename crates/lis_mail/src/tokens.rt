@@ -1,6 +1,6 @@
 //! The tokens of a field's body.
 
-ghost use Rattle.std.specs.Prelude.{◌≡◌, ℕ, ◌<◌, ◌≤◌, List, [], ◌∷◌, length, MatchOption, IfSome};
+ghost use Rattle.std.specs.Prelude.{◌≡◌, ◌<◌, List, [], ◌∷◌, length, MatchOption, IfSome};
 ghost use Rattle.std.specs.List.{prefix_len};
 ghost use Rattle.lis_words.specs.Words.{is_plain_byte};
 ghost use Rattle.lis_transducers.specs.Tokens.{tokens, has_at, is_between};

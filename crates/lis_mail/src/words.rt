@@ -1,6 +1,6 @@
 //! Words from the bytes of a mail.
 
-ghost use Rattle.std.specs.Prelude.{◌≡◌, ℕ, ◌<◌, ◌≤◌, ◌↔◌, List, [], ◌∷◌, ◌++◌, length, map, filter, IsTrue, IsSome, IfSome, MatchOption};
+ghost use Rattle.std.specs.Prelude.{◌≡◌, ◌<◌, ◌↔◌, [], ◌∷◌, length, filter, IsTrue, IsSome, IfSome, MatchOption};
 ghost use Rattle.lis_words.specs.Words.{is_word};
 ghost use Rattle.lis_model.specs.Noted.{noted_all};
 ghost use Rattle.lis_transducers.specs.Mail.{with_head};

@@ -1,9 +1,9 @@
 //! A station over a file and a writer.
 
-ghost use Rattle.std.specs.Prelude.{◌≡◌, ◌+◌, ◌≤◌, ◌<◌, length, take, IfOk, OnErr, MatchResult};
-ghost use Rattle.std.specs.Io.KnownBytes.{append_known, WriteAppends};
+ghost use Rattle.std.specs.Prelude.{◌≡◌, ◌+◌, ◌≤◌, ◌<◌, length, IfOk, OnErr};
+ghost use Rattle.std.specs.Io.KnownBytes.{WriteAppends};
 ghost use Rattle.std.proofs.lemmas.Bool.{false≢true};
-ghost use Rattle.lis_ports.specs.Calls.{HasCause, IsDiskCall, Elapses, IsShowCall};
+ghost use Rattle.lis_ports.specs.Calls.{HasCause, IsDiskCall, IsShowCall};
 ghost use Rattle.lis_memdisk.specs.Seen.{next_of};
 ghost use Rattle.lis_memdisk.specs.Untold.{untold};
 

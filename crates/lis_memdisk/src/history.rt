@@ -1,10 +1,10 @@
 //! The bytes of a disk in memory, what was shown beside it, and where it is wanted a record of all that changed them.
 
-ghost use Rattle.std.specs.Prelude.{false, [], ◌∷◌, ◌≡◌, ◌⊎◌, ◌+◌, ◌-◌, ◌*◌, ◌^◌, ◌<◌, ◌≤◌, ◌↔◌, ◌++◌, ℕ, List, length, take, IsTrue, IsErr, IfOk, OnOk, OnErr, vec_len, vec_capacity};
-ghost use Rattle.lis_ports.specs.Bytes.{part, put};
+ghost use Rattle.std.specs.Prelude.{false, [], ◌∷◌, ◌≡◌, ◌+◌, ◌-◌, ◌^◌, ◌<◌, ◌≤◌, ◌↔◌, ◌++◌, ℕ, List, length, IsTrue, IsErr, IfOk, OnOk, OnErr, vec_len, vec_capacity};
+ghost use Rattle.lis_ports.specs.Bytes.{part};
 ghost use Rattle.lis_memdisk.specs.Event.{changes_of, all_stored, deed_of, has_given};
 ghost use Rattle.lis_memdisk.specs.Seen.{IsSoundSeen, is_within};
-ghost use Rattle.lis_memdisk.specs.Changes.{Medium, after, bytes_of, crashed, IsAt};
+ghost use Rattle.lis_memdisk.specs.Changes.{Medium, after, crashed, IsAt};
 ghost use Rattle.lis_memdisk.specs.Room.{HasSpace};
 
 use crate::bytes::{overwrite, overwrite_vec, tear};

@@ -1,6 +1,6 @@
 //! A station in memory, that a test can let fail, stop and crash.
 
-ghost use Rattle.std.specs.Prelude.{◌≡◌, ◌+◌, ◌*◌, ◌^◌, ◌<◌, ◌≤◌, ◌↔◌, ◌||◌, ◌==◌, nat_eq, min, length, take, ℕ, List, Bool, IsTrue, IsErr, IfOk, OnOk, OnErr, MatchResult};
+ghost use Rattle.std.specs.Prelude.{◌≡◌, ◌+◌, ◌*◌, ◌^◌, ◌<◌, ◌≤◌, ◌↔◌, ◌||◌, ◌==◌, min, length, take, List, IsTrue, IsErr, IfOk, OnOk, OnErr, MatchResult};
 ghost use Rattle.std.specs.List.{list_any};
 ghost use Rattle.std.specs.Io.KnownBytes.{append_known};
 ghost use Rattle.lis_ports.specs.Bytes.{part};

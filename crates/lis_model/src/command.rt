@@ -1,7 +1,6 @@
 //! Commands and the words that they carry.
 
 ghost use Rattle.std.specs.Prelude.{◌≡◌, ◌==◌, ℕ, ◌<◌, ◌≤◌, List, [], ◌∷◌, ◌++◌, length, slice_get};
-ghost use Rattle.std.specs.Option.{option_copied};
 
 use arrayvec::ArrayVec;
 use lis_place::Text;

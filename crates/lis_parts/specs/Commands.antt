@@ -3,9 +3,9 @@ use Rattle.std.specs.Prelude.{ℕ, nat_lt, not, if◌then◌else◌, Result, Ok,
 use Rattle.lis_grammar.specs.Formula.{Formula}
 use Rattle.lis_grammar.specs.Machine.{text_steps}
 use Rattle.lis_grammar.specs.Places.{Resolution, resolved_path}
-use Rattle.lis_grammar.specs.Places.Resolution.{NewPlace, BeyondLimits, Unreadable}
+use Rattle.lis_grammar.specs.Places.Resolution.{BeyondLimits}
 use Rattle.lis_model.specs.declared.refusal.Refusal.{Refusal}
-use Rattle.lis_model.specs.declared.refusal.Refusal.TheVariants.{BadFormula, LargeFormula, NoFileHere}
+use Rattle.lis_model.specs.declared.refusal.Refusal.TheVariants.{NoFileHere}
 use Rattle.lis_model.specs.Changes.{has_name, file_of}
 use Rattle.lis_model.specs.Replies.{line, two_digits}
 use Rattle.lis_model.specs.Script.{payload_of}

@@ -1,6 +1,6 @@
 //! The axioms of a state as a sorted list.
 
-ghost use Rattle.std.specs.Prelude.{◌≡◌, ◌∷◌, not, filter, fold, OnOk, OnErr, IfOk};
+ghost use Rattle.std.specs.Prelude.{◌≡◌, not, filter, fold, OnOk, OnErr, IfOk};
 ghost use Rattle.std.specs.List.{prefix_len};
 ghost use Rattle.std.specs.Ordering.{is_gt};
 ghost use Rattle.lis_model.specs.State.{pair_cmp};

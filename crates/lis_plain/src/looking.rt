@@ -1,13 +1,13 @@
 //! The commands that show something, and those that go to another place.
 
-ghost use Rattle.std.specs.Prelude.{◌≡◌, ◌++◌, ℕ, List, IfOk, OnOk, MatchOption};
+ghost use Rattle.std.specs.Prelude.{◌≡◌, ◌++◌, List, IfOk, OnOk, MatchOption};
 ghost use Rattle.std.specs.List.{flat_map};
 ghost use Rattle.lis_model.specs.declared.refusal.Refusal.TheVariants.{NoFileHere};
 ghost use Rattle.lis_model.specs.Changes.{file_of};
 ghost use Rattle.lis_model.specs.State.{description};
 ghost use Rattle.lis_model.specs.Table.{table};
 ghost use Rattle.lis_model.specs.Route.{route};
-ghost use Rattle.lis_model.specs.Replies.{body_line, number_line, ok_line};
+ghost use Rattle.lis_model.specs.Replies.{body_line, ok_line};
 ghost use Rattle.lis_model.specs.Step.{refused, entry_at, cat, props, way, stat, cd, pwd, ls, count_lines};
 ghost use Rattle.lis_plain.specs.Carries.{IsAnswered};
 

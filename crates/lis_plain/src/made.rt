@@ -1,6 +1,6 @@
 //! What changes make of a state.
 
-ghost use Rattle.std.specs.Prelude.{◌≡◌, ℕ, List, not, filter, IfOk};
+ghost use Rattle.std.specs.Prelude.{◌≡◌, not, filter, IfOk};
 ghost use Rattle.lis_words.specs.Words.{same_word};
 ghost use Rattle.lis_model.specs.Changes.{declared_under, undeclared, axiom_added, axiom_removed, file_added, file_removed, file_replaced};
 

@@ -1,6 +1,6 @@
 //! What rows ask of words and of the state that a command would give.
 
-ghost use Rattle.std.specs.Prelude.{◌≡◌, nat_lt, length, ◌&&◌, ◌||◌, IfOk};
+ghost use Rattle.std.specs.Prelude.{◌≡◌, ◌&&◌, ◌||◌, IfOk};
 ghost use Rattle.std.specs.List.{list_any, list_all};
 ghost use Rattle.lis_words.specs.Words.{same_word, has_word, is_plain_word, is_head, is_valued, is_test, is_built_in, head_bytes};
 ghost use Rattle.lis_model.specs.State.{heads, description, is_known_head, is_nameable};

@@ -1,6 +1,6 @@
 //! What is seen of a state: descriptions, known words, and the table.
 
-ghost use Rattle.std.specs.Prelude.{◌≡◌, ◌++◌, map, OnOk, IfOk};
+ghost use Rattle.std.specs.Prelude.{◌≡◌, ◌++◌, OnOk, IfOk};
 ghost use Rattle.lis_model.specs.State.{own_words, file_words, description, known};
 ghost use Rattle.lis_model.specs.Table.{entry_of, table};
 

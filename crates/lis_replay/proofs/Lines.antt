@@ -1,11 +1,11 @@
 -- Each line of a dump spells its item.
 use Rattle.std.proofs.Common.{◌≡◌, ◌⊎◌, ℕ, ◌<◌, ◌≤◌, ◌^◌, ◌==◌, nat_lt, nat_le, Bool, true, false, cond, ◌&&◌, ◌||◌, Some, Ok, List, [], ◌∷◌, length, codes, decimal, refl, ap, subst, ◌∙◌, inl, inr, length-append, arith}
 use Rattle.std.specs.List.{list_all}
-use Rattle.std.proofs.lemmas.Bool.{and_parts, and_from, or_cases, or_left, or_right, false_from_ne_true, leb-true, le-leb, lt-ltb, ltb-true}
-use Rattle.std.proofs.lemmas.Fmt.{digits_decimal, digits_value-decimal, decimal_nonempty, length-decimal-le}
+use Rattle.std.proofs.lemmas.Bool.{and_parts, or_cases, or_left, or_right, false_from_ne_true, leb-true, le-leb, ltb-true}
+use Rattle.std.proofs.lemmas.Fmt.{length-decimal-le}
 use Rattle.std.proofs.lemmas.List.{length-take, length-drop}
 use Rattle.lis_graph.proofs.Members.{Among}
-use Rattle.lis_words.specs.Words.{has_word, head_bytes, is_plain_word, is_head, is_valued, is_word, is_test, is_property, is_file_name, is_count, count_of}
+use Rattle.lis_words.specs.Words.{has_word, head_bytes, is_plain_word, is_head, is_valued, is_word, is_test, is_property, is_file_name}
 use Rattle.lis_words.proofs.Tests.{property_short, word_is_property}
 use Rattle.lis_grammar.proofs.Printed.{decimal_count, decimal_value}
 use Rattle.lis_model.specs.declared.command.Command.TheVariants.{Add}

@@ -2,10 +2,10 @@
 use Rattle.std.proofs.Common.{◌≡◌, ℕ, ◌+◌, ◌≤◌, List, [], ◌++◌, length, take, drop, Option, Some, None, Result, Ok, Err, IsErr, IsTrue, length-append, refl, ap, sym, subst, ◌∙◌, arith, append_assoc, append-nil}
 use Rattle.std.specs.Io.KnownBytes.{append_known}
 use Rattle.std.proofs.Math.Seq.{take-add, take-append-add}
-use Rattle.std.proofs.lemmas.List.{take-append-drop, length-drop, take_all, take-append-le}
-use Rattle.lis_ports.specs.Meaning.{Meaning, Now, failed}
+use Rattle.std.proofs.lemmas.List.{take-append-drop, length-drop, take-append-le}
+use Rattle.lis_ports.specs.Meaning.{Meaning, failed}
 use Rattle.lis_ports.specs.Runs.{Adds}
-use Rattle.lis_ports.specs.Calls.{Rose, HasCause, StationFaultEnds, Elapses, Images, IsUnchanged, IsShowCall}
+use Rattle.lis_ports.specs.Calls.{HasCause, StationFaultEnds, Elapses, IsShowCall}
 use Rattle.lis_ports.specs.Shown.{AppendsFront, Shows}
 use Rattle.lis_ports.specs.Since.{Begins, Since, IsShowRun}
 use Rattle.lis_ports.proofs.Moments.{adds_then, adds_weaken}

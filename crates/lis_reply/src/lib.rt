@@ -1,8 +1,7 @@
 //! The bytes of replies, shown on a station.
 #![tactic(auto)]
 
-ghost use Rattle.std.specs.Prelude.{◌≡◌, ℕ, ◌+◌, ◌≤◌, [], ◌∷◌, ◌++◌, length, decimal};
-ghost use Rattle.lis_ports.specs.Meaning.{Meaning};
+ghost use Rattle.std.specs.Prelude.{◌≡◌, ◌+◌, ◌≤◌, ◌∷◌, ◌++◌, length, decimal};
 ghost use Rattle.lis_ports.specs.Since.{IsShowRun};
 ghost use Rattle.lis_model.specs.Replies.{line, body_line, ok_line, refusal_line, number_line};
 

@@ -1,6 +1,6 @@
 //! Showing the description of a file.
 
-ghost use Rattle.std.specs.Prelude.{◌≡◌, ◌++◌, ◌<◌, length, slice_get, option_to_list};
+ghost use Rattle.std.specs.Prelude.{◌++◌, ◌<◌, length, slice_get, option_to_list};
 ghost use Rattle.std.specs.List.{flat_map};
 ghost use Rattle.lis_eval.specs.Room.{HasRoom};
 ghost use Rattle.lis_model.specs.Replies.{body_line, ok_line};

@@ -1,6 +1,6 @@
 //! What commands are answered.
 
-ghost use Rattle.std.specs.Prelude.{◌≡◌, ◌++◌, codes};
+ghost use Rattle.std.specs.Prelude.{◌++◌, codes};
 ghost use Rattle.lis_grammar.specs.Printing.{printed};
 ghost use Rattle.lis_model.specs.Replies.{body_line, number_line, ok_line, refusal_line};
 ghost use Rattle.lis_session.specs.Parts.{answer_of, Answers, Concludes};

@@ -1,13 +1,12 @@
 -- The forms of words of the command line.
-use Rattle.std.proofs.Common.{◌≡◌, ℕ, ◌<◌, ◌&&◌, not, cond, Bool, true, false, List, [], ◌∷◌, length, map, slice_index_or, Option, Some, None, IsTrue, codes, refl, ap, sym, ◌∙◌, arith, subst}
+use Rattle.std.proofs.Common.{◌≡◌, ℕ, ◌<◌, ◌&&◌, not, cond, Bool, true, false, List, [], ◌∷◌, length, Option, Some, None, IsTrue, codes, refl, arith, subst}
 use Rattle.std.specs.Option.{option_map}
 use Rattle.std.proofs.lemmas.Bool.{and_parts, and_from}
-use Rattle.std.proofs.lemmas.List.{length-map}
 use Rattle.lis_words.specs.Words.{same_word, is_count, count_of, is_file_name}
 use Rattle.lis_model.specs.declared.limits.Limits.{Limits}
 use Rattle.lis_model.specs.Ranges.{is_files_limit, is_props_limit, is_blocks_limit, is_version, are_in_range}
 use Rattle.lis_shell.specs.declared.words.Task.{Task}
-use Rattle.lis_shell.specs.declared.words.Task.TheVariants.{Try, Make, Upgrade, OnImage}
+use Rattle.lis_shell.specs.declared.words.Task.TheVariants.{Try, Make, OnImage}
 use Rattle.lis_shell.specs.declared.words.ImageTask.{ImageTask}
 use Rattle.lis_shell.specs.declared.words.ImageTask.TheVariants.{Run, Load, Rooms, Dump, Grow, View, Put}
 use Rattle.lis_shell.specs.Words.{limits_of, grow_number_of, limits_in, part_named, work_named, upgrade_alone, task_of, name_in}

@@ -1,10 +1,9 @@
 -- What is kept where opening refused the image.
-use Rattle.std.proofs.Common.{◌≡◌, ℕ, ◌<◌, List, [], length, Option, Some, None, Result, Err, IsTrue, refl, ap, ap₂, arith}
+use Rattle.std.proofs.Common.{◌≡◌, ℕ, ◌<◌, List, length, Option, Result, Err, IsTrue, refl, ap, ap₂, arith}
 use Rattle.lis_ports.specs.Meaning.{Meaning}
 use Rattle.lis_ports.specs.Runs.{IsDiskRun, Leaves, Adds}
 use Rattle.lis_journal.specs.Images.{KeepsPast}
 use Rattle.lis_journal.specs.Recovery.{IsSettledPast}
-use Rattle.lis_line.specs.Taking.{TakesFew}
 use Rattle.lis_model.specs.declared.limits.Limits.{Limits}
 use Rattle.lis_model.specs.declared.spot.Spot.{Spot}
 use Rattle.lis_model.specs.Image.{image_blocks}

@@ -1,5 +1,5 @@
 -- What each task keeps. `untouched` says that no input was taken, and `unmoved` that the station is as it was.
-use Rattle.std.specs.Prelude.{◌≡◌, ◌⊎◌, ℕ, ◌^◌, List, [], false, Option, Some, None, Err, IsTrue}
+use Rattle.std.specs.Prelude.{◌≡◌, ◌⊎◌, ℕ, ◌^◌, List, [], false, Option, Some, None, IsTrue}
 use Rattle.lis_ports.specs.Meaning.{Meaning}
 use Rattle.lis_ports.specs.Calls.{IsShowCall}
 use Rattle.lis_ports.specs.Runs.{IsDiskRun, Leaves, IsSettled, Always}

@@ -1,6 +1,6 @@
 //! A session over an image with many changes to a commit.
 
-ghost use Rattle.std.specs.Prelude.{◌≡◌, ◌^◌, [], IfOk};
+ghost use Rattle.std.specs.Prelude.{◌^◌};
 ghost use Rattle.lis_model.specs.Script.{script};
 ghost use Rattle.lis_session.specs.Session.{root_of};
 ghost use Rattle.lis_load.proofs.Moments.{load_none};

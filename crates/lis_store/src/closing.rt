@@ -1,11 +1,11 @@
 //! Descriptions that are made anew: of some of their numbers, with all that these entail.
 
-ghost use Rattle.std.specs.Prelude.{◌≡◌, ℕ, ◌<◌, ◌≤◌, true, is_some, Some, length, filter, IsTrue, IsSome};
+ghost use Rattle.std.specs.Prelude.{◌≡◌, ℕ, ◌<◌, ◌≤◌, true, is_some, Some, length, IsTrue, IsSome};
 ghost use Rattle.std.specs.List.{list_all};
 ghost use Rattle.lis_dict.specs.Dict.{word_of};
 ghost use Rattle.lis_ext.specs.Ext.{has, set_of};
 ghost use Rattle.lis_kept.specs.Sound.{AreSound, FreeSlotsAreEmpty};
-ghost use Rattle.lis_store.specs.Closing.{is_entailed, closure, is_concerned, tags_at, stays, is_base, added, base_at, has_words, rebuilt};
+ghost use Rattle.lis_store.specs.Closing.{is_entailed, closure, is_concerned, tags_at, is_base, added, base_at, has_words, rebuilt};
 ghost use Rattle.lis_store.specs.Redescribing.{SlotHas, Redescribes};
 ghost use Rattle.lis_store.specs.Stored.{DescriptionsAreShort};
 ghost use Rattle.lis_model.specs.Sets.{has_number};

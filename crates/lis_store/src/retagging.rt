@@ -1,6 +1,6 @@
 //! What a file is refused for that would move from one place to another.
 
-ghost use Rattle.std.specs.Prelude.{◌≡◌, ℕ, ◌<◌, ◌≤◌, not, List, Some, length, filter, IsSome, IfOk, OnOk, IfSome, MatchOption};
+ghost use Rattle.std.specs.Prelude.{◌≡◌, ◌<◌, ◌≤◌, not, List, Some, length, filter, IsSome, IfOk, OnOk, IfSome, MatchOption};
 ghost use Rattle.std.specs.List.{flat_map, list_any};
 ghost use Rattle.std.specs.List.Sorted.{IsStrictlySortedBy};
 ghost use Rattle.lis_catalog.specs.Catalog.{rec_at};

@@ -1,9 +1,8 @@
 //! What a word leads to by itself: its head, and the declared tests that are weaker.
 
-ghost use Rattle.std.specs.Prelude.{◌≡◌, ℕ, Bool, ◌∷◌, Some, filter, IfOk, OnOk};
-ghost use Rattle.std.specs.List.{flat_map};
+ghost use Rattle.std.specs.Prelude.{◌≡◌, Some, filter, IfOk, OnOk};
 ghost use Rattle.lis_words.specs.Words.{test_of};
-ghost use Rattle.lis_model.specs.Sets.{with_words, set_of};
+ghost use Rattle.lis_model.specs.Sets.{with_words};
 ghost use Rattle.lis_model.specs.State.{heads};
 ghost use Rattle.lis_model.specs.Tests.{is_weaker, are_weaker, weaker_tests, met_tests};
 ghost use Rattle.lis_table.specs.Links.{with_links, all_linked};

@@ -1,6 +1,6 @@
 //! What a listing shows of a table.
 
-ghost use Rattle.std.specs.Prelude.{◌≡◌, ℕ, ◌≤◌, List, [], ◌∷◌, ◌++◌, not, filter, length, IfOk, OnOk};
+ghost use Rattle.std.specs.Prelude.{◌≡◌, List, ◌++◌, not, filter, IfOk, OnOk};
 ghost use Rattle.std.specs.List.{list_any, flat_map};
 ghost use Rattle.lis_words.specs.Words.{same_word, has_word};
 ghost use Rattle.lis_model.specs.Table.{Entry, entails};

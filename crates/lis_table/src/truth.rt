@@ -1,6 +1,6 @@
 //! The files of a place.
 
-ghost use Rattle.std.specs.Prelude.{◌≡◌, ℕ, ◌+◌, ◌<◌, ◌≤◌, Bool, List, [], ◌∷◌, filter, fold, length, IfOk};
+ghost use Rattle.std.specs.Prelude.{◌≡◌, ◌+◌, ◌<◌, ◌≤◌, Bool, List, [], ◌∷◌, filter, fold, length, IfOk};
 ghost use Rattle.std.specs.List.{list_all};
 ghost use Rattle.lis_words.specs.Words as words;
 ghost use Rattle.lis_model.specs.Listing.{holds_all};

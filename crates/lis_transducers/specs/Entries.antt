@@ -4,7 +4,7 @@ use Rattle.std.specs.List.{list_any}
 use Rattle.lis_transducers.specs.Bytes.{is_slash}
 use Rattle.lis_transducers.specs.Pieces.{Piece, context_after}
 use Rattle.lis_transducers.specs.declared.piece.Kind.{Kind}
-use Rattle.lis_transducers.specs.declared.piece.Kind.TheVariants.{Blank, White, Feed, Comment, Literal, Identifier, Number, Path, Mark}
+use Rattle.lis_transducers.specs.declared.piece.Kind.TheVariants.{Blank, White, Feed, Comment, Path, Mark}
 use Rattle.lis_transducers.specs.declared.piece.Context.{Context}
 use Rattle.lis_transducers.specs.declared.piece.Context.TheVariants.{LineStart, Code, Hash, Include, Directive}
 

@@ -1,5 +1,5 @@
 -- The lines and the fields of a mail's header.
-use Rattle.std.specs.Prelude.{ℕ, ◌==◌, nat_le, Bool, true, false, not, ◌&&◌, ◌||◌, if◌then◌else◌, List, [], ◌∷◌, ◌++◌, map}
+use Rattle.std.specs.Prelude.{ℕ, nat_le, Bool, false, not, ◌&&◌, if◌then◌else◌, List, [], ◌∷◌, ◌++◌, map}
 use Rattle.std.specs.List.{slice_split, take_while, concat, list_any, list_all, before_first, after_first}
 use Rattle.lis_words.specs.Bytes.{is_feed, is_blank, is_colon, is_some_bytes, without_return}
 

@@ -1,5 +1,5 @@
 -- The pieces of a source whose lines are joined, from left to right.
-use Rattle.std.specs.Prelude.{◌≡◌, ℕ, zero, suc, ◌==◌, Bool, true, false, not, ◌&&◌, ◌||◌, if◌then◌else◌, List, [], ◌∷◌, length, codes}
+use Rattle.std.specs.Prelude.{◌≡◌, ℕ, zero, suc, ◌==◌, Bool, false, not, ◌&&◌, ◌||◌, if◌then◌else◌, List, [], ◌∷◌, length, codes}
 use Rattle.std.specs.Char.{is_ascii_digit}
 use Rattle.lis_words.specs.Words.{same_word}
 use Rattle.lis_transducers.specs.Bytes.{is_slash, is_white, is_name_start, is_name_byte, is_number_byte, is_no_feed, front, past, begins_with, but_first}

@@ -1,7 +1,7 @@
 //! The tests on bytes that words, names and counts rest on.
 
-ghost use Rattle.std.specs.Prelude.{◌≡◌, ℕ, ◌+◌, ◌<◌, ◌≤◌, ◌^◌, ◌↔◌, List, length, take, drop, codes, not, ◌==◌, ◌&&◌, ◌||◌, is_some, IsTrue, IsSome, IfSome, MatchOption};
-ghost use Rattle.lis_words.specs.Words.{is_plain_byte, is_plain_word, is_head, is_valued, is_word, is_property, is_test, is_number, begins_with_zero, number_behind, test_of, is_file_name, has_stem, stem, value, is_count, count_of, begins_with_stop, is_stops};
+ghost use Rattle.std.specs.Prelude.{◌≡◌, ◌+◌, ◌<◌, ◌≤◌, ◌^◌, ◌↔◌, List, length, not, ◌==◌, ◌||◌, is_some, IsTrue, IsSome, IfSome};
+ghost use Rattle.lis_words.specs.Words.{is_plain_byte, is_plain_word, is_head, is_valued, is_word, is_property, is_number, begins_with_zero, number_behind, test_of, is_file_name, has_stem, stem, value, is_count, count_of, begins_with_stop, is_stops};
 ghost use Rattle.std.specs.List.{list_any, list_all, prefix_len};
 ghost use Rattle.std.specs.Char.{is_ascii_digit};
 ghost use Rattle.lis_words.specs.Bytes.{is_colon};

@@ -1,6 +1,6 @@
 //! A declared word that goes.
 
-ghost use Rattle.std.specs.Prelude.{◌≡◌, ℕ, ◌<◌, Bool, is_some, IsSome};
+ghost use Rattle.std.specs.Prelude.{◌≡◌, ℕ, Bool, is_some, IsSome};
 ghost use Rattle.std.specs.List.{list_any};
 ghost use Rattle.lis_dict.specs.Dict.{word_of};
 ghost use Rattle.lis_kept.specs.Inside.{IsShort};

@@ -1,4 +1,4 @@
-use Rattle.std.proofs.Common.{◌≡◌, ◌+◌, true, false, not, [], ◌∷◌, ◌++◌, length, ap, sym, subst, ◌∙◌, arith, rules, tests}
+use Rattle.std.proofs.Common.{◌≡◌, ◌+◌, true, false, not, ◌∷◌, ◌++◌, ap, subst, ◌∙◌, arith, rules, tests}
 use Rattle.std.proofs.lemmas.Bool.{OnTrue_from}
 use Rattle.lis_words.specs.Words.{same_word}
 use Rattle.lis_model.specs.Step.{Payload}

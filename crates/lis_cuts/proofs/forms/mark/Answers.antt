@@ -1,4 +1,4 @@
-use Rattle.std.proofs.Common.{◌≡◌, ◌∷◌, ◌++◌, [], ap, ◌∙◌, arith}
+use Rattle.std.proofs.Common.{arith}
 use Rattle.std.proofs.lemmas.Grind.{common_steps}
 use Rattle.lis_cuts.proofs.Numerals.{printed_numeral}
 use Rattle.lis_cuts.proofs.forms.mark.Goals as goal

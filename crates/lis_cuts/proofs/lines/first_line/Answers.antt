@@ -1,6 +1,5 @@
 use Rattle.std.proofs.Common.{[], refl, inr, arith}
 use Rattle.std.proofs.lemmas.Grind.{common_steps}
-use Rattle.lis_cuts.specs.Cuts.{IsFirst}
 use Rattle.lis_cuts.proofs.Places.{none_there}
 use Rattle.lis_cuts.proofs.Cut.{first_at, first_texts}
 use Rattle.lis_cuts.proofs.lines.first_line.Goals as goal

@@ -1,5 +1,4 @@
-use Rattle.std.proofs.Common.{not, ◌&&◌, List, rules, tests}
-use Rattle.std.specs.List.{list_any}
+use Rattle.std.proofs.Common.{◌&&◌, List, rules, tests}
 use Rattle.std.proofs.lemmas.Iterator.Splits.{YieldsList-from_slice_split}
 use Rattle.std.proofs.lemmas.Iterator.Search.{any_from_yields_List}
 use Rattle.lis_transducers.specs.Tokens.{is_between}

@@ -1,4 +1,4 @@
-use Rattle.std.proofs.Common.{List, ℕ, [], Some, None, map, sym, subst}
+use Rattle.std.proofs.Common.{[], Some, None, map, sym, subst}
 use Rattle.std.specs.String.{string_bytes}
 use Rattle.lis_model.specs.Step.{step}
 use Rattle.lis_model.specs.Script.{script}

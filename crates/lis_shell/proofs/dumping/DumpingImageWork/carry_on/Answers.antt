@@ -7,7 +7,6 @@ use Rattle.lis_session.specs.Session.{root_of}
 use Rattle.lis_session.proofs.Fitting.{store_fits_at}
 use Rattle.lis_shell.specs.Image.{ByResult}
 use Rattle.lis_shell.specs.Steps.{StepEnded}
-use Rattle.lis_shell.proofs.Opened.{halted_cause}
 use Rattle.lis_shell.proofs.Steps.{step_goes}
 use Rattle.lis_shell.proofs.dumping.DumpingImageWork.carry_on.Goals as goal
 
