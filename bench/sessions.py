@@ -36,12 +36,13 @@ def in_folder(folder):
             for name, path in paths]
 
 
-def ends_of(data):
-    """Where each command of an input ends, behind its last line feed. One that only the end of the input ends is not counted."""
+def ends_of(data, longest=LINE):
+    """Where each command of an input ends, behind its last line feed, where a line has at most so many bytes. One that only the end of the input
+    ends is not counted."""
     ends, at = [], 0
     while (feed := data.find(b"\n", at)) >= 0:
         line, at = data[at:feed], feed + 1
-        is_long = len(line) > LINE
+        is_long = len(line) > longest
         parts = [] if is_long else WORD.findall(line[:-1] if line.endswith(b"\r") else line)
         if len(parts) > 2 and parts[0] in (b"add", b"write") and COUNT.fullmatch(parts[2]):
             # What stands behind a payload up to a line feed belongs to it.

@@ -40,6 +40,7 @@ import select
 import signal
 import subprocess
 import tempfile
+import threading
 
 # The program that this repository builds, or another one that the caller names.
 PROGRAM = os.environ.get("LISFS_PROGRAM") or os.path.join(os.path.dirname(os.path.dirname(os.path.abspath(__file__))), "crates/lisfs/out/lisfs")
@@ -103,6 +104,11 @@ class NotAReply(Exception):
     """What was shown is no reply, so this is no program of that kind. No later reply can be told."""
 
 
+def words_of(line):
+    """The words of a line, which is given without its line feed. One CR at its end is no part of them."""
+    return WORD.findall(line.removesuffix(b"\r"))
+
+
 def count_of(words):
     """The word of a line that counts the bytes of the payload behind it, or None where none follows."""
     return words[2] if len(words) > 2 and words[0] in (b"add", b"write") and COUNT.fullmatch(words[2]) else None
@@ -127,9 +133,10 @@ def item(words, payload=None, longest=LINE):
 
 
 class Items:
-    """Cuts an input into commands as `lisfs run` does, where a line has at most so many bytes. A line without words is none. What is kept of a
-    command has the same reply as all of it: of a line that is too long its first bytes, in place of a payload that is too large the smallest
-    such one, and of what stands behind a payload in place of a line feed one byte."""
+    """Cuts an input into commands as `lisfs run` does, where a line has at most so many bytes. A line without words is none. A line is judged
+    without a CR at its end, and handed on with it: the program drops one itself, and would judge another line where one was dropped before.
+    What is kept of a command has the same reply as all of it: of a line that is too long its first bytes, in place of a payload that is too
+    large the smallest such one, and of what stands behind a payload in place of a line feed one byte."""
 
     def __init__(self, longest=LINE):
         # What was not taken, without the line that a payload follows, which stands by itself.
@@ -151,8 +158,7 @@ class Items:
             del self._given[:end + 1]
             if len(line) > self._longest:
                 return line + b"\n", b""
-            line = line.removesuffix(b"\r")
-            words = WORD.findall(line)
+            words = words_of(line)
             if count := count_of(words):
                 self._await_payload(line, int(count))
             elif words:
@@ -170,7 +176,7 @@ class Items:
     def _await_payload(self, line, count):
         self._line, self._kept, self._dropped, self._in_place = line, count, 0, b""
         if count > PAYLOAD:
-            begin, end = [word.span() for word in WORD.finditer(line)][2]
+            begin, end = [word.span() for word in WORD.finditer(line.removesuffix(b"\r"))][2]
             self._line = line[:begin] + b"%d" % (PAYLOAD + 1) + line[end:]
             self._kept, self._dropped, self._in_place = 0, count, bytes(PAYLOAD + 1)
 
@@ -401,6 +407,12 @@ class Program(Commands):
         """Ends the program at once, in the middle of anything. What it has replied to is kept."""
         self._child.kill()
         self._ending()
+
+    def kill_after(self, seconds):
+        """From now on the program has so long to end, whatever is waited for meanwhile, and is killed then. What it has replied to is kept."""
+        timer = threading.Timer(seconds, self._child.kill)
+        timer.daemon = True
+        timer.start()
 
     def _make_way(self):
         """Waits until the program takes more. It may do so only when somebody reads what it shows."""

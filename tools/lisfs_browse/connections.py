@@ -1,9 +1,9 @@
 """Many clients at once, in one thread: none of them, however slow or large, holds up another one or takes more than its share.
 
 A connection brings one request and takes one answer. The head of a request has so many bytes at most; its body is read only where the site has
-admitted the head, and has as many as the head says. What is not there whole after some seconds is closed, and where too many connections are
-open the one that has waited longest for its request. A request is answered whole before the next one: the program below carries out one
-command after the other.
+admitted the head, and has as many as the head says. What is not there whole after some seconds is closed. Where too many connections are open,
+one makes room for a new one: one of which no request was admitted first, so that who only connects keeps nobody out. A request is answered
+whole before the next one: the program below carries out one command after the other.
 """
 import contextlib
 import email.utils
@@ -15,6 +15,7 @@ import time
 import traceback
 
 from lisfs_browse.site import HEAD, POLICY, Wrong
+from showing import harmless, write_line
 
 READ, WRITE = selectors.EVENT_READ, selectors.EVENT_WRITE
 # So many connections are open at most, and so many wait to be opened. So many bytes are read at once, and of a refused request still, so that
@@ -29,7 +30,7 @@ def patience(seconds):
     with contextlib.suppress(ValueError):
         if 0 < (wanted := float(text)) <= 1_000_000:
             return wanted
-    sys.exit(f"browse: LISFS_PATIENCE: no number of seconds: {text}")
+    sys.exit(f"browse: LISFS_PATIENCE: no number of seconds: {harmless(text)}")
 
 
 # A request, an answer, and the end of a connection.
@@ -98,10 +99,11 @@ class Connections:
             self.selector.register(socket, READ, lambda: self._serve(connection))
 
     def _make_room(self):
-        """Closes the connection that has waited longest for its request or its end. Whether there was one."""
-        waiting = [connection for connection in self.open.values() if not connection.unsent]
+        """Closes a connection that is not being answered: one without an admitted request, or else one that has its answer, or else one whose
+        request is not there whole; and of these the one that has waited longest. Whether there was one."""
+        waiting = [connection for connection in self.open.values() if connection.request is None or not connection.unsent]
         if waiting:
-            self._close(min(waiting, key=lambda connection: connection.until))
+            self._close(min(waiting, key=lambda connection: (connection.request is not None, connection.is_asking, connection.until)))
         return bool(waiting)
 
     def _close(self, connection):
@@ -124,7 +126,7 @@ class Connections:
             self._close(connection)
         except Exception:
             # A mistake of the reader of requests ends one of them.
-            traceback.print_exc()
+            write_line(sys.stderr, traceback.format_exc().rstrip("\n"), "\n")
             self._close(connection)
 
     def _read(self, connection):

@@ -1,23 +1,25 @@
 """What of a file's bytes a page shows: a mail by its header and its text parts, a text as it is, and nothing of what is no text.
 
-Whatever the bytes are, it takes no longer than in proportion to them, and gives text alone.
+Whatever the bytes are, it takes no longer than in proportion to them, and a fraction of a second, since other pages wait meanwhile; and it
+gives text alone.
 """
 import collections
 import email.errors
 import email.header
+import email.message
 import email.parser
 import re
 
 # So many characters of a text are shown, and of a header; so many parts of a mail.
 SHOWN, HEADER, MOST_HEADERS, PARTS = 262_144, 1_000, 20, 64
 HEADERS = ("From", "To", "Cc", "Date", "Subject")
-# A mail in which more parts may stand in one another, with more lines that may begin a part, or a longer header with parameters, is a text.
-NESTED, BOUNDARIES, PARAMETERS = 16, 1_000, 8_192
-BOUNDARY = re.compile(rb"(?:\A|[\r\n])--")
-PARAMETER_LINES = re.compile(rb"(?i)(?:\A|[\r\n])content-(?:type|disposition):[^\r\n]*(?:(?:\r\n?|\n)[ \t][^\r\n]*)*")
+# A mail is a text where more parts may stand in one another, more lines may begin a part, or it has more lines, counted once or for each of the
+# parts in which they may stand; and where a header with parameters is longer, or all of these are.
+NESTED, BOUNDARIES, LINES, LINES_OF_PARTS, PARAMETERS, ALL_PARAMETERS = 16, 1_000, 25_000, 100_000, 2_048, 24_576
+PARAMETER_LINES = re.compile(rb"\ncontent-(?:type|disposition):[^\n]*(?:\n[ \t][^\n]*)*")
 # In a text fewer than one character in so many is none.
 RARE = 10
-NO_TEXT = re.compile(r"[\x00-\x08\x0e-\x1a\x1c-\x1f\x7f\ufffd]")
+NO_TEXT = bytes((*range(9), *range(14, 27), *range(28, 32), 127))
 # Character sets that are read. Others are taken for UTF-8.
 CHARSET = re.compile(r"(utf-?8|us-ascii|ascii|iso-?8859-?[0-9]{1,2}|windows-125[0-9]|cp125[0-9]|koi8-[ru]|big5|gb2312|gbk|gb18030|shift_jis"
                      r"|euc-(jp|kr)|iso-2022-jp)", re.I)
@@ -29,8 +31,11 @@ Mail = collections.namedtuple("Mail", "headers parts")
 
 def text_of(content):
     """The text that some bytes are, or None. A NUL is in no text."""
+    if b"\0" in content:
+        return None
     text = content.decode("utf-8", "replace")
-    return text if b"\0" not in content and RARE * len(NO_TEXT.findall(text)) <= len(text) else None
+    wrong = len(content) - len(content.translate(None, NO_TEXT)) + text.count("\ufffd")
+    return text if RARE * wrong <= len(text) else None
 
 
 def cut(text, most=SHOWN):
@@ -67,12 +72,30 @@ def part_of(part, most):
     return Part(kind, header_text(name) if name else None, text, len(data), is_cut)
 
 
+class Message(email.message.Message):
+    """A report of delivery is a text here: the package would make a message of each of its paragraphs."""
+
+    def get_content_type(self):
+        kind = super().get_content_type()
+        return "text/plain" if kind == "message/delivery-status" else kind
+
+
 def is_simple(content):
     """Whether the package reads a mail in no more than its time: it makes an object of each part, goes through each line once for each part in
-    which it stands, and through the header of a part once for each of its parameters."""
-    small = content.lower()
-    return small.count(b"multipart/") + small.count(b"message/") <= NESTED and len(BOUNDARY.findall(content)) <= BOUNDARIES \
-        and all(len(found[0]) <= PARAMETERS for found in PARAMETER_LINES.finditer(content))
+    which it stands, and through the header of a part with the square of its parameters."""
+    small = b"\n" + content.lower().replace(b"\r\n", b"\n").replace(b"\r", b"\n")
+    nested, lines = small.count(b"multipart/") + small.count(b"message/"), small.count(b"\n")
+    if nested > NESTED or small.count(b"\n--") > BOUNDARIES or lines > LINES or lines * (1 + nested) > LINES_OF_PARTS:
+        return False
+    sizes = [len(found[0]) for found in PARAMETER_LINES.finditer(small)]
+    return max(sizes, default=0) <= PARAMETERS and sum(sizes) <= ALL_PARAMETERS
+
+
+def headers_of(message):
+    """The headers that are shown, in their order, each as it is meant."""
+    given = [(name.lower(), value) for name, value in message.raw_items() if name.title() in HEADERS]
+    found = [(wanted, value) for wanted in HEADERS for name, value in given if name == wanted.lower()]
+    return [(name, header_text(value)) for name, value in found[:MOST_HEADERS]]
 
 
 def mail_of(content):
@@ -80,14 +103,12 @@ def mail_of(content):
     if not is_simple(content):
         return None
     try:
-        message = email.parser.BytesParser().parsebytes(content)
-        given = [(name.lower(), header_text(value)) for name, value in message.raw_items() if name.title() in HEADERS]
-        headers = [(wanted, value) for wanted in HEADERS for name, value in given if name == wanted.lower()]
-        parts, most = [], SHOWN
+        message = email.parser.BytesParser(Message).parsebytes(content)
+        headers, parts, most = headers_of(message), [], SHOWN
         for _, part in zip(range(PARTS), (part for part in message.walk() if not part.is_multipart())):
             parts.append(part_of(part, most))
             most -= len(parts[-1].text or "")
     except Exception:
         # The package promises not to raise on any bytes, and yet does so on some. Such a mail is a text.
         return None
-    return Mail(headers[:MOST_HEADERS], parts) if headers else None
+    return Mail(headers, parts) if headers else None

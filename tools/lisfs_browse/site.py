@@ -20,6 +20,7 @@ import urllib.parse
 
 from lisfs_client import Ended, NotAReply, NotSent, Refused
 from lisfs_mount.formulas import FILE_NAME, NAME_LIMIT, TEXT_LIMIT
+from showing import write_line
 
 from lisfs_browse.image import Differs, WrongWord
 from lisfs_browse.markup import address
@@ -220,7 +221,7 @@ class Site:
             return self._over(": ".join(end.text.splitlines()) or str(end))
         except Exception:
             # A mistake of these pages ends one of them, and not the session.
-            traceback.print_exc()
+            write_line(sys.stderr, traceback.format_exc().rstrip("\n"), "\n")
             told, status = "These pages have a mistake here, which standard error tells. Nothing else is touched by it.", 500
         given = self._given(request, body)
         meant = [given[name] for name in MEANT if given.get(name)]
@@ -235,7 +236,7 @@ class Site:
     def _over(self, cause):
         if not self.end:
             self.end = cause
-            print(f"browse: the program has ended: {cause}", file=sys.stderr, flush=True)
+            write_line(sys.stderr, f"browse: the program has ended: {cause}")
         return Answer(503, HTML, self.pages.told(
             "The program has ended",
             f"The program that holds the image has ended: {self.end}. Each change that was done is kept. Of one under way it is "

@@ -2,8 +2,11 @@
 import hashlib
 import os
 
-from lisfs_folder import mails, music, names, walk
+from lisfs_folder import mails, music, names, remembering, walk
 from lisfs_folder.telling import counted
+
+# What the records of files are of.
+MAIL, MUSIC = "mail", "music"
 
 
 class Entry:
@@ -32,12 +35,13 @@ class Entry:
 class Entries:
     """Looks at the files of a folder. `largest` is the most bytes of a file; `folder_words` gives the words for the names of folders, and
     `leave` is told what is no file to take, and `look` is called for each file. What `without` and `passed` say is passed over. `tagless`
-    counts the pieces of music whose tags could not be read, and `is_deaf` says that there is nothing to read tags."""
+    counts the pieces of music whose tags could not be read, and `is_deaf` says that there is nothing to read tags. What mails and music gave
+    is asked of `remembered` first."""
 
-    def __init__(self, top, largest, folder_words, leave, look, without=(), passed=None):
+    def __init__(self, top, largest, folder_words, leave, look, without=(), passed=None, remembered=None):
         self.walk, self.largest, self.folder_words, self.look = walk.Walk(top, leave, without, passed), largest, folder_words, look
         self.all, self.tagless, self.is_deaf = [], 0, False
-        self._reader, self._words = None, {}
+        self._reader, self._words, self._remembered = None, {}, remembered or remembering.Nothing()
 
     def read(self):
         for found in self.walk.files():
@@ -60,32 +64,63 @@ class Entries:
     def _mail(self, entry):
         """The words of a mail, also of one that is too large, since it keeps its name."""
         found = entry.found
-        try:
-            content = walk.content(found, mails.HEADER if found.problem else self.largest)
-        except OSError as error:
-            found.problem = found.problem or error.strerror or str(error)
+        record = self._remembered.record(found, MAIL)
+        if record is None or record[0] is None and not found.problem:
+            record = self._read_mail(found)
+        if record is None:
             # It may be here all the same, under a name that is not known.
             self.walk.is_blind = self.walk.is_blind or entry.is_mail
             return []
+        digest, message_id, subject, words = record
+        entry.subject = subject if entry.is_mail else None
+        if entry.is_mail and message_id:
+            entry.ident = b"mail", message_id.encode(errors="surrogateescape")
+        if digest and not found.problem:
+            entry.digest = bytes.fromhex(digest)
+        return [word.encode() for word in words]
+
+    def _read_mail(self, found):
+        """What a mail gives: the digest of its bytes, or None where they are too many, its Message-ID or None, its subject and its words."""
+        try:
+            content, times = remembering.read(found, mails.HEADER if found.problem else self.largest)
+        except OSError as error:
+            found.problem = found.problem or error.strerror or str(error)
+            return None
         if len(content) > self.largest and not found.problem:
             found.problem = f"more than {self.largest} bytes; a file has no more"
-        mail = mails.Mail(content)
-        entry.subject = mail.subject if entry.is_mail else None
-        if entry.is_mail and mail.message_id:
-            entry.ident = b"mail", mail.message_id.encode(errors="surrogateescape")
+        mail, digest = mails.Mail(content), None
         if not found.problem:
-            found.size, entry.digest = len(content), hashlib.sha256(content).digest()
-        return mail.words()
+            found.size, digest = len(content), hashlib.sha256(content).hexdigest()
+        record = [digest, mail.message_id, mail.subject, [word.decode() for word in mail.words()]]
+        self._remembered.keep(found, times, MAIL, record)
+        return record
 
     def _music(self, entry):
         if self._reader is None and not self.is_deaf:
             self._reader = music.reader()
             self.is_deaf = self._reader is None
-        given = None if self.is_deaf else music.words(self._reader, entry.found.path)
-        if given is None:
+        record = None if self.is_deaf else self._read_music(entry.found)
+        if record is None or record[1] is None:
             self.tagless += 1
             entry.unread = music.HEADS if self.is_deaf else ()
-        return given or []
+        if record is None:
+            return []
+        entry.digest = bytes.fromhex(record[0])
+        return [word.encode() for word in record[1] or ()]
+
+    def _read_music(self, found):
+        """What a piece of music gives: the digest of its bytes, and its words or None. None where it can't be read."""
+        rules = f"{MUSIC} {self._reader.version_string}"
+        if record := self._remembered.record(found, rules):
+            return record
+        try:
+            content, times = remembering.read(found, self.largest)
+        except OSError:
+            return None
+        given = music.words(self._reader, found.path, content)
+        record = [hashlib.sha256(content).hexdigest(), None if given is None else [word.decode() for word in given]]
+        self._remembered.keep(found, times, rules, record)
+        return record
 
     def tell_tags(self, tell):
         """What is amiss with the tags of music, in a line."""

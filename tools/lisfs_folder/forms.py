@@ -19,6 +19,17 @@ LETTERS = str.maketrans({
 RUN = re.compile(r"[A-Za-z0-9]+")
 
 
+class WithoutMarks(dict):
+    """What becomes of a letter when its marks stand apart: of a mark nothing, and of a letter that is no ASCII a blank."""
+
+    def __missing__(self, code):
+        found = self[code] = None if unicodedata.combining(chr(code)) else code if code < 128 else " "
+        return found
+
+
+WITHOUT_MARKS = WithoutMarks()
+
+
 def is_word(word):
     """Whether a file can be given these bytes as a word: plain, or valued with a head that can be declared."""
     head, colon, value = word.partition(b":")
@@ -33,8 +44,7 @@ def folded(text):
         return text.replace("'", "")
     # A mark that stands behind its letter is joined to it first, so that it is an umlaut too.
     text = unicodedata.normalize("NFC", text).translate(LETTERS)
-    kept = (letter for letter in unicodedata.normalize("NFKD", text) if not unicodedata.combining(letter))
-    return "".join(letter if letter.isascii() else " " for letter in kept)
+    return unicodedata.normalize("NFKD", text).translate(WITHOUT_MARKS)
 
 
 def runs(text):
@@ -74,8 +84,3 @@ def plain(name):
 def folder_value(name):
     """What stands for a folder in a word, of any length; nothing where its name has only full stops."""
     return plain(name).lstrip(b".")
-
-
-def shown(path):
-    """A path as a line can show it."""
-    return os.fsencode(path).decode("ascii", "backslashreplace")

@@ -1,5 +1,6 @@
 """Words out of the tags of a piece of music, which `mutagen` reads (Debian's `python3-mutagen`): `artist:`, `album:`, `genre:`, `year:`."""
 import importlib
+import io
 import os
 import re
 import sys
@@ -40,10 +41,13 @@ def reader():
         sys.path.remove(DEBIAN)
 
 
-def words(mutagen, path):
+def words(mutagen, path, content):
     """The words of a piece's tags, the most important first. A file that is no music, or a broken one, has none: then it is None."""
+    file = io.BytesIO(content)
+    # The package looks at the ending too.
+    file.name = path
     try:
-        piece = mutagen.File(path)
+        piece = mutagen.File(file)
         tags = None if piece is None else piece.tags
     except Exception:
         # The package raises errors of its own, and at some broken files others.

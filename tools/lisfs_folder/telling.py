@@ -5,7 +5,7 @@ import os
 import sys
 import time
 
-from lisfs_folder.forms import shown
+from showing import harmless, write_line
 
 # How often the line of progress is written, in seconds.
 PAUSE = 0.1
@@ -20,7 +20,7 @@ class Telling:
 
     def tell(self, line):
         self.clear()
-        print(f"{self.tool}: {line}", file=self.stream)
+        write_line(self.stream, f"{self.tool}: {line}")
 
     def tell_file(self, line):
         if self.is_verbose:
@@ -29,7 +29,7 @@ class Telling:
     def leave(self, path, why):
         """A file that is not taken."""
         self.not_taken[cause_of(why)] += 1
-        self.tell_file(f"not taken: {shown(path)}: {why}")
+        self.tell_file(f"not taken: {harmless(path)}: {why}")
 
     def causes(self):
         return ", ".join(f"{count} {cause}" for cause, count in sorted(self.not_taken.items()))

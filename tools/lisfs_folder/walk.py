@@ -2,8 +2,12 @@
 
 A folder with `cur` and `new` in it is a maildir, and so is one below with these and `tmp`. Its mails are those of the two, and those of its
 folders `.NAME.NAME`, whose names are decoded as mail programs write them.
+
+No symbolic link below the folder is followed: each part of a path is opened in the folder before it, so that this holds too where somebody
+puts a link in the place of a folder meanwhile.
 """
 import base64
+import contextlib
 import errno
 import fnmatch
 import os
@@ -11,17 +15,29 @@ import re
 import stat
 
 MARK = re.compile(r"&([A-Za-z0-9+,]*)-")
+NO_FILE, NO_PART = "no plain file", "no part of the maildir"
+# The folders of a folder of mails.
+BOX = ("cur", "new", "tmp")
+# A folder on the way is only gone through. Where the system has no `O_PATH` it has to be readable.
+THROUGH = getattr(os, "O_PATH", os.O_RDONLY) | os.O_DIRECTORY | os.O_CLOEXEC
+READ = os.O_RDONLY | os.O_NOFOLLOW | os.O_CLOEXEC
 
 
 class Found:
-    """A file. `path` is where it lies, `folders` are the names of those that it lies in below the top, and `key` is what it is known by at
-    every run: its path below the top, of a mail without what changes when it is looked at. Of a mail in a maildir `base` is its name
-    without flags, and else None. `size` is its size now, or None where `problem` says why it can't be taken."""
+    """A file. `parts` are the names that lead to it from the folder `top`, `folders` are the names of those that it lies in below, and `key`
+    is what it is known by at every run: its path below the top, of a mail without what changes when it is looked at. Of a mail in a maildir
+    `base` is its name without flags, and else None. `size` is its size now, or None where `problem` says why it can't be taken."""
 
-    __slots__ = ("path", "folders", "key", "base", "size", "problem")
+    __slots__ = ("top", "parts", "folders", "key", "base", "kind", "size", "problem")
 
-    def __init__(self, path, folders, key, base=None):
-        self.path, self.folders, self.key, self.base, self.size, self.problem = path, folders, key, base, None, None
+    def __init__(self, top, parts, folders, key, base=None):
+        self.top, self.parts, self.folders, self.key, self.base = top, parts, folders, key, base
+        # What the system says of it, where it is a file that can be taken.
+        self.kind = self.size = self.problem = None
+
+    @property
+    def path(self):
+        return os.path.join(self.top, *self.parts)
 
 
 class Walk:
@@ -33,84 +49,128 @@ class Walk:
 
     def files(self):
         """Each `Found`, in an order that the names alone give."""
-        if is_maildir(self.top, ("cur", "new")):
-            yield from self._maildir(self.top, (), "")
-            return
-        for at, below, names in os.walk(self.top, onerror=self._fails):
-            below[:], names = self._wanted(below), self._wanted(names)
-            inner = os.path.relpath(at, self.top)
-            inner, parts = ("", ()) if inner == "." else (inner, tuple(inner.split(os.sep)))
-            if inner and is_maildir(at):
-                below.clear()
-                yield from self._maildir(at, parts, inner)
-                continue
-            for name in below:
-                if os.path.islink(os.path.join(at, name)):
-                    self.leave(os.path.join(at, name), "no plain file")
-            for name in names:
-                yield from self._file(Found(os.path.join(at, name), parts, os.path.join(inner, name)))
+        left = [((), (), None)]
+        while left:
+            parts, folders, kinds = left.pop()
+            kinds = self._kinds(parts) if kinds is None else kinds
+            if is_maildir(kinds, ("cur", "new", "tmp") if parts else ("cur", "new")):
+                others = yield from self._maildir(parts, folders, kinds)
+            else:
+                others = [((*parts, name), (*folders, name), None) for name, kind in self._wanted(kinds) if is_folder(kind)]
+                for name, kind in self._wanted(kinds):
+                    if not is_folder(kind):
+                        yield from self._file(Found(self.top, (*parts, name), folders, os.path.join(*parts, name)), kind)
+            left += reversed(others)
 
-    def _wanted(self, names):
-        return sorted(name for name in names if not any(fnmatch.fnmatchcase(name, pattern) for pattern in self.without))
-
-    def _fails(self, error):
-        self.is_blind = True
-        self.leave(error.filename, error.strerror)
-
-    def _file(self, found):
-        """The file, where it is one."""
+    def _kinds(self, parts):
+        """The names in a folder, each with what it is. None are there where it can't be read, which is told."""
         try:
-            kind = os.lstat(found.path)
+            return names_in(self.top, parts)
         except OSError as error:
+            self.is_blind = True
+            self.leave(os.path.join(self.top, *parts), NO_FILE if is_no_folder(error) else error.strerror)
+            return Unread()
+
+    def _wanted(self, kinds):
+        """The names that are not passed over, in their order, each with what it is."""
+        return [(name, kinds[name]) for name in sorted(kinds) if not any(fnmatch.fnmatchcase(name, pattern) for pattern in self.without)]
+
+    def _file(self, found, kind):
+        """The file, where it is one."""
+        if isinstance(kind, OSError):
             # It may be a folder.
-            found.problem, self.is_blind = error.strerror, True
+            found.problem, self.is_blind = kind.strerror, True
+        elif not stat.S_ISREG(kind.st_mode):
+            return self.leave(found.path, NO_FILE)
+        elif self.passed and os.path.samestat(kind, self.passed):
+            return
         else:
-            if not stat.S_ISREG(kind.st_mode):
-                return self.leave(found.path, "no plain file")
-            if self.passed and os.path.samestat(kind, self.passed):
-                return
-            found.size = kind.st_size
+            found.kind, found.size = kind, kind.st_size
         yield found
 
-    def _names(self, at):
-        """The names in a folder, none where there is no such folder or it can't be read."""
-        try:
-            return self._wanted(os.listdir(at))
-        except (FileNotFoundError, NotADirectoryError):
-            return []
-        except OSError as error:
-            self._fails(error)
-            return []
-
-    def _maildir(self, top, parts, inner):
-        names = self._names(top)
-        boxes = [("", ())] + [(name, tuple(map(decoded, name[1:].split(".")))) for name in names
-                              if name.startswith(".") and os.path.isdir(os.path.join(top, name, "cur"))]
-        for box, folders in boxes:
-            for part in ("cur", "new"):
-                at = os.path.join(top, box, part)
-                for name in self._names(at):
-                    base = name.split(":2,")[0]
-                    key = os.path.join(inner, box, base)
-                    yield from self._file(Found(os.path.join(at, name), parts + folders, key, base))
-            at = os.path.join(top, box, "tmp")
-            for name in self._names(at):
-                self.leave(os.path.join(at, name), "a mail that is not delivered yet")
-        taken = {"cur", "new", "tmp", *(box for box, _ in boxes)}
-        for name in names:
-            at = os.path.join(top, name)
-            if name in taken:
+    def _maildir(self, parts, folders, kinds):
+        """The mails of a maildir: its own, and those of its folders `.NAME.NAME`. Returns the maildirs in it."""
+        yield from self._box(parts, folders, kinds)
+        beside = [(name, kind) for name, kind in self._wanted(kinds) if name not in BOX]
+        inner = {name: self._kinds((*parts, name)) for name, kind in beside if is_folder(kind)}
+        boxes = {name for name, of in inner.items() if name.startswith(".") and is_maildir(of, ("cur",))}
+        for name in sorted(boxes):
+            yield from self._box((*parts, name), (*folders, *map(decoded, name[1:].split("."))), inner[name])
+        others = []
+        for name, kind in beside:
+            if name in boxes or isinstance(inner.get(name), Unread):
                 continue
-            if is_maildir(at) and not os.path.islink(at):
-                yield from self._maildir(at, parts + (decoded(name),), os.path.join(inner, name))
-            elif os.path.isdir(at) and not os.access(at, os.R_OK | os.X_OK):
-                self._fails(PermissionError(errno.EACCES, os.strerror(errno.EACCES), at))
+            if is_maildir(inner.get(name, {})):
+                others.append(((*parts, name), (*folders, decoded(name)), inner[name]))
             else:
-                self.leave(at, "no part of the maildir")
+                self.leave(os.path.join(self.top, *parts, name), NO_FILE if is_link(kind) else NO_PART)
+        return others
+
+    def _box(self, box, folders, kinds):
+        for part in BOX:
+            at = *box, part
+            if is_link(kinds.get(part)):
+                self.leave(os.path.join(self.top, *at), NO_FILE)
+            for name, kind in self._wanted(self._kinds(at)) if is_folder(kinds.get(part)) else ():
+                base = name.split(":2,")[0]
+                if part == "tmp":
+                    self.leave(os.path.join(self.top, *at, name), "a mail that is not delivered yet")
+                else:
+                    yield from self._file(Found(self.top, (*at, name), folders, os.path.join(*box, base), base), kind)
 
 
-def is_maildir(path, parts=("cur", "new", "tmp")):
-    return all(os.path.isdir(os.path.join(path, part)) for part in parts)
+class Unread(dict):
+    """What is in a folder that can't be read, as far as it can be told: nothing."""
+
+
+def names_in(top, parts):
+    """The names in the folder that these names lead to from another one, each with what it is, or the error where that can't be told."""
+    with below(top, parts) as at:
+        inner = os.open(".", READ | os.O_DIRECTORY, dir_fd=at)
+        try:
+            return {name: kind_in(inner, name) for name in os.listdir(inner)}
+        finally:
+            os.close(inner)
+
+
+@contextlib.contextmanager
+def below(top, parts):
+    """The folder that these names lead to from another one, as a descriptor. Raises an error as `is_no_folder` tells where one is a link."""
+    at = os.open(top, THROUGH)
+    try:
+        for part in parts:
+            inner = os.open(part, THROUGH | os.O_NOFOLLOW, dir_fd=at)
+            os.close(at)
+            at = inner
+        yield at
+    finally:
+        os.close(at)
+
+
+def is_no_folder(error):
+    """Whether a link, or another file, is where a folder should be, or a link where a file should."""
+    return error.errno in (errno.ENOTDIR, errno.ELOOP)
+
+
+def kind_in(at, name):
+    try:
+        return os.lstat(name, dir_fd=at)
+    except OSError as error:
+        return error
+
+
+def is_folder(kind):
+    return isinstance(kind, os.stat_result) and stat.S_ISDIR(kind.st_mode)
+
+
+def is_link(kind):
+    return isinstance(kind, os.stat_result) and stat.S_ISLNK(kind.st_mode)
+
+
+def is_maildir(kinds, parts=BOX):
+    """Whether what is in a folder makes it a maildir. One of whose parts some are links still is one, so that its other mails stay mails."""
+    found = [kinds.get(part) for part in parts]
+    return all(is_folder(kind) or is_link(kind) for kind in found) and (any(map(is_folder, found)) or len(parts) == 1)
 
 
 def decoded(name):
@@ -128,38 +188,47 @@ def decoded(name):
 
 
 def again(found):
-    """The path of a mail whose flags, and so its name, have changed since it was found; else None."""
+    """The parts of the path of a mail whose flags, and so its name, have changed since it was found; else None."""
     if found.base is None:
         return None
-    box = os.path.dirname(os.path.dirname(found.path))
     for part in ("cur", "new"):
-        at = os.path.join(box, part)
-        try:
-            names = os.listdir(at)
-        except OSError:
-            continue
-        for name in names:
-            if name.split(":2,")[0] == found.base:
-                return os.path.join(at, name)
+        at = *found.parts[:-2], part
+        with contextlib.suppress(OSError):
+            for name in names_in(found.top, at):
+                if name.split(":2,")[0] == found.base:
+                    return *at, name
     return None
+
+
+def opened(found):
+    """A file, open to be read, whose `name` is its path. Raises `OSError`."""
+    try:
+        return _opened(found)
+    except FileNotFoundError:
+        parts = again(found)
+        if parts is None:
+            raise
+        found.parts = parts
+        return _opened(found)
+
+
+def _opened(found):
+    try:
+        with below(found.top, found.parts[:-1]) as at:
+            # What has become a pipe or a link in the meantime is not waited for, nor followed.
+            descriptor = os.open(found.parts[-1], READ | os.O_NONBLOCK, dir_fd=at)
+    except OSError as error:
+        if is_no_folder(error):
+            raise OSError(0, NO_FILE, found.path) from None
+        raise
+    file = open(found.path, "rb", opener=lambda *_: descriptor)
+    if not stat.S_ISREG(os.fstat(descriptor).st_mode):
+        file.close()
+        raise OSError(0, NO_FILE, found.path)
+    return file
 
 
 def content(found, most):
     """The bytes of a file, of which there may be no more than so many: else one more is given. Raises `OSError`."""
-    try:
-        return _read(found.path, most)
-    except FileNotFoundError:
-        path = again(found)
-        if path is None:
-            raise
-        found.path = path
-        return _read(path, most)
-
-
-def _read(path, most):
-    # What has become a pipe or a link in the meantime is not waited for, nor followed.
-    descriptor = os.open(path, os.O_RDONLY | os.O_NOFOLLOW | os.O_NONBLOCK | os.O_CLOEXEC)
-    with open(descriptor, "rb") as file:
-        if not stat.S_ISREG(os.fstat(descriptor).st_mode):
-            raise OSError(0, "no plain file", path)
+    with opened(found) as file:
         return file.read(most + 1)

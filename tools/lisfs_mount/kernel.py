@@ -12,6 +12,8 @@ import sys
 import time
 import traceback
 
+from showing import write_line
+
 MINOR, OLDEST_MINOR = 38, 23
 # So much is written or read by one message at most.
 LARGEST = 1_048_576
@@ -111,7 +113,7 @@ class Connection:
         except OSError as error:
             answer, failed = b"", error.errno or errno.EIO
         except Exception:  # A fault of this program is told, and the asker gets an error; nothing was acknowledged.
-            traceback.print_exc()
+            write_line(sys.stderr, traceback.format_exc().rstrip("\n"), "\n")
             answer, failed = b"", errno.EIO
         if code not in self.silent:
             self.send(OUT.pack(OUT.size + len(answer), -failed, unique), answer)

@@ -1,6 +1,8 @@
 """What a mount sends to the program for what it is asked, and when: a new file waits for its bytes, and is never lost without a word. For
 tests alone."""
+import contextlib
 import errno
+import io
 import os
 
 from lisfs_client import PROGRAM, Ended, Program, Refused
@@ -187,6 +189,50 @@ def not_made(number):
         answers(f"{name}, with bytes, at its close", error, ways.close, handle)
 
 
+def unclosed():
+    """What is written and not closed is stored when nobody asks any more, or told by name."""
+    make("image", "64", "64", "4")
+    with directly("image") as ways:
+        ways.put("old", b"old")
+        ways.put("emptied", b"emptied")
+        handles = {name: ways.open(name, flags) for name, flags in (
+            ("old", WR), ("new", WR | NEW), ("waits", WR | NEW), ("gone", WR | NEW), ("read", RD | os.O_CREAT), ("emptied", WR | os.O_TRUNC),
+            ("synced", WR | NEW))}
+        for name in ("old", "new", "gone", "synced"):
+            ways.write(handles[name], name.upper().encode(), 0)
+        ways.unlink("gone")
+        ways.sync(handles["synced"])
+        answers("the end with open files", (None, False), finished, ways)
+    with directly("image") as ways:
+        answers("what is in the image then", {"old": b"OLD", "new": b"NEW", "waits": b"", "read": b"", "emptied": b"", "synced": b"SYNCED"},
+                lambda: {name: ways.get(name) for name in ways.ls(":all")})
+        ways.write(ways.open("old", WR), bytes(20_000), 0)
+        ways.write(ways.open("new", WR), b"N", 0)
+        refused = ways.open("refused", WR | NEW)
+        ways.write(refused, bytes(20_000), 0)
+        answers("what a sync was refused", "ENOSPC", ways.sync, refused)
+        told = finished(ways)
+        check("the end of a full image", told[1] and [line.partition(": what was")[0] for line in told[0].splitlines()] == ["mount: old", "mount: refused"], told)
+    with directly("image") as ways:
+        answers("what there was room for", {"old": b"OLD", "new": b"NEW", "refused": b""}, lambda: {name: ways.get(name) for name in ("old", "new", "refused")})
+    for number in (20, 21):
+        make("image", "64", "64", "8")
+        with directly("image") as ways:
+            ways.tree.image.program.create = ways.tree.image.program.add = refusing(number)
+            ways.open("x", WR | NEW)
+            told_by(ways.ls, "")
+            told = finished(ways)
+            check("the end with a file that can't be made", told[1] and told[0].startswith("mount: x: what was written and not closed is lost: "), told)
+
+
+def finished(ways):
+    """What an end says, and whether something is lost. The kernel is told of nothing by then."""
+    ways.tree.changed = refusing(0)
+    with contextlib.redirect_stderr(io.StringIO()) as said:
+        ways.tree.finish()
+    return said.getvalue() or None, ways.tree.has_lost
+
+
 def dead(is_asked):
     """The close of a new file where the program has ended while it waited."""
     make("image", "64", "64", "8")
@@ -207,3 +253,4 @@ def losses():
         answers("the program's end", Ended, dead, is_asked)
     for number in (9, 18, 19, 20, 21, 22, 24):
         not_made(number)
+    unclosed()

@@ -19,6 +19,7 @@ import time
 from lisfs_client import Ended, NotAReply, NotSent, Refused
 from lisfs_mount.formulas import FILE_NAME, NAME_LIMIT, PART_LIMIT, ROOT, NotAFormula, TooLarge, Word, formula, head_of
 from lisfs_mount.kernel import KEEP_CACHE, NO_FLUSH, Attributes, Entry, Space
+from showing import write_line
 
 ALL, BY = b":all", b":by"
 # What a folder shows: words that files were given, these and derived ones, or no words and every file.
@@ -137,19 +138,24 @@ def is_open_in(process, inode):
 
 
 class Tree:
-    def __init__(self, image, with_derived=False, now=None):
+    """The modes with which folders and files begin are such that others than who mounts see nothing, where others may look at all."""
+
+    def __init__(self, image, with_derived=False, now=None, others=False):
         self.image, self.user, self.group = image, os.getuid(), os.getgid()
+        self.folder_mode, self.file_mode = (0o700, 0o600) if others else (0o755, 0o644)
         self.touched = now or time.time_ns()
         root = Folder(1, b"", ROOT, DERIVED if with_derived else GIVEN)
         root.lookups = 1
         self.nodes, self.keys, self.looks, self.handles, self.numbers = {1: root}, {root.key: root}, {}, {}, 1
         for file in image.everything:
-            self._begin(file, 0o644, self.user, self.group)
+            self._begin(file, self.file_mode, self.user, self.group)
         # Is told the number of each node whose attributes are others than those that were handed out.
         self.changed = lambda number: None
         # The thread that asks, where it is known, and of each folder whose attributes were handed out since the last change the thread
         # that has them. 0 is none that is known, or several.
         self.asker, self.handed = 0, {}
+        # Whether something that was written is not in the image, and nobody was told by an error.
+        self.has_lost = False
 
     def _begin(self, file, mode, user, group):
         file.looks, file.draft, file.handles, file.nodes = Looks(mode, user, group, self.touched), None, 0, set()
@@ -245,7 +251,7 @@ class Tree:
         """Of a file, or of a folder, whose time may be set, and is another one with the next change: any may be one of what it shows."""
         if isinstance(node, Leaf):
             return node.file.looks
-        looks = self.looks.get(node.key) or Looks(0o755, self.user, self.group, self.touched)
+        looks = self.looks.get(node.key) or Looks(self.folder_mode, self.user, self.group, self.touched)
         if looks.changed < self.touched:
             looks.modified = looks.changed = self.touched
         return looks
@@ -666,7 +672,7 @@ class Tree:
             if self._is_unstored(file) and not draft.is_refused:
                 self._commit(node)
         except Refused as refused:
-            print(f"mount: {file.name.decode()}: what was written behind the last close is lost: {refused}", file=sys.stderr)
+            self._lose(file, f"what was written behind the last close is lost: {refused}")
         finally:
             if file.is_gone and draft.content is not None:
                 file.kept = bytes(draft.content)
@@ -674,3 +680,22 @@ class Tree:
             if draft.is_dirty:
                 file.version += 1
                 self._tell(file)
+
+    def _lose(self, file, why):
+        self.has_lost = True
+        write_line(sys.stderr, f"mount: {file.name.decode()}: {why}")
+
+    def finish(self):
+        """Stores what was written and not closed, when nobody asks any more, as a close would. Tells each file that can't be stored."""
+        self.changed = lambda number: None
+        written = {handle.file: handle.node for handle in self.handles.values() if isinstance(handle, Handle) and handle.writes}
+        for file, node in written.items():
+            if file.refusal or not file.is_gone and self._is_unstored(file):
+                try:
+                    self._store(node)
+                except OSError as error:
+                    self._lose(file, f"what was written and not closed is lost: {error.strerror}")
+
+    @answering
+    def _store(self, node):
+        self._commit(node)

@@ -6,7 +6,8 @@ import shutil
 from lisfs_client import Ended, NotAReply, NotSent
 from lisfs_shell.commands import COMMAND, COMMANDS, DECLARED, FILE, FORMULA, GIVEN, KNOWN, NEW_FILE, PATH
 from lisfs_shell.refusals import is_file_name
-from lisfs_shell.terminal import Stopped, harmless, readline
+from lisfs_shell.terminal import Stopped, readline
+from showing import harmless
 
 BLANKS = b" \t\n"
 # The most of what may stand there that is shown.

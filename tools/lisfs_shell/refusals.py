@@ -5,11 +5,11 @@ it can't be, the sentence names the line's own words.
 """
 import difflib
 
-from lisfs_client import PAYLOAD, WORD
+from lisfs_client import PAYLOAD, words_of
 from lisfs_mount.formulas import FILE_NAME, NAME_LIMIT, TEST, head_of, is_plain, is_word
 from lisfs_shell.commands import COMMANDS, COUNT, FILES, MEANS, WORDS
 from lisfs_shell.session import words_in
-from lisfs_shell.terminal import harmless
+from showing import harmless
 
 BUILT_IN = (b"ext:", b"size:", b"from:", b"to:", b"subject:", b"includes:", b"defines:")
 NAME_FORM = "1 to 60 letters, digits and _ - . + @"
@@ -32,7 +32,7 @@ def meant(word, among):
 
 def sentence(refused, line, session):
     """What a refusal of a line means. Where the session has ended, `Ended` may be raised."""
-    words = WORD.findall(line.removesuffix(b"\r"))
+    words = words_of(line)
     command, given = words[0].decode(errors="replace"), words[1:]
     # A number that is not known here is one of a later program.
     return SENTENCES.get(refused.number, lambda *_: f"{harmless(line)}: {refused.words}")(command, given, session)

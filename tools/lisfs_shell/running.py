@@ -7,11 +7,12 @@ import shutil
 import stat
 import tempfile
 
-from lisfs_client import CONTENT, LINE, PAYLOAD, WORD, Items, NotSent, Refused
+from lisfs_client import CONTENT, LINE, PAYLOAD, Items, NotSent, Refused, words_of
 from lisfs_shell.commands import COMMANDS, all_in_lines, told
 from lisfs_shell.refusals import NAME_FORM, bad_line, is_file_name, sentence
 from lisfs_shell.session import NoWayBack
-from lisfs_shell.terminal import INPUT, WORD as WORD_COLOUR, Stopped, harmless
+from lisfs_shell.terminal import INPUT, WORD as WORD_COLOUR, Stopped
+from showing import harmless
 
 PIECE = 65_536
 
@@ -33,7 +34,7 @@ class Shell:
 
     def carry_out(self, line, payload=b""):
         """Raises `Failed` where it is refused or something is amiss, `Stopped` at Ctrl-C, and `Over` where it is the last one."""
-        words = WORD.findall(line.removesuffix(b"\r"))
+        words = words_of(line)
         if not words:
             return
         try:
@@ -210,7 +211,7 @@ def at_a_prompt(shell, history):
             # What was pasted may be several lines.
             for line in text.split(b"\n"):
                 history.add(line)
-                words = WORD.findall(line)
+                words = words_of(line)
                 if words[:1] in ([b"add"], [b"write"]):
                     raise Failed(f"{words[0].decode()}: bytes can't be typed here: `put FILE {harmless(b' '.join(words[1:2])) or 'NAME'}` takes "
                                  "those of a file, and `create` makes an empty one")

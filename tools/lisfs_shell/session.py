@@ -6,7 +6,7 @@ program says: `props` of a name is refused where the file is not there. So no fo
 import contextlib
 import re
 
-from lisfs_client import LINE, WORD, Refused
+from lisfs_client import LINE, Refused, words_of
 from lisfs_mount.formulas import TEST, head_of, is_plain
 
 ROOT = b"/"
@@ -42,7 +42,7 @@ class Session:
         """Has a command carried out as it is written, with the bytes behind it, and notes what it does. Raises `Refused`."""
         self.program.send_bytes(line + b"\n", payload)
         reply = self.program.receive()
-        self._note(*WORD.findall(line.removesuffix(b"\r")))
+        self._note(*words_of(line))
         return reply
 
     def add(self, name, content, *words):

@@ -1,7 +1,6 @@
-"""What a person at a terminal sees and types: output without harm, colours, Ctrl-C, and the lines of earlier days."""
+"""What a person at a terminal sees and types: output, colours, Ctrl-C, and the lines of earlier days."""
 import contextlib
 import os
-import re
 import shutil
 import signal
 import sys
@@ -12,32 +11,18 @@ except ImportError:
     # A Python without it: lines are typed as the terminal lets one.
     readline = None
 
+from showing import harmless
+
 INPUT, OUTPUT, ERRORS = 0, 1, 2
 # So many lines are kept of earlier days.
 REMEMBERED = 2_000
 # So many characters of a text are shown before somebody looks whether Ctrl-C has come.
 PIECE = 4_096
-# The characters that every terminal shows as they are.
-PLAIN = re.compile(r"[^ -~]")
 WORD, PLACE, FAULT = "1;34", "1;32", "31"
 
 
 class Stopped(Exception):
     """Ctrl-C has come: the line is over."""
-
-
-def harmless(data, kept=""):
-    """Bytes as text that does nothing to a terminal. The characters `kept` stay as they are."""
-    def shown(found):
-        character = found[0]
-        if character in kept or character.isprintable():
-            return character
-        number = ord(character)
-        if number < 32 or number == 127:
-            return "^" + chr(number ^ 64)
-        return f"\\x{number:02x}" if number < 256 else f"\\u{number:04x}" if number < 65_536 else f"\\U{number:08x}"
-
-    return PLAIN.sub(shown, data.decode("utf-8", "backslashreplace"))
 
 
 class Interrupts:
@@ -117,7 +102,7 @@ class Screen:
     def fault(self, line):
         """Tells what is amiss, on standard error."""
         with contextlib.suppress(OSError):
-            text = self.coloured(harmless(line.encode("utf-8", "surrogateescape")), FAULT, ERRORS) + "\n"
+            text = self.coloured(harmless(line), FAULT, ERRORS) + "\n"
             os.write(ERRORS, text.encode(self.encoding, "backslashreplace"))
 
     def prompt(self, place):

@@ -4,6 +4,7 @@ ghost use Rattle.lis_journal.specs.Images.{look, is_among};
 ghost use Rattle.lis_journal.specs.Staging.{with_entry, has_entry};
 ghost use Rattle.lis_blockmap.specs.Bitmap.{free_count, is_taken, bitmap_bytes, has_bit, IsFirstDifference};
 ghost use Rattle.lis_blockmap.specs.Inside.{HasFree};
+ghost use Rattle.lis_journal.specs.Record.{homes_start};
 
 use lis_bits::Rows;
 use lis_journal::Journal;
@@ -128,11 +129,11 @@ impl BlockMap {
 
     /// Stages the bitmap's block.
     pub fn stage_to(&self, journal: &mut Journal, n: u32)
-        requires home { 578 ≤ n }
-        requires within { n < journal.old.blocks }
+        requires home { homes_start journal.old.layout ≤ n }
+        requires within { n < journal.old.layout.blocks }
         requires unbroken { journal.old.is_broken ≡ false }
         requires unplaced { is_among journal.old.placed n ≡ false }
-        requires room { IsTrue (has_entry journal.old.staged n) ⊎ (length journal.old.staged < 575) }
+        requires room { IsTrue (has_entry journal.old.staged n) ⊎ (length journal.old.staged < journal.old.capacity.staged) }
         ensures staged { journal.new
             ≡ record journal.old { staged = with_entry journal.old.staged n (bitmap_bytes self.now) } }
         ensures looks { (m : ℕ) (old : List ℕ) → look journal.new.staged m old

@@ -15,6 +15,7 @@ use Rattle.lis_ports.proofs.Moments.{run_then, leaves_then, leaves_weaken}
 use Rattle.lis_model.specs.State.{blocks_needed}
 use Rattle.lis_journal.specs.Record.{replayed}
 use Rattle.lis_journal.specs.Journal.{Held}
+use Rattle.lis_journal.specs.declared.layout.Layout.{Layout}
 use Rattle.lis_journal.specs.Images.{KeepsBut, StandsBut, Fits, is_among, with_kept, with_run}
 use Rattle.lis_journal.specs.Staging.{has_entry}
 use Rattle.lis_journal.proofs.Entries.{neither}
@@ -58,11 +59,11 @@ placed_more base blocks n count = homes_more base blocks (range_with_len n count
 
 -- ---- moments
 -- An image stands for fewer blocks, and the others may be told by other words.
-pub stands_told : (blocks : ℕ) (placed more : List ℕ) (kept now : ℕ → List ℕ) (image : List ℕ) → ((n : ℕ) → is_among more n ≡ false → (is_among placed n ≡ false) × (kept n ≡ now n)) → StandsBut blocks placed kept image → StandsBut blocks more now image
+pub stands_told : (layout : Layout) (placed more : List ℕ) (kept now : ℕ → List ℕ) (image : List ℕ) → ((n : ℕ) → is_among more n ≡ false → (is_among placed n ≡ false) × (kept n ≡ now n)) → StandsBut layout placed kept image → StandsBut layout more now image
 unfolding StandsBut
-stands_told blocks placed more kept now image less all = (all.0, by (replayed blocks image) all.1)
+stands_told layout placed more kept now image less all = (all.0, by (replayed layout image) all.1)
   where
-    by : (o : Option (List ℕ)) → IsSomeAnd o (KeepsBut blocks placed kept) → IsSomeAnd o (KeepsBut blocks more now)
+    by : (o : Option (List ℕ)) → IsSomeAnd o (KeepsBut layout placed kept) → IsSomeAnd o (KeepsBut layout more now)
     by None h = h
     by (Some r) h = record { long = h.long; same = λ n out not_in. let is = less n not_in in h.same n out is.0 ∙ is.1 }
 
@@ -71,8 +72,8 @@ module _ (base : ℕ) (start now_taken next_taken : List Bool) (before now : Hel
   pub unlike : (k : ℕ) → n ≤ k → k < n + count → (has_number blocks k ≡ false) × (is_taken start k ≡ false)
   unlike k le lt = free_after (length start) start blocks k refl (below_from_free start blocks was.places.were_free) (ap (λ t. is_taken t k) (sym was.places.marks) ∙ row.row.were_free k le lt)
 
-  same_blocks : now.blocks ≡ before.blocks
-  same_blocks = ap (λ (h : Held). h.blocks) was.journal
+  same_layout : now.layout ≡ before.layout
+  same_layout = ap (λ (h : Held). h.layout) was.journal
 
   same_placed : now.placed ≡ homes_of base blocks
   same_placed = ap (λ (h : Held). h.placed) was.journal
@@ -94,11 +95,11 @@ module _ (base : ℕ) (start now_taken next_taken : List Bool) (before now : Hel
         moments = λ kept fits.
             let at = was.fits kept fits in
             leaves_then
-            (leaves_weaken _ (was.places.moments kept fits) (λ image. stands_told before.blocks (homes_of base blocks) (homes_of base (blocks ++ range_with_len n count)) kept kept image (λ m not_in. ((apart m not_in).0, refl))))
-            (leaves_weaken _ (row.moments at.0 at.1) (λ image stands. stands_told before.blocks (range_with_len (base + n) count ++ now.placed) (homes_of base (blocks ++ range_with_len n count)) at.0 kept image (λ m not_in. ((apart m not_in).1, at.2 m (sym (among_homes base blocks m) ∙ (apart m not_in).0))) (subst (λ b. StandsBut b (range_with_len (base + n) count ++ now.placed) at.0 image) same_blocks stands)));
+            (leaves_weaken _ (was.places.moments kept fits) (λ image. stands_told before.layout (homes_of base blocks) (homes_of base (blocks ++ range_with_len n count)) kept kept image (λ m not_in. ((apart m not_in).0, refl))))
+            (leaves_weaken _ (row.moments at.0 at.1) (λ image stands. stands_told before.layout (range_with_len (base + n) count ++ now.placed) (homes_of base (blocks ++ range_with_len n count)) at.0 kept image (λ m not_in. ((apart m not_in).1, at.2 m (sym (among_homes base blocks m) ∙ (apart m not_in).0))) (subst (λ b. StandsBut b (range_with_len (base + n) count ++ now.placed) at.0 image) same_layout stands)));
         past = λ kept fits k le.
             let at = was.fits kept fits in
-            row.past at.0 at.1 k (omega (arith, le, same_blocks)) ∙ was.places.past kept fits k le;
+            row.past at.0 at.1 k (omega (arith, le, ap (λ (l : Layout). l.blocks) same_layout)) ∙ was.places.past kept fits k le;
       }
 
 -- what is kept of the blocks outside the row stays

@@ -6,7 +6,7 @@ use Rattle.std.proofs.lemmas.Grind.{flat_map-append}
 use Rattle.std.proofs.lemmas.List.{append-nil, take_all, take_at}
 use Rattle.std.proofs.lemmas.List.Folds.{list_any-append}
 use Rattle.lis_model.specs.State.{blocks_needed}
-use Rattle.lis_journal.specs.Journal.{Held}
+use Rattle.lis_journal.specs.Journal.{Held, shape_of}
 use Rattle.lis_journal.specs.Images.{look}
 use Rattle.lis_journal.specs.Phases.{looked}
 use Rattle.lis_journal.specs.Staging.{with_entry}
@@ -53,7 +53,7 @@ pub record Filling (base : ℕ) (bytes rest : List ℕ) (start now_taken : List 
   pub counted : free_count now_taken + length blocks ≡ free_count start
   pub count : length blocks + blocks_needed (length rest) ≡ blocks_needed (length bytes)
   pub enough : blocks_needed (length rest) ≤ free_count now_taken
-  pub image : now.blocks ≡ before.blocks
+  pub image : shape_of now ≡ shape_of before
   pub records : now.records ≡ before.records
   pub placed : now.placed ≡ before.placed
   pub broken : now.is_broken ≡ before.is_broken
@@ -137,7 +137,7 @@ filling_more base bytes rest front behind start now_taken next_taken before now 
   counted = omega (arith, was.counted, fewer, longer);
   count = omega (arith, was.count, longer, size, some, both);
   enough = omega (arith, was.enough, fewer, size, some, both);
-  image = ap (λ (h : Held). h.blocks) staged ∙ was.image;
+  image = ap shape_of staged ∙ was.image;
   records = ap (λ (h : Held). h.records) staged ∙ was.records;
   placed = ap (λ (h : Held). h.placed) staged ∙ was.placed;
   broken = ap (λ (h : Held). h.is_broken) staged ∙ was.broken;

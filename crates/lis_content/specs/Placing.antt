@@ -33,8 +33,8 @@ pub record Places (base : ℕ) (taken now_taken : List Bool) (before : Held) (ol
   pub marks : now_taken ≡ marked taken blocks
   pub len : length now_taken ≡ length taken
   pub counted : free_count now_taken + length blocks ≡ free_count taken
-  pub moments : (kept : ℕ → List ℕ) → Fits before old kept → Leaves old new (StandsBut before.blocks (homes_of base blocks) kept)
-  pub past : (kept : ℕ → List ℕ) → Fits before old kept → KeepsPast before.blocks old new
+  pub moments : (kept : ℕ → List ℕ) → Fits before old kept → Leaves old new (StandsBut before.layout (homes_of base blocks) kept)
+  pub past : (kept : ℕ → List ℕ) → Fits before old kept → KeepsPast before.layout.blocks old new
 
 -- They are placed, and what is kept then has P and is as before but for them.
 pub record Lays (base : ℕ) (taken now_taken : List Bool) (before now : Held) (old new : Meaning) (blocks : List ℕ) (P : (ℕ → List ℕ) → Type 0) : Type 0 where
@@ -85,8 +85,8 @@ pub record TakesRow (taken now_taken : List Bool) (n count : ℕ) : Type 0 where
 -- They are written, or were begun to be.
 pub record WritesRow (base : ℕ) (taken now_taken : List Bool) (before : Held) (old new : Meaning) (n count : ℕ) : Type 0 where
   pub row : TakesRow taken now_taken n count
-  pub moments : (kept : ℕ → List ℕ) → Fits before old kept → Leaves old new (StandsBut before.blocks (range_with_len (base + n) count ++ before.placed) kept)
-  pub past : (kept : ℕ → List ℕ) → Fits before old kept → KeepsPast before.blocks old new
+  pub moments : (kept : ℕ → List ℕ) → Fits before old kept → Leaves old new (StandsBut before.layout (range_with_len (base + n) count ++ before.placed) kept)
+  pub past : (kept : ℕ → List ℕ) → Fits before old kept → KeepsPast before.layout.blocks old new
 
 -- They are placed, and what is kept is then as told by `after`.
 pub record RowPlaced (base : ℕ) (taken now_taken : List Bool) (before now : Held) (old new : Meaning) (n count : ℕ) (after : (ℕ → List ℕ) → ℕ → List ℕ) : Type 0 where

@@ -1,7 +1,7 @@
 -- How a put of a file's bytes ends.
 use Rattle.std.specs.Prelude.{◌≡◌, ℕ, ◌+◌, ◌<◌, ◌≤◌, Bool, false, List, length, IsTrue}
 use Rattle.lis_model.specs.State.{blocks_needed}
-use Rattle.lis_journal.specs.Journal.{Held}
+use Rattle.lis_journal.specs.Journal.{Held, shape_of}
 use Rattle.lis_journal.specs.Images.{look}
 use Rattle.lis_journal.specs.Phases.{looked}
 use Rattle.lis_blockmap.specs.Bitmap.{free_count}
@@ -20,7 +20,7 @@ pub record IsPut (base : ℕ) (old bytes : List ℕ) (taken now_taken : List Boo
   pub len : length now_taken ≡ length taken
   pub counted : free_count now_taken + length blocks ≡ free_count taken + length old
   pub enough : blocks_needed (length bytes) ≤ free_count taken + length old
-  pub image : now.blocks ≡ before.blocks
+  pub image : shape_of now ≡ shape_of before
   pub records : now.records ≡ before.records
   pub placed : now.placed ≡ before.placed
   pub broken : now.is_broken ≡ before.is_broken

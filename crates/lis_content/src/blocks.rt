@@ -5,6 +5,7 @@ ghost use Rattle.lis_ports.specs.Calls.{ReadsDisk};
 ghost use Rattle.lis_journal.specs.Images.{Fits, look, is_among, JournalIsUsable};
 ghost use Rattle.lis_journal.specs.Staging.{with_entry, has_entry};
 ghost use Rattle.lis_words.specs.Bytes.{padded};
+ghost use Rattle.lis_journal.specs.Record.{homes_start};
 
 use lis_journal::{BLOCK_LEN, Journal};
 use lis_ports::{Disk, Failed};
@@ -24,8 +25,8 @@ pub fn read_front<D: Disk>(
     n: u32,
     buf: &mut [u8],
 ) -> Result<(), Failed>
-    requires home { 578 ≤ n }
-    requires within { n < journal.now.blocks }
+    requires home { homes_start journal.now.layout ≤ n }
+    requires within { n < journal.now.layout.blocks }
     requires few { length buf.old ≤ 4096 }
     requires usable { JournalIsUsable journal.now (D.meaning disk.old) }
     ensures front { OnOk result ((kept : ℕ → List ℕ) → Fits journal.now (D.meaning disk.old) kept
@@ -58,12 +59,12 @@ pub fn fill(block: &mut [u8], bytes: &[u8])
 
 /// Stages bytes as the front of a block that ends in zeros. A whole block is staged straight from them.
 pub fn stage_front(journal: &mut Journal, n: u32, bytes: &[u8])
-    requires home { 578 ≤ n }
-    requires within { n < journal.old.blocks }
+    requires home { homes_start journal.old.layout ≤ n }
+    requires within { n < journal.old.layout.blocks }
     requires few { length bytes.now ≤ 4096 }
     requires unbroken { journal.old.is_broken ≡ false }
     requires unplaced { is_among journal.old.placed n ≡ false }
-    requires room { IsTrue (has_entry journal.old.staged n) ⊎ (length journal.old.staged < 575) }
+    requires room { IsTrue (has_entry journal.old.staged n) ⊎ (length journal.old.staged < journal.old.capacity.staged) }
     ensures staged { journal.new ≡ record journal.old { staged = with_entry journal.old.staged n (padded 4096 bytes.now) } }
     ensures looks { (m : ℕ) (old : List ℕ) → look journal.new.staged m old
         ≡ (if m == n then padded 4096 bytes.now else look journal.old.staged m old) }

@@ -7,6 +7,7 @@ ghost use Rattle.lis_journal.specs.Phases.{looked};
 ghost use Rattle.lis_content.specs.Content.{are_within};
 ghost use Rattle.lis_content.specs.Large.{slot_count, content_blocks, file_content};
 ghost use Rattle.lis_content.specs.Inside.{kept_bytes, IsKept};
+ghost use Rattle.lis_journal.specs.Record.{homes_start};
 
 use crate::large::read_content;
 use lis_journal::Journal;
@@ -49,11 +50,11 @@ fn read_front<D: Disk>(
     requires short { size ≤ length items.old }
     requires few { size ≤ 1048576 }
     requires count { length blocks.now ≡ slot_count size }
-    requires home { 578 ≤ base }
-    requires within { IsTrue (are_within base journal.now.blocks blocks.now) }
+    requires home { homes_start journal.now.layout ≤ base }
+    requires within { IsTrue (are_within base journal.now.layout.blocks blocks.now) }
     requires usable { JournalIsUsable journal.now (D.meaning disk.old) }
     ensures read { OnOk result ((kept : ℕ → List ℕ) → Fits journal.now (D.meaning disk.old) kept
-        → IsTrue (are_within base journal.now.blocks (content_blocks base blocks.now size (looked journal.now.staged kept)))
+        → IsTrue (are_within base journal.now.layout.blocks (content_blocks base blocks.now size (looked journal.now.staged kept)))
         → take size items.new ≡ file_content base blocks.now size (looked journal.now.staged kept)) }
     ensures disk { ReadsDisk (D.meaning disk.old) (D.meaning disk.new) result }
     ensures fits { (kept : ℕ → List ℕ) → Fits journal.now (D.meaning disk.old) kept
@@ -81,12 +82,12 @@ fn read_frame<D: Disk>(
 ) -> Result<(), Failed>
     requires kept { IsKept region.old frame.now size }
     requires count { length blocks.now ≡ slot_count size }
-    requires home { 578 ≤ base }
-    requires within { IsTrue (are_within base journal.now.blocks blocks.now) }
+    requires home { homes_start journal.now.layout ≤ base }
+    requires within { IsTrue (are_within base journal.now.layout.blocks blocks.now) }
     requires usable { JournalIsUsable journal.now (D.meaning disk.old) }
     ensures kept { IsKept region.new frame.now size }
     ensures read { OnOk result ((kept : ℕ → List ℕ) → Fits journal.now (D.meaning disk.old) kept
-        → IsTrue (are_within base journal.now.blocks (content_blocks base blocks.now size (looked journal.now.staged kept)))
+        → IsTrue (are_within base journal.now.layout.blocks (content_blocks base blocks.now size (looked journal.now.staged kept)))
         → kept_bytes region.new frame.now size ≡ file_content base blocks.now size (looked journal.now.staged kept)) }
     ensures disk { ReadsDisk (D.meaning disk.old) (D.meaning disk.new) result }
     ensures fits { (kept : ℕ → List ℕ) → Fits journal.now (D.meaning disk.old) kept
@@ -131,11 +132,11 @@ impl Buffer {
     ) -> Result<(), Failed>
         requires short { size ≤ 1048576 }
         requires count { length blocks.now ≡ slot_count size }
-        requires home { 578 ≤ base }
-        requires within { IsTrue (are_within base journal.now.blocks blocks.now) }
+        requires home { homes_start journal.now.layout ≤ base }
+        requires within { IsTrue (are_within base journal.now.layout.blocks blocks.now) }
         requires usable { JournalIsUsable journal.now (D.meaning disk.old) }
         ensures read { OnOk result ((kept : ℕ → List ℕ) → Fits journal.now (D.meaning disk.old) kept
-            → IsTrue (are_within base journal.now.blocks (content_blocks base blocks.now size (looked journal.now.staged kept)))
+            → IsTrue (are_within base journal.now.layout.blocks (content_blocks base blocks.now size (looked journal.now.staged kept)))
             → self.new ≡ file_content base blocks.now size (looked journal.now.staged kept)) }
         ensures size { OnOk result (length self.new ≡ size) }
         ensures disk { ReadsDisk (D.meaning disk.old) (D.meaning disk.new) result }

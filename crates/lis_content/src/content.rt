@@ -9,6 +9,7 @@ ghost use Rattle.lis_blockmap.specs.Bitmap.{free_count};
 ghost use Rattle.lis_content.specs.Content.{content, given, are_taken, are_within};
 ghost use Rattle.lis_content.specs.Putting.{IsPut, IsRefused};
 ghost use Rattle.lis_model.specs.Sets.{are_distinct};
+ghost use Rattle.lis_journal.specs.Record.{homes_start};
 
 use crate::blocks::{home, read_front, stage_front};
 use crate::fault::PutFault;
@@ -30,11 +31,11 @@ pub fn put<D: Disk>(
     requires few { length bytes.now ≤ 65536 }
     requires distinct { IsTrue (are_distinct old.now) }
     requires taken { IsTrue (are_taken map.old old.now) }
-    requires home { 578 ≤ base }
-    requires within { base + length map.old ≤ journal.old.blocks }
+    requires home { homes_start journal.old.layout ≤ base }
+    requires within { base + length map.old ≤ journal.old.layout.blocks }
     requires usable { JournalIsUsable journal.old (D.meaning disk.old) }
     requires unplaced { journal.old.placed ≡ [] }
-    requires room { length journal.old.staged + 16 ≤ 575 }
+    requires room { length journal.old.staged + 16 ≤ journal.old.capacity.staged }
     ensures ended { MatchResult result
         (λ blocks. IsPut base old.now bytes.now map.old map.new journal.old journal.new blocks.items)
         (λ fault. IsRefused old.now bytes.now map.old map.new journal.old journal.new fault) }
@@ -57,11 +58,11 @@ fn stage_bytes(
 ) -> ArrayVec<u16, 16>
     requires few { length bytes.now ≤ 65536 }
     requires enough { blocks_needed (length bytes.now) ≤ free_count map.old }
-    requires home { 578 ≤ base }
-    requires within { base + length map.old ≤ journal.old.blocks }
+    requires home { homes_start journal.old.layout ≤ base }
+    requires within { base + length map.old ≤ journal.old.layout.blocks }
     requires unbroken { journal.old.is_broken ≡ false }
     requires unplaced { journal.old.placed ≡ [] }
-    requires room { length journal.old.staged + 16 ≤ 575 }
+    requires room { length journal.old.staged + 16 ≤ journal.old.capacity.staged }
     ensures { IsPut base [] bytes.now map.old map.new journal.old journal.new result.items }
 {
     let mut taken = ArrayVec::new();
@@ -87,8 +88,8 @@ pub fn read<D: Disk>(
 ) -> Result<(), Failed>
     requires whole { length buf.old ≡ size }
     requires count { length blocks.now ≡ blocks_needed size }
-    requires home { 578 ≤ base }
-    requires within { IsTrue (are_within base journal.now.blocks blocks.now) }
+    requires home { homes_start journal.now.layout ≤ base }
+    requires within { IsTrue (are_within base journal.now.layout.blocks blocks.now) }
     requires usable { JournalIsUsable journal.now (D.meaning disk.old) }
     ensures read { OnOk result ((kept : ℕ → List ℕ) → Fits journal.now (D.meaning disk.old) kept
         → buf.new ≡ content base blocks.now size (looked journal.now.staged kept)) }

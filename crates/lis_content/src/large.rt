@@ -8,6 +8,7 @@ ghost use Rattle.lis_journal.specs.Images.{Fits, look, held_in, JournalIsUsable}
 ghost use Rattle.lis_journal.specs.Phases.{looked};
 ghost use Rattle.lis_content.specs.Content.{given, are_within};
 ghost use Rattle.lis_content.specs.Large.{index_bytes, is_large, slot_count, index_home, number_at, numbers_in, content_blocks, file_blocks, file_content, block_within};
+ghost use Rattle.lis_journal.specs.Record.{homes_start};
 
 use crate::blocks::{fill, home};
 use crate::content::read;
@@ -50,8 +51,8 @@ pub fn blocks_taken(size: u32) -> u32
 
 // Reads a block.
 fn read_home<D: Disk>(journal: &Journal, disk: &mut D, n: u32, buf: &mut [u8]) -> Result<(), Failed>
-    requires home { 578 ≤ n }
-    requires within { n < journal.now.blocks }
+    requires home { homes_start journal.now.layout ≤ n }
+    requires within { n < journal.now.layout.blocks }
     requires whole { length buf.old ≡ 4096 }
     requires usable { JournalIsUsable journal.now (D.meaning disk.old) }
     ensures read { OnOk result ((kept : ℕ → List ℕ) → Fits journal.now (D.meaning disk.old) kept
@@ -74,8 +75,8 @@ pub fn read_index_block<D: Disk>(
 ) -> Result<(), Failed>
     requires few { laid.size ≤ 1048576 }
     requires count { length laid.blocks.now ≡ slot_count laid.size }
-    requires home { 578 ≤ laid.base }
-    requires within { IsTrue (are_within laid.base journal.now.blocks laid.blocks.now) }
+    requires home { homes_start journal.now.layout ≤ laid.base }
+    requires within { IsTrue (are_within laid.base journal.now.layout.blocks laid.blocks.now) }
     requires whole { length buf.old ≡ 4096 }
     requires usable { JournalIsUsable journal.now (D.meaning disk.old) }
     ensures held { OnOk result (IsTrue (D.meaning disk.old).is_honest → is_large laid.entry.size ≡ true
@@ -124,11 +125,11 @@ fn read_within<D: Disk>(
     buf: &mut [u8],
 ) -> Result<(), Failed>
     requires whole { length buf.old ≡ 4096 }
-    requires home { 578 ≤ base }
-    requires within { base ≤ journal.now.blocks }
+    requires home { homes_start journal.now.layout ≤ base }
+    requires within { base ≤ journal.now.layout.blocks }
     requires usable { JournalIsUsable journal.now (D.meaning disk.old) }
     ensures read { OnOk result ((kept : ℕ → List ℕ) → Fits journal.now (D.meaning disk.old) kept
-        → buf.new ≡ block_within base journal.now.blocks (looked journal.now.staged kept) number) }
+        → buf.new ≡ block_within base journal.now.layout.blocks (looked journal.now.staged kept) number) }
     ensures disk { ReadsDisk (D.meaning disk.old) (D.meaning disk.new) result }
     ensures fits { (kept : ℕ → List ℕ) → Fits journal.now (D.meaning disk.old) kept
         → Fits journal.now (D.meaning disk.new) kept }
@@ -152,15 +153,15 @@ pub fn read_block_by<D: Disk>(
 ) -> Result<(), Failed>
     requires few { laid.size ≤ 1048576 }
     requires count { length laid.blocks.now ≡ slot_count laid.size }
-    requires home { 578 ≤ laid.base }
-    requires within { IsTrue (are_within laid.base journal.now.blocks laid.blocks.now) }
+    requires home { homes_start journal.now.layout ≤ laid.base }
+    requires within { IsTrue (are_within laid.base journal.now.layout.blocks laid.blocks.now) }
     requires inside { n < blocks_needed laid.size }
     requires index { length index.now ≡ 4096 }
     requires whole { length buf.old ≡ 4096 }
     requires usable { JournalIsUsable journal.now (D.meaning disk.old) }
     ensures read { OnOk result ((kept : ℕ → List ℕ) → Fits journal.now (D.meaning disk.old) kept
         → (is_large laid.entry.size ≡ true → index.now ≡ looked journal.now.staged kept (index_home laid.entry.base laid.entry.blocks.now))
-        → buf.new ≡ block_within laid.entry.base journal.now.blocks (looked journal.now.staged kept)
+        → buf.new ≡ block_within laid.entry.base journal.now.layout.blocks (looked journal.now.staged kept)
         (slice_index (content_blocks laid.entry.base laid.entry.blocks.now laid.entry.size (looked journal.now.staged kept)) n)) }
     ensures disk { ReadsDisk (D.meaning disk.old) (D.meaning disk.new) result }
     ensures fits { (kept : ℕ → List ℕ) → Fits journal.now (D.meaning disk.old) kept
@@ -181,13 +182,13 @@ pub fn read_block<D: Disk>(
 ) -> Result<(), Failed>
     requires few { laid.size ≤ 1048576 }
     requires count { length laid.blocks.now ≡ slot_count laid.size }
-    requires home { 578 ≤ laid.base }
-    requires within { IsTrue (are_within laid.base journal.now.blocks laid.blocks.now) }
+    requires home { homes_start journal.now.layout ≤ laid.base }
+    requires within { IsTrue (are_within laid.base journal.now.layout.blocks laid.blocks.now) }
     requires inside { n < blocks_needed laid.size }
     requires whole { length buf.old ≡ 4096 }
     requires usable { JournalIsUsable journal.now (D.meaning disk.old) }
     ensures read { OnOk result ((kept : ℕ → List ℕ) → Fits journal.now (D.meaning disk.old) kept
-        → buf.new ≡ block_within laid.entry.base journal.now.blocks (looked journal.now.staged kept)
+        → buf.new ≡ block_within laid.entry.base journal.now.layout.blocks (looked journal.now.staged kept)
         (slice_index (content_blocks laid.entry.base laid.entry.blocks.now laid.entry.size (looked journal.now.staged kept)) n)) }
     ensures disk { ReadsDisk (D.meaning disk.old) (D.meaning disk.new) result }
     ensures fits { (kept : ℕ → List ℕ) → Fits journal.now (D.meaning disk.old) kept
@@ -237,8 +238,8 @@ fn read_index<D: Disk>(
     n: u32,
     count: usize,
 ) -> Result<ArrayVec<u16, 256>, Failed>
-    requires home { 578 ≤ n }
-    requires within { n < journal.now.blocks }
+    requires home { homes_start journal.now.layout ≤ n }
+    requires within { n < journal.now.layout.blocks }
     requires few { count ≤ 256 }
     requires usable { JournalIsUsable journal.now (D.meaning disk.old) }
     ensures numbers { IfOk result (λ numbers. (kept : ℕ → List ℕ) → Fits journal.now (D.meaning disk.old) kept
@@ -278,8 +279,8 @@ pub fn index_numbers(block: &[u8], size: u32) -> Option<ArrayVec<u16, 256>>
 
 // Whether the home of each of these blocks is one of the image's.
 fn are_within(journal: &Journal, base: u32, blocks: &[u16]) -> bool
-    requires { base ≤ journal.now.blocks }
-    ensures { result ≡ are_within base journal.now.blocks blocks.now }
+    requires { base ≤ journal.now.layout.blocks }
+    ensures { result ≡ are_within base journal.now.layout.blocks blocks.now }
 {
     let end = journal.blocks() - base;
     blocks.iter().all(|n| u32::from(*n) < end)
@@ -297,11 +298,11 @@ pub fn read_content<D: Disk>(
     requires few { size ≤ 1048576 }
     requires whole { length buf.old ≡ size }
     requires count { length slot.now ≡ slot_count size }
-    requires home { 578 ≤ base }
-    requires within { IsTrue (are_within base journal.now.blocks slot.now) }
+    requires home { homes_start journal.now.layout ≤ base }
+    requires within { IsTrue (are_within base journal.now.layout.blocks slot.now) }
     requires usable { JournalIsUsable journal.now (D.meaning disk.old) }
     ensures read { OnOk result ((kept : ℕ → List ℕ) → Fits journal.now (D.meaning disk.old) kept
-        → IsTrue (are_within base journal.now.blocks (content_blocks base slot.now size (looked journal.now.staged kept)))
+        → IsTrue (are_within base journal.now.layout.blocks (content_blocks base slot.now size (looked journal.now.staged kept)))
         → buf.new ≡ file_content base slot.now size (looked journal.now.staged kept)) }
     ensures disk { ReadsDisk (D.meaning disk.old) (D.meaning disk.new) result }
     ensures fits { (kept : ℕ → List ℕ) → Fits journal.now (D.meaning disk.old) kept
@@ -331,8 +332,8 @@ pub fn drop_large<D: Disk>(
 ) -> Result<(), Failed>
     requires few { size ≤ 1048576 }
     requires count { length blocks.now ≡ slot_count size }
-    requires home { 578 ≤ base }
-    requires within { IsTrue (are_within base journal.now.blocks blocks.now) }
+    requires home { homes_start journal.now.layout ≤ base }
+    requires within { IsTrue (are_within base journal.now.layout.blocks blocks.now) }
     requires usable { JournalIsUsable journal.now (D.meaning disk.old) }
     ensures given { OnOk result ((kept : ℕ → List ℕ) → Fits journal.now (D.meaning disk.old) kept
         → map.new ≡ given map.old (file_blocks base blocks.now size (looked journal.now.staged kept))) }

@@ -11,6 +11,7 @@ ghost use Rattle.lis_blockmap.specs.Bitmap.{free_count, is_taken};
 ghost use Rattle.lis_model.specs.Sets.{are_short};
 ghost use Rattle.lis_content.specs.Placing.{AreUnstaged, IsLaid, IsPlaced, IsTornOff, IsUnplaced, HasPlaceCause, TakesRow, RowOf, RowTorn, OnePlaced};
 ghost use Rattle.lis_content.specs.declared.fault.PutFault.TheVariants.{NoSpace};
+ghost use Rattle.lis_journal.specs.Record.{homes_start};
 
 use crate::blocks::{fill, home};
 use crate::fault::PutFault;
@@ -78,11 +79,11 @@ fn place_row<D: Disk>(
     requires whole { 4096 ≤ length bytes.now }
     requires few { length bytes.now ≤ 1048576 }
     requires some { 0 < free_count map.old }
-    requires home { 578 ≤ base }
-    requires within { base + length map.old ≤ journal.old.blocks }
+    requires home { homes_start journal.old.layout ≤ base }
+    requires within { base + length map.old ≤ journal.old.layout.blocks }
     requires usable { JournalIsUsable journal.old (D.meaning disk.old) }
     requires unstaged { AreUnstaged base map.old journal.old.staged }
-    requires room { length journal.old.placed + length bytes.now / 4096 ≤ 257 }
+    requires room { length journal.old.placed + length bytes.now / 4096 ≤ journal.old.capacity.placed }
     ensures ended { MatchResult result
         (λ row. RowOf base bytes.now map.old map.new journal.old journal.new (D.meaning disk.old) (D.meaning disk.new) row.first row.count)
         (λ _. RowTorn base map.old map.new journal.old journal.new (D.meaning disk.old) (D.meaning disk.new)) }
@@ -106,11 +107,11 @@ fn place_block<D: Disk>(
 ) -> Result<u16, Failed>
     requires few { length bytes.now ≤ 4096 }
     requires some { 0 < free_count map.old }
-    requires home { 578 ≤ base }
-    requires within { base + length map.old ≤ journal.old.blocks }
+    requires home { homes_start journal.old.layout ≤ base }
+    requires within { base + length map.old ≤ journal.old.layout.blocks }
     requires usable { JournalIsUsable journal.old (D.meaning disk.old) }
     requires unstaged { AreUnstaged base map.old journal.old.staged }
-    requires room { length journal.old.placed < 257 }
+    requires room { length journal.old.placed < journal.old.capacity.placed }
     ensures ended { MatchResult result
         (λ n. OnePlaced base bytes.now map.old map.new journal.old journal.new (D.meaning disk.old) (D.meaning disk.new) n)
         (λ _. RowTorn base map.old map.new journal.old journal.new (D.meaning disk.old) (D.meaning disk.new)) }
@@ -143,11 +144,12 @@ fn place_bytes<D: Disk>(
 ) -> Result<ArrayVec<u16, 256>, Failed>
     requires few { length bytes.now ≤ 1048576 }
     requires enough { blocks_needed (length bytes.now) ≤ free_count map.old }
-    requires home { 578 ≤ base }
-    requires within { base + length map.old ≤ journal.old.blocks }
+    requires home { homes_start journal.old.layout ≤ base }
+    requires within { base + length map.old ≤ journal.old.layout.blocks }
     requires usable { JournalIsUsable journal.old (D.meaning disk.old) }
     requires unplaced { journal.old.placed ≡ [] }
     requires unstaged { AreUnstaged base map.old journal.old.staged }
+    requires room { blocks_needed (length bytes.now) ≤ journal.old.capacity.placed }
     ensures ended { MatchResult result
         (λ blocks. IsLaid base bytes.now map.old map.new journal.old journal.new (D.meaning disk.old) (D.meaning disk.new) blocks.items)
         (λ _. IsTornOff base map.old map.new journal.old journal.new (D.meaning disk.old) (D.meaning disk.new)) }
@@ -179,11 +181,11 @@ fn place_index<D: Disk>(
 ) -> Result<u16, Failed>
     requires count { length numbers.now ≤ 256 }
     requires some { 0 < free_count map.old }
-    requires home { 578 ≤ base }
-    requires within { base + length map.old ≤ journal.old.blocks }
+    requires home { homes_start journal.old.layout ≤ base }
+    requires within { base + length map.old ≤ journal.old.layout.blocks }
     requires usable { JournalIsUsable journal.old (D.meaning disk.old) }
     requires unstaged { AreUnstaged base map.old journal.old.staged }
-    requires room { length journal.old.placed < 257 }
+    requires room { length journal.old.placed < journal.old.capacity.placed }
     ensures ended { MatchResult result
         (λ n. OnePlaced base (flat_map (little_bytes 2) numbers.now) map.old map.new journal.old journal.new
         (D.meaning disk.old) (D.meaning disk.new) n)
@@ -217,11 +219,12 @@ fn place_all<D: Disk>(
 ) -> Result<ArrayVec<u16, 16>, Failed>
     requires few { length bytes.now ≤ 1048576 }
     requires enough { blocks_taken 2 (length bytes.now) ≤ free_count map.old }
-    requires home { 578 ≤ base }
-    requires within { base + length map.old ≤ journal.old.blocks }
+    requires home { homes_start journal.old.layout ≤ base }
+    requires within { base + length map.old ≤ journal.old.layout.blocks }
     requires usable { JournalIsUsable journal.old (D.meaning disk.old) }
     requires unplaced { journal.old.placed ≡ [] }
     requires unstaged { AreUnstaged base map.old journal.old.staged }
+    requires room { blocks_taken 2 (length bytes.now) ≤ journal.old.capacity.placed }
     ensures ended { MatchResult result
         (λ slot. IsPlaced base bytes.now map.old map.new journal.old journal.new (D.meaning disk.old) (D.meaning disk.new) slot.items)
         (λ _. IsTornOff base map.old map.new journal.old journal.new (D.meaning disk.old) (D.meaning disk.new)) }
@@ -245,11 +248,12 @@ pub fn place_file<D: Disk>(
     bytes: &[u8],
 ) -> Result<ArrayVec<u16, 16>, PutFault>
     requires few { length bytes.now ≤ 1048576 }
-    requires home { 578 ≤ base }
-    requires within { base + length map.old ≤ journal.old.blocks }
+    requires home { homes_start journal.old.layout ≤ base }
+    requires within { base + length map.old ≤ journal.old.layout.blocks }
     requires usable { JournalIsUsable journal.old (D.meaning disk.old) }
     requires unplaced { journal.old.placed ≡ [] }
     requires unstaged { AreUnstaged base map.old journal.old.staged }
+    requires room { blocks_taken 2 (length bytes.now) ≤ journal.old.capacity.placed }
     ensures ended { MatchResult result
         (λ slot. IsPlaced base bytes.now map.old map.new journal.old journal.new (D.meaning disk.old) (D.meaning disk.new) slot.items)
         (λ fault. IsUnplaced base bytes.now map.old map.new journal.old journal.new (D.meaning disk.old) (D.meaning disk.new) fault) }

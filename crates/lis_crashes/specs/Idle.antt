@@ -1,18 +1,24 @@
 -- What the tests know of a journal between two calls, and of its disk.
 use Rattle.std.specs.Prelude.{◌≡◌, ◌≤◌, ℕ, false, [], length}
 use Rattle.lis_ports.specs.Meaning.{Meaning}
-use Rattle.lis_journal.specs.Journal.{Held}
+use Rattle.lis_journal.specs.declared.layout.Layout.{Layout}
+use Rattle.lis_journal.specs.declared.layout.Capacity.{Capacity}
+use Rattle.lis_journal.specs.Journal.{Held, Shape, shape_of}
+
+-- a journal of so many blocks, 576 of them for records
+abbrev pub shape_with : ℕ → Shape
+shape_with blocks = record { layout = record { records = 576; blocks = blocks }; capacity = record { staged = 575; placed = 257 } }
 
 -- a journal of so many blocks, with nothing staged and nothing placed
 pub record IsAtRest (blocks : ℕ) (journal : Held) : Type 0 where
-  pub blocks_are : journal.blocks ≡ blocks
+  pub shape : shape_of journal ≡ shape_with blocks
   pub staged : journal.staged ≡ []
   pub placed : journal.placed ≡ []
   pub unbroken : journal.is_broken ≡ false
 
 -- the same, with so many blocks staged at most
 pub record HasStaged (blocks most : ℕ) (journal : Held) : Type 0 where
-  pub blocks_are : journal.blocks ≡ blocks
+  pub shape : shape_of journal ≡ shape_with blocks
   pub staged : length journal.staged ≤ most
   pub placed : journal.placed ≡ []
   pub unbroken : journal.is_broken ≡ false

@@ -4,12 +4,20 @@ ghost use Rattle.std.specs.Prelude.{◌≡◌, ◌+◌, ◌<◌, ◌≤◌, leng
 ghost use Rattle.lis_memdisk.specs.MemStation.{meaning_of};
 ghost use Rattle.lis_crashes.specs.Idle.{IsAtRest, HasStaged, IsSameDisk};
 
-use lis_journal::{BLOCK_LEN, Journal};
+use lis_journal::{BLOCK_LEN, Capacity, Journal, Layout};
 use lis_memdisk::MemStation;
 use std::alloc::{AllocError, Global};
 use std::test::Fail;
 
-pub const BLOCKS: u32 = 594;
+pub const LAYOUT: Layout = Layout {
+    records: 576,
+    blocks: 594,
+};
+
+pub const CAPACITY: Capacity = Capacity {
+    staged: 575,
+    placed: 257,
+};
 
 pub const DISK_LEN: usize = 2_433_024;
 
@@ -30,7 +38,7 @@ fn opened(alloc: Global, disk: &mut MemStation) -> Result<Journal, Fail>
     ensures idle { IfOk result (λ journal. IsAtRest 594 journal) }
     ensures same { IsSameDisk (meaning_of disk.old) (meaning_of disk.new) }
 {
-    Ok(Journal::mount(alloc, disk, BLOCKS)?)
+    Ok(Journal::mount(alloc, disk, LAYOUT, CAPACITY)?)
 }
 
 /// The journal of a disk of these bytes.

@@ -2,7 +2,7 @@
 
 ghost use Rattle.std.specs.Prelude.{◌≡◌, ◌<◌, length, IfOk};
 
-use crate::disk::{BLOCKS, zeros};
+use crate::disk::{CAPACITY, LAYOUT, zeros};
 use lis_journal::{Journal, JournalFault};
 use lis_memdisk::MemStation;
 use std::alloc::{AllocError, Global};
@@ -13,7 +13,7 @@ fn bad_record(alloc: Global, image: &[u8]) -> Result<u32, Fail>
     requires { length image.now ≡ 2433024 }
 {
     let mut disk = MemStation::new(alloc, image, 0)?;
-    match Journal::mount(alloc, &mut disk, BLOCKS) {
+    match Journal::mount(alloc, &mut disk, LAYOUT, CAPACITY) {
         Ok(_) => Ok(0),
         Err(JournalFault::BadRecord(block)) => Ok(block),
         Err(fault) => Err(fault.into()),

@@ -27,6 +27,7 @@ use Rattle.lis_session.proofs.Tallying.{tallied_leaves}
 use Rattle.lis_grow.specs.declared.summary.Sum.{Sum}
 use Rattle.lis_grow.specs.Session.{refusals, listings, StandsAmong, Summed}
 use Rattle.lis_grow.specs.Summing.{Sums, SumsInto}
+use Rattle.lis_journal.specs.Journal.{shape_of}
 
 -- ---- one item more
 abbrev refusal_count : Situation → Item → ℕ
@@ -122,7 +123,7 @@ sums_none start m sum unbroken sound none = record {
 -- what a call of the session keeps, and what it does to the disk
 pub record Called {T : Type 0} (now next : Situated) (mid m : Meaning) (result : Result T Failed) : Type 0 where
   pub limits : next.store.parts.limits ≡ now.store.parts.limits
-  pub image : next.store.journal.blocks ≡ now.store.journal.blocks
+  pub image : shape_of next.store.journal ≡ shape_of now.store.journal
   pub sound : IsSound next.store
   pub disk : UsesDisk mid m result
 

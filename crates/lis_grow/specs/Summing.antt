@@ -12,6 +12,7 @@ use Rattle.lis_session.specs.Served.{situation_at}
 use Rattle.lis_session.specs.Session.{Situated}
 use Rattle.lis_grow.specs.Session.{Summed}
 use Rattle.lis_grow.specs.declared.summary.Sum.{Sum}
+use Rattle.lis_journal.specs.Journal.{shape_of}
 
 -- The session can be carried on, and so many replies more can be summed: none lists more than 12,288 words and files.
 pub record CanSum (session : Situated) (sum : Sum) (m : Meaning) (more : ℕ) : Type 0 where
@@ -24,7 +25,7 @@ pub record CanSum (session : Situated) (sum : Sum) (m : Meaning) (more : ℕ) : 
 -- Since the start these items were carried out, from any state that fitted then; or all but the last one, where a call of the disk failed.
 pub record SumsTo (start : Situated) (entry : Meaning) (items : List Item) (now : Situated) (m : Meaning) (result : Result Sum Failed) : Type 0 where
   pub limits : now.store.parts.limits ≡ start.store.parts.limits
-  pub image : now.store.journal.blocks ≡ start.store.journal.blocks
+  pub image : shape_of now.store.journal ≡ shape_of start.store.journal
   pub unbroken : IfOk result (λ sum. now.store.is_broken ≡ false)
   pub sound : IsSound now.store
   pub disk : UsesDisk entry m result

@@ -7,6 +7,7 @@ ghost use Rattle.lis_model.specs.State.{State};
 ghost use Rattle.lis_store.specs.Stored.{IsSound, StoreFits, IsUsable};
 ghost use Rattle.lis_session.specs.Item.{HasEndCause, IsSameStation, StoreLeft};
 ghost use Rattle.lis_grow.specs.Session.{grow_items, Summed, Grows, GrowEnded};
+ghost use Rattle.lis_journal.specs.Journal.{shape_of};
 
 use crate::source::GrowSource;
 use crate::summary::{Sum, show_summary};
@@ -35,7 +36,7 @@ fn carry_out<T: Station>(
     ensures cause { HasCause (T.meaning station.old).disk_faults (T.meaning station.new).disk_faults result }
     ensures first_fault { DiskFaultEnds (T.meaning station.old) (T.meaning station.new) }
     ensures limits { session.new.store.parts.limits ≡ session.old.store.parts.limits }
-    ensures image { session.new.store.journal.blocks ≡ session.old.store.journal.blocks }
+    ensures image { shape_of session.new.store.journal ≡ shape_of session.old.store.journal }
     ensures unbroken { IfOk result (λ _. session.new.store.is_broken ≡ false) }
     ensures sound { IsSound session.new.store }
 {

@@ -19,13 +19,15 @@ absorbs_then first es middle fs last one two = λ m old.
 
 -- the contents that were absorbed by the k-th turn
 pub record SoAbsorbed (before : Staging) (es : List HomeBlock) (now : Staging) (k : ℕ) : Type 0 where
-  pub blocks : now.blocks ≡ before.blocks
+  pub layout : now.layout ≡ before.layout
+  pub capacity : now.capacity ≡ before.capacity
   pub few : length now.entries ≤ length before.entries + k
   pub absorbs : Absorbs before.entries (take k es) now.entries
 
-pub absorbed_more : (before now next : Staging) (es : List HomeBlock) (k home : ℕ) (bytes : List ℕ) (d : HomeBlock) → k < length es → home ≡ (get_or es k d).home → bytes ≡ (get_or es k d).bytes → SoAbsorbed before es now k → next.blocks ≡ now.blocks → length next.entries ≤ length now.entries + 1 → ((m : ℕ) (old : List ℕ) → look next.entries m old ≡ cond (m == home) bytes (look now.entries m old)) → SoAbsorbed before es next (k + 1)
-absorbed_more before now next es k home bytes d lt is_home is_bytes so_far blocks few looks = record {
-  blocks = blocks ∙ so_far.blocks;
+pub absorbed_more : (before now next : Staging) (es : List HomeBlock) (k home : ℕ) (bytes : List ℕ) (d : HomeBlock) → k < length es → home ≡ (get_or es k d).home → bytes ≡ (get_or es k d).bytes → SoAbsorbed before es now k → next.layout ≡ now.layout → next.capacity ≡ now.capacity → length next.entries ≤ length now.entries + 1 → ((m : ℕ) (old : List ℕ) → look next.entries m old ≡ cond (m == home) bytes (look now.entries m old)) → SoAbsorbed before es next (k + 1)
+absorbed_more before now next es k home bytes d lt is_home is_bytes so_far layout capacity few looks = record {
+  layout = layout ∙ so_far.layout;
+  capacity = capacity ∙ so_far.capacity;
   few = omega (arith, few, so_far.few);
   absorbs = λ m old.
       absorbs_put before.entries (take k es) now.entries next.entries home bytes so_far.absorbs looks m old

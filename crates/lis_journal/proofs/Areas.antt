@@ -4,12 +4,13 @@ use Rattle.std.proofs.lemmas.Bool.{cond-false, ne_eqb, and_from, le-leb}
 use Rattle.std.proofs.lemmas.List.{take-take, drop-drop, take_all, length-map}
 use Rattle.lis_ports.specs.Bytes.{part, put, Torn}
 use Rattle.lis_ports.proofs.Parts.{part-put, length-put, torn-put}
-use Rattle.lis_journal.specs.Record.{block, HomeBlock, homes, homes_of, count_of, is_header, record_end, is_record, recorded, entries_from, apply}
+use Rattle.lis_journal.specs.declared.layout.Layout.{Layout}
+use Rattle.lis_journal.specs.Record.{homes_start, header_blocks, record_len, count_at, header_at, block, HomeBlock, homes, homes_of, count_of, is_header, record_end, is_record, recorded, entries_from, apply}
 use Rattle.lis_journal.specs.Images.{look}
 use Rattle.lis_journal.specs.Spreads.{IsClear, Touched}
 use Rattle.lis_journal.specs.Phases.{Spelled, renumbered}
 use Rattle.lis_journal.proofs.Entries.{Within, block-apply, touched_apply}
-use Rattle.lis_journal.proofs.Headers.{length-words}
+use Rattle.lis_journal.proofs.Headers.{length-words, count-part}
 use Rattle.lis_journal.proofs.Spreading.{torn_trans}
 
 -- a range within another
@@ -25,9 +26,9 @@ torn_within at n from m low high old new torn =
           ∙ (drop-drop (from + m - (at + n)) (at + n) old ∙ ap (λ k. drop k old) rest)));
     }
 
-clear_before : (m n : ℕ) (es : List HomeBlock) → n ≤ 4096 * m → IsClear (renumbered m es) 0 n
-clear_before m n [] le = tt
-clear_before m n (e ∷ es) le = (inl (omega (arith, le)), clear_before (m + 1) n es (omega (arith, le)))
+clear_before : (m at n : ℕ) (es : List HomeBlock) → at + n ≤ 4096 * m → IsClear (renumbered m es) at n
+clear_before m at n [] le = tt
+clear_before m at n (e ∷ es) le = (inl (omega (arith, le)), clear_before (m + 1) at n es (omega (arith, le)))
 
 clear_after : (m at n : ℕ) (es : List HomeBlock) → 4096 * (m + length es) ≤ at → IsClear (renumbered m es) at n
 clear_after m at n [] le = tt
@@ -43,34 +44,34 @@ touched_area m es from image touched =
     let rest = touched.clear (4096 * m + 4096 * length es) (length from) (clear_after m (4096 * m + 4096 * length es) (length from) es (omega arith)) in
     record {
       len = touched.len;
-      before = touched.clear 0 (4096 * m) (clear_before m (4096 * m) es (omega arith));
+      before = touched.clear 0 (4096 * m) (clear_before m 0 (4096 * m) es (omega arith));
       after = sym (take_all (length from) (drop (4096 * m + 4096 * length es) image) (omega (arith, length-drop (4096 * m + 4096 * length es) image, touched.len)))
           ∙ (rest ∙ take_all (length from) (drop (4096 * m + 4096 * length es) from) (omega (arith, length-drop (4096 * m + 4096 * length es) from)));
     }
 
-pub touched_record : (b : ℕ) (es : List HomeBlock) (from image : List ℕ) → Touched (renumbered (b + 1) es) from image → Torn (4096 * b) (4096 * (length es + 1)) from image
+pub touched_record : (b : ℕ) (es : List HomeBlock) (from image : List ℕ) → Touched (renumbered (b + header_blocks (length es)) es) from image → Torn (4096 * b) (4096 * record_len (length es)) from image
 touched_record b es from image touched =
-    torn_within (4096 * (b + 1)) (4096 * length es) (4096 * b) (4096 * (length es + 1)) (omega arith) (omega arith) from image (touched_area (b + 1) es from image touched)
+    torn_within (4096 * (b + header_blocks (length es))) (4096 * length es) (4096 * b) (4096 * record_len (length es)) (omega arith) (omega arith) from image (touched_area (b + header_blocks (length es)) es from image touched)
 
-pub header_torn : (b : ℕ) (es : List HomeBlock) (n : ℕ) → n ≡ 4096 → (from image : List ℕ) → Torn (4096 * b) n from image → Torn (4096 * b) (4096 * (length es + 1)) from image
+pub header_torn : (b : ℕ) (es : List HomeBlock) (n : ℕ) → n ≡ 4096 * header_blocks (length es) → (from image : List ℕ) → Torn (4096 * b) n from image → Torn (4096 * b) (4096 * record_len (length es)) from image
 header_torn b es n is from image torn =
-    torn_within (4096 * b) n (4096 * b) (4096 * (length es + 1)) (omega arith) (omega (arith, is)) from image torn
+    torn_within (4096 * b) n (4096 * b) (4096 * record_len (length es)) (omega arith) (omega (arith, is)) from image torn
 
 -- a record that is written is torn, and no more
-pub torn_record : (b : ℕ) (es : List HomeBlock) (old head : List ℕ) → b + length es + 1 ≤ 578 → Within 578 (renumbered (b + 1) es) → length head ≡ 4096 → 2367488 ≤ length old → Torn (4096 * b) (4096 * (length es + 1)) old (apply (renumbered (b + 1) es) (put old (4096 * b) head))
-torn_record b es old head room within len long =
+pub torn_record : (top b : ℕ) (es : List HomeBlock) (old head : List ℕ) → b + record_len (length es) ≤ top → Within top (renumbered (b + header_blocks (length es)) es) → length head ≡ 4096 * header_blocks (length es) → 4096 * top ≤ length old → Torn (4096 * b) (4096 * record_len (length es)) old (apply (renumbered (b + header_blocks (length es)) es) (put old (4096 * b) head))
+torn_record top b es old head room within len long =
     let fits : 4096 * b + length head ≤ length old = omega (arith, room, len, long) in
-    let top = header_torn b es (length head) len old (put old (4096 * b) head) (torn-put old (4096 * b) head fits) in
-    let longer : 4096 * 578 ≤ length (put old (4096 * b) head) = omega (arith, long, length-put old (4096 * b) head fits) in
-    torn_trans (4096 * b) (4096 * (length es + 1)) old (put old (4096 * b) head) _ top
-    (touched_record b es (put old (4096 * b) head) _ (touched_apply 578 (renumbered (b + 1) es) (put old (4096 * b) head) within longer))
+    let front = header_torn b es (length head) len old (put old (4096 * b) head) (torn-put old (4096 * b) head fits) in
+    let longer : 4096 * top ≤ length (put old (4096 * b) head) = omega (arith, long, length-put old (4096 * b) head fits) in
+    torn_trans (4096 * b) (4096 * record_len (length es)) old (put old (4096 * b) head) _ front
+    (touched_record b es (put old (4096 * b) head) _ (touched_apply top (renumbered (b + header_blocks (length es)) es) (put old (4096 * b) head) within longer))
 
-pub within_record : (blocks m : ℕ) (es : List HomeBlock) → m + length es ≤ 578 → Within blocks es → Within 578 (renumbered m es)
-within_record blocks m [] le within = tt
-within_record blocks m (e ∷ es) le within =
-    let here : m < 578 = omega (arith, le) in
-    let more : m + 1 + length es ≤ 578 = omega (arith, le) in
-    (here, within.1, within_record blocks (m + 1) es more within.2)
+pub within_record : (top blocks m : ℕ) (es : List HomeBlock) → m + length es ≤ top → Within blocks es → Within top (renumbered m es)
+within_record top blocks m [] le within = tt
+within_record top blocks m (e ∷ es) le within =
+    let here : m < top = omega (arith, le) in
+    let more : m + 1 + length es ≤ top = omega (arith, le) in
+    (here, within.1, within_record top blocks (m + 1) es more within.2)
 
 look-below : (m n : ℕ) (es : List HomeBlock) (old : List ℕ) → n < m → look (renumbered m es) n old ≡ old
 look-below m n [] old lt = refl
@@ -79,40 +80,48 @@ look-below m n (e ∷ es) old lt =
     ap (look (renumbered (m + 1) es) n) (cond-false (n == m) e.bytes old (ne_eqb n m ne)) ∙ look-below (m + 1) n es old (omega (arith, lt))
 
 -- the contents that were written behind the header are those of the entries
-entries-written : (k : ℕ) (es : List HomeBlock) (x : List ℕ) → k + length es ≤ 578 → Within 578 (renumbered k es) → 2367488 ≤ length x → entries_from k (homes es) (apply (renumbered k es) x) ≡ es
-entries-written k [] x le within long = refl
-entries-written k (e ∷ es) x le within long =
-    let here : k < 578 = omega (arith, le) in
-    let more : k + 1 + length es ≤ 578 = omega (arith, le) in
+entries-written : (top k : ℕ) (es : List HomeBlock) (x : List ℕ) → k + length es ≤ top → Within top (renumbered k es) → 4096 * top ≤ length x → entries_from k (homes es) (apply (renumbered k es) x) ≡ es
+entries-written top k [] x le within long = refl
+entries-written top k (e ∷ es) x le within long =
+    let here : k < top = omega (arith, le) in
+    let more : k + 1 + length es ≤ top = omega (arith, le) in
     let y = put x (4096 * k) e.bytes in
     let fits : 4096 * k + length e.bytes ≤ length x = omega (arith, here, within.1, long) in
-    let longer : 2367488 ≤ length y = omega (arith, long, length-put x (4096 * k) e.bytes fits) in
+    let longer : 4096 * top ≤ length y = omega (arith, long, length-put x (4096 * k) e.bytes fits) in
     let all = apply (renumbered (k + 1) es) y in
     let first : block k all ≡ e.bytes =
-    block-apply 578 (renumbered (k + 1) es) y k within.2 longer
+    block-apply top (renumbered (k + 1) es) y k within.2 longer
     ∙ (look-below (k + 1) k es (block k y) (omega arith)
     ∙ (ap (λ m. part (4096 * k) m y) (sym within.1) ∙ part-put x (4096 * k) e.bytes fits)) in
     ap (λ bytes. record { home = e.home; bytes = bytes } ∷ entries_from (k + 1) (homes es) all) first
-    ∙ ap (λ es. e ∷ es) (entries-written (k + 1) es y more within.2 longer)
+    ∙ ap (λ es. e ∷ es) (entries-written top (k + 1) es y more within.2 longer)
 
 -- What was written is a record in form, of these entries.
-pub spelled_written : (blocks b : ℕ) (es : List HomeBlock) (old head : List ℕ) → b + length es + 1 ≤ 578 → Within 578 (renumbered (b + 1) es) → length head ≡ 4096 → 2367488 ≤ length old → IsTrue (is_header blocks head) → homes_of head ≡ homes es → Spelled blocks b es (apply (renumbered (b + 1) es) (put old (4096 * b) head))
+pub spelled_written : (layout : Layout) (b : ℕ) (es : List HomeBlock) (old head : List ℕ) → b + record_len (length es) ≤ homes_start layout → Within (homes_start layout) (renumbered (b + header_blocks (length es)) es) → length head ≡ 4096 * header_blocks (length es) → 4096 * homes_start layout ≤ length old → IsTrue (is_header layout head) → homes_of head ≡ homes es → Spelled layout b es (apply (renumbered (b + header_blocks (length es)) es) (put old (4096 * b) head))
 unfolding record_end is_record recorded
-spelled_written blocks b es old head room within len long form homes_are =
+spelled_written layout b es old head room within len long form homes_are =
+    let start = homes_start layout in
+    let n = header_blocks (length es) in
+    let written = put old (4096 * b) head in
     let fits : 4096 * b + length head ≤ length old = omega (arith, room, len, long) in
-    let longer : 2367488 ≤ length (put old (4096 * b) head) = omega (arith, long, length-put old (4096 * b) head fits) in
-    let all = apply (renumbered (b + 1) es) (put old (4096 * b) head) in
-    let top : block b all ≡ head =
-    block-apply 578 (renumbered (b + 1) es) (put old (4096 * b) head) b within longer
-    ∙ (look-below (b + 1) b es (block b (put old (4096 * b) head)) (omega arith)
-    ∙ (ap (λ m. part (4096 * b) m (put old (4096 * b) head)) (sym len) ∙ part-put old (4096 * b) head fits)) in
-    let count : count_of head ≡ length es =
+    let longer : 4096 * homes_start layout ≤ length (put old (4096 * b) head) = omega (arith, long, length-put old (4096 * b) head fits) in
+    let all = apply (renumbered (b + header_blocks (length es)) es) (put old (4096 * b) head) in
+    let touched = touched_apply start (renumbered (b + n) es) written within longer in
+    let top : part (4096 * b) (4096 * header_blocks (length es)) all ≡ head =
+    touched.clear (4096 * b) (4096 * n) (clear_before (b + n) (4096 * b) (4096 * n) es (omega arith))
+    ∙ (ap (λ m. part (4096 * b) m written) (sym len) ∙ part-put old (4096 * b) head fits) in
+    let length_is : count_of head ≡ length es =
     sym (length-words 1 (count_of head) head) ∙ (ap length homes_are ∙ length-map es (λ (e : HomeBlock). e.home)) in
-    let ends : b + count_of (block b all) + 1 ≡ b + length es + 1 = ap (λ header. b + count_of header + 1) top ∙ ap (λ c. b + c + 1) count in
-    let fit : IsTrue (nat_le (b + count_of (block b all) + 1) 578) = le-leb (b + count_of (block b all) + 1) 578 (omega (arith, ends, room)) in
+    let count : count_at b all ≡ length es =
+    sym (count-part b (4096 * header_blocks (length es)) all (omega arith)) ∙ (ap count_of top ∙ length_is) in
+    let header : header_at b all ≡ head = ap (λ c. part (4096 * b) (4096 * header_blocks c) all) count ∙ top in
+    let ends : b + record_len (count_at b all) ≡ b + record_len (length es) = ap (λ c. b + record_len c) count in
+    let fit : IsTrue (nat_le (b + record_len (count_at b all)) (homes_start layout)) = le-leb (b + record_len (count_at b all)) (homes_start layout) (omega (arith, ends, room)) in
     record {
-      form = and_from (is_header blocks (block b all)) (nat_le (b + count_of (block b all) + 1) 578) (subst (λ header. IsTrue (is_header blocks header)) (sym top) form) fit;
-      holds = ap (λ header. entries_from (b + 1) (homes_of header) all) top
-          ∙ (ap (λ hs. entries_from (b + 1) hs all) homes_are ∙ entries-written (b + 1) es (put old (4096 * b) head) (omega (arith, room)) within longer);
+      form = and_from (is_header layout (header_at b all)) (nat_le (b + record_len (count_at b all)) (homes_start layout)) (subst (λ header. IsTrue (is_header layout header)) (sym header) form) fit;
+      holds = ap (λ c. entries_from (b + header_blocks c) (homes_of (header_at b all)) all) count
+          ∙ (ap (λ header. entries_from (b + header_blocks (length es)) (homes_of header) all) header
+          ∙ (ap (λ hs. entries_from (b + header_blocks (length es)) hs all) homes_are
+          ∙ entries-written start (b + header_blocks (length es)) es written (omega (arith, room)) within longer));
       ends = ends;
     }

@@ -67,15 +67,15 @@ home_or_clear (e ∷ es) n = by (eqb n e.home) refl (home_or_clear es n)
     by true is (inr clear) = inl (λ old other. refl)
     by false is (inr clear) = inr (clear.0, (blocks-apart n e.home is, clear.1))
 
--- each entry has a home block
-abbrev pub AtHome : List HomeBlock → Type 0
-AtHome [] = Unit {0}
-AtHome (e ∷ es) = (578 ≤ e.home) × AtHome es
+-- each entry has a home block, and those begin at this one
+abbrev pub AtHome : ℕ → List HomeBlock → Type 0
+AtHome start [] = Unit {0}
+AtHome start (e ∷ es) = (start ≤ e.home) × AtHome start es
 
 -- what ends before the home blocks is clear of all of them
-pub homes_clear : (es : List HomeBlock) (at n : ℕ) → at + n ≤ 2367488 → AtHome es → IsClear es at n
-homes_clear [] at n le home = tt
-homes_clear (e ∷ es) at n le home = (inl (omega (arith, le, home.0)), homes_clear es at n le home.1)
+pub homes_clear : (start : ℕ) (es : List HomeBlock) (at n : ℕ) → at + n ≤ 4096 * start → AtHome start es → IsClear es at n
+homes_clear start [] at n le home = tt
+homes_clear start (e ∷ es) at n le home = (inl (omega (arith, le, home.0)), homes_clear start es at n le home.1)
 
 pub clear_at : (es : List HomeBlock) (k : ℕ) (d : HomeBlock) (at n : ℕ) → k < length es → IsClear es at n → Apart (4096 * (get_or es k d).home) 4096 at n
 clear_at [] k d at n lt clear = absurd (omega arith)

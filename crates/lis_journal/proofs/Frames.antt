@@ -11,7 +11,8 @@ use Rattle.std.proofs.lemmas.List.Sums.{sum_by-set}
 use Rattle.lis_region.specs.Region as region
 use Rattle.lis_region.proofs.Frames.{get-with_frame_same, get-with_frame_other, frame_in_range}
 use Rattle.lis_journal.specs.declared.stage.Staged.{Staged}
-use Rattle.lis_journal.specs.Record.{HomeBlock, homes, rises}
+use Rattle.lis_journal.specs.declared.layout.Layout.{Layout}
+use Rattle.lis_journal.specs.Record.{homes_start, HomeBlock, homes, rises}
 use Rattle.lis_journal.specs.Staging.{Staging, with_entry, has_entry}
 use Rattle.lis_journal.specs.Images.{look}
 use Rattle.lis_journal.specs.Inside.{bytes_at, entry_of, entries_of, home_list, IsFresh, AreApart, FoundAt, PlaceFor, IsStage}
@@ -128,8 +129,8 @@ homes-entries : (r : region.Region ℕ) (xs : List Staged) → homes (entries_of
 homes-entries r [] = refl
 homes-entries r (x ∷ xs) = ap (λ hs. x.home ∷ hs) (homes-entries r xs)
 
-pub list_rises : (r : region.Region ℕ) (xs : List Staged) (blocks : ℕ) → IsTrue (rises blocks 577 (homes (entries_of r xs))) → IsTrue (rises blocks 577 (home_list xs))
-list_rises r xs blocks rise = subst (λ hs. IsTrue (rises blocks 577 hs)) (homes-entries r xs) rise
+pub list_rises : (r : region.Region ℕ) (xs : List Staged) (blocks last : ℕ) → IsTrue (rises blocks last (homes (entries_of r xs))) → IsTrue (rises blocks last (home_list xs))
+list_rises r xs blocks last rise = subst (λ hs. IsTrue (rises blocks last hs)) (homes-entries r xs) rise
 
 pub has-homes : (r : region.Region ℕ) (xs : List Staged) (n : ℕ) → has_entry (entries_of r xs) n ≡ list_any (λ h. h == n) (home_list xs)
 has-homes r [] n = refl
@@ -163,8 +164,8 @@ some_of None is = absurd (false≢true is)
 some_of (Some a) is = (a, refl)
 
 -- A staged block is written again.
-pub put_found : (r r' : region.Region ℕ) (xs : List Staged) (n k room blocks : ℕ) (s : Staged) (bytes : List ℕ) → IsStage r xs room blocks → FoundAt n k xs → k < length xs → s ≡ get_or xs k s → r' ≡ region.with_frame r s.frame (Some bytes) → 578 ≤ n → n < blocks → length bytes ≡ 4096 → IsStage r' xs room blocks × (entries_of r' xs ≡ with_entry (entries_of r xs) n bytes)
-put_found r r' xs n k room blocks s bytes stage found lt is filled home within len =
+pub put_found : (r r' : region.Region ℕ) (xs : List Staged) (n k room : ℕ) (layout : Layout) (capacity : ℕ) (s : Staged) (bytes : List ℕ) → IsStage r xs room layout capacity → FoundAt n k xs → k < length xs → s ≡ get_or xs k s → r' ≡ region.with_frame r s.frame (Some bytes) → homes_start layout ≤ n → n < layout.blocks → length bytes ≡ 4096 → IsStage r' xs room layout capacity × (entries_of r' xs ≡ with_entry (entries_of r xs) n bytes)
+put_found r r' xs n k room layout capacity s bytes stage found lt is filled home within len =
     let frame : s.frame ≡ (get_or xs k s).frame = ap (λ (s : Staged). s.frame) is in
     let filled_at : r' ≡ region.with_frame r (get_or xs k s).frame (Some bytes) = filled ∙ ap (λ f. region.with_frame r f (Some bytes)) frame in
     let some = some_of (region.get r (get_or xs k s).frame) (has_frame r xs k s stage.staging.whole lt) in
@@ -173,9 +174,11 @@ put_found r r' xs n k room blocks s bytes stage found lt is filled home within l
     let free : region.free_frames r' ≡ region.free_frames r = ap region.free_frames filled_at ∙ free-refilled r (get_or xs k s).frame some.0 bytes some.1 in (
       record {
         staging = record {
-          rise = subst (λ es. IsTrue (rises blocks 577 (homes es))) (sym same) (rises-with_entry blocks 577 n bytes (entries_of r xs) (omega (arith, home)) within stage.staging.rise);
+          rise = subst (λ es. IsTrue (rises layout.blocks (layout.records + 1) (homes es))) (sym same) (rises-with_entry layout.blocks (layout.records + 1) n bytes (entries_of r xs) (omega (arith, home)) within stage.staging.rise);
           whole = subst AllWhole (sym same) (whole-with_entry n bytes (entries_of r xs) len stage.staging.whole);
           few = omega (arith, length-map xs (entry_of r'), stage.counted);
+          small = stage.staging.small;
+          narrow = stage.staging.narrow;
         };
         wide = ap (λ (r : region.Region ℕ). r.width) filled_at ∙ stage.wide;
         apart = stage.apart;
@@ -186,15 +189,15 @@ put_found r r' xs n k room blocks s bytes stage found lt is filled home within l
     )
 
 -- a block that is not staged finds a free frame
-pub not_full : (r : region.Region ℕ) (xs : List Staged) (n k room blocks : ℕ) → IsStage r xs room blocks → PlaceFor n k xs → IsTrue (has_entry (entries_of r xs) n) ⊎ (length (entries_of r xs) < 575) → length xs < 575
-not_full r xs n k room blocks stage place may = elim may as (λ _. length xs < 575) [
-  | inl has ↦ absurd (false≢true (sym (has-homes r xs n ∙ absent blocks 577 n k xs (list_rises r xs blocks stage.staging.rise) place) ∙ has))
+pub not_full : (r : region.Region ℕ) (xs : List Staged) (n k room : ℕ) (layout : Layout) (capacity : ℕ) → IsStage r xs room layout capacity → PlaceFor n k xs → IsTrue (has_entry (entries_of r xs) n) ⊎ (length (entries_of r xs) < capacity) → length xs < capacity
+not_full r xs n k room layout capacity stage place may = elim may as (λ _. length xs < capacity) [
+  | inl has ↦ absurd (false≢true (sym (has-homes r xs n ∙ absent layout.blocks (layout.records + 1) n k xs (list_rises r xs layout.blocks (layout.records + 1) stage.staging.rise) place) ∙ has))
   | inr few ↦ omega (arith, length-map xs (entry_of r), few)
 ]
 
 -- A block is staged in a new frame.
-pub put_new : (r r1 r2 : region.Region ℕ) (xs xs' : List Staged) (n k room room' blocks frame : ℕ) (fill bytes : List ℕ) → IsStage r xs room blocks → PlaceFor n k xs → region.get r frame ≡ None → frame < length r.frames → r1 ≡ region.with_frame r frame (Some fill) → region.free_frames r1 + 1 ≡ region.free_frames r → r2 ≡ region.with_frame r1 frame (Some bytes) → xs' ≡ take k xs ++ record { home = n; frame = frame } ∷ drop k xs → length xs' ≡ length xs + 1 → 575 ≤ room' → 578 ≤ n → n < blocks → length bytes ≡ 4096 → IsStage r2 xs' room' blocks × (entries_of r2 xs' ≡ with_entry (entries_of r xs) n bytes)
-put_new r r1 r2 xs xs' n k room room' blocks frame fill bytes stage place free in_range taken fewer filled is more has_room home within len =
+pub put_new : (r r1 r2 : region.Region ℕ) (xs xs' : List Staged) (n k room room' : ℕ) (layout : Layout) (capacity frame : ℕ) (fill bytes : List ℕ) → IsStage r xs room layout capacity → PlaceFor n k xs → region.get r frame ≡ None → frame < length r.frames → r1 ≡ region.with_frame r frame (Some fill) → region.free_frames r1 + 1 ≡ region.free_frames r → r2 ≡ region.with_frame r1 frame (Some bytes) → xs' ≡ take k xs ++ record { home = n; frame = frame } ∷ drop k xs → length xs' ≡ length xs + 1 → capacity ≤ room' → homes_start layout ≤ n → n < layout.blocks → length bytes ≡ 4096 → IsStage r2 xs' room' layout capacity × (entries_of r2 xs' ≡ with_entry (entries_of r xs) n bytes)
+put_new r r1 r2 xs xs' n k room room' layout capacity frame fill bytes stage place free in_range taken fewer filled is more has_room home within len =
     let fresh_ = fresh r xs frame stage.staging.whole free in
     let same1 : entries_of r1 xs ≡ entries_of r xs = ap (λ r. entries_of r xs) taken ∙ entries-fresh r xs frame (Some fill) fresh_ in
     let same2 : entries_of r2 xs ≡ entries_of r xs = ap (λ r. entries_of r xs) filled ∙ (entries-fresh r1 xs frame (Some bytes) fresh_ ∙ same1) in
@@ -205,9 +208,11 @@ put_new r r1 r2 xs xs' n k room room' blocks frame fill bytes stage place free i
     let count : region.free_frames r2 ≡ region.free_frames r1 = ap region.free_frames filled ∙ free-refilled r1 frame fill bytes got1 in (
       record {
         staging = record {
-          rise = subst (λ es. IsTrue (rises blocks 577 (homes es))) (sym same) (rises-with_entry blocks 577 n bytes (entries_of r xs) (omega (arith, home)) within stage.staging.rise);
+          rise = subst (λ es. IsTrue (rises layout.blocks (layout.records + 1) (homes es))) (sym same) (rises-with_entry layout.blocks (layout.records + 1) n bytes (entries_of r xs) (omega (arith, home)) within stage.staging.rise);
           whole = subst AllWhole (sym same) (whole-with_entry n bytes (entries_of r xs) len stage.staging.whole);
           few = omega (arith, length-map xs' (entry_of r2), stage.counted, more, fewer);
+          small = stage.staging.small;
+          narrow = stage.staging.narrow;
         };
         wide = ap (λ (r : region.Region ℕ). r.width) filled ∙ (ap (λ (r : region.Region ℕ). r.width) taken ∙ stage.wide);
         apart = subst AreApart (sym is) (apart-insert xs k (record { home = n; frame = frame }) stage.apart fresh_);
@@ -239,8 +244,8 @@ look-found r (x ∷ xs) blocks last n (suc k) d old rise found =
 pub has_frame_at_place : (r : region.Region ℕ) (xs : List Staged) (k : ℕ) (s : Staged) → AllWhole (entries_of r xs) → k < length xs → s ≡ get_or xs k s → region.HasFrame r s.frame
 has_frame_at_place r xs k s whole lt is = subst (λ (s : Staged). region.HasFrame r s.frame) (sym is) (has_frame r xs k s whole lt)
 
-pub may_stage : {s t : Staging} (n : ℕ) → s ≡ t → IsTrue (has_entry t.entries n) ⊎ (length t.entries < 575) → IsTrue (has_entry s.entries n) ⊎ (length s.entries < 575)
-may_stage n same may = subst (λ (s : Staging). IsTrue (has_entry s.entries n) ⊎ (length s.entries < 575)) (sym same) may
+pub may_stage : {s t : Staging} (n : ℕ) → s ≡ t → IsTrue (has_entry t.entries n) ⊎ (length t.entries < t.capacity) → IsTrue (has_entry s.entries n) ⊎ (length s.entries < s.capacity)
+may_stage n same may = subst (λ (s : Staging). IsTrue (has_entry s.entries n) ⊎ (length s.entries < s.capacity)) (sym same) may
 
 -- What a block is to hold after one is staged.
 pub look-with_entry : (blocks last n : ℕ) (bytes : List ℕ) (es : List HomeBlock) (m : ℕ) (old : List ℕ) → IsTrue (rises blocks last (homes es)) → look (with_entry es n bytes) m old ≡ cond (m == n) bytes (look es m old)
@@ -271,10 +276,10 @@ look-with_entry blocks last n bytes (e ∷ es) m old rise =
         ∙ look-above es blocks e.home m bytes rise (omega (arith, at, le)))
     by false false false is_lower is_same is_here rise whole more = ap (λ b. rest (cond b bytes old)) is_here
 
-pub looked_put : (blocks n : ℕ) (bytes : List ℕ) (es es' : List HomeBlock) (s : Staging) → record { blocks = blocks; entries = es } ≡ s → IsTrue (rises blocks 577 (homes es)) → es' ≡ with_entry es n bytes → (m : ℕ) (old : List ℕ) → look es' m old ≡ cond (m == n) bytes (look s.entries m old)
-looked_put blocks n bytes es es' s same rise is m old =
+pub looked_put : (layout : Layout) (capacity n : ℕ) (bytes : List ℕ) (es es' : List HomeBlock) (s : Staging) → record { layout = layout; capacity = capacity; entries = es } ≡ s → IsTrue (rises layout.blocks (layout.records + 1) (homes es)) → es' ≡ with_entry es n bytes → (m : ℕ) (old : List ℕ) → look es' m old ≡ cond (m == n) bytes (look s.entries m old)
+looked_put layout capacity n bytes es es' s same rise is m old =
     ap (λ es. look es m old) is
-    ∙ (look-with_entry blocks 577 n bytes es m old rise ∙ ap (λ (s : Staging). cond (m == n) bytes (look s.entries m old)) same)
+    ∙ (look-with_entry layout.blocks (layout.records + 1) n bytes es m old rise ∙ ap (λ (s : Staging). cond (m == n) bytes (look s.entries m old)) same)
 
 pub has-found : (r : region.Region ℕ) (xs : List Staged) (n k : ℕ) → FoundAt n k xs → has_entry (entries_of r xs) n ≡ true
 has-found r [] n k found = absurd found

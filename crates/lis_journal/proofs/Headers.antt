@@ -1,13 +1,14 @@
 -- The numbers of a header, as they are written one by one and read.
-use Rattle.std.proofs.Common.{◌≡◌, inl, ℕ, zero, suc, ◌+◌, ◌-◌, ◌*◌, ◌^◌, ◌<◌, ◌≤◌, ◌==◌, nat_lt, nat_le, ◌&&◌, List, [], ◌∷◌, ◌++◌, length, get_or, take, drop, replicate, IsTrue, refl, sym, ◌∙◌, ap, subst, arith}
+use Rattle.std.proofs.Common.{◌≡◌, inl, ℕ, zero, suc, ◌+◌, ◌-◌, ◌*◌, ◌^◌, ◌<◌, ◌≤◌, ◌==◌, nat_lt, ◌&&◌, List, [], ◌∷◌, ◌++◌, length, get_or, take, drop, replicate, IsTrue, refl, sym, ◌∙◌, ap, subst, arith}
 use Rattle.std.specs.Int.{w32, to_le_bytes, from_le_bytes}
 use Rattle.std.specs.List.{list_all}
-use Rattle.std.proofs.lemmas.Bool.{and_parts, lt-ltb, leb-true, ltb-true}
-use Rattle.std.proofs.lemmas.List.{drop-drop, take_more, map-append}
+use Rattle.std.proofs.lemmas.Bool.{and_parts, lt-ltb, ltb-true}
+use Rattle.std.proofs.lemmas.List.{drop-drop, take-take, take_more, map-append}
 use Rattle.std.proofs.lemmas.Nat.{from_le_bytes-to_le_bytes_4}
-use Rattle.lis_ports.specs.Bytes.{put}
+use Rattle.lis_ports.specs.Bytes.{part, put}
 use Rattle.lis_ports.proofs.Parts.{part-put, part-put_other, torn-put, length-put}
-use Rattle.lis_journal.specs.Record.{HomeBlock, homes, word, words, count_of, homes_of, rises, is_header}
+use Rattle.lis_journal.specs.declared.layout.Layout.{Layout}
+use Rattle.lis_journal.specs.Record.{HomeBlock, homes, word, words, count_of, homes_of, rises, is_header, header_blocks, count_at, header_at}
 
 pub word-put : (h : List ℕ) (k v : ℕ) → v < 2 ^ 32 → 4 * k + 4 ≤ length h → word k (put h (4 * k) (to_le_bytes w32 v)) ≡ v
 word-put h k v fits le = ap (from_le_bytes w32) (part-put h (4 * k) (to_le_bytes w32 v) le) ∙ from_le_bytes-to_le_bytes_4 v fits
@@ -64,25 +65,25 @@ zeros-replicate zero = refl
 zeros-replicate (suc n) = zeros-replicate n
 
 -- The header so far: the count, these homes, and zeros.
-pub record Begun (h : List ℕ) (c : ℕ) (hs : List ℕ) (k : ℕ) : Type 0 where
-  pub len : length h ≡ 4096
+pub record Begun (len_is : ℕ) (h : List ℕ) (c : ℕ) (hs : List ℕ) (k : ℕ) : Type 0 where
+  pub len : length h ≡ len_is
   pub count : word 0 h ≡ c
   pub done : words 1 k h ≡ hs
   pub zeros : IsTrue (list_all (λ b. b == 0) (drop (4 * (k + 1)) h))
 
-pub begin_header : (z h : List ℕ) (c : ℕ) → z ≡ replicate 4096 0 → length z ≡ 4096 → h ≡ put z (4 * 0) (to_le_bytes w32 c) → c < 2 ^ 32 → Begun h c [] 0
-begin_header z h c zeros len is fits =
-    let le : 4 * 0 + 4 ≤ length z = omega (arith, len) in
+pub begin_header : (n : ℕ) (z h : List ℕ) (c : ℕ) → 4 ≤ n → z ≡ replicate n 0 → length z ≡ n → h ≡ put z (4 * 0) (to_le_bytes w32 c) → c < 2 ^ 32 → Begun n h c [] 0
+begin_header n z h c some zeros len is fits =
+    let le : 4 * 0 + 4 ≤ length z = omega (arith, len, some) in
     record {
       len = ap length is ∙ (length-put z (4 * 0) (to_le_bytes w32 c) le ∙ len);
       count = ap (word 0) is ∙ word-put z 0 c fits le;
       done = refl;
       zeros = subst (λ xs. IsTrue (list_all (λ b. b == 0) (drop (4 * (0 + 1)) xs))) (sym is)
-          (zeros_behind z (to_le_bytes w32 c) 0 refl le (subst (λ xs. IsTrue (list_all (λ b. b == 0) xs)) (sym zeros) (zeros-replicate 4096)));
+          (zeros_behind z (to_le_bytes w32 c) 0 refl le (subst (λ xs. IsTrue (list_all (λ b. b == 0) xs)) (sym zeros) (zeros-replicate n)));
     }
 
-pub one_home_more : (h h' : List ℕ) (c k : ℕ) (hs : List ℕ) (home : ℕ) → Begun h c hs k → h' ≡ put h (4 * (k + 1)) (to_le_bytes w32 home) → home < 2 ^ 32 → k < 575 → Begun h' c (hs ++ home ∷ []) (k + 1)
-one_home_more h h' c k hs home begun is fits few =
+pub one_home_more : (n : ℕ) (h h' : List ℕ) (c k : ℕ) (hs : List ℕ) (home : ℕ) → Begun n h c hs k → h' ≡ put h (4 * (k + 1)) (to_le_bytes w32 home) → home < 2 ^ 32 → 4 * (k + 1) + 4 ≤ n → Begun n h' c (hs ++ home ∷ []) (k + 1)
+one_home_more n h h' c k hs home begun is fits few =
     let bytes = to_le_bytes w32 home in
     let le : 4 * (k + 1) + 4 ≤ length h = omega (arith, begun.len, few) in
     let some : 0 < k + 1 = omega arith in
@@ -105,17 +106,15 @@ homes-take es k d home lt is =
     ap (λ h. homes (take k es) ++ h ∷ []) is
     ∙ (sym (map-append (λ (e : HomeBlock). e.home) (take k es) (get_or es k d ∷ [])) ∙ ap homes (sym (take_more es k d lt)))
 
-pub record IsForm (blocks : ℕ) (h : List ℕ) : Type 0 where
+pub record IsForm (layout : Layout) (h : List ℕ) : Type 0 where
   pub some : 0 < count_of h
-  pub few : count_of h ≤ 575
-  pub rise : IsTrue (rises blocks 577 (homes_of h))
+  pub rise : IsTrue (rises layout.blocks (layout.records + 1) (homes_of h))
 
-pub form_of : (blocks : ℕ) (h : List ℕ) → IsTrue (is_header blocks h) → IsForm blocks h
-form_of blocks h form =
-    let a = and_parts (nat_lt 0 (count_of h) && nat_le (count_of h) 575 && rises blocks 577 (homes_of h)) (list_all (λ b. b == 0) (drop (4 * (count_of h + 1)) h)) form in
-    let b = and_parts (nat_lt 0 (count_of h) && nat_le (count_of h) 575) (rises blocks 577 (homes_of h)) a.0 in
-    let c = and_parts (nat_lt 0 (count_of h)) (nat_le (count_of h) 575) b.0 in
-    record { some = ltb-true 0 (count_of h) c.0; few = leb-true (count_of h) 575 c.1; rise = b.1 }
+pub form_of : (layout : Layout) (h : List ℕ) → IsTrue (is_header layout h) → IsForm layout h
+form_of layout h form =
+    let a = and_parts (nat_lt 0 (count_of h) && rises layout.blocks (layout.records + 1) (homes_of h)) (list_all (λ b. b == 0) (drop (4 * (count_of h + 1)) h)) form in
+    let b = and_parts (nat_lt 0 (count_of h)) (rises layout.blocks (layout.records + 1) (homes_of h)) a.0 in
+    record { some = ltb-true 0 (count_of h) b.0; rise = b.1 }
 
 pub length-words : (m n : ℕ) (h : List ℕ) → length (words m n h) ≡ n
 length-words m zero h = refl
@@ -126,3 +125,11 @@ pub rises_step : (blocks last home k c : ℕ) (h : List ℕ) → k ≤ c → hom
 rises_step blocks last home k c h le is above within =
     ap (rises blocks last) (words_left h k c le ∙ ap (λ w. w ∷ words (k + 1) (c + 1 - (k + 1)) h) (sym is))
     ∙ rises_on blocks last home (words (k + 1) (c + 1 - (k + 1)) h) above within
+
+-- ---- a header in an image
+-- the count by the front of the image from its block on
+pub count-part : (b n : ℕ) (image : List ℕ) → 4 ≤ n → count_of (part (4096 * b) n image) ≡ count_at b image
+count-part b n image le = ap (from_le_bytes w32) (take-take 4 n (drop (4096 * b) image) le)
+
+pub count-header : (b : ℕ) (image : List ℕ) → count_of (header_at b image) ≡ count_at b image
+count-header b image = count-part b (4096 * header_blocks (count_at b image)) image (omega arith)

@@ -9,7 +9,8 @@ use Rattle.lis_ports.specs.Runs.{IsDiskRun, Leaves}
 use Rattle.lis_ports.specs.Calls.{Elapses, IsTorn, IsWritten}
 use Rattle.lis_ports.proofs.Moments.{leaves_call, leaves_then, leaves_weaken}
 use Rattle.lis_ports.proofs.Parts.{Apart, part-torn, torn-put}
-use Rattle.lis_journal.specs.Record.{block, HomeBlock}
+use Rattle.lis_journal.specs.declared.layout.Layout.{Layout}
+use Rattle.lis_journal.specs.Record.{homes_start, block, HomeBlock}
 use Rattle.lis_journal.specs.Journal.{OpenRecords}
 use Rattle.lis_journal.specs.Images.{IsOutside, StandsBut, StandsForAllOrNone, is_among, look, IsAtRest, FitsAt, with_kept, with_run}
 use Rattle.lis_journal.specs.Staging.{has_entry, HasNone}
@@ -20,7 +21,7 @@ use Rattle.lis_journal.proofs.Runs.{among_head, among_parts, run_other}
 use Rattle.lis_journal.proofs.Gates.{gate-torn}
 use Rattle.lis_journal.proofs.Phases.{holds_from, next_high, rest_opened, rest_stands, stands_less, rest_placed}
 
-pub fits_opened : {blocks : ℕ} {records : OpenRecords} {placed : List ℕ} {m : Meaning} {kept : ℕ → List ℕ} → 0 < records.count → FitsAt blocks records placed m kept → IsOpened blocks records placed m kept
+pub fits_opened : {layout : Layout} {records : OpenRecords} {placed : List ℕ} {m : Meaning} {kept : ℕ → List ℕ} → 0 < records.count → FitsAt layout records placed m kept → IsOpened layout records placed m kept
 fits_opened some fits = record {
   honest = fits.honest;
   some = some;
@@ -29,7 +30,7 @@ fits_opened some fits = record {
 }
 
 -- where all blocks are settled, any may be placed
-pub fits_placed : {blocks : ℕ} {records : OpenRecords} {m : Meaning} {kept : ℕ → List ℕ} (placed : List ℕ) → FitsAt blocks records [] m kept → FitsAt blocks records placed m kept
+pub fits_placed : {layout : Layout} {records : OpenRecords} {m : Meaning} {kept : ℕ → List ℕ} (placed : List ℕ) → FitsAt layout records [] m kept → FitsAt layout records placed m kept
 fits_placed placed fits = record {
   honest = fits.honest;
   reads = fits.reads;
@@ -37,19 +38,19 @@ fits_placed placed fits = record {
 }
 
 -- ---- two calls in a row
-pub save_moments : {a b c : Meaning} (blocks : ℕ) (placed : List ℕ) (kept : ℕ → List ℕ) (es : List HomeBlock) → Leaves a b (StandsBut blocks placed kept) → Leaves b c (StandsForAllOrNone blocks placed kept es) → Leaves a c (StandsForAllOrNone blocks placed kept es)
-save_moments blocks placed kept es one two = leaves_then (leaves_weaken _ one (λ image stands. inl stands)) two
+pub save_moments : {a b c : Meaning} (layout : Layout) (placed : List ℕ) (kept : ℕ → List ℕ) (es : List HomeBlock) → Leaves a b (StandsBut layout placed kept) → Leaves b c (StandsForAllOrNone layout placed kept es) → Leaves a c (StandsForAllOrNone layout placed kept es)
+save_moments layout placed kept es one two = leaves_then (leaves_weaken _ one (λ image stands. inl stands)) two
 
-pub saving_moments : {a b : Meaning} (blocks : ℕ) (placed : List ℕ) (kept : ℕ → List ℕ) (es : List HomeBlock) → Leaves a b (StandsBut blocks placed kept) → Leaves a b (StandsForAllOrNone blocks placed kept es)
-saving_moments blocks placed kept es one = leaves_weaken _ one (λ image stands. inl stands)
+pub saving_moments : {a b : Meaning} (layout : Layout) (placed : List ℕ) (kept : ℕ → List ℕ) (es : List HomeBlock) → Leaves a b (StandsBut layout placed kept) → Leaves a b (StandsForAllOrNone layout placed kept es)
+saving_moments layout placed kept es one = leaves_weaken _ one (λ image stands. inl stands)
 
-pub more_stands : {a b : Meaning} (blocks : ℕ) (placed : List ℕ) (kept : ℕ → List ℕ) (run : List ℕ) → Leaves a b (StandsBut blocks placed kept) → Leaves a b (StandsBut blocks (run ++ placed) kept)
-more_stands blocks placed kept run leaves =
-    leaves_weaken _ leaves (λ image. stands_less blocks placed (run ++ placed) kept image (λ m e. (among_parts run placed m e).1))
+pub more_stands : {a b : Meaning} (layout : Layout) (placed : List ℕ) (kept : ℕ → List ℕ) (run : List ℕ) → Leaves a b (StandsBut layout placed kept) → Leaves a b (StandsBut layout (run ++ placed) kept)
+more_stands layout placed kept run leaves =
+    leaves_weaken _ leaves (λ image. stands_less layout placed (run ++ placed) kept image (λ m e. (among_parts run placed m e).1))
 
 -- ---- blocks that are placed
 -- home blocks that no open record has may be torn
-placed_torn : {blocks : ℕ} {records : OpenRecords} {placed : List ℕ} {kept : ℕ → List ℕ} {from : List ℕ} (n len : ℕ) (others : List ℕ) (now : ℕ → List ℕ) (image : List ℕ) → 578 ≤ n → IsAtRest blocks records placed kept from → Torn (4096 * n) len from image → ((m : ℕ) → IsOutside m → is_among others m ≡ false → look records.latest m (block m image) ≡ now m) → IsAtRest blocks records others now image
+placed_torn : {layout : Layout} {records : OpenRecords} {placed : List ℕ} {kept : ℕ → List ℕ} {from : List ℕ} (n len : ℕ) (others : List ℕ) (now : ℕ → List ℕ) (image : List ℕ) → homes_start layout ≤ n → IsAtRest layout records placed kept from → Torn (4096 * n) len from image → ((m : ℕ) → IsOutside layout m → is_among others m ≡ false → look records.latest m (block m image) ≡ now m) → IsAtRest layout records others now image
 placed_torn {records = records} {from = from} n len others now image home rest torn looks =
     let high = next_high rest.holds in
     record {
@@ -76,14 +77,14 @@ other_block n count m from image out torn =
       | inr le ↦ inr (omega (arith, le))
     ])
 
-torn_rest : {blocks : ℕ} {records : OpenRecords} {placed : List ℕ} {kept : ℕ → List ℕ} {from : List ℕ} (n count : ℕ) (image : List ℕ) → 578 ≤ n → IsAtRest blocks records placed kept from → Torn (4096 * n) (4096 * count) from image → IsAtRest blocks records (range_with_len n count ++ placed) kept image
+torn_rest : {layout : Layout} {records : OpenRecords} {placed : List ℕ} {kept : ℕ → List ℕ} {from : List ℕ} (n count : ℕ) (image : List ℕ) → homes_start layout ≤ n → IsAtRest layout records placed kept from → Torn (4096 * n) (4096 * count) from image → IsAtRest layout records (range_with_len n count ++ placed) kept image
 torn_rest {records = records} {placed = placed} {kept = kept} {from = from} n count image home rest torn =
     placed_torn n (4096 * count) (range_with_len n count ++ placed) kept image home rest torn (λ m out not_in.
     let parts = among_parts (range_with_len n count) placed m not_in in
     ap (look records.latest m) (other_block n count m from image parts.0 torn) ∙ rest.holds.same m out parts.1)
 
 -- the blocks that are kept where they are placed
-torn_kept : {blocks : ℕ} {records : OpenRecords} {kept : ℕ → List ℕ} {image : List ℕ} (placed : List ℕ) (n count : ℕ) (bytes : List ℕ) → IsAtRest blocks records (range_with_len n count ++ placed) kept image → IsAtRest blocks records (range_with_len n count ++ placed) (with_run n count bytes kept) image
+torn_kept : {layout : Layout} {records : OpenRecords} {kept : ℕ → List ℕ} {image : List ℕ} (placed : List ℕ) (n count : ℕ) (bytes : List ℕ) → IsAtRest layout records (range_with_len n count ++ placed) kept image → IsAtRest layout records (range_with_len n count ++ placed) (with_run n count bytes kept) image
 torn_kept {kept = kept} placed n count bytes rest = record {
   few = rest.few;
   holds = record {
@@ -99,15 +100,15 @@ torn_kept {kept = kept} placed n count bytes rest = record {
   gates = rest.gates;
 }
 
-written_rest : {blocks : ℕ} {records : OpenRecords} {kept : ℕ → List ℕ} {from : List ℕ} (n : ℕ) (bytes : List ℕ) → 578 ≤ n → n < blocks → length bytes ≡ 4096 → has_entry records.latest n ≡ false → IsAtRest blocks records [] kept from → IsAtRest blocks records [] (with_kept n bytes kept) (put from (4096 * n) bytes)
-written_rest {blocks} {records} {kept} {from} n bytes home within whole free rest =
+written_rest : {layout : Layout} {records : OpenRecords} {kept : ℕ → List ℕ} {from : List ℕ} (n : ℕ) (bytes : List ℕ) → homes_start layout ≤ n → n < layout.blocks → length bytes ≡ 4096 → has_entry records.latest n ≡ false → IsAtRest layout records [] kept from → IsAtRest layout records [] (with_kept n bytes kept) (put from (4096 * n) bytes)
+written_rest {layout} {records} {kept} {from} n bytes home within whole free rest =
     let long : 4096 * n + 4096 ≤ length from = omega (arith, within, rest.holds.long) in
     let fits : 4096 * n + length bytes ≤ length from = omega (arith, long, whole) in
     placed_torn n 4096 [] (with_kept n bytes kept) (put from (4096 * n) bytes) home rest
     (subst (λ len. Torn (4096 * n) len from (put from (4096 * n) bytes)) whole (torn-put from (4096 * n) bytes fits))
     (λ m out not_in. ap (look records.latest m) (block-put m n bytes from whole long) ∙ by m out (m == n) refl)
   where
-    by : (m : ℕ) → IsOutside m → (b : Bool) → (m == n) ≡ b → look records.latest m (cond b bytes (block m from)) ≡ cond b bytes (kept m)
+    by : (m : ℕ) → IsOutside layout m → (b : Bool) → (m == n) ≡ b → look records.latest m (cond b bytes (block m from)) ≡ cond b bytes (kept m)
     by m out true is = look-absent records.latest m bytes (subst (λ k. has_entry records.latest k ≡ false) (sym (eqb-true m n is)) free)
     by m out false is = rest.holds.same m out refl
 
@@ -151,13 +152,13 @@ put_parts n bytes from long wide =
     ap (λ k. put (put from (4096 * n) (take 4096 bytes)) k (drop 4096 bytes)) next
     ∙ (put_two (4096 * n) (take 4096 bytes) (drop 4096 bytes) from (omega (arith, long)) ∙ ap (put from (4096 * n)) (take-append-drop 4096 bytes))
 
-written_run : {blocks : ℕ} {records : OpenRecords} (n count : ℕ) (bytes : List ℕ) (kept : ℕ → List ℕ) (from : List ℕ) → 578 ≤ n → n + count ≤ blocks → length bytes ≡ 4096 * count → HasNone records.latest n count → IsAtRest blocks records [] kept from → IsAtRest blocks records [] (with_run n count bytes kept) (put from (4096 * n) bytes)
-written_run {blocks} {records} n zero bytes kept from home within whole free rest = subst (IsAtRest blocks records [] kept) (put_none from (4096 * n) bytes whole) rest
-written_run {blocks} {records} n (suc count) bytes kept from home within whole free rest =
+written_run : {layout : Layout} {records : OpenRecords} (n count : ℕ) (bytes : List ℕ) (kept : ℕ → List ℕ) (from : List ℕ) → homes_start layout ≤ n → n + count ≤ layout.blocks → length bytes ≡ 4096 * count → HasNone records.latest n count → IsAtRest layout records [] kept from → IsAtRest layout records [] (with_run n count bytes kept) (put from (4096 * n) bytes)
+written_run {layout} {records} n zero bytes kept from home within whole free rest = subst (IsAtRest layout records [] kept) (put_none from (4096 * n) bytes whole) rest
+written_run {layout} {records} n (suc count) bytes kept from home within whole free rest =
     let wide : 4096 ≤ length bytes = omega (arith, whole) in
     let first : length (take 4096 bytes) ≡ 4096 = length-take-le 4096 bytes wide in
     let others : length (drop 4096 bytes) ≡ 4096 * count = omega (arith, length-drop 4096 bytes, whole) in
-    subst (IsAtRest blocks records [] (with_run n (suc count) bytes kept)) (put_parts n bytes from (omega (arith, within, rest.holds.long)) wide)
+    subst (IsAtRest layout records [] (with_run n (suc count) bytes kept)) (put_parts n bytes from (omega (arith, within, rest.holds.long)) wide)
     (written_run (n + 1) count (drop 4096 bytes) (with_kept n (take 4096 bytes) kept) (put from (4096 * n) (take 4096 bytes)) (omega (arith, home)) (omega (arith, within)) others (λ m le lt. free m (omega (arith, le)) (omega (arith, lt)))
     (written_rest n (take 4096 bytes) home (omega (arith, within)) first (free n (omega arith) (omega arith)) rest))
 
@@ -165,28 +166,28 @@ place_torn : (n count at len : ℕ) → at ≡ 4096 * n → len ≡ 4096 * count
 place_torn n count at len at_is len_is from image torn = subst (λ p. Torn p (4096 * count) from image) at_is (subst (λ l. Torn at l from image) len_is torn)
 
 -- a write of home blocks leaves what lies past the image
-pub home_past : (blocks n count at len : ℕ) → n + count ≤ blocks → at ≡ 4096 * n → len ≡ 4096 * count → (from image : List ℕ) → Torn at len from image → SamePast blocks from image
-home_past blocks n count at len within at_is len_is from image torn = λ k le.
+pub home_past : (layout : Layout) (n count at len : ℕ) → n + count ≤ layout.blocks → at ≡ 4096 * n → len ≡ 4096 * count → (from image : List ℕ) → Torn at len from image → SamePast layout.blocks from image
+home_past layout n count at len within at_is len_is from image torn = λ k le.
     part-torn at len from image torn (4096 * k) 4096 (inr (omega (arith, at_is, len_is, within, le)))
 
-module _ {blocks : ℕ} {records : OpenRecords} {placed : List ℕ} {kept : ℕ → List ℕ} {a b : Meaning} (n count at len : ℕ) (home : 578 ≤ n) (at_is : at ≡ 4096 * n) (len_is : len ≡ 4096 * count) (fits : FitsAt blocks records placed a kept) where
-  pub place_moments : IsDiskRun a b → Elapses a b → IsTorn at len a b → Leaves a b (StandsBut blocks (range_with_len n count ++ placed) kept)
+module _ {layout : Layout} {records : OpenRecords} {placed : List ℕ} {kept : ℕ → List ℕ} {a b : Meaning} (n count at len : ℕ) (home : homes_start layout ≤ n) (at_is : at ≡ 4096 * n) (len_is : len ≡ 4096 * count) (fits : FitsAt layout records placed a kept) where
+  pub place_moments : IsDiskRun a b → Elapses a b → IsTorn at len a b → Leaves a b (StandsBut layout (range_with_len n count ++ placed) kept)
   place_moments run time torn = leaves_call _ run time (λ image is.
       let was = torn.only image is in
-      rest_stands blocks records (range_with_len n count ++ placed) kept image (torn_rest n count image home (fits.leaves was.0 was.1) (place_torn n count at len at_is len_is was.0 image was.2)))
+      rest_stands layout records (range_with_len n count ++ placed) kept image (torn_rest n count image home (fits.leaves was.0 was.1) (place_torn n count at len at_is len_is was.0 image was.2)))
 
-  pub placed_fits : (bytes : List ℕ) → n + count ≤ blocks → length bytes ≡ 4096 * count → HasNone records.latest n count → IsDiskRun a b → IsTorn at len a b → IsWritten at bytes a b → FitsAt blocks records (range_with_len n count ++ placed) b (with_run n count bytes kept)
+  pub placed_fits : (bytes : List ℕ) → n + count ≤ layout.blocks → length bytes ≡ 4096 * count → HasNone records.latest n count → IsDiskRun a b → IsTorn at len a b → IsWritten at bytes a b → FitsAt layout records (range_with_len n count ++ placed) b (with_run n count bytes kept)
   placed_fits bytes within whole free run torn written = record {
     honest = run.honest ∙ fits.honest;
-    reads = subst (IsAtRest blocks records [] (with_run n count bytes kept)) (sym (written.reads ∙ ap (λ p. put a.bytes p bytes) at_is)) (written_run n count bytes kept a.bytes home within whole free fits.reads);
+    reads = subst (IsAtRest layout records [] (with_run n count bytes kept)) (sym (written.reads ∙ ap (λ p. put a.bytes p bytes) at_is)) (written_run n count bytes kept a.bytes home within whole free fits.reads);
     leaves = λ image is.
         let was = torn.only image is in
         torn_kept placed n count bytes (torn_rest n count image home (fits.leaves was.0 was.1) (place_torn n count at len at_is len_is was.0 image was.2));
   }
 
 -- the order in which blocks were placed, and how often, is nothing to the images
-pub fits_among : {blocks : ℕ} {records : OpenRecords} {m : Meaning} {kept : ℕ → List ℕ} (placed others : List ℕ) → ((n : ℕ) → is_among others n ≡ false → is_among placed n ≡ false) → FitsAt blocks records placed m kept → FitsAt blocks records others m kept
-fits_among {blocks} {records} {m} {kept} placed others less fits = record {
+pub fits_among : {layout : Layout} {records : OpenRecords} {m : Meaning} {kept : ℕ → List ℕ} (placed others : List ℕ) → ((n : ℕ) → is_among others n ≡ false → is_among placed n ≡ false) → FitsAt layout records placed m kept → FitsAt layout records others m kept
+fits_among {layout} {records} {m} {kept} placed others less fits = record {
   honest = fits.honest;
   reads = fits.reads;
   leaves = λ image is. let rest = fits.leaves image is in record {
@@ -204,14 +205,14 @@ fits_among {blocks} {records} {m} {kept} placed others less fits = record {
 }
 
 -- ---- a record more, told by the log
-pub append_moments : {a b : Meaning} {blocks now : ℕ} {records now_records : OpenRecords} (es : List HomeBlock) → blocks ≡ now → records ≡ now_records → ((placed : List ℕ) (kept : ℕ → List ℕ) → FitsAt blocks records placed a kept → Leaves a b (StandsForAllOrNone blocks placed kept es)) → (placed : List ℕ) (kept : ℕ → List ℕ) → FitsAt now now_records placed a kept → Leaves a b (StandsForAllOrNone now placed kept es)
+pub append_moments : {a b : Meaning} {layout now : Layout} {records now_records : OpenRecords} (es : List HomeBlock) → layout ≡ now → records ≡ now_records → ((placed : List ℕ) (kept : ℕ → List ℕ) → FitsAt layout records placed a kept → Leaves a b (StandsForAllOrNone layout placed kept es)) → (placed : List ℕ) (kept : ℕ → List ℕ) → FitsAt now now_records placed a kept → Leaves a b (StandsForAllOrNone now placed kept es)
 append_moments {a} {b} {now = now} {records = records} es blocks_are records_are moments =
     subst (λ (r : OpenRecords). (placed : List ℕ) (kept : ℕ → List ℕ) → FitsAt now r placed a kept → Leaves a b (StandsForAllOrNone now placed kept es)) records_are
     (subst (λ n. (placed : List ℕ) (kept : ℕ → List ℕ) → FitsAt n records placed a kept → Leaves a b (StandsForAllOrNone n placed kept es)) blocks_are moments)
 
-pub append_kept : {a b : Meaning} {blocks now then : ℕ} {records now_records last then_records : OpenRecords} (es : List HomeBlock) → blocks ≡ now → blocks ≡ then → records ≡ now_records → last ≡ then_records → ((placed : List ℕ) (kept : ℕ → List ℕ) → FitsAt blocks records placed a kept → FitsAt blocks last [] b (looked es kept)) → (placed : List ℕ) (kept : ℕ → List ℕ) → FitsAt now now_records placed a kept → FitsAt then then_records [] b (looked es kept)
-append_kept {a} {b} {blocks} {then = then} {now_records = now_records} {last = last} es blocks_are blocks_then records_are last_is keeps = λ placed kept fits.
+pub append_kept : {a b : Meaning} {layout now then : Layout} {records now_records last then_records : OpenRecords} (es : List HomeBlock) → layout ≡ now → layout ≡ then → records ≡ now_records → last ≡ then_records → ((placed : List ℕ) (kept : ℕ → List ℕ) → FitsAt layout records placed a kept → FitsAt layout last [] b (looked es kept)) → (placed : List ℕ) (kept : ℕ → List ℕ) → FitsAt now now_records placed a kept → FitsAt then then_records [] b (looked es kept)
+append_kept {a} {b} {layout} {then = then} {now_records = now_records} {last = last} es blocks_are blocks_then records_are last_is keeps = λ placed kept fits.
     let back = subst (λ n. FitsAt n now_records placed a kept) (sym blocks_are) fits in
     subst (λ (r : OpenRecords). FitsAt then r [] b (looked es kept)) last_is
     (subst (λ n. FitsAt n last [] b (looked es kept)) blocks_then
-    (keeps placed kept (subst (λ (r : OpenRecords). FitsAt blocks r placed a kept) (sym records_are) back)))
+    (keeps placed kept (subst (λ (r : OpenRecords). FitsAt layout r placed a kept) (sym records_are) back)))

@@ -15,3 +15,4 @@ mod Holding
 mod Loading
 mod Recovering
 pub mod Fitting
+pub mod Before

@@ -112,15 +112,15 @@ absent blocks last n (suc k) (x ∷ xs) rise place =
     both x.home n (home_list xs) (ne_eqb x.home n ne) (absent blocks x.home n k xs parts.2 place.1)
 
 -- What one comparison of a search says.
-pub rise_below : (blocks n m : ℕ) (xs : List Staged) (s : Staged) → IsTrue (rises blocks 577 (home_list xs)) → m < length xs → (get_or xs m s).home < n → (j : ℕ) (d : Staged) → j < m + 1 → (get_or xs j d).home < n
-rise_below blocks n m xs s rise lt lower j d le =
+pub rise_below : (blocks last n m : ℕ) (xs : List Staged) (s : Staged) → IsTrue (rises blocks last (home_list xs)) → m < length xs → (get_or xs m s).home < n → (j : ℕ) (d : Staged) → j < m + 1 → (get_or xs j d).home < n
+rise_below blocks last n m xs s rise lt lower j d le =
     let here : (get_or xs m d).home ≡ (get_or xs m s).home = ap (λ (x : Staged). x.home) (get_or_default xs m d s lt) in
-    omega (arith, homes_rise blocks 577 xs j m d rise (omega (arith, le)) lt, here, lower)
+    omega (arith, homes_rise blocks last xs j m d rise (omega (arith, le)) lt, here, lower)
 
-pub rise_above : (blocks n m : ℕ) (xs : List Staged) (s : Staged) → IsTrue (rises blocks 577 (home_list xs)) → m < length xs → n ≤ (get_or xs m s).home → (j : ℕ) (d : Staged) → m ≤ j → j < length xs → n ≤ (get_or xs j d).home
-rise_above blocks n m xs s rise lt higher j d le in_range =
+pub rise_above : (blocks last n m : ℕ) (xs : List Staged) (s : Staged) → IsTrue (rises blocks last (home_list xs)) → m < length xs → n ≤ (get_or xs m s).home → (j : ℕ) (d : Staged) → m ≤ j → j < length xs → n ≤ (get_or xs j d).home
+rise_above blocks last n m xs s rise lt higher j d le in_range =
     let here : (get_or xs m d).home ≡ (get_or xs m s).home = ap (λ (x : Staged). x.home) (get_or_default xs m d s lt) in
-    omega (arith, homes_rise blocks 577 xs m j d rise le in_range, here, higher)
+    omega (arith, homes_rise blocks last xs m j d rise le in_range, here, higher)
 
 -- what stands above a place where the home is not lower and another
 pub place_above : (n k : ℕ) (xs : List Staged) (s : Staged) → ((get_or xs k s).home ≡ n → ⊥) → ((j : ℕ) (d : Staged) → k ≤ j → j < length xs → n ≤ (get_or xs j d).home) → (d : Staged) → k < length xs → n < (get_or xs k d).home

@@ -8,7 +8,8 @@ use Rattle.lis_ports.specs.Runs.{IsDiskRun, Leaves, Always, IsSettled}
 use Rattle.lis_ports.specs.Calls.{Elapses, IsSynced}
 use Rattle.lis_ports.proofs.Always.{always_settled}
 use Rattle.lis_ports.proofs.Moments.{leaves_call, leaves_then, leaves_weaken}
-use Rattle.lis_journal.specs.Record.{block, gates, is_open, has_open, open_count, behind_gates, gates_closed, HomeBlock, first_bad, all_recorded, behind, apply, bad_record, replayed, recovered_as, recovered}
+use Rattle.lis_journal.specs.declared.layout.Layout.{Layout}
+use Rattle.lis_journal.specs.Record.{homes_start, block, gates, is_open, has_open, open_count, behind_gates, gates_closed, HomeBlock, first_bad, all_recorded, behind, apply, bad_record, replayed, recovered_as, recovered}
 use Rattle.lis_journal.specs.Journal.{records_of, no_records}
 use Rattle.lis_journal.specs.Images.{look, StandsFor, StandsBut, IsAtRest, FitsAt, KeepsPast}
 use Rattle.lis_journal.specs.Spreads.{Spreads, IsQuiet, SameAround}
@@ -52,52 +53,52 @@ reading_settled : {old m : Meaning} → Reading old m → IsSettled m old.bytes
 reading_settled reading = record { reads = reading.reads; only = reading.only }
 
 -- ---- what a recovery makes of an image
-recovered-closed : (blocks : ℕ) (image : List ℕ) → has_open image ≡ false → recovered blocks image ≡ image
+recovered-closed : (layout : Layout) (image : List ℕ) → has_open image ≡ false → recovered layout image ≡ image
 unfolding recovered
-recovered-closed blocks image none = ap (λ b. cond b (recovered_as image (replayed blocks image)) image) none
+recovered-closed layout image none = ap (λ b. cond b (recovered_as image (replayed layout image)) image) none
 
-recovered-none : (blocks : ℕ) (image : List ℕ) → has_open image ≡ true → replayed blocks image ≡ None → recovered blocks image ≡ image
+recovered-none : (layout : Layout) (image : List ℕ) → has_open image ≡ true → replayed layout image ≡ None → recovered layout image ≡ image
 unfolding recovered
-recovered-none blocks image some none =
-    ap (λ b. cond b (recovered_as image (replayed blocks image)) image) some ∙ ap (recovered_as image) none
+recovered-none layout image some none =
+    ap (λ b. cond b (recovered_as image (replayed layout image)) image) some ∙ ap (recovered_as image) none
 
-recovered-some : (blocks : ℕ) (image replay : List ℕ) → has_open image ≡ true → replayed blocks image ≡ Some replay → recovered blocks image ≡ gates_closed (is_open 0 image) replay
+recovered-some : (layout : Layout) (image replay : List ℕ) → has_open image ≡ true → replayed layout image ≡ Some replay → recovered layout image ≡ gates_closed (is_open 0 image) replay
 unfolding recovered
-recovered-some blocks image replay some is =
-    ap (λ b. cond b (recovered_as image (replayed blocks image)) image) some ∙ ap (recovered_as image) is
+recovered-some layout image replay some is =
+    ap (λ b. cond b (recovered_as image (replayed layout image)) image) some ∙ ap (recovered_as image) is
 
 -- ---- where no gate is open
-pub quiet_recovers : {E : Type 0} (blocks : ℕ) {old m : Meaning} → 578 < blocks → 4096 * blocks ≤ length old.bytes → Reading old m → has_open old.bytes ≡ false → Recovers {E = E} blocks old m (Ok None)
-quiet_recovers blocks {old} {m} enough long reading none =
+pub quiet_recovers : {E : Type 0} (layout : Layout) {old m : Meaning} → homes_start layout < layout.blocks → 4096 * layout.blocks ≤ length old.bytes → Reading old m → has_open old.bytes ≡ false → Recovers {E = E} layout old m (Ok None)
+quiet_recovers layout {old} {m} enough long reading none =
     let closed = all_closed old.bytes none in
-    let rest = shut_rest blocks (λ n. block n old.bytes) old.bytes enough (record { long = long; same = λ n out. refl }) (λ k lt. closed k) in
-    let at = always_settled (IsAtRest blocks no_records [] (λ n. block n old.bytes)) old.bytes (reading_settled reading) rest in
+    let rest = shut_rest layout (λ n. block n old.bytes) old.bytes enough (record { long = long; same = λ n out. refl }) (λ k lt. closed k) in
+    let at = always_settled (IsAtRest layout no_records [] (λ n. block n old.bytes)) old.bytes (reading_settled reading) rest in
     record {
       moments = leaves_weaken _ reading.leaves (λ image is. inl is);
       images = λ image is. inl (reading.within image is);
-      ended = some_and _ (replayed blocks old.bytes) (replayed-closed blocks old.bytes (omega (arith, enough, long)) (closed 0)) (record { honest = reading.honest; reads = at.reads; leaves = at.leaves });
-      left = subst (IsSettled m) (sym (recovered-closed blocks old.bytes none)) (reading_settled reading);
+      ended = some_and _ (replayed layout old.bytes) (replayed-closed layout old.bytes (omega (arith, enough, long)) (closed 0)) (record { honest = reading.honest; reads = at.reads; leaves = at.leaves });
+      left = subst (IsSettled m) (sym (recovered-closed layout old.bytes none)) (reading_settled reading);
       past = λ n le. ap (block n) reading.reads;
       settled_past = λ settled n le. ap (block n) reading.reads;
     }
 
 -- ---- where a record is not in form
-pub bad_recovers : {E : Type 0} (blocks b : ℕ) {old m : Meaning} → Reading old m → has_open old.bytes ≡ true → bad_record blocks old.bytes ≡ Some b → Recovers {E = E} blocks old m (Ok (Some b))
-bad_recovers blocks b {old} {m} reading some bad =
-    let none = replayed-bad blocks b old.bytes bad in
+pub bad_recovers : {E : Type 0} (layout : Layout) (b : ℕ) {old m : Meaning} → Reading old m → has_open old.bytes ≡ true → bad_record layout old.bytes ≡ Some b → Recovers {E = E} layout old m (Ok (Some b))
+bad_recovers layout b {old} {m} reading some bad =
+    let none = replayed-bad layout b old.bytes bad in
     record {
       moments = leaves_weaken _ reading.leaves (λ image is. inl is);
       images = λ image is. inl (reading.within image is);
       ended = (none, bad, reading_settled reading);
-      left = subst (IsSettled m) (sym (recovered-none blocks old.bytes some none)) (reading_settled reading);
+      left = subst (IsSettled m) (sym (recovered-none layout old.bytes some none)) (reading_settled reading);
       past = λ n le. ap (block n) reading.reads;
       settled_past = λ settled n le. ap (block n) reading.reads;
     }
 
 -- ---- where a call failed before the first write
-pub failed_recovers : {E : Type 0} (blocks : ℕ) {old m : Meaning} (result : Result (Option ℕ) E) → IsErr result → Reading old m → Recovers {E = E} blocks old m result
-failed_recovers blocks (Ok x) failed reading = absurd (false≢true failed)
-failed_recovers blocks (Err e) failed reading = record {
+pub failed_recovers : {E : Type 0} (layout : Layout) {old m : Meaning} (result : Result (Option ℕ) E) → IsErr result → Reading old m → Recovers {E = E} layout old m result
+failed_recovers layout (Ok x) failed reading = absurd (false≢true failed)
+failed_recovers layout (Err e) failed reading = record {
   moments = leaves_weaken _ reading.leaves (λ image is. inl is);
   images = tt;
   ended = tt;
@@ -107,38 +108,38 @@ failed_recovers blocks (Err e) failed reading = record {
 }
 
 -- ---- closing the gates
-module _ {blocks count : ℕ} {latest : List HomeBlock} {m : Meaning} (loaded : IsLoaded blocks count latest m) where
-  loaded_full : 2367488 ≤ length m.bytes
+module _ {layout : Layout} {count : ℕ} {latest : List HomeBlock} {m : Meaning} (loaded : IsLoaded layout count latest m) where
+  loaded_full : 4096 * homes_start layout ≤ length m.bytes
   loaded_full = omega (arith, loaded.enough, loaded.long)
 
-  replayed-loaded : replayed blocks m.bytes ≡ Some (apply (all_recorded 2 count m.bytes) m.bytes)
-  replayed-loaded = replayed-good blocks count m.bytes loaded.counted loaded.form
+  replayed-loaded : replayed layout m.bytes ≡ Some (apply (all_recorded 2 count m.bytes) m.bytes)
+  replayed-loaded = replayed-good layout count m.bytes loaded.counted loaded.form
 
-  stands_replayed : (image : List ℕ) → StandsFor blocks (λ n. block n (apply (all_recorded 2 count m.bytes) m.bytes)) image → StandsForReplayed blocks m.bytes image
+  stands_replayed : (image : List ℕ) → StandsFor layout (λ n. block n (apply (all_recorded 2 count m.bytes) m.bytes)) image → StandsForReplayed layout m.bytes image
   stands_replayed image stands =
-      some_and (λ r. StandsFor blocks (λ n. block n r) image) (replayed blocks m.bytes) replayed-loaded stands
+      some_and (λ r. StandsFor layout (λ n. block n r) image) (replayed layout m.bytes) replayed-loaded stands
 
-  pub recovering : {n : Meaning} → Leaves m n (StandsFor blocks (λ k. block k (apply (all_recorded 2 count m.bytes) m.bytes))) → Spreads m n (SameAround blocks) → Leaves m n (InRecovery blocks m.bytes)
+  pub recovering : {n : Meaning} → Leaves m n (StandsFor layout (λ k. block k (apply (all_recorded 2 count m.bytes) m.bytes))) → Spreads m n (SameAround layout) → Leaves m n (InRecovery layout m.bytes)
   recovering stands around =
       leaves_weaken _ (leaves_both stands around.moments) (λ image is. record {
         opened = loaded.opened;
         stands = stands_replayed image is.0;
-        rest = is.1.2.rest ∙ ap behind_gates (loaded.settled.only is.1.0 is.1.1);
+        rest = is.1.2.rest ∙ ap (behind_gates layout) (loaded.settled.only is.1.0 is.1.1);
       })
 
-  pub recovering_images : {n : Meaning} → FitsAt blocks no_records [] n (λ k. block k (apply (all_recorded 2 count m.bytes) m.bytes)) → Spreads m n (SameAround blocks) → (image : List ℕ) → n.images image → InRecovery blocks m.bytes image
+  pub recovering_images : {n : Meaning} → FitsAt layout no_records [] n (λ k. block k (apply (all_recorded 2 count m.bytes) m.bytes)) → Spreads m n (SameAround layout) → (image : List ℕ) → n.images image → InRecovery layout m.bytes image
   recovering_images fits around image is =
       let was = around.images image is in
       record {
         opened = loaded.opened;
-        stands = stands_replayed image (stands_full blocks _ image (rest_stands blocks no_records [] _ image (fits.leaves image is)));
-        rest = was.2.rest ∙ ap behind_gates (loaded.settled.only was.0 was.1);
+        stands = stands_replayed image (stands_full layout _ image (rest_stands layout no_records [] _ image (fits.leaves image is)));
+        rest = was.2.rest ∙ ap (behind_gates layout) (loaded.settled.only was.0 was.1);
       }
 
   -- with the records that a checkpoint brings home
-  loaded_holds : Opened blocks (records_of count (behind 2 count m.bytes) latest) [] (λ k. block k (apply (all_recorded 2 count m.bytes) m.bytes)) m.bytes
+  loaded_holds : Opened layout (records_of count (behind 2 count m.bytes) latest) [] (λ k. block k (apply (all_recorded 2 count m.bytes) m.bytes)) m.bytes
   loaded_holds =
-      let sound = all_sound blocks 2 count m.bytes loaded_full loaded.form in
+      let sound = all_sound layout 2 count m.bytes loaded_full loaded.form in
       record {
         holds = record {
           enough = loaded.enough;
@@ -147,36 +148,36 @@ module _ {blocks count : ℕ} {latest : List HomeBlock} {m : Meaning} (loaded : 
           ends = refl;
           latest = loaded.latest_is;
           same = λ n out not_in.
-              sym (loaded.latest_is n (block n m.bytes)) ∙ sym (block-apply blocks (all_recorded 2 count m.bytes) m.bytes n sound.within loaded.long);
+              sym (loaded.latest_is n (block n m.bytes)) ∙ sym (block-apply layout.blocks (all_recorded 2 count m.bytes) m.bytes n sound.within loaded.long);
         };
         counted = loaded.counted;
       }
 
-  pub loaded_opened : 0 < count → IsOpened blocks (records_of count (behind 2 count m.bytes) latest) [] m (λ k. block k (apply (all_recorded 2 count m.bytes) m.bytes))
+  pub loaded_opened : 0 < count → IsOpened layout (records_of count (behind 2 count m.bytes) latest) [] m (λ k. block k (apply (all_recorded 2 count m.bytes) m.bytes))
   loaded_opened some = record {
     honest = loaded.honest;
     some = some;
     reads = loaded_holds;
-    leaves = λ image is. subst (Opened blocks (records_of count (behind 2 count m.bytes) latest) [] (λ k. block k (apply (all_recorded 2 count m.bytes) m.bytes))) (sym (loaded.settled.only image is)) loaded_holds;
+    leaves = λ image is. subst (Opened layout (records_of count (behind 2 count m.bytes) latest) [] (λ k. block k (apply (all_recorded 2 count m.bytes) m.bytes))) (sym (loaded.settled.only image is)) loaded_holds;
   }
 
-  checkpoint_left : 0 < count → Within blocks latest → gates_closed true (apply latest m.bytes) ≡ recovered blocks m.bytes
+  checkpoint_left : 0 < count → Within layout.blocks latest → gates_closed true (apply latest m.bytes) ≡ recovered layout m.bytes
   checkpoint_left some within =
-      let sound = all_sound blocks 2 count m.bytes loaded_full loaded.form in
+      let sound = all_sound layout 2 count m.bytes loaded_full loaded.form in
       let first : is_open 0 m.bytes ≡ true = open_before m.bytes 0 (omega (arith, some, loaded.counted)) in
       let same : apply latest m.bytes ≡ apply (all_recorded 2 count m.bytes) m.bytes =
-      sym (apply_alike blocks (all_recorded 2 count m.bytes) latest m.bytes sound.within within loaded.long loaded.latest_is) in
+      sym (apply_alike layout.blocks (all_recorded 2 count m.bytes) latest m.bytes sound.within within loaded.long loaded.latest_is) in
       ap (gates_closed true) same
       ∙ (ap (λ b. gates_closed b (apply (all_recorded 2 count m.bytes) m.bytes)) (sym first)
-      ∙ sym (recovered-some blocks m.bytes (apply (all_recorded 2 count m.bytes) m.bytes) loaded.opened replayed-loaded))
+      ∙ sym (recovered-some layout m.bytes (apply (all_recorded 2 count m.bytes) m.bytes) loaded.opened replayed-loaded))
 
-  pub checkpoint_closes : {T E : Type 0} {n : Meaning} (result : Result T E) → 0 < count → Within blocks latest → ((c next : ℕ) (placed : List ℕ) (kept : ℕ → List ℕ) → IsOpened blocks (records_of c next latest) placed m kept → Leaves m n (StandsBut blocks placed kept)) → OnOk result ((c next : ℕ) (placed : List ℕ) (kept : ℕ → List ℕ) → IsOpened blocks (records_of c next latest) placed m kept → FitsAt blocks no_records [] n kept) → (IsTrue m.is_honest → Spreads m n (SameAround blocks)) → OnOk result (IsTrue m.is_honest → IsSettled n (gates_closed true (apply latest m.bytes))) → Closes blocks count m n result
+  pub checkpoint_closes : {T E : Type 0} {n : Meaning} (result : Result T E) → 0 < count → Within layout.blocks latest → ((c next : ℕ) (placed : List ℕ) (kept : ℕ → List ℕ) → IsOpened layout (records_of c next latest) placed m kept → Leaves m n (StandsBut layout placed kept)) → OnOk result ((c next : ℕ) (placed : List ℕ) (kept : ℕ → List ℕ) → IsOpened layout (records_of c next latest) placed m kept → FitsAt layout no_records [] n kept) → (IsTrue m.is_honest → Spreads m n (SameAround layout)) → OnOk result (IsTrue m.is_honest → IsSettled n (gates_closed true (apply latest m.bytes))) → Closes layout count m n result
   checkpoint_closes {n = n} result some within moments keeps around settled =
       let kept : ℕ → List ℕ = λ k. block k (apply (all_recorded 2 count m.bytes) m.bytes) in
       let opened = loaded_opened some in
       let next = behind 2 count m.bytes in
       record {
-        moments = recovering (leaves_weaken _ (moments count next [] kept opened) (λ image stands. stands_full blocks kept image stands)) (around loaded.honest);
+        moments = recovering (leaves_weaken _ (moments count next [] kept opened) (λ image stands. stands_full layout kept image stands)) (around loaded.honest);
         images = on_ok result (λ fits. recovering_images (fits count next [] kept opened) (around loaded.honest)) keeps;
         fits = on_ok result (λ fits. fits count next [] kept opened) keeps;
         left = on_ok result (λ left. subst (IsSettled n) (checkpoint_left some within) (left loaded.honest)) settled;
@@ -184,26 +185,26 @@ module _ {blocks count : ℕ} {latest : List HomeBlock} {m : Meaning} (loaded : 
       }
 
   -- gate 0 is closed, and only others are open
-  loaded_shut : count ≡ 0 → Always m (Shut blocks (λ k. block k (apply (all_recorded 2 count m.bytes) m.bytes)))
-  loaded_shut none = always_settled (Shut blocks (λ k. block k (apply (all_recorded 2 count m.bytes) m.bytes))) m.bytes loaded.settled (record {
+  loaded_shut : count ≡ 0 → Always m (Shut layout (λ k. block k (apply (all_recorded 2 count m.bytes) m.bytes)))
+  loaded_shut none = always_settled (Shut layout (λ k. block k (apply (all_recorded 2 count m.bytes) m.bytes))) m.bytes loaded.settled (record {
     enough = loaded.enough;
     closed = shut_first m.bytes (omega (arith, loaded_full)) (loaded.counted ∙ none);
     keeps = record { long = loaded.long; same = λ n out. ap (λ c. block n (apply (all_recorded 2 c m.bytes) m.bytes)) (sym none) };
   })
 
-  others_left : count ≡ 0 → put m.bytes 4097 (replicate 63 0) ≡ recovered blocks m.bytes
+  others_left : count ≡ 0 → put m.bytes 4097 (replicate 63 0) ≡ recovered layout m.bytes
   unfolding gates_closed
   others_left none =
       let closed : is_open 0 m.bytes ≡ false = shut_first m.bytes (omega (arith, loaded_full)) (loaded.counted ∙ none) in
       ap (λ c. put (apply (all_recorded 2 c m.bytes) m.bytes) 4097 (replicate 63 0)) (sym none)
       ∙ (ap (λ b. gates_closed b (apply (all_recorded 2 count m.bytes) m.bytes)) (sym closed)
-      ∙ sym (recovered-some blocks m.bytes (apply (all_recorded 2 count m.bytes) m.bytes) loaded.opened replayed-loaded))
+      ∙ sym (recovered-some layout m.bytes (apply (all_recorded 2 count m.bytes) m.bytes) loaded.opened replayed-loaded))
 
-  pub others_close : {T E : Type 0} {n : Meaning} (result : Result T E) → count ≡ 0 → IsDiskRun m n → (IsTrue m.is_honest → Spreads m n (Torn 4097 63)) → OnOk result (IsTrue m.is_honest → IsSettled n (put m.bytes 4097 (replicate 63 0))) → Closes blocks count m n result
+  pub others_close : {T E : Type 0} {n : Meaning} (result : Result T E) → count ≡ 0 → IsDiskRun m n → (IsTrue m.is_honest → Spreads m n (Torn 4097 63)) → OnOk result (IsTrue m.is_honest → IsSettled n (put m.bytes 4097 (replicate 63 0))) → Closes layout count m n result
   others_close {n = n} result none run spreads settled =
       let shut = loaded_shut none in
       let torn = spreads loaded.honest in
-      let around = gates_around blocks loaded.enough 4097 63 (omega arith) torn in
+      let around = gates_around layout loaded.enough 4097 63 (omega arith) torn in
       record {
         moments = recovering (others_stand shut torn) around;
         images = on_ok result (λ left. recovering_images (others_fit (run.honest ∙ loaded.honest) shut (left loaded.honest)) around) settled;
@@ -213,12 +214,12 @@ module _ {blocks count : ℕ} {latest : List HomeBlock} {m : Meaning} (loaded : 
       }
 
   -- ---- and so a recovery ends
-  close_leaves : {T E : Type 0} {old n : Meaning} {result : Result T E} → Reading old m → Closes blocks count m n result → Leaves old n (LeftOrRecovering blocks old)
+  close_leaves : {T E : Type 0} {old n : Meaning} {result : Result T E} → Reading old m → Closes layout count m n result → Leaves old n (LeftOrRecovering layout old)
   close_leaves {old = old} reading closes =
       leaves_then (leaves_weaken _ reading.leaves (λ image is. inl is))
-      (leaves_weaken _ closes.moments (λ image is. inr (subst (λ bytes. InRecovery blocks bytes image) reading.reads is)))
+      (leaves_weaken _ closes.moments (λ image is. inr (subst (λ bytes. InRecovery layout bytes image) reading.reads is)))
 
-  close_past : {T E : Type 0} {old n : Meaning} {result : Result T E} → Reading old m → Closes blocks count m n result → KeepsPast blocks old n
+  close_past : {T E : Type 0} {old n : Meaning} {result : Result T E} → Reading old m → Closes layout count m n result → KeepsPast layout.blocks old n
   close_past {old = old} {n = n} reading closes k le =
       let was = closes.past.reads in
       let from : was.0 ≡ old.bytes = elim was.1 as (λ _. was.0 ≡ old.bytes) [
@@ -227,7 +228,7 @@ module _ {blocks count : ℕ} {latest : List HomeBlock} {m : Meaning} (loaded : 
       ] in
       was.2 k le ∙ ap (block k) from
 
-  pub close_failed : {T E F : Type 0} {old n : Meaning} {closed : Result T E} (result : Result (Option ℕ) F) → IsErr result → Reading old m → Closes blocks count m n closed → Recovers {E = F} blocks old n result
+  pub close_failed : {T E F : Type 0} {old n : Meaning} {closed : Result T E} (result : Result (Option ℕ) F) → IsErr result → Reading old m → Closes layout count m n closed → Recovers {E = F} layout old n result
   close_failed (Ok x) failed reading closes = absurd (false≢true failed)
   close_failed (Err e) failed reading closes = record {
     moments = close_leaves reading closes;
@@ -238,21 +239,21 @@ module _ {blocks count : ℕ} {latest : List HomeBlock} {m : Meaning} (loaded : 
     settled_past = λ settled. close_past reading closes;
   }
 
-  pub close_done : {T E F : Type 0} {old n : Meaning} {x : T} → Reading old m → Closes {E = E} blocks count m n (Ok x) → Recovers {E = F} blocks old n (Ok None)
+  pub close_done : {T E F : Type 0} {old n : Meaning} {x : T} → Reading old m → Closes {E = E} layout count m n (Ok x) → Recovers {E = F} layout old n (Ok None)
   close_done {n = n} reading closes = record {
     moments = close_leaves reading closes;
-    images = λ image is. inr (subst (λ bytes. InRecovery blocks bytes image) reading.reads (closes.images image is));
-    ended = subst (λ bytes. IsSomeAnd (replayed blocks bytes) (λ r. FitsAt blocks no_records [] n (λ k. block k r))) reading.reads
-        (some_and (λ r. FitsAt blocks no_records [] n (λ k. block k r)) (replayed blocks m.bytes) replayed-loaded closes.fits);
-    left = subst (λ bytes. IsSettled n (recovered blocks bytes)) reading.reads closes.left;
+    images = λ image is. inr (subst (λ bytes. InRecovery layout bytes image) reading.reads (closes.images image is));
+    ended = subst (λ bytes. IsSomeAnd (replayed layout bytes) (λ r. FitsAt layout no_records [] n (λ k. block k r))) reading.reads
+        (some_and (λ r. FitsAt layout no_records [] n (λ k. block k r)) (replayed layout m.bytes) replayed-loaded closes.fits);
+    left = subst (λ bytes. IsSettled n (recovered layout bytes)) reading.reads closes.left;
     past = close_past reading closes;
     settled_past = λ settled. close_past reading closes;
   }
 
 -- ---- what was read
 -- after all records are read
-pub loaded_from : {blocks count : ℕ} {latest : List HomeBlock} {old m : Meaning} (bytes : List ℕ) → Reading old m → 578 < blocks → 4096 * blocks ≤ length old.bytes → has_open old.bytes ≡ true → open_count old.bytes ≡ count → bytes ≡ old.bytes → None ≡ first_bad blocks 2 count bytes → ((n : ℕ) (was : List ℕ) → look (all_recorded 2 count bytes) n was ≡ look latest n was) → IsLoaded blocks count latest m
-loaded_from {blocks} {count} {latest} {old} {m} bytes reading enough long opened counted is form latest_is =
+pub loaded_from : {layout : Layout} {count : ℕ} {latest : List HomeBlock} {old m : Meaning} (bytes : List ℕ) → Reading old m → homes_start layout < layout.blocks → 4096 * layout.blocks ≤ length old.bytes → has_open old.bytes ≡ true → open_count old.bytes ≡ count → bytes ≡ old.bytes → None ≡ first_bad layout 2 count bytes → ((n : ℕ) (was : List ℕ) → look (all_recorded 2 count bytes) n was ≡ look latest n was) → IsLoaded layout count latest m
+loaded_from {layout} {count} {latest} {old} {m} bytes reading enough long opened counted is form latest_is =
     let same : bytes ≡ m.bytes = is ∙ sym reading.reads in
     record {
       honest = reading.honest;
@@ -261,7 +262,7 @@ loaded_from {blocks} {count} {latest} {old} {m} bytes reading enough long opened
       enough = enough;
       long = omega (arith, long, ap length reading.reads);
       counted = ap open_count reading.reads ∙ counted;
-      form = ap (first_bad blocks 2 count) (sym same) ∙ sym form;
+      form = ap (first_bad layout 2 count) (sym same) ∙ sym form;
       latest_is = λ n was. ap (λ xs. look (all_recorded 2 count xs) n was) (sym same) ∙ latest_is n was;
     }
 
@@ -284,7 +285,7 @@ pub gates_counted : {old s : Meaning} {found : List ℕ} {any : Bool} {count : �
 unfolding open_count
 gates_counted gated counted = ap (prefix_len (λ gate. gate == 1)) (sym gated.found_are) ∙ sym counted
 
-pub bad_found : (blocks count : ℕ) {b : ℕ} {found : Option ℕ} (bytes old : List ℕ) → open_count old ≡ count → bytes ≡ old → found ≡ Some b → found ≡ first_bad blocks 2 count bytes → bad_record blocks old ≡ Some b
+pub bad_found : (layout : Layout) (count : ℕ) {b : ℕ} {found : Option ℕ} (bytes old : List ℕ) → open_count old ≡ count → bytes ≡ old → found ≡ Some b → found ≡ first_bad layout 2 count bytes → bad_record layout old ≡ Some b
 unfolding bad_record
-bad_found blocks count bytes old counted is found_is found =
-    ap (λ n. first_bad blocks 2 n old) counted ∙ (ap (first_bad blocks 2 count) (sym is) ∙ (sym found ∙ found_is))
+bad_found layout count bytes old counted is found_is found =
+    ap (λ n. first_bad layout 2 n old) counted ∙ (ap (first_bad layout 2 count) (sym is) ∙ (sym found ∙ found_is))

@@ -94,11 +94,11 @@ within_from blocks last (e ∷ es) rise whole =
     let wide = and_parts (length e.bytes == 4096) (list_all (λ e. length e.bytes == 4096) es) whole in
     (parts.1, eqb-true (length e.bytes) 4096 wide.0, within_from blocks e.home es parts.2 wide.1)
 
-pub home_from : (blocks last : ℕ) (es : List HomeBlock) → 577 ≤ last → IsTrue (rises blocks last (homes es)) → AtHome es
-home_from blocks last [] le rise = tt
-home_from blocks last (e ∷ es) le rise =
+pub home_from : (blocks start last : ℕ) (es : List HomeBlock) → start ≤ last + 1 → IsTrue (rises blocks last (homes es)) → AtHome start es
+home_from blocks start last [] le rise = tt
+home_from blocks start last (e ∷ es) le rise =
     let parts = rise_parts blocks last e.home (homes es) rise in
-    (omega (arith, parts.0, le), home_from blocks e.home es (omega (arith, parts.0, le)) parts.2)
+    (omega (arith, parts.0, le), home_from blocks start e.home es (omega (arith, parts.0, le)) parts.2)
 
 pub home_within : (blocks last : ℕ) (es : List HomeBlock) (k : ℕ) (d : HomeBlock) → IsTrue (rises blocks last (homes es)) → k < length es → (get_or es k d).home < blocks
 home_within blocks last [] k d rise lt = absurd (omega arith)

@@ -2,38 +2,39 @@
 use Rattle.std.specs.Prelude.{◌≡◌, ◌⊎◌, ℕ, zero, suc, ◌+◌, ◌*◌, ◌<◌, ◌≤◌, ◌==◌, nat_lt, Bool, false, if◌then◌else◌, List, [], ◌∷◌, ◌++◌, length, take, drop, None, IsTrue, IsSomeAnd}
 use Rattle.std.specs.List.{list_any}
 use Rattle.lis_ports.specs.Meaning.{Meaning}
-use Rattle.lis_journal.specs.Record.{block, is_open, HomeBlock, behind, first_bad, all_recorded, replayed}
+use Rattle.lis_journal.specs.declared.layout.Layout.{Layout}
+use Rattle.lis_journal.specs.Record.{homes_start, block, is_open, HomeBlock, behind, first_bad, all_recorded, replayed}
 use Rattle.lis_journal.specs.Journal.{OpenRecords, Held}
 
 -- A block outside the gates and the records. Those past the image are among them.
-abbrev pub IsOutside : ℕ → Type 0
-IsOutside n = (n ≡ 0) ⊎ (578 ≤ n)
+abbrev pub IsOutside : Layout → ℕ → Type 0
+IsOutside layout n = (n ≡ 0) ⊎ (homes_start layout ≤ n)
 
 -- The image is long enough, and each block outside the gates and the records is that of `kept`.
-pub record Keeps (blocks : ℕ) (kept : ℕ → List ℕ) (image : List ℕ) : Type 0 where
-  pub long : 4096 * blocks ≤ length image
-  pub same : (n : ℕ) → IsOutside n → block n image ≡ kept n
+pub record Keeps (layout : Layout) (kept : ℕ → List ℕ) (image : List ℕ) : Type 0 where
+  pub long : 4096 * layout.blocks ≤ length image
+  pub same : (n : ℕ) → IsOutside layout n → block n image ≡ kept n
 
 abbrev pub is_among : List ℕ → ℕ → Bool
 is_among placed n = list_any (λ m. m == n) placed
 
 -- the same, but for the placed blocks, which may hold any bytes
-pub record KeepsBut (blocks : ℕ) (placed : List ℕ) (kept : ℕ → List ℕ) (image : List ℕ) : Type 0 where
-  pub long : 4096 * blocks ≤ length image
-  pub same : (n : ℕ) → IsOutside n → is_among placed n ≡ false → block n image ≡ kept n
+pub record KeepsBut (layout : Layout) (placed : List ℕ) (kept : ℕ → List ℕ) (image : List ℕ) : Type 0 where
+  pub long : 4096 * layout.blocks ≤ length image
+  pub same : (n : ℕ) → IsOutside layout n → is_among placed n ≡ false → block n image ≡ kept n
 
 -- A journal may be used on this disk: it is not broken, and the disk has all its blocks.
 pub record JournalIsUsable (journal : Held) (m : Meaning) : Type 0 where
   pub unbroken : journal.is_broken ≡ false
-  pub long : 4096 * journal.blocks ≤ m.len
+  pub long : 4096 * journal.layout.blocks ≤ m.len
 
 -- It is long enough itself, and has a replayed image, which keeps these blocks.
-unfoldable pub StandsFor : ℕ → (ℕ → List ℕ) → List ℕ → Type 0
-StandsFor blocks kept image = (4096 * blocks ≤ length image) × IsSomeAnd (replayed blocks image) (Keeps blocks kept)
+unfoldable pub StandsFor : Layout → (ℕ → List ℕ) → List ℕ → Type 0
+StandsFor layout kept image = (4096 * layout.blocks ≤ length image) × IsSomeAnd (replayed layout image) (Keeps layout kept)
 
-unfoldable pub StandsBut : ℕ → List ℕ → (ℕ → List ℕ) → List ℕ → Type 0
-StandsBut blocks placed kept image =
-    (4096 * blocks ≤ length image) × IsSomeAnd (replayed blocks image) (KeepsBut blocks placed kept)
+unfoldable pub StandsBut : Layout → List ℕ → (ℕ → List ℕ) → List ℕ → Type 0
+StandsBut layout placed kept image =
+    (4096 * layout.blocks ≤ length image) × IsSomeAnd (replayed layout image) (KeepsBut layout placed kept)
 
 -- what a block holds when these entries are in their homes, if `old` was there
 abbrev pub look : List HomeBlock → ℕ → List ℕ → List ℕ
@@ -41,36 +42,36 @@ look [] n old = old
 look (e ∷ entries) n old = look entries n (if n == e.home then e.bytes else old)
 
 -- It stands for the blocks as before, but for the placed ones, or for all of them with all entries in their homes.
-abbrev pub StandsForAllOrNone : ℕ → List ℕ → (ℕ → List ℕ) → List HomeBlock → List ℕ → Type 0
-StandsForAllOrNone blocks placed kept entries image =
-    StandsBut blocks placed kept image ⊎ StandsFor blocks (λ n. look entries n (kept n)) image
+abbrev pub StandsForAllOrNone : Layout → List ℕ → (ℕ → List ℕ) → List HomeBlock → List ℕ → Type 0
+StandsForAllOrNone layout placed kept entries image =
+    StandsBut layout placed kept image ⊎ StandsFor layout (λ n. look entries n (kept n)) image
 
 -- The image has these records from block 2 on, in form and one after another. With the latest contents in their homes it has the
 -- blocks of `kept`, but for the placed ones.
-pub record Holds (blocks : ℕ) (records : OpenRecords) (placed : List ℕ) (kept : ℕ → List ℕ) (image : List ℕ) : Type 0 where
-  pub enough : 578 < blocks
-  pub long : 4096 * blocks ≤ length image
-  pub form : first_bad blocks 2 records.count image ≡ None
+pub record Holds (layout : Layout) (records : OpenRecords) (placed : List ℕ) (kept : ℕ → List ℕ) (image : List ℕ) : Type 0 where
+  pub enough : homes_start layout < layout.blocks
+  pub long : 4096 * layout.blocks ≤ length image
+  pub form : first_bad layout 2 records.count image ≡ None
   pub ends : behind 2 records.count image ≡ records.next
   pub latest : (n : ℕ) (old : List ℕ) → look (all_recorded 2 records.count image) n old ≡ look records.latest n old
-  pub same : (n : ℕ) → IsOutside n → is_among placed n ≡ false → look records.latest n (block n image) ≡ kept n
+  pub same : (n : ℕ) → IsOutside layout n → is_among placed n ≡ false → look records.latest n (block n image) ≡ kept n
 
 -- It holds these records, their gates are open, and all other gates are closed.
-pub record IsAtRest (blocks : ℕ) (records : OpenRecords) (placed : List ℕ) (kept : ℕ → List ℕ) (image : List ℕ) : Type 0 where
+pub record IsAtRest (layout : Layout) (records : OpenRecords) (placed : List ℕ) (kept : ℕ → List ℕ) (image : List ℕ) : Type 0 where
   pub few : records.count ≤ 64
-  pub holds : Holds blocks records placed kept image
+  pub holds : Holds layout records placed kept image
   pub gates : (k : ℕ) → k < 64 → is_open k image ≡ nat_lt k records.count
 
 -- A disk keeps these blocks under these records: it is honest, and it is at rest as it reads, and in each image but for the placed
 -- blocks.
-pub record FitsAt (blocks : ℕ) (records : OpenRecords) (placed : List ℕ) (m : Meaning) (kept : ℕ → List ℕ) : Type 0 where
+pub record FitsAt (layout : Layout) (records : OpenRecords) (placed : List ℕ) (m : Meaning) (kept : ℕ → List ℕ) : Type 0 where
   pub honest : IsTrue m.is_honest
-  pub reads : IsAtRest blocks records [] kept m.bytes
-  pub leaves : (image : List ℕ) → m.images image → IsAtRest blocks records placed kept image
+  pub reads : IsAtRest layout records [] kept m.bytes
+  pub leaves : (image : List ℕ) → m.images image → IsAtRest layout records placed kept image
 
 -- a journal fits a disk that keeps these blocks
 abbrev pub Fits : Held → Meaning → (ℕ → List ℕ) → Type 0
-Fits journal m kept = FitsAt journal.blocks journal.records journal.placed m kept
+Fits journal m kept = FitsAt journal.layout journal.records journal.placed m kept
 
 -- what a block holds where the disk reads as these bytes: what is staged for it, or else its latest content in the open records, or else
 -- what it has

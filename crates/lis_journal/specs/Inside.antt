@@ -3,7 +3,9 @@ use Rattle.std.specs.Prelude.{◌≡◌, ◌≢◌, ℕ, zero, suc, ◌+◌, ◌
 use Rattle.std.specs.List.{list_all}
 use Rattle.lis_region.specs.Region as region
 use Rattle.lis_journal.specs.declared.stage.Staged.{Staged}
-use Rattle.lis_journal.specs.Record.{HomeBlock}
+use Rattle.lis_journal.specs.declared.layout.Layout.{Layout}
+use Rattle.lis_journal.specs.declared.layout.Capacity.{Capacity}
+use Rattle.lis_journal.specs.Record.{homes_start, header_blocks, record_len, HomeBlock}
 use Rattle.lis_journal.specs.Journal.{OpenRecords}
 use Rattle.lis_journal.specs.Staging.{Staging, IsStaging}
 
@@ -16,8 +18,8 @@ entry_of r s = record { home = s.home; bytes = bytes_at r s.frame }
 abbrev pub entries_of : region.Region ℕ → List Staged → List HomeBlock
 entries_of r staged = map (entry_of r) staged
 
-abbrev pub staging_of : region.Region ℕ → List Staged → ℕ → Staging
-staging_of r staged blocks = record { blocks = blocks; entries = entries_of r staged }
+abbrev pub staging_of : region.Region ℕ → List Staged → Layout → ℕ → Staging
+staging_of r staged layout capacity = record { layout = layout; capacity = capacity; entries = entries_of r staged }
 
 -- no block is in this frame
 abbrev pub IsFresh : ℕ → List Staged → Type 0
@@ -29,12 +31,12 @@ abbrev pub AreApart : List Staged → Type 0
 AreApart [] = Unit {0}
 AreApart (s ∷ ss) = IsFresh s.frame ss × AreApart ss
 
-pub record IsStage (r : region.Region ℕ) (staged : List Staged) (room blocks : ℕ) : Type 0 where
-  pub staging : IsStaging (staging_of r staged blocks)
+pub record IsStage (r : region.Region ℕ) (staged : List Staged) (room : ℕ) (layout : Layout) (capacity : ℕ) : Type 0 where
+  pub staging : IsStaging (staging_of r staged layout capacity)
   pub wide : r.width ≡ 4096
   pub apart : AreApart staged
-  pub counted : region.free_frames r + length staged ≡ 575
-  pub has_room : 575 ≤ room
+  pub counted : region.free_frames r + length staged ≡ capacity
+  pub has_room : capacity ≤ room
 
 abbrev pub home_list : List Staged → List ℕ
 home_list staged = map (λ s. s.home) staged
@@ -52,24 +54,26 @@ PlaceFor n zero (s ∷ ss) = n < s.home
 PlaceFor n (suc k) [] = ⊥
 PlaceFor n (suc k) (s ∷ ss) = (s.home < n) × PlaceFor n k ss
 
--- the open records of an image of so many blocks
+-- the open records of an image of this layout
 pub record Log : Type 0 where
-  pub blocks : ℕ
+  pub layout : Layout
   pub records : OpenRecords
 
--- Each record of c blocks takes c + 1 of the blocks from 2 to 577, and no more than 576.
-pub record IsLog (log : Log) : Type 0 where
-  pub enough : 578 < log.blocks
+-- Each record takes a block more than it has contents, or more. So many blocks as all records can have contents can be in memory.
+pub record IsLog (log : Log) (capacity : ℕ) : Type 0 where
+  pub enough : homes_start log.layout < log.layout.blocks
   pub few : log.records.count ≤ 64
-  pub fits : log.records.next ≤ 578
+  pub fits : log.records.next ≤ homes_start log.layout
   pub room : length log.records.latest + log.records.count + 2 ≤ log.records.next
-  pub used : log.records.next ≤ 2 + 576 * log.records.count
+  pub none : log.records.count ≡ 0 → log.records.next ≤ 2
+  pub frames : log.layout.records ≤ capacity + 1
 
 -- the parts of a journal fit together
-pub record IsJournal (blocks : ℕ) (log : Log) (header placed : List ℕ) (room : ℕ) : Type 0 where
-  pub enough : 578 < blocks
-  pub same : log.blocks ≡ blocks
-  pub header_len : length header ≡ 4096
-  pub few : length placed ≤ 257
-  pub has_room : 257 ≤ room
-  pub within : IsTrue (list_all (λ n. nat_lt n blocks) placed)
+pub record IsJournal (layout : Layout) (capacity : Capacity) (log : Log) (header placed : List ℕ) (room : ℕ) : Type 0 where
+  pub enough : homes_start layout < layout.blocks
+  pub same : log.layout ≡ layout
+  pub fits : record_len capacity.staged ≤ layout.records
+  pub header_len : length header ≡ 4096 * header_blocks layout.records
+  pub few : length placed ≤ capacity.placed
+  pub has_room : capacity.placed ≤ room
+  pub within : IsTrue (list_all (λ n. nat_lt n layout.blocks) placed)

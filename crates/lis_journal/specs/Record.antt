@@ -1,16 +1,15 @@
 -- The journal on a disk: blocks, gates, records, and the image that stands when the open records are done.
-use Rattle.std.specs.Prelude.{ℕ, ◌+◌, ◌*◌, ◌==◌, zero, suc, nat_lt, nat_le, Bool, true, ◌&&◌, if◌then◌else◌, List, [], ◌∷◌, ◌++◌, drop, map, replicate, slice_index, Option, Some, None, is_some}
+use Rattle.std.specs.Prelude.{ℕ, ◌+◌, ◌*◌, ◌/◌, ◌==◌, zero, suc, nat_lt, nat_le, Bool, true, ◌&&◌, if◌then◌else◌, List, [], ◌∷◌, ◌++◌, drop, map, replicate, slice_index, Option, Some, None, is_some}
 use Rattle.std.specs.Int.{w32, from_le_bytes}
 use Rattle.std.specs.List.{list_all, list_any, prefix_len}
 use Rattle.lis_ports.specs.Bytes.{part, put}
+use Rattle.lis_journal.specs.declared.layout.Layout.{Layout}
 
--- the first home block, how many blocks a record holds at most, and how many records are open at most
-abbrev pub homes_start : ℕ
-homes_start = 578
+-- the first home block, behind block 0, the gates, and the blocks of the records
+abbrev pub homes_start : Layout → ℕ
+homes_start layout = layout.records + 2
 
-abbrev pub max_staged : ℕ
-max_staged = 575
-
+-- how many records are open at most
 abbrev pub max_open : ℕ
 max_open = 64
 
@@ -32,8 +31,8 @@ unfoldable pub open_count : List ℕ → ℕ
 open_count image = prefix_len (λ gate. gate == 1) (gates image)
 
 -- all of the journal's bytes but the gates: the rest of block 1, and the records
-abbrev pub behind_gates : List ℕ → List ℕ
-behind_gates image = part 4160 2363328 image
+abbrev pub behind_gates : Layout → List ℕ → List ℕ
+behind_gates layout image = part 4160 (4096 * layout.records + 4032) image
 
 -- a block and what it is to hold
 pub record HomeBlock : Type 0 where
@@ -63,18 +62,33 @@ abbrev pub rises : ℕ → ℕ → List ℕ → Bool
 rises blocks last [] = true
 rises blocks last (home ∷ homes) = nat_lt last home && nat_lt home blocks && rises blocks home homes
 
--- A header is in form: a count from 1 to 575, as many homes, strictly rising, each a home block inside the image, then zeros.
-abbrev pub is_header : ℕ → List ℕ → Bool
-is_header blocks header =
-    nat_lt 0 (count_of header) && nat_le (count_of header) 575 && rises blocks 577 (homes_of header) && list_all (λ b. b == 0) (drop (4 * (count_of header + 1)) header)
+-- A header is in form: its count is not 0, it has as many homes, strictly rising, each a home block inside the image, then zeros.
+abbrev pub is_header : Layout → List ℕ → Bool
+is_header layout header =
+    nat_lt 0 (count_of header) && rises layout.blocks (layout.records + 1) (homes_of header) && list_all (λ b. b == 0) (drop (4 * (count_of header + 1)) header)
 
--- the block behind the record that begins at block b: its header is that block, and its contents are the blocks after it
+-- how many blocks the header of a record of so many homes has: a number takes 4 bytes, and the count stands before the homes
+abbrev pub header_blocks : ℕ → ℕ
+header_blocks count = count / 1024 + 1
+
+-- how many blocks such a record has: its header, and a content for each home
+abbrev pub record_len : ℕ → ℕ
+record_len count = header_blocks count + count
+
+-- the count and the header of the record that begins at block b
+abbrev pub count_at : ℕ → List ℕ → ℕ
+count_at b image = from_le_bytes w32 (part (4096 * b) 4 image)
+
+abbrev pub header_at : ℕ → List ℕ → List ℕ
+header_at b image = part (4096 * b) (4096 * header_blocks (count_at b image)) image
+
+-- the block behind the record that begins at block b
 unfoldable pub record_end : ℕ → List ℕ → ℕ
-record_end b image = b + count_of (block b image) + 1
+record_end b image = b + record_len (count_at b image)
 
 -- A record is in form: its header is, and it ends before the home blocks.
-unfoldable pub is_record : ℕ → ℕ → List ℕ → Bool
-is_record blocks b image = is_header blocks (block b image) && nat_le (record_end b image) 578
+unfoldable pub is_record : Layout → ℕ → List ℕ → Bool
+is_record layout b image = is_header layout (header_at b image) && nat_le (record_end b image) (homes_start layout)
 
 -- homes with the blocks of the image from the k-th on
 abbrev pub entries_from : ℕ → List ℕ → List ℕ → List HomeBlock
@@ -84,7 +98,7 @@ entries_from k (home ∷ homes) image =
 
 -- what the record that begins at block b is to put into the homes
 unfoldable pub recorded : ℕ → List ℕ → List HomeBlock
-recorded b image = entries_from (b + 1) (homes_of (block b image)) image
+recorded b image = entries_from (b + header_blocks (count_at b image)) (homes_of (header_at b image)) image
 
 -- Of n records, one after another from block b on: the block behind them, the block of the first that is not in form, and what all
 -- of them hold, in their order.
@@ -92,10 +106,10 @@ abbrev pub behind : ℕ → ℕ → List ℕ → ℕ
 behind b zero image = b
 behind b (suc n) image = behind (record_end b image) n image
 
-abbrev pub first_bad : ℕ → ℕ → ℕ → List ℕ → Option ℕ
-first_bad blocks b zero image = None
-first_bad blocks b (suc n) image =
-    if is_record blocks b image then first_bad blocks (record_end b image) n image else Some b
+abbrev pub first_bad : Layout → ℕ → ℕ → List ℕ → Option ℕ
+first_bad layout b zero image = None
+first_bad layout b (suc n) image =
+    if is_record layout b image then first_bad layout (record_end b image) n image else Some b
 
 abbrev pub all_recorded : ℕ → ℕ → List ℕ → List HomeBlock
 all_recorded b zero image = []
@@ -107,13 +121,13 @@ apply [] image = image
 apply (e ∷ entries) image = apply entries (put image (4096 * e.home) e.bytes)
 
 -- the block of the first open record that is not in form
-unfoldable pub bad_record : ℕ → List ℕ → Option ℕ
-bad_record blocks image = first_bad blocks 2 (open_count image) image
+unfoldable pub bad_record : Layout → List ℕ → Option ℕ
+bad_record layout image = first_bad layout 2 (open_count image) image
 
 -- The replayed image: the image with the contents of the open records in their homes; none where an open record is not in form.
-unfoldable pub replayed : ℕ → List ℕ → Option (List ℕ)
-replayed blocks image =
-    if is_some (bad_record blocks image) then None
+unfoldable pub replayed : Layout → List ℕ → Option (List ℕ)
+replayed layout image =
+    if is_some (bad_record layout image) then None
     else Some (apply (all_recorded 2 (open_count image) image) image)
 
 -- An image with its gates closed: gate 0 where it was open, and all others.
@@ -126,6 +140,6 @@ abbrev pub recovered_as : List ℕ → Option (List ℕ) → List ℕ
 recovered_as image None = image
 recovered_as image (Some replay) = gates_closed (is_open 0 image) replay
 
-unfoldable pub recovered : ℕ → List ℕ → List ℕ
-recovered blocks image =
-    if has_open image then recovered_as image (replayed blocks image) else image
+unfoldable pub recovered : Layout → List ℕ → List ℕ
+recovered layout image =
+    if has_open image then recovered_as image (replayed layout image) else image

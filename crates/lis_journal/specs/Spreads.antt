@@ -3,6 +3,7 @@ use Rattle.std.specs.Prelude.{◌≡◌, ◌⊎◌, ℕ, ◌*◌, ◌+◌, ◌�
 use Rattle.lis_ports.specs.Meaning.{Meaning}
 use Rattle.lis_ports.specs.Bytes.{part}
 use Rattle.lis_ports.specs.Runs.{Leaves}
+use Rattle.lis_journal.specs.declared.layout.Layout.{Layout}
 use Rattle.lis_journal.specs.Record.{HomeBlock, block, behind_gates}
 
 -- Each image, at each moment and at the end, and the bytes as they read at the end, come from one of before by R.
@@ -32,6 +33,6 @@ abbrev pub SamePast : ℕ → List ℕ → List ℕ → Type 0
 SamePast blocks old new = (n : ℕ) → blocks ≤ n → block n new ≡ block n old
 
 -- the same bytes past the image, and in the journal behind the gates
-pub record SameAround (blocks : ℕ) (old new : List ℕ) : Type 0 where
-  pub past : SamePast blocks old new
-  pub rest : behind_gates new ≡ behind_gates old
+pub record SameAround (layout : Layout) (old new : List ℕ) : Type 0 where
+  pub past : SamePast layout.blocks old new
+  pub rest : behind_gates layout new ≡ behind_gates layout old

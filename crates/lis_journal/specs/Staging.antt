@@ -1,11 +1,13 @@
 -- Staged blocks as they are seen: a finite map from homes to contents.
-use Rattle.std.specs.Prelude.{◌≡◌, ℕ, ◌+◌, ◌<◌, ◌≤◌, ◌==◌, nat_lt, Bool, false, if◌then◌else◌, List, [], ◌∷◌, length, IsTrue}
+use Rattle.std.specs.Prelude.{◌≡◌, ℕ, ◌+◌, ◌^◌, ◌<◌, ◌≤◌, ◌==◌, nat_lt, Bool, false, if◌then◌else◌, List, [], ◌∷◌, length, IsTrue}
 use Rattle.std.specs.List.{list_all, list_any}
+use Rattle.lis_journal.specs.declared.layout.Layout.{Layout}
 use Rattle.lis_journal.specs.Record.{HomeBlock, homes, rises}
 
--- for an image of so many blocks, the entries in the order of their homes
+-- for an image of this layout, so many entries at most, in the order of their homes
 pub record Staging : Type 0 where
-  pub blocks : ℕ
+  pub layout : Layout
+  pub capacity : ℕ
   pub entries : List HomeBlock
 
 -- the entries with this one, in the place of that of its home if there is one
@@ -29,6 +31,8 @@ HasNone es first count = (n : ℕ) → first ≤ n → n < first + count → has
 
 -- The homes rise, are home blocks inside the image, and each content is a block.
 pub record IsStaging (s : Staging) : Type 0 where
-  pub rise : IsTrue (rises s.blocks 577 (homes s.entries))
+  pub rise : IsTrue (rises s.layout.blocks (s.layout.records + 1) (homes s.entries))
   pub whole : IsTrue (are_whole s.entries)
-  pub few : length s.entries ≤ 575
+  pub few : length s.entries ≤ s.capacity
+  pub small : s.capacity ≤ 2 ^ 16
+  pub narrow : s.layout.blocks < 2 ^ 32

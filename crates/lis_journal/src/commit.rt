@@ -4,13 +4,14 @@ ghost use Rattle.std.specs.Prelude.{[], ◌∷◌, ◌≡◌, ◌+◌, ◌*◌, 
 ghost use Rattle.lis_ports.specs.Bytes.{put, Torn};
 ghost use Rattle.lis_ports.specs.Runs.{Leaves, IsSettled};
 ghost use Rattle.lis_ports.specs.Calls.{UsesDisk};
-ghost use Rattle.lis_journal.specs.Record.{HomeBlock, gates_closed, apply, homes, homes_of, is_header};
+ghost use Rattle.lis_journal.specs.Record.{homes_start, header_blocks, record_len, HomeBlock, gates_closed, apply, homes, homes_of, is_header};
 ghost use Rattle.lis_journal.specs.Journal.{records_of, no_records};
 ghost use Rattle.lis_journal.specs.Images.{StandsBut, StandsForAllOrNone, FitsAt};
 ghost use Rattle.lis_journal.specs.Spreads.{Spreads, Touched, SamePast, SameAround};
 ghost use Rattle.lis_journal.specs.Staging.{IsStaging};
 ghost use Rattle.lis_journal.specs.Phases.{IsOpened, Absorbs, looked, renumbered, at_target, FitsTarget};
 
+use crate::header::header_blocks;
 use crate::stage::{BLOCK_LEN, Stage};
 use lis_ports::{Disk, Failed};
 
@@ -34,11 +35,11 @@ pub enum Target {
 // Where the k-th staged block is written.
 fn address(stage: &Stage, target: Target, k: usize) -> u64
     requires k { k < length stage.now.entries }
-    requires blocks { 578 < stage.now.blocks }
+    requires blocks { homes_start stage.now.layout < stage.now.layout.blocks }
     requires staging { IsStaging stage.now }
-    requires room { FitsTarget target (length stage.now.entries) }
+    requires room { FitsTarget stage.now.layout target (length stage.now.entries) }
     ensures address { (d : HomeBlock) → result ≡ 4096 * (slice_index_or (at_target target stage.now.entries) k d).home }
-    ensures within { result + 4096 ≤ 4096 * stage.now.blocks }
+    ensures within { result + 4096 ≤ 4096 * stage.now.layout.blocks }
 {
     match target {
         Target::Record(first) => (u64::from(first) + k as u64) * BLOCK_LEN as u64,
@@ -48,9 +49,9 @@ fn address(stage: &Stage, target: Target, k: usize) -> u64
 
 // Writes all staged blocks, each in a call of its own.
 fn write_blocks<D: Disk>(disk: &mut D, stage: &Stage, target: Target) -> Result<(), Failed>
-    requires blocks { 578 < stage.now.blocks }
-    requires long { 4096 * stage.now.blocks ≤ (D.meaning disk.old).len }
-    requires room { FitsTarget target (length stage.now.entries) }
+    requires blocks { homes_start stage.now.layout < stage.now.layout.blocks }
+    requires long { 4096 * stage.now.layout.blocks ≤ (D.meaning disk.old).len }
+    requires room { FitsTarget stage.now.layout target (length stage.now.entries) }
     ensures disk { UsesDisk (D.meaning disk.old) (D.meaning disk.new) result }
     ensures staging { IsStaging stage.now }
     ensures spreads { IsTrue (D.meaning disk.old).is_honest
@@ -66,9 +67,9 @@ fn write_blocks<D: Disk>(disk: &mut D, stage: &Stage, target: Target) -> Result<
 
 // Writes all staged blocks, and syncs.
 fn write_synced<D: Disk>(disk: &mut D, stage: &Stage, target: Target) -> Result<(), Failed>
-    requires blocks { 578 < stage.now.blocks }
-    requires long { 4096 * stage.now.blocks ≤ (D.meaning disk.old).len }
-    requires room { FitsTarget target (length stage.now.entries) }
+    requires blocks { homes_start stage.now.layout < stage.now.layout.blocks }
+    requires long { 4096 * stage.now.layout.blocks ≤ (D.meaning disk.old).len }
+    requires room { FitsTarget stage.now.layout target (length stage.now.entries) }
     ensures disk { UsesDisk (D.meaning disk.old) (D.meaning disk.new) result }
     ensures staging { IsStaging stage.now }
     ensures spreads { IsTrue (D.meaning disk.old).is_honest
@@ -114,18 +115,19 @@ fn write_record<D: Disk>(
     stage: &Stage,
     first: u32,
 ) -> Result<(), Failed>
-    requires blocks { 578 < stage.now.blocks }
-    requires long { 4096 * stage.now.blocks ≤ (D.meaning disk.old).len }
-    requires header { length header.now ≡ 4096 }
-    requires room { first + length stage.now.entries + 1 ≤ 578 }
+    requires blocks { homes_start stage.now.layout < stage.now.layout.blocks }
+    requires long { 4096 * stage.now.layout.blocks ≤ (D.meaning disk.old).len }
+    requires header { length header.now ≡ 4096 * header_blocks (length stage.now.entries) }
+    requires room { first + record_len (length stage.now.entries) ≤ homes_start stage.now.layout }
     ensures disk { UsesDisk (D.meaning disk.old) (D.meaning disk.new) result }
     ensures spreads { IsTrue (D.meaning disk.old).is_honest
-        → Spreads (D.meaning disk.old) (D.meaning disk.new) (Torn (4096 * first) (4096 * (length stage.now.entries + 1))) }
+        → Spreads (D.meaning disk.old) (D.meaning disk.new) (Torn (4096 * first) (4096 * record_len (length stage.now.entries))) }
     ensures settled { OnOk result (IsTrue (D.meaning disk.old).is_honest → IsSettled (D.meaning disk.new)
-        (apply (renumbered (first + 1) stage.now.entries) (put (D.meaning disk.old).bytes (4096 * first) header.now))) }
+        (apply (renumbered (first + header_blocks (length stage.now.entries)) stage.now.entries) (put (D.meaning disk.old).bytes (4096 * first) header.now))) }
 {
     disk.write_at(u64::from(first) * BLOCK_LEN as u64, header)?;
-    write_synced(disk, stage, Target::Record(first + 1))
+    let contents = Target::Record(first + header_blocks(stage.len() as u32));
+    write_synced(disk, stage, contents)
 }
 
 /// Makes the staged blocks kept by one record more: it writes the record behind the open ones, and then opens its gate.
@@ -136,26 +138,26 @@ pub fn append<D: Disk>(
     count: u32,
     next: u32,
 ) -> Result<(), Failed>
-    requires blocks { 578 < stage.now.blocks }
-    requires long { 4096 * stage.now.blocks ≤ (D.meaning disk.old).len }
+    requires blocks { homes_start stage.now.layout < stage.now.layout.blocks }
+    requires long { 4096 * stage.now.layout.blocks ≤ (D.meaning disk.old).len }
     requires staging { IsStaging stage.now }
-    requires header { length header.now ≡ 4096 }
-    requires form { IsTrue (is_header stage.now.blocks header.now) }
+    requires header { length header.now ≡ 4096 * header_blocks (length stage.now.entries) }
+    requires form { IsTrue (is_header stage.now.layout header.now) }
     requires homes { homes_of header.now ≡ homes stage.now.entries }
     requires few { count < 64 }
-    requires room { next + length stage.now.entries + 1 ≤ 578 }
+    requires room { next + record_len (length stage.now.entries) ≤ homes_start stage.now.layout }
     ensures disk { UsesDisk (D.meaning disk.old) (D.meaning disk.new) result }
     ensures any_moment { (latest : List HomeBlock) (placed : List ℕ) (kept : ℕ → List ℕ)
-        → FitsAt stage.now.blocks (records_of count next latest) placed (D.meaning disk.old) kept
+        → FitsAt stage.now.layout (records_of count next latest) placed (D.meaning disk.old) kept
         → Leaves (D.meaning disk.old) (D.meaning disk.new)
-        (StandsForAllOrNone stage.now.blocks placed kept stage.now.entries) }
+        (StandsForAllOrNone stage.now.layout placed kept stage.now.entries) }
     ensures kept { OnOk result ((latest later : List HomeBlock) (placed : List ℕ) (kept : ℕ → List ℕ)
         → Absorbs latest stage.now.entries later
-        → FitsAt stage.now.blocks (records_of count next latest) placed (D.meaning disk.old) kept
-        → FitsAt stage.now.blocks (records_of (count + 1) (next + length stage.now.entries + 1) later) [] (D.meaning disk.new)
+        → FitsAt stage.now.layout (records_of count next latest) placed (D.meaning disk.old) kept
+        → FitsAt stage.now.layout (records_of (count + 1) (next + record_len (length stage.now.entries)) later) [] (D.meaning disk.new)
         (looked stage.now.entries kept)) }
     ensures past { IsTrue (D.meaning disk.old).is_honest
-        → Spreads (D.meaning disk.old) (D.meaning disk.new) (SamePast stage.now.blocks) }
+        → Spreads (D.meaning disk.old) (D.meaning disk.new) (SamePast stage.now.layout.blocks) }
 {
     write_record(disk, header, stage, next)?;
     write_gate(disk, count, OPEN)
@@ -163,18 +165,18 @@ pub fn append<D: Disk>(
 
 /// Writes the latest contents of all open records home, and then closes the gates: gate 0 first, and then all others.
 pub fn checkpoint<D: Disk>(disk: &mut D, latest: &Stage) -> Result<(), Failed>
-    requires blocks { 578 < latest.now.blocks }
-    requires long { 4096 * latest.now.blocks ≤ (D.meaning disk.old).len }
+    requires blocks { homes_start latest.now.layout < latest.now.layout.blocks }
+    requires long { 4096 * latest.now.layout.blocks ≤ (D.meaning disk.old).len }
     ensures disk { UsesDisk (D.meaning disk.old) (D.meaning disk.new) result }
     ensures staging { IsStaging latest.now }
     ensures any_moment { (count next : ℕ) (placed : List ℕ) (kept : ℕ → List ℕ)
-        → IsOpened latest.now.blocks (records_of count next latest.now.entries) placed (D.meaning disk.old) kept
-        → Leaves (D.meaning disk.old) (D.meaning disk.new) (StandsBut latest.now.blocks placed kept) }
+        → IsOpened latest.now.layout (records_of count next latest.now.entries) placed (D.meaning disk.old) kept
+        → Leaves (D.meaning disk.old) (D.meaning disk.new) (StandsBut latest.now.layout placed kept) }
     ensures kept { OnOk result ((count next : ℕ) (placed : List ℕ) (kept : ℕ → List ℕ)
-        → IsOpened latest.now.blocks (records_of count next latest.now.entries) placed (D.meaning disk.old) kept
-        → FitsAt latest.now.blocks no_records [] (D.meaning disk.new) kept) }
+        → IsOpened latest.now.layout (records_of count next latest.now.entries) placed (D.meaning disk.old) kept
+        → FitsAt latest.now.layout no_records [] (D.meaning disk.new) kept) }
     ensures around { IsTrue (D.meaning disk.old).is_honest
-        → Spreads (D.meaning disk.old) (D.meaning disk.new) (SameAround latest.now.blocks) }
+        → Spreads (D.meaning disk.old) (D.meaning disk.new) (SameAround latest.now.layout) }
     ensures settled { OnOk result (IsTrue (D.meaning disk.old).is_honest → IsSettled (D.meaning disk.new)
         (gates_closed true (apply latest.now.entries (D.meaning disk.old).bytes))) }
 {

@@ -1,12 +1,44 @@
-//! The first block of a record: how many blocks it holds, and their homes.
+//! The header of a record: how many blocks it holds, and their homes.
 
-ghost use Rattle.std.specs.Prelude.{◌≡◌, ◌+◌, ◌*◌, ◌<◌, ◌≤◌, ◌==◌, length, IsTrue};
+ghost use Rattle.std.specs.Prelude.{◌≡◌, ◌+◌, ◌*◌, ◌<◌, ◌≤◌, ◌==◌, ◌^◌, nat_le, take, length, IsTrue};
 ghost use Rattle.std.specs.Int.{w32, to_le_bytes};
 ghost use Rattle.std.specs.List.{list_all};
 ghost use Rattle.lis_ports.specs.Bytes.{put};
-ghost use Rattle.lis_journal.specs.Record.{word, words, rises, is_header, homes_of, homes};
+ghost use Rattle.lis_journal.specs.Record.{word, words, rises, is_header, homes_of, homes, count_of, header_blocks, record_len, homes_start};
 
-use crate::stage::{HOMES_START, MAX_STAGED, Stage};
+use crate::layout::Layout;
+use crate::stage::{BLOCK_LEN, Stage};
+
+/// How many blocks the header of a record of so many homes has.
+pub fn header_blocks(count: u32) -> u32
+    ensures { result ≡ header_blocks count }
+{
+    count / 1_024 + 1
+}
+
+/// How many bytes it has.
+pub fn header_len(count: u32) -> usize
+    ensures { result ≡ 4096 * header_blocks count }
+{
+    header_blocks(count) as usize * BLOCK_LEN
+}
+
+/// How many blocks such a record has.
+pub fn record_len(count: u32) -> u32
+    requires { record_len count < 2 ^ 32 }
+    ensures { result ≡ record_len count }
+{
+    header_blocks(count) + count
+}
+
+/// Whether a record of so many homes that begins at this block ends before the home blocks.
+pub fn has_end(layout: Layout, first: u32, count: u32) -> bool
+    requires { homes_start layout < 2 ^ 32 }
+    ensures { result ≡ nat_le (first + record_len count) (homes_start layout) }
+{
+    let end = u64::from(first) + u64::from(header_blocks(count)) + u64::from(count);
+    end <= u64::from(layout.homes_start())
+}
 
 /// A number of a header.
 pub fn word(header: &[u8], k: usize) -> u32
@@ -31,8 +63,8 @@ fn put_word(header: &mut [u8], k: usize, value: u32)
 
 /// Writes the header of a record of all staged blocks.
 pub fn write_header(header: &mut [u8], stage: &Stage)
-    requires { length header.old ≡ 4096 }
-    ensures form { 0 < length stage.now.entries → IsTrue (is_header stage.now.blocks header.new) }
+    requires { length header.old ≡ 4096 * header_blocks (length stage.now.entries) }
+    ensures form { 0 < length stage.now.entries → IsTrue (is_header stage.now.layout header.new) }
     ensures homes { homes_of header.new ≡ homes stage.now.entries }
 {
     let count = stage.len();
@@ -43,33 +75,47 @@ pub fn write_header(header: &mut [u8], stage: &Stage)
     }
 }
 
-/// Whether a header is in form.
-pub fn is_header(header: &[u8], blocks: u32) -> bool
-    requires { length header.now ≡ 4096 }
-    ensures { result ≡ is_header blocks header.now }
+/// Writes it into the front of this.
+pub fn write_front(front: &mut [u8], stage: &Stage)
+    requires { 4096 * header_blocks (length stage.now.entries) ≤ length front.old }
+    ensures form { 0 < length stage.now.entries
+        → IsTrue (is_header stage.now.layout (take (4096 * header_blocks (length stage.now.entries)) front.new)) }
+    ensures homes { homes_of (take (4096 * header_blocks (length stage.now.entries)) front.new) ≡ homes stage.now.entries }
 {
-    let count = word(header, 0) as usize;
+    let len = header_len(stage.len() as u32);
+    write_header(&mut front[..len], stage);
+}
+
+/// Whether a header has this count and is in form.
+pub fn is_header(header: &[u8], layout: Layout, count: u32) -> bool
+    requires len { length header.now ≡ 4096 * header_blocks count }
+    requires records { layout.records + 1 < 2 ^ 32 }
+    ensures count { IsTrue result → count_of header.now ≡ count }
+    ensures form { count_of header.now ≡ count → result ≡ is_header layout header.now }
+{
+    if word(header, 0) != count {
+        return false;
+    }
+    let count = count as usize;
     if count == 0 {
         return false;
     }
-    if count > MAX_STAGED as usize {
-        return false;
-    }
-    rise(header, blocks, count) && are_zeros(&header[4 * (count + 1)..])
+    rise(header, layout, count) && are_zeros(&header[4 * (count + 1)..])
 }
 
 // Whether the homes of a header rise.
-fn rise(header: &[u8], blocks: u32, count: usize) -> bool
-    requires { 4 * count + 4 ≤ length header.now }
-    ensures { result ≡ rises blocks 577 (words 1 count header.now) }
+fn rise(header: &[u8], layout: Layout, count: usize) -> bool
+    requires len { 4 * count + 4 ≤ length header.now }
+    requires records { layout.records + 1 < 2 ^ 32 }
+    ensures { result ≡ rises layout.blocks (layout.records + 1) (words 1 count header.now) }
 {
-    let mut last = HOMES_START - 1;
+    let mut last = layout.records + 1;
     for k in 1..count + 1 {
         let home = word(header, k);
         if home <= last {
             return false;
         }
-        if home >= blocks {
+        if home >= layout.blocks {
             return false;
         }
         last = home;

@@ -1,15 +1,16 @@
 //! The journal: blocks are staged, and become kept all at once.
 
-ghost use Rattle.std.specs.Prelude.{[], ◌≡◌, ◌⊎◌, ◌+◌, ◌*◌, ◌^◌, ◌<◌, ◌≤◌, ◌∷◌, ◌++◌, ℕ, List, length, vec_capacity, true, false, IsTrue, IfOk, IfSome, IfNone, OnOk, OnErr, Ok, Err, if◌then◌else◌, ◌==◌};
+ghost use Rattle.std.specs.Prelude.{[], ◌≡◌, ◌⊎◌, ◌+◌, ◌-◌, ◌*◌, ◌^◌, ◌<◌, ◌≤◌, ◌∷◌, ◌++◌, ℕ, List, length, vec_capacity, true, false, IsTrue, IfOk, IfSome, IfNone, OnOk, OnErr, Ok, Err, if◌then◌else◌, ◌==◌};
 ghost use Rattle.std.specs.List.{range_with_len};
 ghost use Rattle.lis_ports.specs.Runs.{IsDiskRun, Leaves, IsSettled};
 ghost use Rattle.lis_ports.specs.Calls.{DiskFaultEnds, UsesDisk, ReadsDisk};
-ghost use Rattle.lis_journal.specs.Record.{recovered};
+ghost use Rattle.lis_journal.specs.Record.{homes_start, header_blocks, record_len, recovered};
 ghost use Rattle.lis_journal.specs.Journal.{no_records};
 ghost use Rattle.lis_journal.specs.Images.{StandsBut, StandsForAllOrNone, Fits, KeepsPast, look, held_in, is_among, with_placed, with_kept, with_run, JournalIsUsable};
 ghost use Rattle.lis_journal.specs.Staging.{with_entry, has_entry, are_whole, HasNone};
 
-use crate::header::write_header;
+use crate::header::{header_len, write_front};
+use crate::layout::{Capacity, Layout};
 use crate::mount::recover;
 use crate::records::Records;
 use crate::stage::{BLOCK_LEN, Stage};
@@ -29,10 +30,7 @@ pub enum JournalFault {
     NoMemory,
 }
 
-/// How many blocks can be placed between two commits.
-pub const MAX_PLACED: u32 = 257;
-
-/// Blocks that are staged for an image of so many blocks, until they are kept, over the open records on the disk. No call
+/// Blocks that are staged for an image of this layout, until they are kept, over the open records on the disk. No call
 /// takes memory after it is made.
 #[derive(Drop)]
 pub struct Journal {
@@ -40,7 +38,8 @@ pub struct Journal {
     records: Records,
     // The numbers of the blocks that were placed since the last commit.
     placed: Vec<u32>,
-    // The header of a record, as it was last written or read.
+    most_placed: u32,
+    // Room for the longest header of a record, with what was last written or read in its front.
     header: Vec<u8>,
     is_broken: bool,
 }
@@ -53,9 +52,9 @@ impl Model for Journal {
 
     ghost use Rattle.lis_journal.specs.Inside.{IsJournal};
 
-    ghost view = { λ j. record { blocks = j.stage.blocks; staged = j.stage.entries; records = j.records.records; placed = j.placed.items; is_broken = j.is_broken } };
+    ghost view = { λ j. record { layout = j.stage.layout; capacity = record { staged = j.stage.capacity; placed = j.most_placed }; staged = j.stage.entries; records = j.records.records; placed = j.placed.items; is_broken = j.is_broken } };
 
-    ghost invariant = { λ j. IsJournal j.stage.blocks j.records j.header.items j.placed.items (vec_capacity j.placed) };
+    ghost invariant = { λ j. IsJournal j.stage.layout (record { staged = j.stage.capacity; placed = j.most_placed }) j.records j.header.items j.placed.items (vec_capacity j.placed) };
 }
 
 impl From<AllocError> for JournalFault {
@@ -69,17 +68,18 @@ impl From<AllocError> for JournalFault {
     }
 }
 
-// A block of zeros.
-fn new_block(alloc: Global) -> Result<Vec<u8>, AllocError>
-    ensures { IfOk result (λ block. length block.items ≡ 4096) }
+// So many zeros.
+fn zeros(alloc: Global, len: usize) -> Result<Vec<u8>, AllocError>
+    ensures { IfOk result (λ zeros. length zeros.items ≡ len) }
 {
-    vec![in alloc; 0; BLOCK_LEN]
+    vec![in alloc; 0; len]
 }
 
 // What a mounted journal keeps of memory, and a block to read into.
 #[derive(Drop)]
 struct Room {
     placed: Vec<u32>,
+    most_placed: u32,
     header: Vec<u8>,
     block: Vec<u8>,
     stage: Stage,
@@ -88,32 +88,39 @@ struct Room {
 
 // Takes the room, what has most parts last: whatever was taken before is given back where a later part can't be had, and each such
 // end is checked with all that it gives back. So `mount` has one end for all of them.
-fn take_room(alloc: Global, blocks: u32) -> Result<Room, AllocError>
-    ensures stage { IfOk result (λ room. room.stage ≡ record { blocks = blocks; entries = [] }) }
-    ensures latest { IfOk result (λ room. room.latest ≡ record { blocks = blocks; entries = [] }) }
+fn take_room(alloc: Global, layout: Layout, capacity: Capacity) -> Result<Room, AllocError>
+    requires some { 1 ≤ layout.records }
+    requires few { layout.records ≤ 2 ^ 16 }
+    requires staged { capacity.staged ≤ 2 ^ 16 }
+    requires placed { capacity.placed ≤ 2 ^ 16 }
+    ensures stage { IfOk result (λ room. room.stage ≡ record { layout = layout; capacity = capacity.staged; entries = [] }) }
+    ensures latest { IfOk result (λ room. room.latest ≡ record { layout = layout; capacity = layout.records - 1; entries = [] }) }
     ensures placed { IfOk result (λ room. room.placed.items ≡ []) }
-    ensures many { IfOk result (λ room. 257 ≤ vec_capacity room.placed) }
-    ensures header { IfOk result (λ room. length room.header.items ≡ 4096) }
+    ensures many { IfOk result (λ room. (room.most_placed ≡ capacity.placed) × (capacity.placed ≤ vec_capacity room.placed)) }
+    ensures header { IfOk result (λ room. length room.header.items ≡ 4096 * header_blocks layout.records) }
     ensures block { IfOk result (λ room. length room.block.items ≡ 4096) }
 {
     Ok(Room {
-        placed: Vec::with_capacity(alloc, MAX_PLACED as usize)?,
-        header: new_block(alloc)?,
-        block: new_block(alloc)?,
-        stage: Stage::new(alloc, blocks)?,
-        latest: Stage::new(alloc, blocks)?,
+        placed: Vec::with_capacity(alloc, capacity.placed as usize)?,
+        most_placed: capacity.placed,
+        header: zeros(alloc, header_len(layout.records))?,
+        block: zeros(alloc, BLOCK_LEN)?,
+        stage: Stage::new(alloc, layout, capacity.staged)?,
+        latest: Stage::new(alloc, layout, layout.records - 1)?,
     })
 }
 
 // A journal in this room, with nothing staged and no open record.
 fn mounted(room: Room) -> Journal
-    requires blocks { 578 < room.stage.blocks }
-    requires same { room.latest.blocks ≡ room.stage.blocks }
+    requires blocks { homes_start room.stage.layout < room.stage.layout.blocks }
+    requires same { room.latest.layout ≡ room.stage.layout }
+    requires frames { room.latest.layout.records ≤ room.latest.capacity + 1 }
+    requires fits { record_len room.stage.capacity ≤ room.stage.layout.records }
     requires empty { room.stage.entries ≡ [] }
     requires placed { room.placed.items ≡ [] }
-    requires many { 257 ≤ vec_capacity room.placed }
-    requires header { length room.header.items ≡ 4096 }
-    ensures { result ≡ record { blocks = room.stage.blocks; staged = []; records = no_records; placed = []; is_broken = false } }
+    requires many { room.most_placed ≤ vec_capacity room.placed }
+    requires header { length room.header.items ≡ 4096 * header_blocks room.stage.layout.records }
+    ensures { result ≡ record { layout = room.stage.layout; capacity = record { staged = room.stage.capacity; placed = room.most_placed }; staged = []; records = no_records; placed = []; is_broken = false } }
 {
     let mut latest = room.latest;
     latest.clear();
@@ -121,6 +128,7 @@ fn mounted(room: Room) -> Journal
         stage: room.stage,
         records: Records::new(latest),
         placed: room.placed,
+        most_placed: room.most_placed,
         header: room.header,
         is_broken: false,
     }
@@ -145,13 +153,21 @@ impl Journal {
     ghost use Rattle.lis_journal.specs.declared.journal.JournalFault.TheVariants.{DiskFault, NoMemory};
     ghost use Rattle.lis_journal.specs.Journal.{Held, no_records};
 
-    /// Opens the journal of an image of so many blocks, with nothing staged. It takes its memory before its first call
-    /// of the disk. Then it syncs; where a gate is open it brings the open records home and closes all gates.
-    pub fn mount<D: Disk>(alloc: Global, disk: &mut D, blocks: u32) -> Result<Journal, JournalFault>
-        requires blocks { 578 < blocks }
-        requires long { 4096 * blocks ≤ (D.meaning disk.old).len }
+    /// Opens the journal of an image of this layout, with nothing staged, and with room for so many staged and placed
+    /// blocks. It takes its memory before its first call of the disk. Then it syncs; where a gate is open it brings the open records home and closes all gates.
+    pub fn mount<D: Disk>(
+        alloc: Global,
+        disk: &mut D,
+        layout: Layout,
+        capacity: Capacity,
+    ) -> Result<Journal, JournalFault>
+        requires blocks { homes_start layout < layout.blocks }
+        requires few { layout.records ≤ 2 ^ 16 }
+        requires fits { record_len capacity.staged ≤ layout.records }
+        requires placed { capacity.placed ≤ 2 ^ 16 }
+        requires long { 4096 * layout.blocks ≤ (D.meaning disk.old).len }
         ensures held { IfOk result (λ journal. journal
-            ≡ record { blocks = blocks; staged = []; records = no_records; placed = []; is_broken = false }) }
+            ≡ record { layout = layout; capacity = capacity; staged = []; records = no_records; placed = []; is_broken = false }) }
         ensures run { IsDiskRun (D.meaning disk.old) (D.meaning disk.new) }
         ensures cause { HasMountCause (D.meaning disk.old).disk_faults (D.meaning disk.new).disk_faults result }
         ensures first_fault { DiskFaultEnds (D.meaning disk.old) (D.meaning disk.new) }
@@ -162,23 +178,23 @@ impl Journal {
         // What was read at the call's start decides: the journal fits what the replayed image has, or there is none, and
         // the answer is the block of the first open record that is not in form.
         ensures ended { IsTrue (D.meaning disk.old).is_honest
-            → MountEnded blocks (D.meaning disk.old) (D.meaning disk.new) result }
+            → MountEnded layout (D.meaning disk.old) (D.meaning disk.new) result }
 
         // Nothing is written but what an open gate asks for: the latest contents of the open records in their homes, and
         // then the gates. A crash in the call, and after it (`images`), leaves what it could have left before, or, where
         // a gate was open, what stands for the replayed image with the journal's bytes behind the gates as before.
         ensures left { OnOk result (IsTrue (D.meaning disk.old).is_honest
-            → IsSettled (D.meaning disk.new) (recovered blocks (D.meaning disk.old).bytes)) }
+            → IsSettled (D.meaning disk.new) (recovered layout (D.meaning disk.old).bytes)) }
         ensures any_moment { IsTrue (D.meaning disk.old).is_honest
-            → Leaves (D.meaning disk.old) (D.meaning disk.new) (LeftOrRecovering blocks (D.meaning disk.old)) }
+            → Leaves (D.meaning disk.old) (D.meaning disk.new) (LeftOrRecovering layout (D.meaning disk.old)) }
         ensures images { OnOk result (IsTrue (D.meaning disk.old).is_honest → (image : List ℕ) → (D.meaning disk.new).images image
-            → LeftOrRecovering blocks (D.meaning disk.old) image) }
+            → LeftOrRecovering layout (D.meaning disk.old) image) }
 
         // What lies past the image reads as before; where the disk failed, if a crash at entry left it as it read.
-        ensures past { IsTrue (D.meaning disk.old).is_honest → (result ≡ Err DiskFault → IsSettledPast blocks (D.meaning disk.old))
-            → KeepsPast blocks (D.meaning disk.old) (D.meaning disk.new) }
+        ensures past { IsTrue (D.meaning disk.old).is_honest → (result ≡ Err DiskFault → IsSettledPast layout.blocks (D.meaning disk.old))
+            → KeepsPast layout.blocks (D.meaning disk.old) (D.meaning disk.new) }
     {
-        let mut room = take_room(alloc, blocks)?;
+        let mut room = take_room(alloc, layout, capacity)?;
         match recover(disk, &mut room.latest, &mut room.header, &mut room.block) {
             Ok(None) => Ok(mounted(room)),
             Ok(Some(first)) => Err(JournalFault::BadRecord(first)),
@@ -186,11 +202,18 @@ impl Journal {
         }
     }
 
+    /// The layout of the image.
+    pub fn layout(&self) -> Layout
+        ensures { result ≡ self.now.layout }
+    {
+        self.stage.layout()
+    }
+
     /// How many blocks the image has.
     pub fn blocks(&self) -> u32
-        ensures { result ≡ self.now.blocks }
+        ensures { result ≡ self.now.layout.blocks }
     {
-        self.stage.blocks()
+        self.stage.layout().blocks
     }
 
     /// How many blocks are staged, each of them whole.
@@ -223,8 +246,8 @@ impl Journal {
 
     /// Reads a block: what is staged for it, or else what is kept. A block that is in an open record is read from memory.
     pub fn read<D: Disk>(&self, disk: &mut D, n: u32, buf: &mut [u8]) -> Result<(), Failed>
-        requires home { 578 ≤ n }
-        requires within { n < self.now.blocks }
+        requires home { homes_start self.now.layout ≤ n }
+        requires within { n < self.now.layout.blocks }
         requires whole { length buf.old ≡ 4096 }
         requires usable { JournalIsUsable self.now (D.meaning disk.old) }
         ensures read { OnOk result ((kept : ℕ → List ℕ) → Fits self.now (D.meaning disk.old) kept
@@ -246,12 +269,12 @@ impl Journal {
 
     /// Stages what a block is to hold, in the place of what is staged for it.
     pub fn stage(&mut self, n: u32, bytes: &[u8])
-        requires home { 578 ≤ n }
-        requires within { n < self.old.blocks }
+        requires home { homes_start self.old.layout ≤ n }
+        requires within { n < self.old.layout.blocks }
         requires whole { length bytes.now ≡ 4096 }
         requires unbroken { self.old.is_broken ≡ false }
         requires unplaced { is_among self.old.placed n ≡ false }
-        requires room { IsTrue (has_entry self.old.staged n) ⊎ (length self.old.staged < 575) }
+        requires room { IsTrue (has_entry self.old.staged n) ⊎ (length self.old.staged < self.old.capacity.staged) }
         ensures staged { self.new ≡ record self.old { staged = with_entry self.old.staged n bytes.now } }
         ensures looks { (m : ℕ) (old : List ℕ) → look self.new.staged m old
             ≡ (if m == n then bytes.now else look self.old.staged m old) }
@@ -275,11 +298,11 @@ impl Journal {
         // or for all of them with all that is staged.
         ensures any_moment { (kept : ℕ → List ℕ) → Fits self.old (D.meaning disk.old) kept
             → Leaves (D.meaning disk.old) (D.meaning disk.new)
-            (StandsForAllOrNone self.old.blocks self.old.placed kept self.old.staged) }
+            (StandsForAllOrNone self.old.layout self.old.placed kept self.old.staged) }
         ensures kept { OnOk result ((kept : ℕ → List ℕ) → Fits self.old (D.meaning disk.old) kept
             → Fits self.new (D.meaning disk.new) (λ n. look self.old.staged n (kept n))) }
         ensures past { (kept : ℕ → List ℕ) → Fits self.old (D.meaning disk.old) kept
-            → KeepsPast self.old.blocks (D.meaning disk.old) (D.meaning disk.new) }
+            → KeepsPast self.old.layout.blocks (D.meaning disk.old) (D.meaning disk.new) }
         ensures disk { UsesDisk (D.meaning disk.old) (D.meaning disk.new) result }
         ensures done { OnOk result (self.new
             ≡ record self.old { staged = []; records = self.new.records; placed = self.new.placed }) }
@@ -289,8 +312,9 @@ impl Journal {
         if self.stage.len() == 0 {
             return Ok(());
         }
-        write_header(&mut self.header, &self.stage);
-        match self.records.save(disk, &self.header, &self.stage) {
+        write_front(&mut self.header, &self.stage);
+        let len = header_len(self.stage.len() as u32);
+        match self.records.save(disk, &self.header[..len], &self.stage) {
             Ok(()) => {
                 self.stage.clear();
                 self.placed.clear();
@@ -305,8 +329,8 @@ impl Journal {
 
     // Notes that a block is placed.
     fn note_placed(&mut self, n: u32)
-        requires within { n < self.old.blocks }
-        requires room { IsTrue (is_among self.old.placed n) ⊎ (length self.old.placed < 257) }
+        requires within { n < self.old.layout.blocks }
+        requires room { IsTrue (is_among self.old.placed n) ⊎ (length self.old.placed < self.old.capacity.placed) }
         ensures { self.new ≡ record self.old { placed = with_placed self.old.placed n } }
     {
         if self.placed.contains(&n) {
@@ -320,21 +344,21 @@ impl Journal {
     /// Writes a home block without a record. Until the next commit it is placed: a crash may leave any bytes in it. Where
     /// it is in an open record, a checkpoint is made first.
     pub fn place<D: Disk>(&mut self, disk: &mut D, n: u32, bytes: &[u8]) -> Result<(), Failed>
-        requires home { 578 ≤ n }
-        requires within { n < self.old.blocks }
+        requires home { homes_start self.old.layout ≤ n }
+        requires within { n < self.old.layout.blocks }
         requires whole { length bytes.now ≡ 4096 }
         requires usable { JournalIsUsable self.old (D.meaning disk.old) }
         requires unstaged { has_entry self.old.staged n ≡ false }
-        requires room { IsTrue (is_among self.old.placed n) ⊎ (length self.old.placed < 257) }
+        requires room { IsTrue (is_among self.old.placed n) ⊎ (length self.old.placed < self.old.capacity.placed) }
 
         // A crash at any moment of the call leaves an image that stands for the blocks as before, but for this and the
         // placed ones.
         ensures any_moment { (kept : ℕ → List ℕ) → Fits self.old (D.meaning disk.old) kept
-            → Leaves (D.meaning disk.old) (D.meaning disk.new) (StandsBut self.old.blocks (n ∷ self.old.placed) kept) }
+            → Leaves (D.meaning disk.old) (D.meaning disk.new) (StandsBut self.old.layout (n ∷ self.old.placed) kept) }
         ensures kept { OnOk result ((kept : ℕ → List ℕ) → Fits self.old (D.meaning disk.old) kept
             → Fits self.new (D.meaning disk.new) (with_kept n bytes.now kept)) }
         ensures past { (kept : ℕ → List ℕ) → Fits self.old (D.meaning disk.old) kept
-            → KeepsPast self.old.blocks (D.meaning disk.old) (D.meaning disk.new) }
+            → KeepsPast self.old.layout.blocks (D.meaning disk.old) (D.meaning disk.new) }
         ensures disk { UsesDisk (D.meaning disk.old) (D.meaning disk.new) result }
         ensures done { OnOk result (self.new
             ≡ record self.old { records = self.new.records; placed = with_placed self.old.placed n }) }
@@ -360,23 +384,23 @@ impl Journal {
         count: u32,
         bytes: &[u8],
     ) -> Result<(), Failed>
-        requires home { 578 ≤ first }
-        requires within { first + count ≤ self.old.blocks }
+        requires home { homes_start self.old.layout ≤ first }
+        requires within { first + count ≤ self.old.layout.blocks }
         requires wide { first + count ≤ 2 ^ 32 }
         requires whole { length bytes.now ≡ 4096 * count }
         requires usable { JournalIsUsable self.old (D.meaning disk.old) }
         requires unstaged { HasNone self.old.staged first count }
-        requires room { length self.old.placed + count ≤ 257 }
+        requires room { length self.old.placed + count ≤ self.old.capacity.placed }
 
         // A crash at any moment of the call leaves an image that stands for the blocks as before, but for these and the
         // placed ones.
         ensures any_moment { (kept : ℕ → List ℕ) → Fits self.old (D.meaning disk.old) kept
             → Leaves (D.meaning disk.old) (D.meaning disk.new)
-            (StandsBut self.old.blocks (range_with_len first count ++ self.old.placed) kept) }
+            (StandsBut self.old.layout (range_with_len first count ++ self.old.placed) kept) }
         ensures kept { OnOk result ((kept : ℕ → List ℕ) → Fits self.old (D.meaning disk.old) kept
             → Fits self.new (D.meaning disk.new) (with_run first count bytes.now kept)) }
         ensures past { (kept : ℕ → List ℕ) → Fits self.old (D.meaning disk.old) kept
-            → KeepsPast self.old.blocks (D.meaning disk.old) (D.meaning disk.new) }
+            → KeepsPast self.old.layout.blocks (D.meaning disk.old) (D.meaning disk.new) }
         ensures disk { UsesDisk (D.meaning disk.old) (D.meaning disk.new) result }
         ensures done { OnOk result (self.new
             ≡ record self.old { records = self.new.records; placed = self.old.placed ++ range_with_len first count }) }

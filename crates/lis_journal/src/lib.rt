@@ -4,9 +4,11 @@
 mod commit;
 mod header;
 mod journal;
+mod layout;
 mod mount;
 mod records;
 mod stage;
 
-pub use journal::{Journal, JournalFault, MAX_PLACED};
-pub use stage::{BLOCK_LEN, HOMES_START, MAX_STAGED};
+pub use journal::{Journal, JournalFault};
+pub use layout::{Capacity, Layout};
+pub use stage::BLOCK_LEN;

@@ -1,18 +1,18 @@
 //! Mounting a journal: the open records are brought home first, and all gates are closed.
 
-ghost use Rattle.std.specs.Prelude.{[], ◌≡◌, ◌+◌, ◌*◌, ◌<◌, ◌≤◌, ◌==◌, ℕ, List, None, length, true, false, IsTrue, IfOk, IfSome, OnOk, MatchOption};
+ghost use Rattle.std.specs.Prelude.{[], ◌≡◌, ◌+◌, ◌*◌, ◌^◌, ◌<◌, ◌≤◌, ◌==◌, ℕ, List, None, nat_le, length, true, false, IsTrue, IfOk, IfSome, OnOk, MatchOption};
 ghost use Rattle.std.specs.List.{list_any, prefix_len};
 ghost use Rattle.lis_ports.specs.Calls.{UsesDisk};
-ghost use Rattle.lis_journal.specs.Record.{gates, is_header, is_record, record_end, recorded, homes_of, entries_from, first_bad, all_recorded};
+ghost use Rattle.lis_journal.specs.Record.{homes_start, header_blocks, record_len, count_of, count_at, gates, is_header, is_record, record_end, recorded, homes_of, entries_from, first_bad, all_recorded};
 ghost use Rattle.lis_journal.specs.Images.{look};
 ghost use Rattle.lis_journal.specs.Spreads.{IsQuiet};
 ghost use Rattle.lis_journal.specs.Phases.{Absorbs, IsLoaded, Closes};
 ghost use Rattle.lis_journal.specs.Recovery.{Recovers};
 
 use crate::commit::{GATES_AT, checkpoint, close_others};
-use crate::header::{is_header, word};
+use crate::header::{has_end, header_blocks, header_len, is_header, record_len, word};
 use crate::records::FIRST_RECORD;
-use crate::stage::{BLOCK_LEN, HOMES_START, Stage};
+use crate::stage::{BLOCK_LEN, Stage};
 use lis_ports::{Disk, Failed};
 
 // Reads all gates.
@@ -50,37 +50,51 @@ fn count_open(gates: &[u8]) -> u32
     count
 }
 
-// Puts what the record that begins at this block holds over what is staged.
+// Puts what a record holds, whose contents begin at this block, over what is staged.
 fn load<D: Disk>(
     disk: &mut D,
-    first: u32,
+    contents: u32,
     header: &[u8],
     latest: &mut Stage,
     block: &mut [u8],
 ) -> Result<(), Failed>
-    requires blocks { 578 < latest.old.blocks }
-    requires long { 4096 * latest.old.blocks ≤ (D.meaning disk.old).len }
-    requires header { length header.now ≡ 4096 }
-    requires form { IsTrue (is_header latest.old.blocks header.now) }
-    requires fits { first + length (homes_of header.now) + 1 ≤ 578 }
-    requires room { length latest.old.entries + 2 ≤ first }
+    requires blocks { homes_start latest.old.layout < latest.old.layout.blocks }
+    requires frames { latest.old.layout.records ≤ latest.old.capacity + 1 }
+    requires long { 4096 * latest.old.layout.blocks ≤ (D.meaning disk.old).len }
+    requires header { length header.now ≡ 4096 * header_blocks (count_of header.now) }
+    requires form { IsTrue (is_header latest.old.layout header.now) }
+    requires fits { contents + count_of header.now ≤ homes_start latest.old.layout }
+    requires room { length latest.old.entries + 3 ≤ contents }
     requires whole { length block.old ≡ 4096 }
     ensures disk { UsesDisk (D.meaning disk.old) (D.meaning disk.new) result }
     ensures quiet { IsTrue (D.meaning disk.old).is_honest → IsQuiet (D.meaning disk.old) (D.meaning disk.new) }
-    ensures blocks { latest.new.blocks ≡ latest.old.blocks }
-    ensures few { length latest.new.entries ≤ length latest.old.entries + length (homes_of header.now) }
+    ensures layout { latest.new.layout ≡ latest.old.layout }
+    ensures capacity { latest.new.capacity ≡ latest.old.capacity }
+    ensures few { length latest.new.entries ≤ length latest.old.entries + count_of header.now }
     ensures loaded { OnOk result (IsTrue (D.meaning disk.old).is_honest
-        → Absorbs latest.old.entries (entries_from (first + 1) (homes_of header.now) (D.meaning disk.old).bytes) latest.new.entries) }
+        → Absorbs latest.old.entries (entries_from contents (homes_of header.now) (D.meaning disk.old).bytes) latest.new.entries) }
 {
     let count = word(header, 0);
     for k in 0..count {
         disk.read_at(
-            (u64::from(first) + 1 + u64::from(k)) * BLOCK_LEN as u64,
+            (u64::from(contents) + u64::from(k)) * BLOCK_LEN as u64,
             block,
         )?;
         latest.put(word(header, k as usize + 1), block);
     }
     Ok(())
+}
+
+// Reads the count of the record that begins at this block.
+fn read_count<D: Disk>(disk: &mut D, first: u32) -> Result<u32, Failed>
+    requires { 4096 * first + 4 ≤ (D.meaning disk.old).len }
+    ensures disk { UsesDisk (D.meaning disk.old) (D.meaning disk.new) result }
+    ensures quiet { IsTrue (D.meaning disk.old).is_honest → IsQuiet (D.meaning disk.old) (D.meaning disk.new) }
+    ensures count { IfOk result (λ count. IsTrue (D.meaning disk.old).is_honest → count ≡ count_at first (D.meaning disk.old).bytes) }
+{
+    let mut bytes = [0; 4];
+    disk.read_at(u64::from(first) * BLOCK_LEN as u64, &mut bytes)?;
+    Ok(u32::from_le_bytes(bytes))
 }
 
 // Reads the record that begins at this block, and puts what it holds over what is staged. It answers the block behind
@@ -92,32 +106,37 @@ fn read_record<D: Disk>(
     header: &mut [u8],
     block: &mut [u8],
 ) -> Result<Option<u32>, Failed>
-    requires blocks { 578 < latest.old.blocks }
-    requires long { 4096 * latest.old.blocks ≤ (D.meaning disk.old).len }
+    requires blocks { homes_start latest.old.layout < latest.old.layout.blocks }
+    requires frames { latest.old.layout.records ≤ latest.old.capacity + 1 }
+    requires long { 4096 * latest.old.layout.blocks ≤ (D.meaning disk.old).len }
     requires room { length latest.old.entries + 2 ≤ first }
-    requires within { first ≤ 578 }
-    requires header { length header.old ≡ 4096 }
+    requires within { first ≤ homes_start latest.old.layout }
+    requires header { length header.old ≡ 4096 * header_blocks latest.old.layout.records }
     requires whole { length block.old ≡ 4096 }
     ensures disk { UsesDisk (D.meaning disk.old) (D.meaning disk.new) result }
     ensures quiet { IsTrue (D.meaning disk.old).is_honest → IsQuiet (D.meaning disk.old) (D.meaning disk.new) }
-    ensures blocks { latest.new.blocks ≡ latest.old.blocks }
+    ensures layout { latest.new.layout ≡ latest.old.layout }
+    ensures capacity { latest.new.capacity ≡ latest.old.capacity }
     ensures form { IfOk result (λ end. IsTrue (D.meaning disk.old).is_honest → MatchOption end
-        (is_record latest.old.blocks first (D.meaning disk.old).bytes ≡ false)
-        (λ behind. (is_record latest.old.blocks first (D.meaning disk.old).bytes ≡ true)
+        (is_record latest.old.layout first (D.meaning disk.old).bytes ≡ false)
+        (λ behind. (is_record latest.old.layout first (D.meaning disk.old).bytes ≡ true)
         × (behind ≡ record_end first (D.meaning disk.old).bytes)
         × Absorbs latest.old.entries (recorded first (D.meaning disk.old).bytes) latest.new.entries)) }
-    ensures room { IfOk result (λ end. IfSome end (λ behind. (length latest.new.entries + 2 ≤ behind) × (behind ≤ 578))) }
+    ensures room { IfOk result (λ end. IfSome end (λ behind.
+        (length latest.new.entries + 2 ≤ behind) × (behind ≤ homes_start latest.old.layout))) }
 {
+    let layout = latest.layout();
+    let count = read_count(disk, first)?;
+    if !has_end(layout, first, count) {
+        return Ok(None);
+    }
+    let header = &mut header[..header_len(count)];
     disk.read_at(u64::from(first) * BLOCK_LEN as u64, header)?;
-    if !is_header(header, latest.blocks()) {
+    if !is_header(header, layout, count) {
         return Ok(None);
     }
-    let behind = first + word(header, 0) + 1;
-    if behind > HOMES_START {
-        return Ok(None);
-    }
-    load(disk, first, header, latest, block)?;
-    Ok(Some(behind))
+    load(disk, first + header_blocks(count), header, latest, block)?;
+    Ok(Some(first + record_len(count)))
 }
 
 // Stages the latest contents of so many records. It answers the block of the first that is not in form, if there is one.
@@ -129,15 +148,17 @@ fn load_records<D: Disk>(
     block: &mut [u8],
 ) -> Result<Option<u32>, Failed>
     requires empty { latest.old.entries ≡ [] }
-    requires blocks { 578 < latest.old.blocks }
-    requires long { 4096 * latest.old.blocks ≤ (D.meaning disk.old).len }
-    requires header { length header.old ≡ 4096 }
+    requires blocks { homes_start latest.old.layout < latest.old.layout.blocks }
+    requires frames { latest.old.layout.records ≤ latest.old.capacity + 1 }
+    requires long { 4096 * latest.old.layout.blocks ≤ (D.meaning disk.old).len }
+    requires header { length header.old ≡ 4096 * header_blocks latest.old.layout.records }
     requires whole { length block.old ≡ 4096 }
     ensures disk { UsesDisk (D.meaning disk.old) (D.meaning disk.new) result }
     ensures quiet { IsTrue (D.meaning disk.old).is_honest → IsQuiet (D.meaning disk.old) (D.meaning disk.new) }
-    ensures blocks { latest.new.blocks ≡ latest.old.blocks }
+    ensures layout { latest.new.layout ≡ latest.old.layout }
+    ensures capacity { latest.new.capacity ≡ latest.old.capacity }
     ensures form { IfOk result (λ bad. IsTrue (D.meaning disk.old).is_honest
-        → bad ≡ first_bad latest.old.blocks 2 count (D.meaning disk.old).bytes) }
+        → bad ≡ first_bad latest.old.layout 2 count (D.meaning disk.old).bytes) }
     ensures loaded { IfOk result (λ bad. IsTrue (D.meaning disk.old).is_honest → bad ≡ None
         → (n : ℕ) (old : List ℕ) → look (all_recorded 2 count (D.meaning disk.old).bytes) n old ≡ look latest.new.entries n old) }
 {
@@ -153,11 +174,11 @@ fn load_records<D: Disk>(
 
 // Brings the open records home, if there are any, and closes all gates.
 fn close_gates<D: Disk>(disk: &mut D, count: u32, latest: &Stage) -> Result<(), Failed>
-    requires blocks { 578 < latest.now.blocks }
-    requires long { 4096 * latest.now.blocks ≤ (D.meaning disk.old).len }
+    requires blocks { homes_start latest.now.layout < latest.now.layout.blocks }
+    requires long { 4096 * latest.now.layout.blocks ≤ (D.meaning disk.old).len }
     ensures disk { UsesDisk (D.meaning disk.old) (D.meaning disk.new) result }
-    ensures closes { IsLoaded latest.now.blocks count latest.now.entries (D.meaning disk.old)
-        → Closes latest.now.blocks count (D.meaning disk.old) (D.meaning disk.new) result }
+    ensures closes { IsLoaded latest.now.layout count latest.now.entries (D.meaning disk.old)
+        → Closes latest.now.layout count (D.meaning disk.old) (D.meaning disk.new) result }
 {
     if count == 0 {
         return close_others(disk);
@@ -174,14 +195,16 @@ pub fn recover<D: Disk>(
     block: &mut [u8],
 ) -> Result<Option<u32>, Failed>
     requires empty { latest.old.entries ≡ [] }
-    requires blocks { 578 < latest.old.blocks }
-    requires long { 4096 * latest.old.blocks ≤ (D.meaning disk.old).len }
-    requires header { length header.old ≡ 4096 }
+    requires blocks { homes_start latest.old.layout < latest.old.layout.blocks }
+    requires frames { latest.old.layout.records ≤ latest.old.capacity + 1 }
+    requires long { 4096 * latest.old.layout.blocks ≤ (D.meaning disk.old).len }
+    requires header { length header.old ≡ 4096 * header_blocks latest.old.layout.records }
     requires whole { length block.old ≡ 4096 }
     ensures disk { UsesDisk (D.meaning disk.old) (D.meaning disk.new) result }
-    ensures blocks { latest.new.blocks ≡ latest.old.blocks }
+    ensures layout { latest.new.layout ≡ latest.old.layout }
+    ensures capacity { latest.new.capacity ≡ latest.old.capacity }
     ensures recovers { IsTrue (D.meaning disk.old).is_honest
-        → Recovers latest.old.blocks (D.meaning disk.old) (D.meaning disk.new) result }
+        → Recovers latest.old.layout (D.meaning disk.old) (D.meaning disk.new) result }
 {
     disk.sync()?;
     let gates = read_gates(disk)?;

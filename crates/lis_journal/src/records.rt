@@ -4,14 +4,15 @@ ghost use Rattle.std.specs.Prelude.{[], ◌++◌, ◌≡◌, ◌+◌, ◌*◌, �
 ghost use Rattle.std.specs.List.{range_with_len};
 ghost use Rattle.lis_ports.specs.Runs.{Leaves};
 ghost use Rattle.lis_ports.specs.Calls.{UsesDisk};
-ghost use Rattle.lis_journal.specs.Record.{homes, homes_of, is_header};
+ghost use Rattle.lis_journal.specs.Record.{homes_start, header_blocks, record_len, homes, homes_of, is_header};
 ghost use Rattle.lis_journal.specs.Images.{StandsBut, StandsForAllOrNone, FitsAt, with_run, look};
 ghost use Rattle.lis_journal.specs.Spreads.{Spreads, SamePast};
 ghost use Rattle.lis_journal.specs.Staging.{IsStaging, has_entry, HasNone};
 ghost use Rattle.lis_journal.specs.Phases.{Absorbs, looked};
 
 use crate::commit::{MAX_OPEN, append, checkpoint};
-use crate::stage::{BLOCK_LEN, HOMES_START, Stage};
+use crate::header::{has_end, record_len};
+use crate::stage::{BLOCK_LEN, Stage};
 use lis_ports::{Disk, Failed};
 use std::marker::Model;
 
@@ -32,17 +33,18 @@ impl Model for Records {
 
     ghost Value = { Log };
 
-    ghost view = { λ r. record { blocks = r.latest.blocks; records = records_of r.count r.next r.latest.entries } };
+    ghost view = { λ r. record { layout = r.latest.layout; records = records_of r.count r.next r.latest.entries } };
 
-    ghost invariant = { λ r. IsLog (record { blocks = r.latest.blocks; records = records_of r.count r.next r.latest.entries }) };
+    ghost invariant = { λ r. IsLog (record { layout = r.latest.layout; records = records_of r.count r.next r.latest.entries }) r.latest.capacity };
 }
 
 // Puts all staged blocks over the latest contents.
 fn absorb(latest: &mut Stage, stage: &Stage)
-    requires same { latest.old.blocks ≡ stage.now.blocks }
-    requires room { length latest.old.entries + length stage.now.entries ≤ 575 }
+    requires same { latest.old.layout ≡ stage.now.layout }
+    requires room { length latest.old.entries + length stage.now.entries ≤ latest.old.capacity }
     ensures absorbs { Absorbs latest.old.entries stage.now.entries latest.new.entries }
-    ensures blocks { latest.new.blocks ≡ latest.old.blocks }
+    ensures layout { latest.new.layout ≡ latest.old.layout }
+    ensures capacity { latest.new.capacity ≡ latest.old.capacity }
     ensures few { length latest.new.entries ≤ length latest.old.entries + length stage.now.entries }
 {
     for k in 0..stage.len() {
@@ -70,9 +72,10 @@ impl Records {
 
     /// No open record. What is staged in `latest` has to be nothing.
     pub fn new(latest: Stage) -> Self
-        requires blocks { 578 < latest.blocks }
+        requires blocks { homes_start latest.layout < latest.layout.blocks }
+        requires frames { latest.layout.records ≤ latest.capacity + 1 }
         requires empty { latest.entries ≡ [] }
-        ensures { result ≡ record { blocks = latest.blocks; records = no_records } }
+        ensures { result ≡ record { layout = latest.layout; records = no_records } }
     {
         Records {
             latest,
@@ -92,29 +95,30 @@ impl Records {
 
     // Whether there is room for a record more of so many blocks. There always is where no record is open.
     fn has_room(&self, blocks: usize) -> bool
-        requires { blocks ≤ 575 }
-        ensures room { IsTrue result → (self.now.records.count < 64) × (self.now.records.next + blocks + 1 ≤ 578) }
+        requires { record_len blocks ≤ self.now.layout.records }
+        ensures room { IsTrue result → (self.now.records.count < 64) × (self.now.records.next + record_len blocks ≤ homes_start self.now.layout) }
         ensures full { result ≡ false → 0 < self.now.records.count }
     {
         if self.count == MAX_OPEN {
             return false;
         }
-        self.next + blocks as u32 + 1 <= HOMES_START
+        let layout = self.latest.layout();
+        has_end(layout, self.next, blocks as u32)
     }
 
     // Makes a checkpoint, after which no record is open.
     fn clear<D: Disk>(&mut self, disk: &mut D) -> Result<(), Failed>
-        requires long { 4096 * self.old.blocks ≤ (D.meaning disk.old).len }
+        requires long { 4096 * self.old.layout.blocks ≤ (D.meaning disk.old).len }
         requires some { 0 < self.old.records.count }
         ensures disk { UsesDisk (D.meaning disk.old) (D.meaning disk.new) result }
         ensures any_moment { (placed : List ℕ) (kept : ℕ → List ℕ)
-            → FitsAt self.old.blocks self.old.records placed (D.meaning disk.old) kept
-            → Leaves (D.meaning disk.old) (D.meaning disk.new) (StandsBut self.old.blocks placed kept) }
+            → FitsAt self.old.layout self.old.records placed (D.meaning disk.old) kept
+            → Leaves (D.meaning disk.old) (D.meaning disk.new) (StandsBut self.old.layout placed kept) }
         ensures kept { OnOk result ((placed : List ℕ) (kept : ℕ → List ℕ)
-            → FitsAt self.old.blocks self.old.records placed (D.meaning disk.old) kept
-            → FitsAt self.old.blocks no_records [] (D.meaning disk.new) kept) }
+            → FitsAt self.old.layout self.old.records placed (D.meaning disk.old) kept
+            → FitsAt self.old.layout no_records [] (D.meaning disk.new) kept) }
         ensures past { IsTrue (D.meaning disk.old).is_honest
-            → Spreads (D.meaning disk.old) (D.meaning disk.new) (SamePast self.old.blocks) }
+            → Spreads (D.meaning disk.old) (D.meaning disk.new) (SamePast self.old.layout.blocks) }
         ensures done { OnOk result (self.new ≡ record self.old { records = no_records }) }
         ensures stays { OnErr result (self.new ≡ self.old) }
     {
@@ -127,19 +131,19 @@ impl Records {
 
     // Makes a checkpoint where there is no room for a record more of so many blocks.
     fn make_room<D: Disk>(&mut self, disk: &mut D, blocks: usize) -> Result<(), Failed>
-        requires long { 4096 * self.old.blocks ≤ (D.meaning disk.old).len }
-        requires few { blocks ≤ 575 }
+        requires long { 4096 * self.old.layout.blocks ≤ (D.meaning disk.old).len }
+        requires few { record_len blocks ≤ self.old.layout.records }
         ensures disk { UsesDisk (D.meaning disk.old) (D.meaning disk.new) result }
         ensures any_moment { (placed : List ℕ) (kept : ℕ → List ℕ)
-            → FitsAt self.old.blocks self.old.records placed (D.meaning disk.old) kept
-            → Leaves (D.meaning disk.old) (D.meaning disk.new) (StandsBut self.old.blocks placed kept) }
+            → FitsAt self.old.layout self.old.records placed (D.meaning disk.old) kept
+            → Leaves (D.meaning disk.old) (D.meaning disk.new) (StandsBut self.old.layout placed kept) }
         ensures kept { OnOk result ((placed : List ℕ) (kept : ℕ → List ℕ)
-            → FitsAt self.old.blocks self.old.records placed (D.meaning disk.old) kept
-            → FitsAt self.new.blocks self.new.records placed (D.meaning disk.new) kept) }
+            → FitsAt self.old.layout self.old.records placed (D.meaning disk.old) kept
+            → FitsAt self.new.layout self.new.records placed (D.meaning disk.new) kept) }
         ensures past { IsTrue (D.meaning disk.old).is_honest
-            → Spreads (D.meaning disk.old) (D.meaning disk.new) (SamePast self.old.blocks) }
-        ensures room { OnOk result ((self.new.records.count < 64) × (self.new.records.next + blocks + 1 ≤ 578)) }
-        ensures blocks { self.new.blocks ≡ self.old.blocks }
+            → Spreads (D.meaning disk.old) (D.meaning disk.new) (SamePast self.old.layout.blocks) }
+        ensures room { OnOk result ((self.new.records.count < 64) × (self.new.records.next + record_len blocks ≤ homes_start self.new.layout)) }
+        ensures layout { self.new.layout ≡ self.old.layout }
     {
         if self.has_room(blocks) {
             return Ok(());
@@ -149,30 +153,30 @@ impl Records {
 
     // Makes the staged blocks kept by one record more, for which there is room.
     fn append<D: Disk>(&mut self, disk: &mut D, header: &[u8], stage: &Stage) -> Result<(), Failed>
-        requires long { 4096 * self.old.blocks ≤ (D.meaning disk.old).len }
-        requires same { stage.now.blocks ≡ self.old.blocks }
+        requires long { 4096 * self.old.layout.blocks ≤ (D.meaning disk.old).len }
+        requires same { stage.now.layout ≡ self.old.layout }
         requires staging { IsStaging stage.now }
-        requires header { length header.now ≡ 4096 }
-        requires form { IsTrue (is_header stage.now.blocks header.now) }
+        requires header { length header.now ≡ 4096 * header_blocks (length stage.now.entries) }
+        requires form { IsTrue (is_header stage.now.layout header.now) }
         requires homes { homes_of header.now ≡ homes stage.now.entries }
         requires few { self.old.records.count < 64 }
-        requires room { self.old.records.next + length stage.now.entries + 1 ≤ 578 }
+        requires room { self.old.records.next + record_len (length stage.now.entries) ≤ homes_start self.old.layout }
         ensures disk { UsesDisk (D.meaning disk.old) (D.meaning disk.new) result }
         ensures any_moment { (placed : List ℕ) (kept : ℕ → List ℕ)
-            → FitsAt self.old.blocks self.old.records placed (D.meaning disk.old) kept
+            → FitsAt self.old.layout self.old.records placed (D.meaning disk.old) kept
             → Leaves (D.meaning disk.old) (D.meaning disk.new)
-            (StandsForAllOrNone self.old.blocks placed kept stage.now.entries) }
+            (StandsForAllOrNone self.old.layout placed kept stage.now.entries) }
         ensures kept { OnOk result ((placed : List ℕ) (kept : ℕ → List ℕ)
-            → FitsAt self.old.blocks self.old.records placed (D.meaning disk.old) kept
-            → FitsAt self.new.blocks self.new.records [] (D.meaning disk.new) (looked stage.now.entries kept)) }
+            → FitsAt self.old.layout self.old.records placed (D.meaning disk.old) kept
+            → FitsAt self.new.layout self.new.records [] (D.meaning disk.new) (looked stage.now.entries kept)) }
         ensures past { IsTrue (D.meaning disk.old).is_honest
-            → Spreads (D.meaning disk.old) (D.meaning disk.new) (SamePast self.old.blocks) }
-        ensures blocks { self.new.blocks ≡ self.old.blocks }
+            → Spreads (D.meaning disk.old) (D.meaning disk.new) (SamePast self.old.layout.blocks) }
+        ensures layout { self.new.layout ≡ self.old.layout }
     {
         append(disk, header, stage, self.count, self.next)?;
         absorb(&mut self.latest, stage);
         self.count += 1;
-        self.next += stage.len() as u32 + 1;
+        self.next += record_len(stage.len() as u32);
         Ok(())
     }
 
@@ -183,23 +187,24 @@ impl Records {
         header: &[u8],
         stage: &Stage,
     ) -> Result<(), Failed>
-        requires long { 4096 * self.old.blocks ≤ (D.meaning disk.old).len }
-        requires same { stage.now.blocks ≡ self.old.blocks }
+        requires long { 4096 * self.old.layout.blocks ≤ (D.meaning disk.old).len }
+        requires same { stage.now.layout ≡ self.old.layout }
         requires staging { IsStaging stage.now }
-        requires header { length header.now ≡ 4096 }
-        requires form { IsTrue (is_header stage.now.blocks header.now) }
+        requires fits { record_len (length stage.now.entries) ≤ self.old.layout.records }
+        requires header { length header.now ≡ 4096 * header_blocks (length stage.now.entries) }
+        requires form { IsTrue (is_header stage.now.layout header.now) }
         requires homes { homes_of header.now ≡ homes stage.now.entries }
         ensures disk { UsesDisk (D.meaning disk.old) (D.meaning disk.new) result }
         ensures any_moment { (placed : List ℕ) (kept : ℕ → List ℕ)
-            → FitsAt self.old.blocks self.old.records placed (D.meaning disk.old) kept
+            → FitsAt self.old.layout self.old.records placed (D.meaning disk.old) kept
             → Leaves (D.meaning disk.old) (D.meaning disk.new)
-            (StandsForAllOrNone self.old.blocks placed kept stage.now.entries) }
+            (StandsForAllOrNone self.old.layout placed kept stage.now.entries) }
         ensures kept { OnOk result ((placed : List ℕ) (kept : ℕ → List ℕ)
-            → FitsAt self.old.blocks self.old.records placed (D.meaning disk.old) kept
-            → FitsAt self.new.blocks self.new.records [] (D.meaning disk.new) (looked stage.now.entries kept)) }
+            → FitsAt self.old.layout self.old.records placed (D.meaning disk.old) kept
+            → FitsAt self.new.layout self.new.records [] (D.meaning disk.new) (looked stage.now.entries kept)) }
         ensures past { IsTrue (D.meaning disk.old).is_honest
-            → Spreads (D.meaning disk.old) (D.meaning disk.new) (SamePast self.old.blocks) }
-        ensures blocks { self.new.blocks ≡ self.old.blocks }
+            → Spreads (D.meaning disk.old) (D.meaning disk.new) (SamePast self.old.layout.blocks) }
+        ensures layout { self.new.layout ≡ self.old.layout }
     {
         self.make_room(disk, stage.len())?;
         self.append(disk, header, stage)
@@ -208,18 +213,18 @@ impl Records {
     // Makes a checkpoint where one of so many blocks from this one on is in an open record.
     fn free_homes<D: Disk>(&mut self, disk: &mut D, first: u32, count: u32) -> Result<(), Failed>
         requires within { first + count ≤ 2 ^ 32 }
-        requires long { 4096 * self.old.blocks ≤ (D.meaning disk.old).len }
+        requires long { 4096 * self.old.layout.blocks ≤ (D.meaning disk.old).len }
         ensures disk { UsesDisk (D.meaning disk.old) (D.meaning disk.new) result }
         ensures any_moment { (placed : List ℕ) (kept : ℕ → List ℕ)
-            → FitsAt self.old.blocks self.old.records placed (D.meaning disk.old) kept
-            → Leaves (D.meaning disk.old) (D.meaning disk.new) (StandsBut self.old.blocks placed kept) }
+            → FitsAt self.old.layout self.old.records placed (D.meaning disk.old) kept
+            → Leaves (D.meaning disk.old) (D.meaning disk.new) (StandsBut self.old.layout placed kept) }
         ensures kept { OnOk result ((placed : List ℕ) (kept : ℕ → List ℕ)
-            → FitsAt self.old.blocks self.old.records placed (D.meaning disk.old) kept
-            → FitsAt self.new.blocks self.new.records placed (D.meaning disk.new) kept) }
+            → FitsAt self.old.layout self.old.records placed (D.meaning disk.old) kept
+            → FitsAt self.new.layout self.new.records placed (D.meaning disk.new) kept) }
         ensures past { IsTrue (D.meaning disk.old).is_honest
-            → Spreads (D.meaning disk.old) (D.meaning disk.new) (SamePast self.old.blocks) }
+            → Spreads (D.meaning disk.old) (D.meaning disk.new) (SamePast self.old.layout.blocks) }
         ensures free { OnOk result (HasNone self.new.records.latest first count) }
-        ensures blocks { self.new.blocks ≡ self.old.blocks }
+        ensures layout { self.new.layout ≡ self.old.layout }
     {
         if !has_any(&self.latest, first, count) {
             return Ok(());
@@ -236,22 +241,22 @@ impl Records {
         count: u32,
         bytes: &[u8],
     ) -> Result<(), Failed>
-        requires long { 4096 * self.old.blocks ≤ (D.meaning disk.old).len }
-        requires home { 578 ≤ first }
-        requires within { first + count ≤ self.old.blocks }
+        requires long { 4096 * self.old.layout.blocks ≤ (D.meaning disk.old).len }
+        requires home { homes_start self.old.layout ≤ first }
+        requires within { first + count ≤ self.old.layout.blocks }
         requires wide { first + count ≤ 2 ^ 32 }
         requires whole { length bytes.now ≡ 4096 * count }
         ensures disk { UsesDisk (D.meaning disk.old) (D.meaning disk.new) result }
         ensures any_moment { (placed : List ℕ) (kept : ℕ → List ℕ)
-            → FitsAt self.old.blocks self.old.records placed (D.meaning disk.old) kept
-            → Leaves (D.meaning disk.old) (D.meaning disk.new) (StandsBut self.old.blocks (range_with_len first count ++ placed) kept) }
+            → FitsAt self.old.layout self.old.records placed (D.meaning disk.old) kept
+            → Leaves (D.meaning disk.old) (D.meaning disk.new) (StandsBut self.old.layout (range_with_len first count ++ placed) kept) }
         ensures kept { OnOk result ((placed : List ℕ) (kept : ℕ → List ℕ)
-            → FitsAt self.old.blocks self.old.records placed (D.meaning disk.old) kept
-            → FitsAt self.new.blocks self.new.records (range_with_len first count ++ placed) (D.meaning disk.new)
+            → FitsAt self.old.layout self.old.records placed (D.meaning disk.old) kept
+            → FitsAt self.new.layout self.new.records (range_with_len first count ++ placed) (D.meaning disk.new)
             (with_run first count bytes.now kept)) }
         ensures past { IsTrue (D.meaning disk.old).is_honest
-            → Spreads (D.meaning disk.old) (D.meaning disk.new) (SamePast self.old.blocks) }
-        ensures blocks { self.new.blocks ≡ self.old.blocks }
+            → Spreads (D.meaning disk.old) (D.meaning disk.new) (SamePast self.old.layout.blocks) }
+        ensures layout { self.new.layout ≡ self.old.layout }
     {
         self.free_homes(disk, first, count)?;
         disk.write_at(u64::from(first) * BLOCK_LEN as u64, bytes)

@@ -1,22 +1,16 @@
 //! Staged blocks, each in a frame, in the order of their homes.
 
-ghost use Rattle.std.specs.Prelude.{if◌then◌else◌, false, [], ◌≡◌, ◌⊎◌, ◌+◌, ◌<◌, ◌≤◌, ◌==◌, ℕ, List, Option, Some, length, take, IsTrue, IfOk, IfSome, IfNone, OnSome, MatchResult, true, slice_index_or, vec_capacity};
-ghost use Rattle.lis_region.specs.Region as region;
+ghost use Rattle.std.specs.Prelude.{if◌then◌else◌, false, [], ◌≡◌, ◌⊎◌, ◌+◌, ◌^◌, ◌<◌, ◌≤◌, ◌==◌, ℕ, List, Option, Some, length, take, IsTrue, IfOk, IfSome, IfNone, OnSome, MatchResult, true, slice_index_or, vec_capacity};
 ghost use Rattle.lis_journal.specs.Record.{rises};
 ghost use Rattle.lis_journal.specs.Inside.{home_list, FoundAt, PlaceFor};
 
-use lis_region::{Frame, Region};
+use crate::layout::Layout;
+use lis_region::{Frame, Pool};
 use std::alloc::{AllocError, Global};
 use std::marker::Model;
 
 /// How many bytes a block has.
 pub const BLOCK_LEN: usize = 4_096;
-
-/// The first home block.
-pub const HOMES_START: u32 = 578;
-
-/// How many blocks can be staged.
-pub const MAX_STAGED: u32 = 575;
 
 // A block, and the frame that holds what it is to hold.
 #[derive(Drop)]
@@ -25,11 +19,12 @@ pub struct Staged {
     frame: Frame,
 }
 
-/// A finite map from home blocks to contents, for an image of so many blocks.
+/// A finite map from home blocks to contents, for an image of this layout. It has so many contents at most.
 #[derive(Drop)]
 pub struct Stage {
-    blocks: u32,
-    region: Region<u8>,
+    layout: Layout,
+    capacity: u32,
+    pool: Pool<u8>,
     staged: Vec<Staged>,
 }
 
@@ -41,14 +36,14 @@ impl Model for Stage {
 
     ghost use Rattle.lis_journal.specs.Inside.{staging_of, IsStage};
 
-    ghost view = { λ s. staging_of s.region s.staged.items s.blocks };
+    ghost view = { λ s. staging_of s.pool s.staged.items s.layout s.capacity };
 
-    ghost invariant = { λ s. IsStage s.region s.staged.items (vec_capacity s.staged) s.blocks };
+    ghost invariant = { λ s. IsStage s.pool s.staged.items (vec_capacity s.staged) s.layout s.capacity };
 }
 
 // The place of a block where it is staged, or else the place that it would have.
 fn find(staged: &[Staged], n: u32) -> Result<usize, usize>
-    requires { (blocks : ℕ) × IsTrue (rises blocks 577 (home_list staged.now)) }
+    requires { (blocks : ℕ) × ((last : ℕ) × IsTrue (rises blocks last (home_list staged.now))) }
     ensures bound { MatchResult result (λ k. k < length staged.now) (λ k. k ≤ length staged.now) }
     ensures place { MatchResult result (λ k. FoundAt n k staged.now) (λ k. PlaceFor n k staged.now) }
 {
@@ -69,37 +64,36 @@ fn find(staged: &[Staged], n: u32) -> Result<usize, usize>
     }
 }
 
-// Writes a frame.
-fn fill(frames: &mut Region<u8>, frame: &Frame, bytes: &[u8])
-    requires taken { region.HasFrame frames.old frame.now }
-    requires wide { frames.old.width ≡ 4096 }
-    requires whole { length bytes.now ≡ 4096 }
-    ensures { frames.new ≡ region.with_frame frames.old frame.now (Some bytes.now) }
-{
-    frames.items_mut(frame).copy_from_slice(bytes);
-}
-
 impl Stage {
-    ghost use Rattle.lis_journal.specs.Record.{HomeBlock};
+    ghost use Rattle.lis_journal.specs.Record.{HomeBlock, homes_start};
     ghost use Rattle.lis_journal.specs.Images.{look};
     ghost use Rattle.lis_journal.specs.Staging.{with_entry, has_entry, IsStaging};
 
-    /// Nothing staged. All memory that it will use is taken here.
-    pub fn new(alloc: Global, blocks: u32) -> Result<Self, AllocError>
-        ensures { IfOk result (λ s. s ≡ record { blocks = blocks; entries = [] }) }
+    /// Nothing staged. All memory that it will use is reserved here, and touched when a block is staged.
+    pub fn new(alloc: Global, layout: Layout, capacity: u32) -> Result<Self, AllocError>
+        requires { capacity ≤ 2 ^ 16 }
+        ensures { IfOk result (λ s. s ≡ record { layout = layout; capacity = capacity; entries = [] }) }
     {
         Ok(Stage {
-            blocks,
-            region: Region::new(alloc, MAX_STAGED, BLOCK_LEN as u32, 0)?,
-            staged: Vec::with_capacity(alloc, MAX_STAGED as usize)?,
+            layout,
+            capacity,
+            pool: Pool::new(alloc, capacity, BLOCK_LEN as u32, 0)?,
+            staged: Vec::with_capacity(alloc, capacity as usize)?,
         })
     }
 
-    /// How many blocks the image has.
-    pub fn blocks(&self) -> u32
-        ensures { result ≡ self.now.blocks }
+    /// The layout of the image.
+    pub fn layout(&self) -> Layout
+        ensures { result ≡ self.now.layout }
     {
-        self.blocks
+        self.layout
+    }
+
+    /// How many blocks can be staged.
+    pub fn capacity(&self) -> u32
+        ensures { result ≡ self.now.capacity }
+    {
+        self.capacity
     }
 
     pub fn len(&self) -> usize
@@ -123,7 +117,7 @@ impl Stage {
         ensures bytes { (d : HomeBlock) → result.now ≡ (slice_index_or self.now.entries k d).bytes }
         ensures whole { length result.now ≡ 4096 }
     {
-        self.region.items(&self.staged[k].frame)
+        self.pool.items(&self.staged[k].frame)
     }
 
     /// What a block is to hold, if it is staged.
@@ -148,21 +142,21 @@ impl Stage {
 
     /// Stages a block, in the place of what is staged for it.
     pub fn put(&mut self, n: u32, bytes: &[u8])
-        requires home { 578 ≤ n }
-        requires within { n < self.old.blocks }
+        requires home { homes_start self.old.layout ≤ n }
+        requires within { n < self.old.layout.blocks }
         requires whole { length bytes.now ≡ 4096 }
-        requires room { IsTrue (has_entry self.old.entries n) ⊎ (length self.old.entries < 575) }
+        requires room { IsTrue (has_entry self.old.entries n) ⊎ (length self.old.entries < self.old.capacity) }
         ensures put { self.new ≡ record self.old { entries = with_entry self.old.entries n bytes.now } }
         ensures looks { (m : ℕ) (old : List ℕ) → look self.new.entries m old
             ≡ (if m == n then bytes.now else look self.old.entries m old) }
     {
         match find(&self.staged, n) {
-            Ok(place) => fill(&mut self.region, &self.staged[place].frame, bytes),
+            Ok(place) => self.pool.write(&self.staged[place].frame, bytes),
             Err(place) => {
-                let Some(frame) = self.region.take() else {
+                let Some(frame) = self.pool.take() else {
                     unreachable!()
                 };
-                fill(&mut self.region, &frame, bytes);
+                self.pool.write(&frame, bytes);
                 let Ok(()) = self.staged.insert(place, Staged { home: n, frame }) else {
                     unreachable!()
                 };
@@ -175,7 +169,7 @@ impl Stage {
         ensures { self.new ≡ record self.old { entries = [] } }
     {
         while let Some(last) = self.staged.pop() {
-            self.region.give(last.frame);
+            self.pool.give(last.frame);
         }
     }
 }

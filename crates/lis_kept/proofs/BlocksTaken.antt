@@ -32,6 +32,7 @@ use Rattle.lis_kept.proofs.Formed.{held_files, record_parts}
 use Rattle.lis_kept.proofs.Marking.{block_marked}
 use Rattle.lis_kept.proofs.Contents.{slot_blocks_counted}
 use Rattle.lis_model.specs.Sets.{has_number, are_short}
+use Rattle.lis_journal.specs.Journal.{shape_of}
 
 -- ---- other blocks are taken, over what memory kept
 module _ (k p : Kept) (t : Taxonomy) (taken marks : List Bool) (is : p ≡ k) (held : AreHeld p t) (len : length taken ≡ length p.taken) (marked_is : marks ≡ set p.marks (bitmap_start p.limits) true) where
@@ -99,7 +100,7 @@ module _ (p : Kept) (t : Taxonomy) (held : AreHeld p t) (bytes numbers : List �
     takes = subst (λ (ts : List Bool). Takes ts p q) placed.lays.places.marks takes;
     in_form = free_in_form p t held numbers free (length bytes) few placed.slot_len slot_apart;
     below = free_below p t held numbers free;
-    image = ap (λ (h : Held). h.blocks) placed.lays.journal;
+    image = ap shape_of placed.lays.journal;
     broken = ap (λ (h : Held). h.is_broken) placed.lays.journal;
     placed = λ n among. sym (among_homes (data_start p.limits) placed.blocks n) ∙ (ap (λ (h : Held). is_among h.placed n) (sym placed.lays.journal) ∙ among);
     few_staged = omega (arith, ap length staged_same);
@@ -107,7 +108,7 @@ module _ (p : Kept) (t : Taxonomy) (held : AreHeld p t) (bytes numbers : List �
     lands = placed_lands;
     stays = λ kept fits n none. (placed.lays.fits kept fits).2 n (sym (among_homes (data_start p.limits) placed.blocks n) ∙ (ap (λ (h : Held). is_among h.placed n) (sym placed.lays.journal) ∙ none));
     moments = λ kept fits.
-        subst (λ ns. Leaves before after (StandsBut old.blocks ns kept)) (sym (ap (λ (h : Held). h.placed) placed.lays.journal)) (placed.lays.places.moments kept fits);
+        subst (λ ns. Leaves before after (StandsBut old.layout ns kept)) (sym (ap (λ (h : Held). h.placed) placed.lays.journal)) (placed.lays.places.moments kept fits);
     unplaced = λ small. absurd (let e : true ≡ false = sym large ∙ small in cc);
     unstaged = λ _. staged_same;
   }
@@ -205,7 +206,7 @@ module _ {T : Type 0} (items : T → List ℕ) (k p : Kept) (t : Taxonomy) (is :
           blocks = torn.blocks;
           fills = placed_fills p taken old before after torn.blocks torn.places;
           parts = refl;
-          image = ap (λ (h : Held). h.blocks) torn.journal;
+          image = ap shape_of torn.journal;
         })
 
     pub placed_ends : (put : Result T PutFault)

@@ -16,6 +16,7 @@ pub mod FirstRight
 pub mod Forgotten
 pub mod Formed
 pub mod HeadEdges
+pub mod Image
 pub mod InArea
 pub mod Known
 pub mod Marking

@@ -13,11 +13,12 @@ use Rattle.lis_kept.specs.Areas.{Area, slots_of, block_of, spelled, held_in, is_
 use Rattle.lis_kept.specs.Staging.{Stages}
 use Rattle.lis_kept.specs.Inside.{bytes_in, IsBlock, StagesBlock, StagedBelow}
 use Rattle.lis_kept.proofs.InArea.{held_by, among_slots}
+use Rattle.lis_journal.specs.Journal.{shape_of}
 
 pub stages_block : (k : Kept) (n : ℕ) (old new : Held) (block : List ℕ) → new ≡ record old { staged = with_entry old.staged n block }
     → ((m : ℕ) (was : List ℕ) → look new.staged m was ≡ cond (m == n) block (look old.staged m was)) → IsBlock k n block → StagesBlock k n old new
 stages_block k n old new block is looks spells = record {
-  image = ap (λ (h : Held). h.blocks) is;
+  image = ap shape_of is;
   records = ap (λ (h : Held). h.records) is;
   placed = ap (λ (h : Held). h.placed) is;
   broken = ap (λ (h : Held). h.is_broken) is;

@@ -1,6 +1,6 @@
 -- The changes of memory. Each marks the blocks that it touches, and tells what becomes of the state.
 use Rattle.std.specs.Prelude.{◌≡◌, ◌⊎◌, ℕ, ◌+◌, ◌<◌, ◌≤◌, nat_lt, Bool, true, false, ◌&&◌, not, if◌then◌else◌, is_some, Some, None, List, [], length, map, slice_set, IsTrue}
-use Rattle.lis_journal.specs.Journal.{Held}
+use Rattle.lis_journal.specs.Journal.{Held, shape_of}
 use Rattle.lis_ports.specs.Meaning.{Meaning}
 use Rattle.lis_ports.specs.Runs.{Leaves}
 use Rattle.lis_journal.specs.Images.{StandsBut, Fits, KeepsPast, is_among, look}
@@ -126,8 +126,8 @@ pub record Lands (limits : Limits) (bytes numbers blocks : List ℕ) (at : ℕ �
 pub record Fills (blocks : List ℕ) (p : Kept) (old : Held) (before after : Meaning) : Type 0 where
   pub distinct : IsTrue (are_distinct blocks)
   pub were_free : IsTrue (are_free p.taken blocks)
-  pub moments : (kept : ℕ → List ℕ) → Fits old before kept → Leaves before after (StandsBut old.blocks (homes_of (data_start p.limits) blocks) kept)
-  pub past : (kept : ℕ → List ℕ) → Fits old before kept → KeepsPast old.blocks before after
+  pub moments : (kept : ℕ → List ℕ) → Fits old before kept → Leaves before after (StandsBut old.layout (homes_of (data_start p.limits) blocks) kept)
+  pub past : (kept : ℕ → List ℕ) → Fits old before kept → KeepsPast old.layout.blocks before after
 
 -- A content is put into free blocks, which are taken: staged, or placed with an index block where it is large. `old` and `new` are the
 -- journal before and after. Nothing else is staged or placed.
@@ -137,14 +137,14 @@ pub record Puts (bytes numbers : List ℕ) (p q : Kept) (old new : Held) (before
   pub takes : Takes (marked p.taken blocks) p q
   pub in_form : IsTrue (are_blocks p.limits.version (length bytes) numbers)
   pub below : IsTrue (list_all (λ n. nat_lt n p.limits.blocks) numbers)
-  pub image : new.blocks ≡ old.blocks
+  pub image : shape_of new ≡ shape_of old
   pub broken : new.is_broken ≡ old.is_broken
   pub placed : (n : ℕ) → is_among new.placed n ≡ true → has_home (data_start p.limits) blocks n ≡ true
   pub few_staged : length new.staged ≤ length old.staged + 16
   pub others : (n : ℕ) (was : List ℕ) → has_home (data_start p.limits) blocks n ≡ false → look new.staged n was ≡ look old.staged n was
   pub lands : (kept : ℕ → List ℕ) → Fits old before kept → Lands p.limits bytes numbers blocks (looked old.staged kept) new after
   pub stays : (kept : ℕ → List ℕ) (fits : Fits old before kept) (n : ℕ) → is_among new.placed n ≡ false → (lands kept fits).kept n ≡ kept n
-  pub moments : (kept : ℕ → List ℕ) → Fits old before kept → Leaves before after (StandsBut old.blocks new.placed kept)
+  pub moments : (kept : ℕ → List ℕ) → Fits old before kept → Leaves before after (StandsBut old.layout new.placed kept)
   pub unplaced : is_large (length bytes) ≡ false → new.placed ≡ []
   pub unstaged : is_large (length bytes) ≡ true → new.staged ≡ old.staged
 
@@ -153,4 +153,4 @@ pub record PutTorn (p q : Kept) (old new : Held) (before after : Meaning) : Type
   pub blocks : List ℕ
   pub fills : Fills blocks p old before after
   pub parts : q ≡ record p { taken = q.taken; marks = q.marks }
-  pub image : new.blocks ≡ old.blocks
+  pub image : shape_of new ≡ shape_of old

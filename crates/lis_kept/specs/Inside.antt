@@ -1,7 +1,7 @@
 -- How one block is spelled and staged. No public clause cites this module.
 use Rattle.std.specs.Prelude.{◌≡◌, ◌≢◌, ◌⊎◌, ℕ, ◌+◌, ◌<◌, ◌≤◌, Bool, true, false, List, length, take, count_by, IsSome}
 use Rattle.lis_ports.specs.Bytes.{part}
-use Rattle.lis_journal.specs.Journal.{Held}
+use Rattle.lis_journal.specs.Journal.{Held, shape_of}
 use Rattle.lis_journal.specs.Images.{look}
 use Rattle.lis_journal.specs.Phases.{looked}
 use Rattle.lis_slots.specs.Slots.{place}
@@ -31,7 +31,7 @@ pub record IsShort (d : Dict) : Type 0 where
 
 -- one block is staged as memory spells it
 pub record StagesBlock (k : Kept) (n : ℕ) (old new : Held) : Type 0 where
-  pub image : new.blocks ≡ old.blocks
+  pub image : shape_of new ≡ shape_of old
   pub records : new.records ≡ old.records
   pub placed : new.placed ≡ old.placed
   pub broken : new.is_broken ≡ old.is_broken
@@ -43,7 +43,7 @@ pub record StagesBlock (k : Kept) (n : ℕ) (old new : Held) : Type 0 where
 
 -- the marked blocks below a number are staged
 pub record StagedBelow (k : Kept) (end : ℕ) (old new : Held) : Type 0 where
-  pub image : new.blocks ≡ old.blocks
+  pub image : shape_of new ≡ shape_of old
   pub records : new.records ≡ old.records
   pub placed : new.placed ≡ old.placed
   pub broken : new.is_broken ≡ old.is_broken

@@ -1,6 +1,7 @@
 pub mod Kept
 pub mod Rows
 pub mod Areas
+pub mod Image
 pub mod Telling
 pub mod Sound
 pub mod Links

@@ -1,6 +1,6 @@
 -- What writing the marked blocks into a journal does.
 use Rattle.std.specs.Prelude.{◌≡◌, ◌⊎◌, ℕ, ◌+◌, ◌<◌, ◌≤◌, true, List, length}
-use Rattle.lis_journal.specs.Journal.{Held}
+use Rattle.lis_journal.specs.Journal.{Held, shape_of}
 use Rattle.lis_journal.specs.Images.{look}
 use Rattle.lis_journal.specs.Phases.{looked}
 use Rattle.lis_model.specs.Image.{properties_start, data_start}
@@ -9,7 +9,7 @@ use Rattle.lis_kept.specs.Areas.{IsSaved, IsWritten, is_marked, marked_count}
 
 -- Every marked block is staged as memory spells it; blocks before the slots and data blocks look as before.
 pub record Stages (k : Kept) (old new : Held) : Type 0 where
-  pub image : new.blocks ≡ old.blocks
+  pub image : shape_of new ≡ shape_of old
   pub records : new.records ≡ old.records
   pub placed : new.placed ≡ old.placed
   pub broken : new.is_broken ≡ old.is_broken

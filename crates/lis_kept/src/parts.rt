@@ -2,7 +2,9 @@
 
 ghost use Rattle.std.specs.Prelude.{◌≡◌, ℕ, ◌+◌, ◌<◌, ◌≤◌, false, length, replicate};
 ghost use Rattle.lis_journal.specs.Images.{is_among};
-ghost use Rattle.lis_model.specs.Image.{bitmap_start, data_start, image_blocks};
+ghost use Rattle.lis_model.specs.Image.{properties_start, bitmap_start, data_start};
+ghost use Rattle.lis_journal.specs.Journal.{shape_of};
+ghost use Rattle.lis_kept.specs.Image.{image_shape};
 
 use crate::places::{
     PROPERTIES_START, axioms_start, bitmap_start, data_start, files_start, rows_start,
@@ -70,10 +72,10 @@ impl Parts {
 
     /// Stages every marked block, spelled whole. The marks stay.
     pub fn stage(&self, journal: &mut Journal)
-        requires image { journal.old.blocks ≡ image_blocks self.now.limits }
+        requires image { shape_of journal.old ≡ image_shape self.now.limits }
         requires unbroken { journal.old.is_broken ≡ false }
         requires unplaced { (n : ℕ) → n < data_start self.now.limits → is_among journal.old.placed n ≡ false }
-        requires room { length journal.old.staged + marked_count self.now ≤ 575 }
+        requires room { length journal.old.staged + marked_count self.now ≤ journal.old.capacity.staged }
         ensures staged { Stages self.now journal.old journal.new }
         ensures sound { AreSound self.now }
     {
@@ -103,11 +105,11 @@ impl Parts {
 
     // Stages a block, spelled whole.
     fn stage_block(&self, journal: &mut Journal, n: u32)
-        requires image { journal.old.blocks ≡ image_blocks self.now.limits }
+        requires image { shape_of journal.old ≡ image_shape self.now.limits }
         requires unbroken { journal.old.is_broken ≡ false }
         requires unplaced { is_among journal.old.placed n ≡ false }
-        requires room { length journal.old.staged < 575 }
-        requires from { 578 ≤ n }
+        requires room { length journal.old.staged < journal.old.capacity.staged }
+        requires from { properties_start ≤ n }
         requires to { n < data_start self.now.limits }
         ensures { StagesBlock self.now n journal.old journal.new }
     {
@@ -122,7 +124,7 @@ impl Parts {
 
     // Writes a block of slots or rows.
     fn write_block(&self, n: u32, block: &mut [u8])
-        requires from { 578 ≤ n }
+        requires from { properties_start ≤ n }
         requires to { n < bitmap_start self.now.limits }
         requires whole { length block.old ≡ 4096 }
         ensures { IsBlock self.now n block.new }

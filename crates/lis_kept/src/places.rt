@@ -1,10 +1,40 @@
-//! Where the parts of an image begin, in blocks.
+//! How an image is divided, and where its parts begin, in blocks.
 
 ghost use Rattle.std.specs.Prelude.{◌≡◌, ◌≤◌, IsTrue};
+ghost use Rattle.lis_kept.specs.Image.{record_blocks, image_layout, image_capacity};
 ghost use Rattle.lis_model.specs.Ranges.{are_in_range};
 ghost use Rattle.lis_model.specs.Image.{axioms_start, files_start, rows_start, bitmap_start, data_start};
 
+use lis_journal::{Capacity, Layout};
 use lis_model::limits::{Limits, image_blocks};
+
+// How many blocks of an image hold records.
+fn record_blocks(_limits: &Limits) -> u32
+    ensures { result ≡ record_blocks _limits.now }
+{
+    576
+}
+
+/// How an image of these limits is divided.
+pub fn image_layout(limits: &Limits) -> Layout
+    requires { IsTrue (are_in_range limits.now) }
+    ensures { result ≡ image_layout limits.now }
+{
+    Layout {
+        records: record_blocks(limits),
+        blocks: image_blocks(limits),
+    }
+}
+
+/// How many of its blocks can be staged, and how many placed, before a commit.
+pub fn image_capacity(_limits: &Limits) -> Capacity
+    ensures { result ≡ image_capacity _limits.now }
+{
+    Capacity {
+        staged: 575,
+        placed: 257,
+    }
+}
 
 /// The first block of property slots.
 pub const PROPERTIES_START: u32 = 578;

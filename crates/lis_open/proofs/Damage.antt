@@ -26,6 +26,7 @@ use Rattle.lis_open.proofs.Once.{is_taken-marked, distinct_piece, taken_place, s
 use Rattle.lis_open.proofs.Lefts.{zero_row}
 use Rattle.lis_open.proofs.Descriptions.{one_in}
 use Rattle.lis_store.proofs.Declared.{apart_numbers}
+use Rattle.lis_kept.specs.Image.{image_layout}
 
 -- ---- one value in each slot
 pub one_contents : (limits : Limits) (at : ℕ → List ℕ) (a b : Contents) → AreContents limits at a → AreContents limits at b → a ≡ b
@@ -321,7 +322,7 @@ replayed_passes : (image : List ℕ) (s : State) (spot : Spot) → Stands image 
 unfolding Stands
 replayed_passes image s spot stands fails =
     let limits = one_limits image fails.limits s.limits fails.super (record { range = stands.range; spelled = stands.super }) in
-    let replay = same_Some fails.replay stands.replay (sym fails.replays ∙ (ap (λ (l : Limits). replayed (image_blocks l) image) limits ∙ stands.replays)) in
+    let replay = same_Some fails.replay stands.replay (sym fails.replays ∙ (ap (λ (l : Limits). replayed (image_layout l) image) limits ∙ stands.replays)) in
     let there = subst (λ (l : Limits). Fails l (λ n. block n fails.replay) spot) limits fails.fails in
     spelled_passes s.limits stands.contents (λ n. block n stands.replay) s spot stands.spells (subst (λ (r : List ℕ). Fails s.limits (λ n. block n r) spot) replay there)
 
@@ -329,7 +330,7 @@ record_passes : (image : List ℕ) (s : State) (b : ℕ) → Stands image s → 
 unfolding Stands
 record_passes image s b stands fails =
     let limits = one_limits image fails.limits s.limits fails.super (record { range = stands.range; spelled = stands.super }) in
-    let none = sym fails.replays ∙ (ap (λ (l : Limits). replayed (image_blocks l) image) limits ∙ stands.replays) in
+    let none = sym fails.replays ∙ (ap (λ (l : Limits). replayed (image_layout l) image) limits ∙ stands.replays) in
     cc
 
 -- an image of which a part fails its check stands for no state

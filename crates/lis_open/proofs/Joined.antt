@@ -29,6 +29,8 @@ use Rattle.lis_store.proofs.FileTests.{assigned_no_test, test_described}
 use Rattle.lis_open.proofs.AxiomsRead.{test_word}
 use Rattle.std.proofs.lemmas.List.{length-map}
 use Rattle.std.proofs.lemmas.List.Folds.{list_all-map}
+use Rattle.lis_journal.specs.Journal.{shape_of}
+use Rattle.lis_kept.specs.Image.{image_shape}
 use mathlib.Core.List.{map-map}
 use Rattle.lis_graph.specs.Graph.{is_rising}
 use Rattle.lis_graph.proofs.Sets.{sorted_nil, sorted_with_more}
@@ -207,7 +209,7 @@ module _ (limits : Limits) (words : Words) (axioms : Axioms) (files : Files) (ma
   parts_tests = record { given = untested; met = met_by_number }
 
   -- what was read is what a store may keep
-  pub store_sound : (journal : Held) → journal.blocks ≡ image_blocks limits → journal.is_broken ≡ false → journal.staged ≡ [] → journal.placed ≡ [] → IsSound (record { parts = kept_in limits words axioms files marks; journal = journal; is_broken = false })
+  pub store_sound : (journal : Held) → shape_of journal ≡ image_shape limits → journal.is_broken ≡ false → journal.staged ≡ [] → journal.placed ≡ [] → IsSound (record { parts = kept_in limits words axioms files marks; journal = journal; is_broken = false })
   store_sound journal image unbroken staged placed =
       let few : length journal.staged ≤ 44 = omega (arith, ap length staged) in
       let whole : IsTrue (are_whole journal.staged) = ap are_whole staged in

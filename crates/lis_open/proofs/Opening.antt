@@ -26,20 +26,23 @@ use Rattle.lis_open.proofs.SpotKinds.{behind}
 use Rattle.lis_open.proofs.BlocksRead.{fits_after, settled_after}
 use Rattle.lis_open.proofs.Needs.{one_limits, has_super, needs_no_more}
 use Rattle.lis_open.proofs.Damage.{damaged}
+use Rattle.lis_kept.specs.Image.{image_layout}
+use Rattle.lis_journal.specs.declared.layout.Layout.{Layout}
+use Rattle.lis_model.specs.Image.{properties_start}
 
 -- ---- slots and bytes look at home blocks alone
 le_more : (m a b : ℕ) → m ≤ a → m ≤ a + b
 le_more m a b le = omega arith
 
 -- blocks that are the same from the first home block on
-module _ (at there : ℕ → List ℕ) (same : (n : ℕ) → 578 ≤ n → at n ≡ there n) where
-  same_slots : {X : Type 0} (spelled : X → List ℕ) (is_in_range : X → Bool) (slots : Slots) (values : List X) → 578 ≤ slots.first
+module _ (at there : ℕ → List ℕ) (same : (n : ℕ) → properties_start ≤ n → at n ≡ there n) where
+  same_slots : {X : Type 0} (spelled : X → List ℕ) (is_in_range : X → Bool) (slots : Slots) (values : List X) → properties_start ≤ slots.first
       → AreSlots spelled is_in_range slots at values → AreSlots spelled is_in_range slots there values
   same_slots spelled is_in_range slots values home_blocks are = record {
     count = are.count;
     each = λ k value is.
         let was = are.each k value is in
-        let here = same (home slots k) (le_more 578 slots.first _ home_blocks) in
+        let here = same (home slots k) (le_more properties_start slots.first _ home_blocks) in
         (sym (ap (part (place slots k) slots.width) here) ∙ was.0, was.1);
   }
 
@@ -88,21 +91,21 @@ module _ (at there : ℕ → List ℕ) (same : (n : ℕ) → 578 ≤ n → at n 
 
         rows : (p : ℕ) → p < (row_slots limits).count → slot (row_slots limits) there p ≡ bits_bytes (limits.files / 8) (row_bit s limits contents there p)
         rows p lt =
-            sym (ap (part (place (row_slots limits) p) (row_slots limits).width) (same (home (row_slots limits) p) (le_more 578 (row_slots limits).first _ (omega arith))))
+            sym (ap (part (place (row_slots limits) p) (row_slots limits).width) (same (home (row_slots limits) p) (le_more properties_start (row_slots limits).first _ (omega arith))))
             ∙ (spells.rows p lt
             ∙ ap (λ f. bits_bytes (limits.files / 8) (λ i. is_had_by s f (word_at contents.properties p) (slice_index_or contents.files i FreeFile))) (same_files contents.properties))
 
 -- ---- images stand
 pub kept_stands : (s : State) (contents : Contents) (at : ℕ → List ℕ) (image : List ℕ) → IsTrue (are_in_range s.limits) → SpellsSuper s.limits (at 0) → Spells s.limits contents at s
-    → KeptBy (image_blocks s.limits) at image → Stands image s
+    → KeptBy (image_layout s.limits) at image → Stands image s
 unfolding KeptBy Stands
-kept_stands s contents at image range super spells keeps = by (replayed (image_blocks s.limits) image) refl keeps.1
+kept_stands s contents at image range super spells keeps = by (replayed (image_layout s.limits) image) refl keeps.1
   where
-    by : (o : Option (List ℕ)) → replayed (image_blocks s.limits) image ≡ o → IsSomeAnd o (Keeps (image_blocks s.limits) at) → Stands image s
+    by : (o : Option (List ℕ)) → replayed (image_layout s.limits) image ≡ o → IsSomeAnd o (Keeps (image_layout s.limits) at) → Stands image s
     by None is none = absurd none
     by (Some r) is keep = record {
       range = range;
-      super = subst (λ (bytes : List ℕ). SpellsSuper s.limits bytes) (sym (keep.same 0 (inl refl)) ∙ replayed-front (image_blocks s.limits) image r (omega arith) keeps.0 is) super;
+      super = subst (λ (bytes : List ℕ). SpellsSuper s.limits bytes) (sym (keep.same 0 (inl refl)) ∙ replayed-front (image_layout s.limits) image r (omega arith) keeps.0 is) super;
       long = keeps.0;
       replay = r;
       replays = is;
@@ -117,9 +120,9 @@ some_replay None P is = absurd is
 some_replay (Some r) P is = (r, refl, is)
 
 -- with a record that is not in form nothing is to be done
-recovered-none : (blocks : ℕ) (image : List ℕ) → replayed blocks image ≡ None → recovered blocks image ≡ image
+recovered-none : (layout : Layout) (image : List ℕ) → replayed layout image ≡ None → recovered layout image ≡ image
 unfolding recovered
-recovered-none blocks image none =
+recovered-none layout image none =
     ap (λ o. cond (has_open image) (recovered_as image o) image) none ∙ elim (has_open image) as (λ opened. cond opened image image ≡ image) [ true ↦ refl | false ↦ refl ]
 
 -- ---- faults
@@ -193,7 +196,7 @@ module _ (old mid : Meaning) (same : IsUnchanged old mid) (len : mid.len ≡ old
   pub opening_before : (new : Meaning) → Leaves old mid old.images → Leaves mid new (InOpening mid) → Leaves old new (InOpening old)
   opening_before new first second =
       leaves_then (leaves_weaken (InOpening old) first (λ image is. inl is)) (leaves_weaken (InOpening old) second (λ image. ⊎_map (same.images.only image) (λ told.
-      (told.0, subst (λ bytes. HasSuper told.0 bytes) same.bytes told.1, subst (λ bytes. InRecovery (image_blocks told.0) bytes image) same.bytes told.2))))
+      (told.0, subst (λ bytes. HasSuper told.0 bytes) same.bytes told.1, subst (λ bytes. InRecovery (image_layout told.0) bytes image) same.bytes told.2))))
 
   pub opened_before : (new : Meaning) (result : Result Stored OpenFault) → IsDiskRun mid new → Opened mid new result → Opened old new result
   opened_before new result run opened = record {
@@ -239,32 +242,32 @@ module _ (old : Meaning) (limits : Limits) (super : HasSuper limits old.bytes) (
   state_limits s stands = one_limits old.bytes limits s.limits super (has_super old.bytes s stands)
 
   -- what stands for the replayed image stands for the state
-  pub replayed_stands : (s : State) (image : List ℕ) → Stands old.bytes s → StandsForReplayed (image_blocks limits) old.bytes image → Stands image s
+  pub replayed_stands : (s : State) (image : List ℕ) → Stands old.bytes s → StandsForReplayed (image_layout limits) old.bytes image → Stands image s
   unfolding Stands
   replayed_stands s image stands told =
-      let same = ap image_blocks (state_limits s stands) in
-      by (replayed (image_blocks s.limits) old.bytes) stands.replays (subst (λ b. StandsForReplayed b old.bytes image) same told)
+      let same = ap image_layout (state_limits s stands) in
+      by (replayed (image_layout s.limits) old.bytes) stands.replays (subst (λ b. StandsForReplayed b old.bytes image) same told)
     where
-      at_replay : (o : Option (List ℕ)) → o ≡ Some stands.replay → IsSomeAnd o (λ r. KeptBy (image_blocks s.limits) (λ n. block n r) image) → KeptBy (image_blocks s.limits) (λ n. block n stands.replay) image
-      at_replay o is kept = subst (λ (p : Option (List ℕ)). IsSomeAnd p (λ r. KeptBy (image_blocks s.limits) (λ n. block n r) image)) is kept
+      at_replay : (o : Option (List ℕ)) → o ≡ Some stands.replay → IsSomeAnd o (λ r. KeptBy (image_layout s.limits) (λ n. block n r) image) → KeptBy (image_layout s.limits) (λ n. block n stands.replay) image
+      at_replay o is kept = subst (λ (p : Option (List ℕ)). IsSomeAnd p (λ r. KeptBy (image_layout s.limits) (λ n. block n r) image)) is kept
 
-      by : (o : Option (List ℕ)) → o ≡ Some stands.replay → IsSomeAnd o (λ r. KeptBy (image_blocks s.limits) (λ n. block n r) image) → Stands image s
+      by : (o : Option (List ℕ)) → o ≡ Some stands.replay → IsSomeAnd o (λ r. KeptBy (image_layout s.limits) (λ n. block n r) image) → Stands image s
       by o is kept =
           kept_stands s stands.contents (λ n. block n stands.replay) image stands.range
-          (subst (λ bytes. SpellsSuper s.limits bytes) (sym (replayed-front (image_blocks s.limits) old.bytes stands.replay (omega arith) stands.long stands.replays)) stands.super)
+          (subst (λ bytes. SpellsSuper s.limits bytes) (sym (replayed-front (image_layout s.limits) old.bytes stands.replay (omega arith) stands.long stands.replays)) stands.super)
           stands.spells (at_replay o is kept)
 
   -- ---- the journal
-  record_fails : (b : ℕ) → replayed (image_blocks limits) old.bytes ≡ None → bad_record (image_blocks limits) old.bytes ≡ Some b → RecordFails old.bytes b
+  record_fails : (b : ℕ) → replayed (image_layout limits) old.bytes ≡ None → bad_record (image_layout limits) old.bytes ≡ Some b → RecordFails old.bytes b
   record_fails b none is = record { limits = limits; super = super; replays = none; bad = is }
 
-  one_bad : (a b : ℕ) → RecordFails old.bytes a → bad_record (image_blocks limits) old.bytes ≡ Some b → a ≡ b
+  one_bad : (a b : ℕ) → RecordFails old.bytes a → bad_record (image_layout limits) old.bytes ≡ Some b → a ≡ b
   one_bad a b fails is =
       let same = one_limits old.bytes fails.limits limits fails.super super in
-      let both = sym fails.bad ∙ (ap (λ (l : Limits). bad_record (image_blocks l) old.bytes) same ∙ is) in
+      let both = sym fails.bad ∙ (ap (λ (l : Limits). bad_record (image_layout l) old.bytes) same ∙ is) in
       cc
 
-  pub record_first : (b : ℕ) → replayed (image_blocks limits) old.bytes ≡ None → bad_record (image_blocks limits) old.bytes ≡ Some b → FailsFirst old.bytes (BadRecord b)
+  pub record_first : (b : ℕ) → replayed (image_layout limits) old.bytes ≡ None → bad_record (image_layout limits) old.bytes ≡ Some b → FailsFirst old.bytes (BadRecord b)
   record_first b none is = record {
     fails = record_fails b none is;
     none_before = behind old.bytes (λ earlier. IsBefore earlier (BadRecord b) → FailsIn old.bytes earlier → ⊥) (λ before fails. fails limits super)
@@ -275,33 +278,33 @@ module _ (old : Meaning) (limits : Limits) (super : HasSuper limits old.bytes) (
   memory_opened new same =
       unspotted old new NoMemory (long_enough, (limits, super), λ s stands. subst (λ bytes. Stands bytes s) (sym same.bytes) stands) same (λ spot none. cc)
 
-  pub journal_opened : (new : Meaning) (outcome : Result Held JournalFault) (fault : JournalFault) → outcome ≡ Err fault → MountEnded (image_blocks limits) old new outcome
+  pub journal_opened : (new : Meaning) (outcome : Result Held JournalFault) (fault : JournalFault) → outcome ≡ Err fault → MountEnded (image_layout limits) old new outcome
       → (outcome ≡ Err JournalMemory → IsUnchanged old new) → Opened old new (Err (journal_fault fault))
-  journal_opened new outcome fault is ended unread = by fault (subst (λ (o : Result Held JournalFault). MountEnded (image_blocks limits) old new o) is ended) (λ memory. unread (is ∙ ap Err memory))
+  journal_opened new outcome fault is ended unread = by fault (subst (λ (o : Result Held JournalFault). MountEnded (image_layout limits) old new o) is ended) (λ memory. unread (is ∙ ap Err memory))
     where
-      by : (f : JournalFault) → MountEnded (image_blocks limits) old new (Err f) → (f ≡ JournalMemory → IsUnchanged old new) → Opened old new (Err (journal_fault f))
+      by : (f : JournalFault) → MountEnded (image_layout limits) old new (Err f) → (f ≡ JournalMemory → IsUnchanged old new) → Opened old new (Err (journal_fault f))
       by JournalDisk told same = failed_opened old new
       by (JournalRecord b) told same =
           spotted old new (BadRecord b) (long_enough, λ s stands. damaged old.bytes s (BadRecord b) stands (record_fails b told.0 told.1))
-          (inr (limits, super, subst (λ bytes. IsSettled new bytes) (sym (recovered-none (image_blocks limits) old.bytes told.0)) told.2)) (record_first b told.0 told.1)
+          (inr (limits, super, subst (λ bytes. IsSettled new bytes) (sym (recovered-none (image_layout limits) old.bytes told.0)) told.2)) (record_first b told.0 told.1)
       by JournalMemory told same =
           memory_opened new (same refl)
 
-  in_opening : (image : List ℕ) → old.images image ⊎ InRecovery (image_blocks limits) old.bytes image → InOpening old image
+  in_opening : (image : List ℕ) → old.images image ⊎ InRecovery (image_layout limits) old.bytes image → InOpening old image
   in_opening image (inl is) = inl is
   in_opening image (inr told) = inr (limits, super, told)
 
-  pub journal_moments : (new : Meaning) → Leaves old new (λ image. old.images image ⊎ InRecovery (image_blocks limits) old.bytes image) → Leaves old new (InOpening old)
+  pub journal_moments : (new : Meaning) → Leaves old new (λ image. old.images image ⊎ InRecovery (image_layout limits) old.bytes image) → Leaves old new (InOpening old)
   journal_moments new moments = leaves_weaken (InOpening old) moments in_opening
 
   -- ---- the parts behind the journal
-  module _ (whole : length old.bytes ≡ old.len) (r : List ℕ) (replays : replayed (image_blocks limits) old.bytes ≡ Some r) where
+  module _ (whole : length old.bytes ≡ old.len) (r : List ℕ) (replays : replayed (image_layout limits) old.bytes ≡ Some r) where
     abbrev kept : ℕ → List ℕ
     kept n = block n r
 
     super_kept : SpellsSuper limits (block 0 r)
     super_kept =
-        subst (λ bytes. SpellsSuper limits bytes) (sym (replayed-front (image_blocks limits) old.bytes r (omega arith) (omega (arith, whole, long)) replays)) super.spelled
+        subst (λ bytes. SpellsSuper limits bytes) (sym (replayed-front (image_layout limits) old.bytes r (omega arith) (omega (arith, whole, long)) replays)) super.spelled
 
     fails_in : (spot : Spot) → Fails limits kept spot → FailsIn old.bytes spot
     fails_in =
@@ -311,13 +314,13 @@ module _ (old : Meaning) (limits : Limits) (super : HasSuper limits old.bytes) (
     replayed_fails : (spot : Spot) → FailsReplayed old.bytes spot → Fails limits kept spot
     replayed_fails spot told =
         let same = one_limits old.bytes told.limits limits told.super super in
-        let replay = same_Some told.replay r (sym told.replays ∙ (ap (λ (l : Limits). replayed (image_blocks l) old.bytes) same ∙ replays)) in
+        let replay = same_Some told.replay r (sym told.replays ∙ (ap (λ (l : Limits). replayed (image_layout l) old.bytes) same ∙ replays)) in
         subst (λ (l : Limits). Fails l kept spot) same (subst (λ (bytes : List ℕ). Fails told.limits (λ n. block n bytes) spot) replay told.fails)
 
     no_bad_record : (b : ℕ) → RecordFails old.bytes b → ⊥
     no_bad_record b told =
         let same = one_limits old.bytes told.limits limits told.super super in
-        let none = sym told.replays ∙ (ap (λ (l : Limits). replayed (image_blocks l) old.bytes) same ∙ replays) in
+        let none = sym told.replays ∙ (ap (λ (l : Limits). replayed (image_layout l) old.bytes) same ∙ replays) in
         cc
 
     parts_first : (spot : Spot) → IsFirstOfAll limits kept spot → FailsFirst old.bytes spot
@@ -334,7 +337,7 @@ module _ (old : Meaning) (limits : Limits) (super : HasSuper limits old.bytes) (
             super = subst (λ (l : Limits). SpellsSuper l (part 0 4096 old.bytes)) limits_are super.spelled;
             long = omega (arith, whole, long, ap image_blocks limits_are);
             replay = r;
-            replays = ap (λ (l : Limits). replayed (image_blocks l) old.bytes) (sym limits_are) ∙ replays;
+            replays = ap (λ (l : Limits). replayed (image_layout l) old.bytes) (sym limits_are) ∙ replays;
             contents = contents_of store.parts;
             spells = tells_spells store.parts kept s sound.parts sound.free sound.pairs written tells;
           }
@@ -375,17 +378,17 @@ module _ (old : Meaning) (limits : Limits) (super : HasSuper limits old.bytes) (
       parts_opened (Err NoMemory) opened fails = absurd fails
 
   -- where it was mounted, and what it fits then was read
-  pub store_opened : length old.bytes ≡ old.len → (journal : Held) (mid new : Meaning) (result : Result Stored OpenFault) → IsSomeAnd (replayed (image_blocks limits) old.bytes) (λ r. Fits journal mid (λ n. block n r))
-      → IsSettled mid (recovered (image_blocks limits) old.bytes) → OnlyReads mid new → ((store : Stored) → result ≡ Ok store → IsOpened journal store)
+  pub store_opened : length old.bytes ≡ old.len → (journal : Held) (mid new : Meaning) (result : Result Stored OpenFault) → IsSomeAnd (replayed (image_layout limits) old.bytes) (λ r. Fits journal mid (λ n. block n r))
+      → IsSettled mid (recovered (image_layout limits) old.bytes) → OnlyReads mid new → ((store : Stored) → result ≡ Ok store → IsOpened journal store)
       → ((kept : ℕ → List ℕ) → Fits journal mid kept → SpellsSuper limits (kept 0) → StoreEnded limits kept result) → Opened old new result
   store_opened whole journal mid new result mounted settled reads opened ended =
-      let found = some_replay (replayed (image_blocks limits) old.bytes) (λ r. Fits journal mid (λ n. block n r)) mounted in
+      let found = some_replay (replayed (image_layout limits) old.bytes) (λ r. Fits journal mid (λ n. block n r)) mounted in
       let kept : ℕ → List ℕ = λ n. block n found.0 in
       let left : Recovers old new = (limits, super, settled_after reads found.2.honest settled) in
       parts_opened whole found.0 found.1 journal new (fits_after journal kept reads found.2) left result opened (ended kept found.2 (super_kept whole found.0 found.1))
 
-  pub store_moments : (mid new : Meaning) → ((image : List ℕ) → mid.images image → old.images image ⊎ InRecovery (image_blocks limits) old.bytes image)
-      → Leaves old mid (λ image. old.images image ⊎ InRecovery (image_blocks limits) old.bytes image) → Leaves mid new mid.images → Leaves old new (InOpening old)
+  pub store_moments : (mid new : Meaning) → ((image : List ℕ) → mid.images image → old.images image ⊎ InRecovery (image_layout limits) old.bytes image)
+      → Leaves old mid (λ image. old.images image ⊎ InRecovery (image_layout limits) old.bytes image) → Leaves mid new mid.images → Leaves old new (InOpening old)
   store_moments mid new still moments reads =
       leaves_then (journal_moments mid moments) (leaves_weaken (InOpening old) reads (λ image is. in_opening image (still image is)))
 

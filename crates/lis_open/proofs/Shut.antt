@@ -9,6 +9,7 @@ use Rattle.lis_ports.proofs.Parts.{part-put_other}
 use Rattle.lis_journal.specs.Record.{gates, is_open, has_open, open_count, all_recorded, apply, bad_record, gates_closed, recovered_as, replayed, recovered}
 use Rattle.lis_journal.specs.Images.{StandsFor}
 use Rattle.lis_journal.proofs.Fitting.{replayed_parts}
+use Rattle.lis_journal.specs.declared.layout.Layout.{Layout}
 
 -- ---- the first gate
 first_gate : (image : List ℕ) → is_open 0 image ≡ (get_or (part 4096 1 image) 0 0 == 1)
@@ -24,18 +25,18 @@ unfolding open_count
 none_open image shut = prefix_len_is (λ gate. gate == 1) (gates image) 0 0 (omega arith) (λ k lt. absurd (omega arith)) (λ lt. shut)
 
 -- and the image is its own replayed image
-pub shut_replays : (blocks : ℕ) (image : List ℕ) → is_open 0 image ≡ false → replayed blocks image ≡ Some image
+pub shut_replays : (layout : Layout) (image : List ℕ) → is_open 0 image ≡ false → replayed layout image ≡ Some image
 unfolding replayed bad_record
-shut_replays blocks image shut = search (rules, none_open)
+shut_replays layout image shut = search (rules, none_open)
 
 -- ---- what it keeps
-pub shut_keeps : (blocks : ℕ) (kept : ℕ → List ℕ) (image : List ℕ) → is_open 0 image ≡ false → StandsFor blocks kept image → Keeps blocks kept image
+pub shut_keeps : (layout : Layout) (kept : ℕ → List ℕ) (image : List ℕ) → is_open 0 image ≡ false → StandsFor layout kept image → Keeps layout kept image
 unfolding StandsFor
-shut_keeps blocks kept image shut stands = subst (λ (o : Option (List ℕ)). IsSomeAnd o (Keeps blocks kept)) (shut_replays blocks image shut) stands.1
+shut_keeps layout kept image shut stands = subst (λ (o : Option (List ℕ)). IsSomeAnd o (Keeps layout kept)) (shut_replays layout image shut) stands.1
 
-pub shut_stands : (blocks : ℕ) (image : List ℕ) → is_open 0 image ≡ false → 4096 * blocks ≤ length image → StandsFor blocks (λ n. block n image) image
+pub shut_stands : (layout : Layout) (image : List ℕ) → is_open 0 image ≡ false → 4096 * layout.blocks ≤ length image → StandsFor layout (λ n. block n image) image
 unfolding StandsFor
-shut_stands blocks image shut long = search (rules, shut_replays)
+shut_stands layout image shut long = search (rules, shut_replays)
 
 -- what is torn before the gates leaves them as they are
 pub shut_torn : (at n : ℕ) (from image : List ℕ) → at + n ≤ 4096 → Torn at n from image → is_open 0 from ≡ false → is_open 0 image ≡ false
@@ -56,26 +57,26 @@ rest_closed image long =
           ∙ (ap (λ (gate : List ℕ). get_or gate 0 0 == 1) (part-put_other image 4097 (replicate 63 0) le 4096 1 (inl (omega arith))) ∙ sym (first_gate image)),
     )
 
-closed_first : (blocks : ℕ) (image replay : List ℕ) → replayed blocks image ≡ Some replay → (first : Bool) → is_open 0 image ≡ first → 4160 < length (gates_closed first replay)
+closed_first : (layout : Layout) (image replay : List ℕ) → replayed layout image ≡ Some replay → (first : Bool) → is_open 0 image ≡ first → 4160 < length (gates_closed first replay)
     → is_open 0 (gates_closed first replay) ≡ false
 unfolding gates_closed
-closed_first blocks image replay replays true is long =
+closed_first layout image replay replays true is long =
     let first = put replay 4096 (0 ∷ []) in
     let rest = rest_closed first long in
     let le : 4097 ≤ length replay = put_long replay 4096 (0 ∷ []) (omega (arith, rest.0)) in
     rest.1 ∙ (first_gate first ∙ ap (λ (gate : List ℕ). get_or gate 0 0 == 1) (part-put replay 4096 (0 ∷ []) le))
-closed_first blocks image replay replays false is long =
+closed_first layout image replay replays false is long =
     let none = none_open image is in
-    let same : image ≡ replay = subst (λ n. apply (all_recorded 2 n image) image ≡ replay) none (replayed_parts blocks image replay replays).1 in
+    let same : image ≡ replay = subst (λ n. apply (all_recorded 2 n image) image ≡ replay) none (replayed_parts layout image replay replays).1 in
     (rest_closed replay long).1 ∙ (ap (is_open 0) (sym same) ∙ is)
 
 -- its first gate is closed
-pub recovered_shut : (blocks : ℕ) (image replay : List ℕ) → replayed blocks image ≡ Some replay → 4160 < length (recovered blocks image) → is_open 0 (recovered blocks image) ≡ false
+pub recovered_shut : (layout : Layout) (image replay : List ℕ) → replayed layout image ≡ Some replay → 4160 < length (recovered layout image) → is_open 0 (recovered layout image) ≡ false
 unfolding recovered
-recovered_shut blocks image replay replays long = by (has_open image) refl long
+recovered_shut layout image replay replays long = by (has_open image) refl long
   where
-    by : (some : Bool) → has_open image ≡ some → 4160 < length (cond some (recovered_as image (replayed blocks image)) image) → is_open 0 (cond some (recovered_as image (replayed blocks image)) image) ≡ false
+    by : (some : Bool) → has_open image ≡ some → 4160 < length (cond some (recovered_as image (replayed layout image)) image) → is_open 0 (cond some (recovered_as image (replayed layout image)) image) ≡ false
     by false none enough = none_first (gates image) none
     by true some enough =
         subst (λ (o : Option (List ℕ)). 4160 < length (recovered_as image o) → is_open 0 (recovered_as image o) ≡ false) (sym replays)
-        (λ l. closed_first blocks image replay replays (is_open 0 image) refl l) enough
+        (λ l. closed_first layout image replay replays (is_open 0 image) refl l) enough

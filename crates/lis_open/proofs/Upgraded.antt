@@ -28,6 +28,9 @@ use Rattle.lis_open.specs.Opens.{OpenEnded, OpenLeft}
 use Rattle.lis_open.specs.Upgrades.{upgraded, GateLeft}
 use Rattle.lis_open.proofs.Needs.{one_limits, has_super}
 use Rattle.lis_open.proofs.Shut.{shut_keeps, shut_stands, shut_torn, recovered_shut}
+use Rattle.lis_kept.specs.Image.{image_layout}
+use Rattle.lis_kept.proofs.Image.{same_layout, same_blocks, same_homes}
+use Rattle.lis_model.specs.Image.{properties_start}
 
 -- ---- in a version
 abbrev pub state_in : ℕ → State → State
@@ -75,7 +78,7 @@ sound_upgraded k one sound = assumption (upgraded_in_range k.limits sound.range,
         record_upgraded k.dict k.limits.blocks rec (subst (λ version. IsTrue (is_sound_record version k.dict k.limits.blocks rec)) one (sound.records slot rec is))
 
 -- ---- what is told and what is written, where all home blocks are the same and the super block tells the version
-module _ (version : ℕ) (k : Kept) (at there : ℕ → List ℕ) (sound : AreSound k) (same : (n : ℕ) → 578 ≤ n → there n ≡ at n) where
+module _ (version : ℕ) (k : Kept) (at there : ℕ → List ℕ) (sound : AreSound k) (same : (n : ℕ) → properties_start ≤ n → there n ≡ at n) where
   files_same : AreFilesSame k at there
   files_same f m b of = same (data_start k.limits + b) (omega arith)
 
@@ -123,8 +126,8 @@ not_refused is = cc
 
 -- ---- one image
 module _ (k : Stored) (m : Meaning) (s : State) (sound : IsSound k) (fits : StoreFits k m s) (one : s.limits.version ≡ 1) (shut : is_open 0 m.bytes ≡ false) where
-  keeps : Keeps k.journal.blocks fits.kept m.bytes
-  keeps = shut_keeps k.journal.blocks fits.kept m.bytes shut (fits_stand k.journal (sound.placed fits.unbroken) fits.journal).reads
+  keeps : Keeps k.journal.layout fits.kept m.bytes
+  keeps = shut_keeps k.journal.layout fits.kept m.bytes shut (fits_stand k.journal (sound.placed fits.unbroken) fits.journal).reads
 
   kept_one : k.parts.limits.version ≡ 1
   kept_one = ap (λ (t : State). t.limits.version) fits.tells.state ∙ one
@@ -133,14 +136,14 @@ module _ (k : Stored) (m : Meaning) (s : State) (sound : IsSound k) (fits : Stor
   super_before = subst (λ bytes. SpellsSuper s.limits bytes) (sym (keeps.same 0 (inl refl))) fits.tells.super
 
   module _ (image : List ℕ) (torn : Torn 24 1 m.bytes image) where
-    long : 4096 * k.journal.blocks ≤ length image
+    long : 4096 * k.journal.layout.blocks ≤ length image
     long = omega (arith, keeps.long, torn.len)
 
     whole : 4096 ≤ length image
-    whole = omega (arith, long, sound.image)
+    whole = omega (arith, long, same_blocks sound.image)
 
-    same : (n : ℕ) → 578 ≤ n → block n image ≡ fits.kept n
-    same n low = part-torn 24 1 m.bytes image torn (4096 * n) 4096 (inr (omega (arith, low))) ∙ keeps.same n (inr low)
+    same : (n : ℕ) → properties_start ≤ n → block n image ≡ fits.kept n
+    same n low = part-torn 24 1 m.bytes image torn (4096 * n) 4096 (inr (omega (arith, low))) ∙ keeps.same n (inr (omega (arith, low, same_homes sound.image)))
 
     front : take 24 (block 0 image) ≡ take 24 (block 0 m.bytes)
     front = part-part 0 24 0 4096 image (omega arith) ∙ (torn.before ∙ sym (part-part 0 24 0 4096 m.bytes (omega arith)))
@@ -151,10 +154,10 @@ module _ (k : Stored) (m : Meaning) (s : State) (sound : IsSound k) (fits : Stor
     -- it stands for the state in the version that its super block tells
     stands_in : (version : ℕ) → SpellsSuper (record s.limits { version = version }) (block 0 image) → AreSound (kept_in version k.parts) → WellFormed (state_in version s) → Stands image (state_in version s)
     stands_in version super sound_then formed =
-        change_stands (record k { parts = kept_in version k.parts }) k.journal.blocks (λ n. block n image) (state_in version s) sound_then sound.free sound.pairs
+        change_stands (record k { parts = kept_in version k.parts }) k.journal.layout (λ n. block n image) (state_in version s) sound_then sound.free sound.pairs
         (tells_in version k.parts fits.kept (λ n. block n image) sound.parts same s super formed fits.tells)
         (written_in version k.parts fits.kept (λ n. block n image) sound.parts same fits.written)
-        sound.image image (shut_stands k.journal.blocks image (shut_torn 24 1 m.bytes image (omega arith) torn shut) long)
+        (same_layout sound.image) image (shut_stands k.journal.layout image (shut_torn 24 1 m.bytes image (omega arith) torn shut) long)
 
     stands_before : SpellsSuper s.limits (block 0 image) → Stands image s
     stands_before super =
@@ -208,7 +211,7 @@ module _ (old mid : Meaning) (k : Stored) (sound : IsSound k) (ended : OpenEnded
       ap (λ (l : Limits). l.version) (one_limits old.bytes left.0 s.limits left.1 (has_super old.bytes s stood)) ∙ sym (ap (λ (l : Limits). l.version) limits_are)
 
   abbrev after : List ℕ
-  after = recovered (image_blocks left.0) old.bytes
+  after = recovered (image_layout left.0) old.bytes
 
   gate_left : {new : Meaning} (is_second : Bool) → (left.0.version == 2) ≡ is_second → IsSettled new (if is_second then after else put after 24 (2 ∷ [])) → GateLeft old new
   gate_left {new} is_second is settled = (left.0, left.1, subst (λ b. IsSettled new (if b then after else put after 24 (2 ∷ []))) (sym is) settled)
@@ -231,8 +234,8 @@ module _ (old mid : Meaning) (k : Stored) (sound : IsSound k) (ended : OpenEnded
     unfolding Stands
     shut =
         let same = one_limits old.bytes left.0 s.limits left.1 (has_super old.bytes s stood) in
-        subst (λ bytes. is_open 0 bytes ≡ false) (sym left.2.reads) (recovered_shut (image_blocks left.0) old.bytes stood.replay
-        (ap (λ (l : Limits). replayed (image_blocks l) old.bytes) same ∙ stood.replays)
+        subst (λ bytes. is_open 0 bytes ≡ false) (sym left.2.reads) (recovered_shut (image_layout left.0) old.bytes stood.replay
+        (ap (λ (l : Limits). replayed (image_layout l) old.bytes) same ∙ stood.replays)
         (omega (arith, fits.journal.reads.holds.enough, fits.journal.reads.holds.long, ap length left.2.reads)))
 
     -- and of an image of version 1 its gate is put

@@ -16,6 +16,8 @@ use Rattle.lis_store.specs.Stored.{empty_stored}
 use Rattle.lis_store.proofs.Empty.{zeros-part, empty_sound, tells_empty, written_empty, no_state}
 use Rattle.lis_store.proofs.Standing.{change_stands}
 use Rattle.lis_open.proofs.Shut.{shut_stands}
+use Rattle.lis_kept.specs.Image.{image_layout}
+use Rattle.lis_model.specs.Image.{properties_start}
 
 -- a range within another
 pub torn_wider : (at n low most : ℕ) (from image : List ℕ) → low ≤ at → at + n ≤ low + most → Torn at n from image → Torn low most from image
@@ -93,7 +95,7 @@ length-rest limits =
 
 -- what the writes of all but the first byte lead to, one after another
 pub wiped : (limits : Limits) (end : ℕ) (start rest gate homes : List ℕ) → end ≡ data_start limits → 4096 * image_blocks limits ≤ length start → rest ≡ put start 1 (rest_of_super limits)
-    → Torn 4096 4096 rest gate → AreZeros 1 2 gate → Torn 2367488 (4096 * (end - 578)) gate homes → AreZeros 578 end homes → IsWiped limits homes
+    → Torn 4096 4096 rest gate → AreZeros 1 2 gate → Torn 2367488 (4096 * (end - properties_start)) gate homes → AreZeros properties_start end homes → IsWiped limits homes
 wiped limits end start rest gate homes is_end long is_rest torn_gate zero_gate torn_homes zero_homes =
     let few : 1 + length (rest_of_super limits) ≤ length start = omega (arith, length-rest limits, long) in
     let size : length rest ≡ length start = ap length is_rest ∙ length-put start 1 (rest_of_super limits) few in
@@ -101,15 +103,15 @@ wiped limits end start rest gate homes is_end long is_rest torn_gate zero_gate t
     ap (part 1 4095) is_rest ∙ (ap (λ n. part 1 n (put start 1 (rest_of_super limits))) (sym (length-rest limits)) ∙ part-put start 1 (rest_of_super limits) few) in
     let zero : part 0 64 (block 1 gate) ≡ zeros 64 = ap (part 0 64) (zero_gate 1 (omega arith) (omega arith)) ∙ zeros-part 0 64 4096 (omega arith) in
     record {
-      rest = part-torn 2367488 (4096 * (end - 578)) gate homes torn_homes 1 4095 (inl (omega arith))
+      rest = part-torn 2367488 (4096 * (end - properties_start)) gate homes torn_homes 1 4095 (inl (omega arith))
           ∙ (part-torn 4096 4096 rest gate torn_gate 1 4095 (inl (omega arith)) ∙ spelled);
       blank = record {
         long = omega (arith, torn_homes.len, torn_gate.len, size, long);
-        gates = part-torn 2367488 (4096 * (end - 578)) gate homes torn_homes 4096 64 (inl (omega arith))
+        gates = part-torn 2367488 (4096 * (end - properties_start)) gate homes torn_homes 4096 64 (inl (omega arith))
             ∙ (sym (part-part 0 64 4096 4096 gate (omega arith)) ∙ (zero ∙ sym (zeros_are 64)));
         homes = λ n above below. zero_homes n above (omega (arith, is_end));
       };
-      zero = part-torn 2367488 (4096 * (end - 578)) gate homes torn_homes 4096 4096 (inl (omega arith)) ∙ zero_gate 1 (omega arith) (omega arith);
+      zero = part-torn 2367488 (4096 * (end - properties_start)) gate homes torn_homes 4096 4096 (inl (omega arith)) ∙ zero_gate 1 (omega arith) (omega arith);
     }
 
 -- the first byte is not looked at
@@ -140,9 +142,9 @@ wiped_stands limits image range is first =
     let sound = empty_sound limits blocks range room in
     let super : SpellsSuper limits (block 0 image) =
     subst (λ bytes. SpellsSuper limits bytes) (sym (wiped_super limits image is first)) (super_spells limits range) in
-    change_stands (empty_stored limits blocks) (image_blocks limits) (λ n. block n image) (empty_state limits) sound.parts sound.free sound.pairs
+    change_stands (empty_stored limits blocks) (image_layout limits) (λ n. block n image) (empty_state limits) sound.parts sound.free sound.pairs
     (tells_empty limits blocks image range is.blank super) (written_empty limits blocks image range is.blank) refl image
-    (shut_stands (image_blocks limits) image (ap (λ gate. slice_index gate 0 == 1) is.blank.gates) is.blank.long)
+    (shut_stands (image_layout limits) image (ap (λ gate. slice_index gate 0 == 1) is.blank.gates) is.blank.long)
 
 -- ---- the moments of each part
 pub spared_moments : {old new : Meaning} (limits : Limits) (bytes : List ℕ) → Leaves old new (IsSpared bytes) → Leaves old new (IsMaking limits bytes)
@@ -201,11 +203,11 @@ rest_spreads limits = spreads_wiping limits 1 4095 (omega arith) (inl (omega ari
 pub gate_spreads : {a b c : Meaning} (limits : Limits) → Spreads a b (Torn 1 4095) → Spreads b c (Torn 4096 4096) → Spreads a c (IsWiping limits)
 gate_spreads limits rest gate = spreads_then (IsWiping limits) (wiping_trans limits) (rest_spreads limits rest) (spreads_wiping limits 4096 4096 (omega arith) (inl (omega arith)) gate)
 
-pub homes_spreads : {a b c d : Meaning} (limits : Limits) (end : ℕ) → end ≡ data_start limits → Spreads a b (Torn 1 4095) → Spreads b c (Torn 4096 4096) → Spreads c d (Torn 2367488 (4096 * (end - 578)))
+pub homes_spreads : {a b c d : Meaning} (limits : Limits) (end : ℕ) → end ≡ data_start limits → Spreads a b (Torn 1 4095) → Spreads b c (Torn 4096 4096) → Spreads c d (Torn 2367488 (4096 * (end - properties_start)))
     → Spreads a d (IsWiping limits)
 homes_spreads limits end is_end rest gate homes =
     spreads_then (IsWiping limits) (wiping_trans limits) (gate_spreads limits rest gate)
-    (spreads_wiping limits 2367488 (4096 * (end - 578)) (omega arith) (inr (omega arith, omega (arith, is_end))) homes)
+    (spreads_wiping limits 2367488 (4096 * (end - properties_start)) (omega arith) (inr (omega arith, omega (arith, is_end))) homes)
 
 -- ---- the runs of making
 pub named_spreads : {old new : Meaning} (limits : Limits) → Spreads old new (Torn 0 1) → Spreads old new (KeepsSpare limits)

@@ -24,6 +24,7 @@ use Rattle.lis_kept.specs.Areas.{property_slots, axiom_slots, file_slots, row_sl
 use Rattle.lis_kept.specs.Telling.{blocks_told, HasIndex}
 use Rattle.lis_store.specs.Stands.{Contents, AreSlots, word_in, words_in, word_at, all_declared, pairs_in, file_by, spelled_state, row_bit}
 use Rattle.lis_open.specs.Opens.{HasSuper}
+use Rattle.lis_kept.specs.Image.{image_layout}
 
 -- ---- what slots hold
 -- there is such a slot; it is spelled as this value, which is in the ranges of the layout
@@ -219,15 +220,15 @@ pub record FailsReplayed (image : List ℕ) (spot : Spot) : Type 0 where
   pub limits : Limits
   pub super : HasSuper limits image
   pub replay : List ℕ
-  pub replays : replayed (image_blocks limits) image ≡ Some replay
+  pub replays : replayed (image_layout limits) image ≡ Some replay
   pub fails : Fails limits (λ n. block n replay) spot
 
 -- the record that begins at block b is the first open one that is not in form
 pub record RecordFails (image : List ℕ) (b : ℕ) : Type 0 where
   pub limits : Limits
   pub super : HasSuper limits image
-  pub replays : replayed (image_blocks limits) image ≡ None
-  pub bad : bad_record (image_blocks limits) image ≡ Some b
+  pub replays : replayed (image_layout limits) image ≡ None
+  pub bad : bad_record (image_layout limits) image ≡ Some b
 
 -- the check of a part of an image fails
 abbrev pub FailsIn : List ℕ → Spot → Type 0

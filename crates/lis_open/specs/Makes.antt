@@ -5,7 +5,7 @@ use Rattle.lis_ports.specs.Bytes.{part}
 use Rattle.lis_journal.specs.Record.{block}
 use Rattle.lis_fields.specs.Layouts.{zeros, super_bytes}
 use Rattle.lis_model.specs.declared.limits.Limits.{Limits}
-use Rattle.lis_model.specs.Image.{data_start}
+use Rattle.lis_model.specs.Image.{data_start, properties_start}
 use Rattle.lis_model.specs.State.{State, empty_state}
 use Rattle.lis_store.specs.Stands.{Stands}
 use Rattle.lis_store.specs.Blank.{IsBlank}
@@ -40,7 +40,7 @@ pub record IsWiped (limits : Limits) (image : List ℕ) : Type 0 where
 
 -- a block that making leaves alone: one of the records, a data block, or one past the image
 abbrev pub IsSpare : Limits → ℕ → Type 0
-IsSpare limits n = ((2 ≤ n) × (n < 578)) ⊎ (data_start limits ≤ n)
+IsSpare limits n = ((2 ≤ n) × (n < properties_start)) ⊎ (data_start limits ≤ n)
 
 abbrev pub KeepsSpare : Limits → List ℕ → List ℕ → Type 0
 KeepsSpare limits bytes image = (n : ℕ) → IsSpare limits n → block n image ≡ block n bytes
@@ -54,7 +54,7 @@ pub record IsWiping (limits : Limits) (from image : List ℕ) : Type 0 where
 pub record IsMade (limits : Limits) (bytes image : List ℕ) : Type 0 where
   pub super : block 0 image ≡ super_bytes limits
   pub gate : block 1 image ≡ zeros 4096
-  pub homes : AreZeros 578 (data_start limits) image
+  pub homes : AreZeros properties_start (data_start limits) image
   pub spare : KeepsSpare limits bytes image
 
 -- it is as it was, or stands for the empty state or for none

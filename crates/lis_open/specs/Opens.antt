@@ -18,6 +18,7 @@ use Rattle.lis_store.specs.Stands.{Stands}
 use Rattle.lis_store.specs.Stored.{Stored, StoreFits}
 use Rattle.lis_open.specs.declared.mounting.OpenFault.{OpenFault}
 use Rattle.lis_open.specs.declared.mounting.OpenFault.TheVariants.{TooShort, Damaged, DiskFault, NoMemory}
+use Rattle.lis_kept.specs.Image.{image_layout}
 
 -- A disk fault comes only where the count rose, and at each other answer the count stays.
 abbrev pub HasOpenCause : {T : Type 0} → ℕ → ℕ → Result T OpenFault → Type 0
@@ -55,7 +56,7 @@ OpenEnded old new (Err fault) = OpenRefused old new fault
 
 -- Its journal was recovered, by the limits that the super block tells: it reads as what a recovery makes of it, and a crash leaves just this.
 abbrev pub Recovers : Meaning → Meaning → Type 0
-Recovers old new = (limits : Limits) × HasSuper limits old.bytes × IsSettled new (recovered (image_blocks limits) old.bytes)
+Recovers old new = (limits : Limits) × HasSuper limits old.bytes × IsSettled new (recovered (image_layout limits) old.bytes)
 
 -- what is left where a check failed
 abbrev pub RefusedLeft : Meaning → Meaning → Type 0
@@ -75,7 +76,7 @@ OpenLeft old new (Err fault) = FaultLeft old new fault
 
 -- what a crash in opening leaves: what it could have left before, or an image on which records are being brought home
 abbrev pub InOpening : Meaning → List ℕ → Type 0
-InOpening old image = old.images image ⊎ ((limits : Limits) × HasSuper limits old.bytes × InRecovery (image_blocks limits) old.bytes image)
+InOpening old image = old.images image ⊎ ((limits : Limits) × HasSuper limits old.bytes × InRecovery (image_layout limits) old.bytes image)
 
 -- what a fault of the journal is to opening
 abbrev pub journal_fault : JournalFault → OpenFault

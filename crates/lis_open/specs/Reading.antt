@@ -2,7 +2,7 @@
 use Rattle.std.specs.Prelude.{◌≡◌, ℕ, ◌<◌, Bool, Option, Some, None, Result, Ok, Err, List, [], IsTrue, IfSome}
 use Rattle.lis_ports.specs.Meaning.{Meaning}
 use Rattle.lis_ports.specs.Calls.{Rose, DiskFaultEnds, OnlyReads}
-use Rattle.lis_journal.specs.Journal.{Held}
+use Rattle.lis_journal.specs.Journal.{Held, shape_of}
 use Rattle.lis_journal.specs.Images.{JournalIsUsable}
 use Rattle.lis_slots.specs.Slots.{Slots}
 use Rattle.lis_model.specs.declared.limits.Limits.{Limits}
@@ -15,11 +15,12 @@ use Rattle.lis_open.specs.declared.mounting.OpenFault.TheVariants.{TooShort, Dam
 use Rattle.lis_open.specs.declared.blocks.LastBlock.{LastBlock}
 use Rattle.lis_open.specs.Opens.{HasSuper, OpenEnded, OpenLeft}
 use Rattle.lis_open.specs.Checks.{IsSlot, Fails, rank, place, IsBefore, FailsFirst}
+use Rattle.lis_kept.specs.Image.{image_shape}
 
 -- An image may be read: its limits are in range, and its journal is as long as they say, holds nothing back and may be used on this disk.
 pub record IsReadable (limits : Limits) (journal : Held) (m : Meaning) : Type 0 where
   pub range : IsTrue (are_in_range limits)
-  pub image : journal.blocks ≡ image_blocks limits
+  pub image : shape_of journal ≡ image_shape limits
   pub clean : journal.staged ≡ []
   pub usable : JournalIsUsable journal m
 

@@ -10,6 +10,7 @@ use Rattle.lis_model.specs.State.{State}
 use Rattle.lis_store.specs.Stands.{Stands}
 use Rattle.lis_open.specs.declared.mounting.OpenFault.{OpenFault}
 use Rattle.lis_open.specs.Opens.{HasSuper, IsLongEnough, OpenRefused, FaultLeft}
+use Rattle.lis_kept.specs.Image.{image_layout}
 
 -- the same state in an image of version 2
 abbrev pub upgraded : State → State
@@ -26,7 +27,7 @@ with_gate limits bytes = if limits.version == 2 then bytes else put bytes 24 (2 
 
 -- It reads as what opening leaves with its gate put, and a crash leaves just this.
 abbrev pub GateLeft : Meaning → Meaning → Type 0
-GateLeft old new = (limits : Limits) × HasSuper limits old.bytes × IsSettled new (with_gate limits (recovered (image_blocks limits) old.bytes))
+GateLeft old new = (limits : Limits) × HasSuper limits old.bytes × IsSettled new (with_gate limits (recovered (image_layout limits) old.bytes))
 
 -- what is left; where it is refused, that is what opening leaves
 abbrev pub UpgradeLeft : {T : Type 0} → Meaning → Meaning → Result T OpenFault → Type 0

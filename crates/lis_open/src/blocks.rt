@@ -5,6 +5,7 @@ ghost use Rattle.lis_ports.specs.Calls.{ReadsDisk};
 ghost use Rattle.lis_journal.specs.Images.{Fits, JournalIsUsable};
 ghost use Rattle.lis_slots.specs.Slots.{slot};
 ghost use Rattle.lis_open.specs.Reading.{Recalls};
+ghost use Rattle.lis_journal.specs.Record.{homes_start};
 
 use lis_journal::{BLOCK_LEN, Journal};
 use lis_ports::{Disk, Failed};
@@ -30,8 +31,8 @@ impl LastBlock {
 
     // Reads a block, unless it was read last.
     fn turn_to<D: Disk>(&mut self, disk: &mut D, journal: &Journal, n: u32) -> Result<(), Failed>
-        requires home { 578 ≤ n }
-        requires within { n < journal.now.blocks }
+        requires home { homes_start journal.now.layout ≤ n }
+        requires within { n < journal.now.layout.blocks }
         requires clean { journal.now.staged ≡ [] }
         requires usable { JournalIsUsable journal.now (D.meaning disk.old) }
         ensures disk { ReadsDisk (D.meaning disk.old) (D.meaning disk.new) result }
@@ -59,9 +60,9 @@ impl LastBlock {
     ) -> Result<(), Failed>
         requires width { 0 < length buf.old }
         requires divides { 4096 % length buf.old ≡ 0 }
-        requires home { 578 ≤ first }
-        requires within { first + k / (4096 / length buf.old) < journal.now.blocks }
-        requires few { journal.now.blocks < 2 ^ 32 }
+        requires home { homes_start journal.now.layout ≤ first }
+        requires within { first + k / (4096 / length buf.old) < journal.now.layout.blocks }
+        requires few { journal.now.layout.blocks < 2 ^ 32 }
         requires clean { journal.now.staged ≡ [] }
         requires usable { JournalIsUsable journal.now (D.meaning disk.old) }
         ensures disk { ReadsDisk (D.meaning disk.old) (D.meaning disk.new) result }

@@ -10,7 +10,8 @@ ghost use Rattle.lis_model.specs.Image.{image_blocks};
 ghost use Rattle.lis_open.specs.Makes.{Same, first_byte, IsNameless, IsSpared, AreZeros, IsWiped, IsWiping, rest_of_super};
 
 use lis_fields::{SUPER_LEN, write_super};
-use lis_journal::{BLOCK_LEN, HOMES_START};
+use lis_journal::BLOCK_LEN;
+use lis_kept::PROPERTIES_START;
 use lis_model::limits::{Limits, image_blocks};
 use lis_ports::{Disk, Failed};
 
@@ -110,6 +111,6 @@ pub fn wipe<D: Disk>(disk: &mut D, limits: &Limits) -> Result<(), Failed>
 {
     write_rest(disk, limits)?;
     clear_blocks(disk, GATE_BLOCK, GATE_BLOCK + 1)?;
-    clear_blocks(disk, HOMES_START, image_blocks(limits) - limits.blocks)?;
+    clear_blocks(disk, PROPERTIES_START, image_blocks(limits) - limits.blocks)?;
     disk.sync()
 }

@@ -13,6 +13,7 @@ ghost use Rattle.lis_model.specs.State.{blocks_needed};
 ghost use Rattle.lis_open.specs.Reading.{IsReadable};
 ghost use Rattle.lis_open.specs.ReadFiles.{AreIndexed, AreReadBlocks, AreUsable, AreItsBlocks};
 ghost use Rattle.lis_model.specs.Sets.{are_distinct, has_number};
+ghost use Rattle.lis_journal.specs.Record.{homes_start};
 
 use arrayvec::ArrayVec;
 use lis_blockmap::BlockMap;
@@ -68,8 +69,8 @@ fn read_numbers<D: Disk>(
     size: u32,
 ) -> Result<Option<ArrayVec<u16, 256>>, Failed>
     requires few { size ≤ 1048576 }
-    requires home { 578 ≤ home }
-    requires within { home < journal.now.blocks }
+    requires home { homes_start journal.now.layout ≤ home }
+    requires within { home < journal.now.layout.blocks }
     requires clean { journal.now.staged ≡ [] }
     requires usable { JournalIsUsable journal.now (D.meaning disk.old) }
     ensures disk { ReadsDisk (D.meaning disk.old) (D.meaning disk.new) result }

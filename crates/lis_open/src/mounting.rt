@@ -21,6 +21,7 @@ use crate::reading::read_store;
 use crate::room::take_room;
 use lis_fields::read_super;
 use lis_journal::{BLOCK_LEN, Journal, JournalFault};
+use lis_kept::{image_capacity, image_layout};
 use lis_model::limits::{Limits, image_blocks};
 use lis_model::spot::Spot;
 use lis_ports::{Disk, Failed};
@@ -120,7 +121,7 @@ fn mount_image<D: Disk>(alloc: Global, disk: &mut D, limits: Limits) -> Result<S
     ensures opened { IsTrue (D.meaning disk.old).is_honest → Opened (D.meaning disk.old) (D.meaning disk.new) result }
     ensures sound { IfOk result IsSound }
     ensures ready { IfOk result (λ store. store.is_broken ≡ false) }
-    ensures long { IfOk result (λ store. 4096 * store.journal.blocks ≤ (D.meaning disk.new).len) }
+    ensures long { IfOk result (λ store. 4096 * store.journal.layout.blocks ≤ (D.meaning disk.new).len) }
     ensures any_moment { IsTrue (D.meaning disk.old).is_honest
         → Leaves (D.meaning disk.old) (D.meaning disk.new) (InOpening (D.meaning disk.old)) }
     ensures past { IsTrue (D.meaning disk.old).is_honest
@@ -128,7 +129,8 @@ fn mount_image<D: Disk>(alloc: Global, disk: &mut D, limits: Limits) -> Result<S
         → KeepsPast (image_blocks limits) (D.meaning disk.old) (D.meaning disk.new) }
 {
     let room = take_room(alloc, &limits)?;
-    match Journal::mount(alloc, disk, image_blocks(&limits)) {
+    let layout = image_layout(&limits);
+    match Journal::mount(alloc, disk, layout, image_capacity(&limits)) {
         Ok(journal) => read_store(disk, limits, journal, room),
         // Closed by a call, since an end is checked with all that is let go there.
         Err(fault) => {
@@ -155,7 +157,7 @@ pub fn mount<D: Disk>(alloc: Global, disk: &mut D) -> Result<Store, OpenFault>
         → (result ≡ Err (TooShort (D.meaning disk.old).len 4096)) × (disk.new ≡ disk.old) }
     ensures sound { IfOk result IsSound }
     ensures ready { IfOk result (λ store. store.is_broken ≡ false) }
-    ensures long { IfOk result (λ store. 4096 * store.journal.blocks ≤ (D.meaning disk.new).len) }
+    ensures long { IfOk result (λ store. 4096 * store.journal.layout.blocks ≤ (D.meaning disk.new).len) }
 
     // Nothing is written but what an open gate asks for, whatever the image; and where the image stood for a state, each moment
     // stands for the same one, or is an image that a crash could have left before.

@@ -30,7 +30,7 @@ use lis_place::Place;
 use lis_ports::{Disk, Failed, Source, Station};
 use lis_session::end::End;
 use lis_session::replies::{answer_bytes, answer_refusal, conclude};
-use lis_store::Store;
+use lis_store::{Store, Write};
 use lis_words::Name;
 
 // Reads the file in the slot, and makes of it what the edited view asks for.
@@ -82,7 +82,8 @@ fn carry_back<T: Station>(
         Returned::OtherMarks => answer_bytes(station, b"no 27 marks\n"),
         Returned::Whole => {
             let root = Place::root();
-            let written = store.write(station, scratch, &root, name, made.bytes(), made.size());
+            let write = Write::Write(name, made.bytes(), made.size());
+            let written = store.apply(station, scratch, &root, write);
             conclude(station, written)
         }
     }

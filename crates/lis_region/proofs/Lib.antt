@@ -1,3 +1,6 @@
 mod Order
 mod Slots
+mod Made
+mod Given
+mod Pools
 pub mod Frames

@@ -1,3 +1,4 @@
 pub mod Region
 pub mod Inside
+pub mod Made
 pub mod Lends

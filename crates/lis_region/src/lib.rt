@@ -1,6 +1,8 @@
 //! Frames of equal width, taken from the heap at once and handed out one by one.
 #![tactic(auto)]
 
+mod pool;
 mod region;
 
+pub use pool::Pool;
 pub use region::{Frame, Region};

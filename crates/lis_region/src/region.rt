@@ -7,7 +7,7 @@ use std::marker::Model;
 /// given back.
 #[derive(Debug, Drop)]
 pub struct Frame {
-    number: u32,
+    pub(crate) number: u32,
 }
 
 impl Model for Frame {
@@ -56,7 +56,7 @@ impl<T: Copy> Region<T> {
     /// A region of so many frames of so many items each, none of them taken. All memory that the region will use
     /// is taken here.
     pub fn new(alloc: Global, frames: u32, width: u32, fill: T) -> Result<Region<T>, AllocError>
-        requires { frames * width ≤ 2 ^ 27 }
+        requires { frames * width ≤ 2 ^ 28 }
         ensures { IfOk result (λ region. region ≡ empty_region frames width fill) }
     {
         let mut slots = Vec::with_capacity(alloc, frames as usize)?;

@@ -28,7 +28,7 @@ store_shown {k} fitting call =
         kept = fits.kept;
         journal = record {
           honest = call.honest ∙ fits.journal.honest;
-          reads = subst (IsAtRest k.journal.blocks k.journal.records [] fits.kept) (sym same.bytes) fits.journal.reads;
+          reads = subst (IsAtRest k.journal.layout k.journal.records [] fits.kept) (sym same.bytes) fits.journal.reads;
           leaves = λ image is. fits.journal.leaves image (same.images.only image is);
         };
         unbroken = fits.unbroken;

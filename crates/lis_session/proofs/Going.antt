@@ -23,6 +23,7 @@ use Rattle.lis_session.specs.Served.{SessionKeeps, LastEnded, HasGone, HasDone, 
 use Rattle.lis_session.proofs.Fitting.{same_then}
 use Rattle.lis_laws.proofs.Regular.{AreRegular, limits_after, last_reply, last_situation}
 use Rattle.lis_session.proofs.Moments.{moment_in, session_on}
+use Rattle.lis_kept.proofs.Image.{same_blocks}
 
 -- ---- whatever is carried out
 cause_then : (a b c : Meaning) (result : Result (Unit {0}) End) → HasEndCause a b (Ok tt) → HasEndCause b c result → HasEndCause a c result
@@ -46,7 +47,7 @@ keeps_then first second = record {
 
 -- it can carry out the next one
 pub is_usable_after : {P : Type 0} {now next : SituatedOf P} {mid m : Meaning} (result : Result (Unit {0}) End) → SessionKeeps now mid next m result → IsUsable now.store mid → IfOk result (λ _. IsUsable next.store m)
-is_usable_after (Ok u) keeps usable = record { unbroken = keeps.left.unbroken (λ e. cc e); long = omega (arith, keeps.left.image, keeps.ends.same.len, usable.long) }
+is_usable_after (Ok u) keeps usable = record { unbroken = keeps.left.unbroken (λ e. cc e); long = omega (arith, same_blocks keeps.left.image, keeps.ends.same.len, usable.long) }
 is_usable_after (Err fault) keeps usable = tt
 
 -- ---- item by item

@@ -6,6 +6,8 @@ pub mod Saying
 pub mod Answering
 pub mod Blocks
 pub mod Holding
+pub mod Settled
+pub mod Written
 pub mod Tallying
 pub mod Going
 pub mod Served

@@ -13,6 +13,7 @@ use Rattle.lis_store.specs.Stands.{Stands}
 use Rattle.lis_store.specs.Stored.{Stored}
 use Rattle.lis_session.specs.declared.end.End.{End}
 use Rattle.lis_session.specs.declared.end.End.TheVariants.{DiskFault, OutputFault}
+use Rattle.lis_journal.specs.Journal.{shape_of}
 
 -- Nothing was shown and the image stands for the state before, or a front of the reply was and it stands for the state after.
 abbrev pub InItem : {P : Type 0} → State → OutcomeOf P → List ℕ → List ℕ → Type 0
@@ -63,7 +64,7 @@ HasEndCause old new (Err OutputFault) = (new.disk_faults ≡ old.disk_faults) ×
 -- a store is broken by a fault of the disk alone, and its limits and the length of its image stay
 pub record StoreLeft (old new : Stored) (result : Result (Unit {0}) End) : Type 0 where
   pub limits : new.parts.limits ≡ old.parts.limits
-  pub image : new.journal.blocks ≡ old.journal.blocks
+  pub image : shape_of new.journal ≡ shape_of old.journal
   pub unbroken : result ≢ Err DiskFault → new.is_broken ≡ false
 
 -- what no call changes of a station: whether it is honest, how long its disk is, and whether it tells its moments

@@ -1,6 +1,7 @@
 pub mod Session
 pub mod Codes
 pub mod Item
+pub mod Settled
 pub mod Runs
 pub mod Served
 pub mod Parts

@@ -11,9 +11,11 @@ ghost use Rattle.lis_store.specs.Stored.{IsSound, StoreFits, StoreHolds, IsUsabl
 ghost use Rattle.lis_session.specs.Item.{CarriesOut, Does, StoreLeft};
 ghost use Rattle.lis_session.specs.Parts.{Ends, MakesHeld, is_change, kept_up};
 ghost use Rattle.lis_session.specs.Served.{SessionKeeps};
+ghost use Rattle.lis_session.specs.Settled.{StaysSettled};
 ghost use Rattle.lis_session.specs.Tally.{TalliesItem};
+ghost use Rattle.lis_journal.specs.Journal.{shape_of};
 
-use crate::changes::{change, hold};
+use crate::changes::write_of;
 use crate::content::cat;
 use crate::counting::stat;
 use crate::description::props;
@@ -111,6 +113,7 @@ fn carry_command<T: Station>(
         (T.meaning station.old) (T.meaning station.new) result (StoreFits store.new (T.meaning station.new)) place.new }
     ensures ends { Ends (T.meaning station.old) (T.meaning station.new) result }
     ensures left { StoreLeft store.old store.new result }
+    ensures settled { StaysSettled store.old store.new }
 {
     match command {
         Command::Cat(name) => cat(store, scratch, place, name, station),
@@ -130,7 +133,7 @@ fn carry_command<T: Station>(
         | Command::Mv(..)
         | Command::Rename(..)
         | Command::Rm(_) => {
-            let changed = change(store, scratch, place, command, payload, station);
+            let changed = store.apply(station, scratch, place, write_of(command, payload));
             conclude(station, changed)
         }
     }
@@ -154,6 +157,7 @@ pub fn carry_out<T: Station>(
         (StoreFits store.new (T.meaning station.new)) place.new) }
     ensures ends { Ends (T.meaning station.old) (T.meaning station.new) result }
     ensures left { StoreLeft store.old store.new result }
+    ensures settled { StaysSettled store.old store.new }
     ensures sound { IsSound store.new }
     ensures scratch { HasRoom scratch.new store.old.parts.limits }
 {
@@ -178,6 +182,7 @@ impl Session {
             (CarriesOut step (StoreFits self.old.store (T.meaning station.old)) self.old.place (T.meaning station.old) (T.meaning station.new) result
             (StoreFits self.new.store (T.meaning station.new)) self.new.place) }
         ensures keeps { SessionKeeps self.old (T.meaning station.old) self.new (T.meaning station.new) result }
+        ensures settled { StaysSettled self.old.store self.new.store }
     {
         carry_out(
             &mut self.store,
@@ -203,8 +208,9 @@ impl Session {
             (StoreFits self.new.store (D.meaning disk.new)) self.new.place) }
         ensures disk { UsesDisk (D.meaning disk.old) (D.meaning disk.new) result }
         ensures limits { self.new.store.parts.limits ≡ self.old.store.parts.limits }
-        ensures image { self.new.store.journal.blocks ≡ self.old.store.journal.blocks }
+        ensures image { shape_of self.new.store.journal ≡ shape_of self.old.store.journal }
         ensures unbroken { IfOk result (λ _. self.new.store.is_broken ≡ false) }
+        ensures settled { StaysSettled self.old.store self.new.store }
         ensures few { IfOk result (λ tally. tally.listed ≤ self.old.store.parts.limits.props + self.old.store.parts.limits.files) }
         ensures sound { IsSound self.new.store }
     {
@@ -238,14 +244,8 @@ impl Session {
         ensures place { self.new.place ≡ self.old.place }
         ensures keeps { SessionKeeps self.old (D.meaning disk.old) self.new (D.meaning disk.new) (kept_up result) }
     {
-        hold(
-            &mut self.store,
-            &mut self.scratch,
-            &self.place,
-            command,
-            payload,
-            disk,
-        )
+        let write = write_of(command, payload);
+        self.store.hold(disk, &mut self.scratch, &self.place, write)
     }
 
     /// Commits all changes that are held back.

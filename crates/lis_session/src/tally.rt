@@ -8,9 +8,11 @@ ghost use Rattle.lis_model.specs.Step.{done};
 ghost use Rattle.lis_store.specs.Seen.{table_of};
 ghost use Rattle.lis_store.specs.Judging.{is_among};
 ghost use Rattle.lis_store.specs.Stored.{IsSound, StoreFits, IsUsable};
+ghost use Rattle.lis_session.specs.Settled.{StaysSettled};
 ghost use Rattle.lis_session.specs.Tally.{lines_listed, Concluded, Tallies};
+ghost use Rattle.lis_journal.specs.Journal.{shape_of};
 
-use crate::changes::change;
+use crate::changes::write_of;
 use crate::moving::go;
 use lis_eval::Scratch;
 use lis_incr::{Listing, lines, make_listing};
@@ -116,8 +118,9 @@ pub(crate) fn tally_command<D: Disk>(
         (D.meaning disk.old) (D.meaning disk.new) result (StoreFits store.new (D.meaning disk.new)) place.new }
     ensures disk { UsesDisk (D.meaning disk.old) (D.meaning disk.new) result }
     ensures limits { store.new.parts.limits ≡ store.old.parts.limits }
-    ensures image { store.new.journal.blocks ≡ store.old.journal.blocks }
+    ensures image { shape_of store.new.journal ≡ shape_of store.old.journal }
     ensures unbroken { IfOk result (λ _. store.new.is_broken ≡ false) }
+    ensures settled { StaysSettled store.old store.new }
     ensures few { IfOk result (λ tally. tally.listed ≤ store.old.parts.limits.props + store.old.parts.limits.files) }
 {
     match command {
@@ -137,6 +140,9 @@ pub(crate) fn tally_command<D: Disk>(
         | Command::Write(_)
         | Command::Mv(..)
         | Command::Rename(..)
-        | Command::Rm(_) => concluded(change(store, scratch, place, command, payload, disk)),
+        | Command::Rm(_) => {
+            let write = write_of(command, payload);
+            concluded(store.apply(disk, scratch, place, write))
+        }
     }
 }

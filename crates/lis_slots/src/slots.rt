@@ -6,6 +6,7 @@ ghost use Rattle.lis_ports.specs.Calls.{ReadsDisk};
 ghost use Rattle.lis_journal.specs.Images.{Fits, is_among, JournalIsUsable};
 ghost use Rattle.lis_journal.specs.Phases.{looked};
 ghost use Rattle.lis_journal.specs.Staging.{has_entry};
+ghost use Rattle.lis_journal.specs.Record.{homes_start};
 
 use lis_journal::{BLOCK_LEN, Journal};
 use lis_ports::{Disk, Failed};
@@ -99,8 +100,8 @@ impl Slots {
     ) -> Result<(), Failed>
         requires k { k < self.now.count }
         requires whole { length buf.old ≡ self.now.width }
-        requires home { 578 ≤ self.now.first }
-        requires within { home self.now k < journal.now.blocks }
+        requires home { homes_start journal.now.layout ≤ self.now.first }
+        requires within { home self.now k < journal.now.layout.blocks }
         requires usable { JournalIsUsable journal.now (D.meaning disk.old) }
         ensures read { OnOk result ((kept : ℕ → List ℕ) → Fits journal.now (D.meaning disk.old) kept
             → buf.new ≡ slot self.now (looked journal.now.staged kept) k) }
@@ -125,11 +126,11 @@ impl Slots {
     ) -> Result<(), Failed>
         requires k { k < self.now.count }
         requires whole { length bytes.now ≡ self.now.width }
-        requires home { 578 ≤ self.now.first }
-        requires within { home self.now k < journal.old.blocks }
+        requires home { homes_start journal.old.layout ≤ self.now.first }
+        requires within { home self.now k < journal.old.layout.blocks }
         requires usable { JournalIsUsable journal.old (D.meaning disk.old) }
         requires unplaced { is_among journal.old.placed (home self.now k) ≡ false }
-        requires room { IsTrue (has_entry journal.old.staged (home self.now k)) ⊎ (length journal.old.staged < 575) }
+        requires room { IsTrue (has_entry journal.old.staged (home self.now k)) ⊎ (length journal.old.staged < journal.old.capacity.staged) }
         ensures ended { PutEnded self.now k bytes.now journal.old journal.new (D.meaning disk.old) result }
         ensures disk { ReadsDisk (D.meaning disk.old) (D.meaning disk.new) result }
         ensures fits { (kept : ℕ → List ℕ) → Fits journal.old (D.meaning disk.old) kept

@@ -2,8 +2,10 @@
 use Rattle.std.proofs.Common.{rules}
 use Rattle.lis_store.proofs.Common.{◌≡◌, refl, ap, inl, inr, ℕ, ◌+◌, ◌<◌, ◌≤◌, true, false, List, length, IsTrue, arith, and_parts, eqb-true, not-true, Among, among_from_contains, contains_from_among, is_taken, has_home, are_free, slot_count, Filed, are_in_range, data_start, State, Kept, IsWritten, IsSaved, AreSound, bytes_told, blocks_told, state_of, HasIndex, Tells, map_all, filed_rec, among_slots, both_ways, false_from_ne_true, among_from_any, all_among, file_told, number_from_among}
 use Rattle.lis_journal.specs.Images.{IsOutside}
+use Rattle.lis_kept.specs.Image.{image_layout}
 use Rattle.lis_kept.proofs.Contents.{same_file, slot_counted}
 use Rattle.lis_kept.proofs.InArea.{held_by}
+use Rattle.lis_model.specs.Image.{properties_start}
 
 -- a record of memory has as many numbers of blocks as its size asks for
 pub numbers_counted : (k : Kept) → AreSound k → (f : Filed) → Among k.catalog.entries f → length f.rec.blocks ≡ slot_count f.rec.size
@@ -35,7 +37,7 @@ module _ (k : Kept) (at there : ℕ → List ℕ) (sound : AreSound k) (same : A
   tells_there s front tells = search (rules, state_there, file_there, among_from_contains, blocks_there, index_there)
 
 -- ---- what is written
-module _ (k : Kept) (at there : ℕ → List ℕ) (range : IsTrue (are_in_range k.limits)) (same : (n : ℕ) → 578 ≤ n → n < data_start k.limits → there n ≡ at n) where
+module _ (k : Kept) (at there : ℕ → List ℕ) (range : IsTrue (are_in_range k.limits)) (same : (n : ℕ) → properties_start ≤ n → n < data_start k.limits → there n ≡ at n) where
   pub written_there : IsWritten k at → IsWritten k there
   written_there written area n lt = search (rules, among_slots, held_by)
 
@@ -53,10 +55,10 @@ free_apart k blocks free b taken = search (rules, false_from_ne_true, among_from
 
 -- All blocks outside the gates and the records are the same but data blocks that were free.
 abbrev pub AreSameBut : Kept → List ℕ → (ℕ → List ℕ) → (ℕ → List ℕ) → Type 0
-AreSameBut k blocks at there = (n : ℕ) → IsOutside n → has_home (data_start k.limits) blocks n ≡ false → there n ≡ at n
+AreSameBut k blocks at there = (n : ℕ) → IsOutside (image_layout k.limits) n → has_home (data_start k.limits) blocks n ≡ false → there n ≡ at n
 
 module _ (k : Kept) (blocks : List ℕ) (at there : ℕ → List ℕ) (sound : AreSound k) (free : IsTrue (are_free k.taken blocks)) (same : AreSameBut k blocks at there) where
-  pub homes_same : (n : ℕ) → 578 ≤ n → n < data_start k.limits → there n ≡ at n
+  pub homes_same : (n : ℕ) → properties_start ≤ n → n < data_start k.limits → there n ≡ at n
   homes_same n low lt = same n (inr low) (no_home_before (data_start k.limits) n blocks lt)
 
   pub written_elsewhere : IsWritten k at → IsWritten k there

@@ -6,6 +6,7 @@ use Rattle.lis_store.specs.Stored.{Stored, IsSound}
 use Rattle.lis_store.specs.Changes.{ChangeLeft, ChangeKeeps, CommitLeft, AreEditsFew}
 use Rattle.lis_store.specs.Saving.{SaveEnded}
 use Rattle.lis_store.proofs.Edits.{edits_same}
+use Rattle.lis_journal.specs.Journal.{shape_of}
 
 left_saved : {T : Type 0} (old new : Stored) (result : Result T Change) → SaveEnded new.is_broken result → ChangeLeft old new result
 left_saved old new (Ok done) whole = whole
@@ -19,7 +20,7 @@ left_committed old new (Err Disk) broken = broken
 
 -- memory was changed, and then it was saved
 pub keeps_saved : {T : Type 0} {old now new : Stored} → old ≡ now → (made : Kept) (result : Result T Change) → made.limits ≡ old.parts.limits → AreEditsFew old.parts.ext made.ext → IsSound new
-    → new.parts ≡ record made { marks = new.parts.marks } → new.journal.blocks ≡ old.journal.blocks → SaveEnded new.is_broken result → ChangeKeeps now new result
+    → new.parts ≡ record made { marks = new.parts.marks } → shape_of new.journal ≡ shape_of old.journal → SaveEnded new.is_broken result → ChangeKeeps now new result
 keeps_saved {old = old} {new = new} view made result limits edits sound parts image ended =
     subst (λ (k : Stored). ChangeKeeps k new result) view (record {
       limits = ap (λ (k : Kept). k.limits) parts ∙ limits;
@@ -30,7 +31,7 @@ keeps_saved {old = old} {new = new} view made result limits edits sound parts im
     })
 
 -- the disk failed, which broke the store
-pub keeps_lost : {T : Type 0} {old now new : Stored} {result : Result T Change} → old ≡ now → IsSound new → result ≡ Err Disk → new.parts.limits ≡ old.parts.limits → new.journal.blocks ≡ old.journal.blocks
+pub keeps_lost : {T : Type 0} {old now new : Stored} {result : Result T Change} → old ≡ now → IsSound new → result ≡ Err Disk → new.parts.limits ≡ old.parts.limits → shape_of new.journal ≡ shape_of old.journal
     → new.parts.ext ≡ old.parts.ext → new.is_broken ≡ true → ChangeKeeps now new result
 keeps_lost {old = old} {new = new} {result = result} view sound lost limits image rows broken =
     subst (λ (k : Stored). ChangeKeeps k new result) view (record {
@@ -42,7 +43,7 @@ keeps_lost {old = old} {new = new} {result = result} view sound lost limits imag
     })
 
 -- a commit came before it
-pub keeps_behind : {T : Type 0} {old mid new : Stored} {result : Result T Change} → mid.parts ≡ old.parts → mid.journal.blocks ≡ old.journal.blocks → ChangeKeeps mid new result → SaveEnded new.is_broken result
+pub keeps_behind : {T : Type 0} {old mid new : Stored} {result : Result T Change} → mid.parts ≡ old.parts → shape_of mid.journal ≡ shape_of old.journal → ChangeKeeps mid new result → SaveEnded new.is_broken result
     → ChangeKeeps old new result
 keeps_behind {old = old} {new = new} {result = result} parts image keeps ended = record {
   limits = keeps.limits ∙ ap (λ (k : Kept). k.limits) parts;
@@ -54,7 +55,7 @@ keeps_behind {old = old} {new = new} {result = result} parts image keeps ended =
 
 -- or came behind it
 pub keeps_committed : {T U : Type 0} {old mid new : Stored} {held : Result T Change} (result : Result U Change) → ChangeKeeps old mid held → IsSound new → CommitLeft new result → new.parts ≡ mid.parts
-    → new.journal.blocks ≡ mid.journal.blocks → ChangeKeeps old new result
+    → shape_of new.journal ≡ shape_of mid.journal → ChangeKeeps old new result
 keeps_committed {old = old} {new = new} result keeps sound left parts image = record {
   limits = ap (λ (k : Kept). k.limits) parts ∙ keeps.limits;
   image = image ∙ keeps.image;

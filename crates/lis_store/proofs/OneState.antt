@@ -5,6 +5,7 @@ use Rattle.lis_fields.specs.Layouts.{is_axiom, is_file}
 use Rattle.lis_fields.proofs.OneSpelling.{super_once, prop_once, axiom_once, file_once}
 use Rattle.lis_kept.specs.Areas.{property_slots, file_slots}
 use Rattle.lis_store.specs.Stands.{Contents, AreSlots, spelled_state, Spells, Stands}
+use Rattle.lis_kept.specs.Image.{image_layout}
 
 -- two lists of one length with the same value in each place
 same_lists : {X : Type 0} (xs ys : List X) → length xs ≡ length ys → ((k : ℕ) (x y : X) → slice_get xs k ≡ Some x → slice_get ys k ≡ Some y → x ≡ y) → xs ≡ ys
@@ -41,7 +42,7 @@ pub one_state : (image : List ℕ) (s t : State) → Stands image s → Stands i
 unfolding Stands
 one_state image s t stands_s stands_t =
     let limits = super_once s.limits t.limits (part 0 4096 image) stands_s.range stands_t.range stands_s.super stands_t.super in
-    let replay = one_replay stands_s.replay stands_t.replay (sym stands_s.replays ∙ (ap (λ (l : Limits). replayed (image_blocks l) image) limits ∙ stands_t.replays)) in
+    let replay = one_replay stands_s.replay stands_t.replay (sym stands_s.replays ∙ (ap (λ (l : Limits). replayed (image_layout l) image) limits ∙ stands_t.replays)) in
     let moved = subst (λ (r : List ℕ). Spells t.limits stands_t.contents (λ n. block n r) t) (sym replay) stands_t.spells in
     let there = subst (λ (l : Limits). Spells l stands_t.contents (λ n. block n stands_s.replay) t) (sym limits) moved in
     one_spelled s.limits stands_s.contents stands_t.contents (λ n. block n stands_s.replay) s t stands_s.spells there

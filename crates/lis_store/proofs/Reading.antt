@@ -16,6 +16,8 @@ use Rattle.lis_store.proofs.FileBlocks.{content_told, content_among, content_cou
 use Rattle.lis_store.proofs.StoreSays.{file_in_slot, told_below}
 use Rattle.lis_store.proofs.ToldBy.{told_fits}
 use Rattle.lis_store.proofs.Spelled.{sound_parts}
+use Rattle.lis_kept.proofs.Image.{same_blocks}
+use Rattle.lis_model.specs.Image.{properties_start}
 
 -- ---- pieces of one length
 module _ {X : Type 0} (w : ℕ) (at : X → List ℕ) where
@@ -68,8 +70,8 @@ module _ {k : Stored} {slot n : ℕ} {rec : FileRecord} {ns : List ℕ} {size : 
   pub block_counted : length ns ≡ slot_count size
   block_counted = ap length has.numbers ∙ (numbers_counted k.parts has.sound.parts filed there ∙ ap slot_count (sym has.sized))
 
-  pub block_within_slot : (base : ℕ) → base ≡ data_start k.parts.limits → are_within base k.journal.blocks ns ≡ true
-  block_within_slot base is_base = slot_within k.parts rec base k.journal.blocks ns (has.sound.parts.records slot rec has.is_rec) is_base has.sound.image has.numbers
+  pub block_within_slot : (base : ℕ) → base ≡ data_start k.parts.limits → are_within base k.journal.layout.blocks ns ≡ true
+  block_within_slot base is_base = slot_within k.parts rec base k.journal.layout.blocks ns (has.sound.parts.records slot rec has.is_rec) is_base (same_blocks has.sound.image) has.numbers
 
   pub block_inside : n < blocks_needed size
   block_inside = let within = has.within in omega (arith, within, has.sized)
@@ -81,7 +83,7 @@ module _ {k : Stored} {slot n : ℕ} {rec : FileRecord} {ns : List ℕ} {size : 
   pub index_held : (base : ℕ) (index bytes : List ℕ) → base ≡ data_start k.parts.limits → (is_large size ≡ true → index ≡ held_in k.journal bytes (index_home base ns)) → IsIndex k bytes slot index
   index_held base index bytes is_base held other is_other large = search (rules, index_is)
 
-  pub index_kept : (m : Meaning) (base : ℕ) (index : List ℕ) → base ≡ data_start k.parts.limits → 578 ≤ base → IsIndex k m.bytes slot index
+  pub index_kept : (m : Meaning) (base : ℕ) (index : List ℕ) → base ≡ data_start k.parts.limits → properties_start ≤ base → IsIndex k m.bytes slot index
       → (kept : ℕ → List ℕ) → Fits k.journal m kept → is_large size ≡ true → index ≡ looked k.journal.staged kept (index_home base ns)
   index_kept m base index is_base high is_index kept fits large = search (rules, index_is, fits_held)
 
@@ -105,17 +107,17 @@ module _ {k : Stored} {slot n : ℕ} {rec : FileRecord} {ns : List ℕ} {size : 
         subst (λ bytes. take (length (part (4096 * n) 4096 bytes)) (at (get_or numbers n 0)) ≡ part (4096 * n) 4096 bytes) (sym bytes_are)
         (part_of_pieces 4096 at numbers n rec.size 0 (λ b among. (told_fits k m s has.sound fits).whole b (below b among)) in_content (omega arith))
 
-    number_within : data_start k.parts.limits + get_or numbers n 0 < k.journal.blocks
-    number_within = omega (arith, below (get_or numbers n 0) (among_at numbers n 0 in_content), has.sound.image)
+    number_within : data_start k.parts.limits + get_or numbers n 0 < k.journal.layout.blocks
+    number_within = omega (arith, below (get_or numbers n 0) (among_at numbers n 0 in_content), same_blocks has.sound.image)
 
   pub block_read : (m : Meaning) (base : ℕ) (buf : List ℕ) → base ≡ data_start k.parts.limits
       → ((kept : ℕ → List ℕ) → Fits k.journal m kept
-      → buf ≡ block_within base k.journal.blocks (looked k.journal.staged kept) (slice_index (content_blocks base ns size (looked k.journal.staged kept)) n))
+      → buf ≡ block_within base k.journal.layout.blocks (looked k.journal.staged kept) (slice_index (content_blocks base ns size (looked k.journal.staged kept)) n))
       → (s : State) (name : List ℕ) → StoreFits k m s → slot_of k.parts.catalog name ≡ Some slot
       → take (length (part (4096 * n) 4096 (file_of s.files name).bytes)) buf ≡ part (4096 * n) 4096 (file_of s.files name).bytes
   block_read m base buf is_base read s name fits is_slot =
       let held : ℕ → List ℕ → ℕ → List HomeBlock → List ℕ =
-      λ b slots bytes es. block_within b k.journal.blocks (looked es fits.kept) (slice_index (content_blocks b slots bytes (looked es fits.kept)) n) in
+      λ b slots bytes es. block_within b k.journal.layout.blocks (looked es fits.kept) (slice_index (content_blocks b slots bytes (looked es fits.kept)) n) in
       let ds = data_start k.parts.limits in
       let number = get_or (numbers m s fits) n 0 in
       let is_read : buf ≡ held ds rec.blocks rec.size [] =
@@ -125,5 +127,5 @@ module _ {k : Stored} {slot n : ℕ} {rec : FileRecord} {ns : List ℕ} {size : 
       ∙ (ap (λ slots. held ds slots size []) has.numbers
       ∙ ap (λ bytes. held ds rec.blocks bytes []) has.sized))) in
       let is_block : buf ≡ fits.kept (ds + number) =
-      is_read ∙ cond-true (nat_lt (ds + number) k.journal.blocks) (fits.kept (ds + number)) (replicate 4096 0) (lt-ltb (ds + number) k.journal.blocks (number_within m s fits)) in
+      is_read ∙ cond-true (nat_lt (ds + number) k.journal.layout.blocks) (fits.kept (ds + number)) (replicate 4096 0) (lt-ltb (ds + number) k.journal.layout.blocks (number_within m s fits)) in
       ap (take (length (part (4096 * n) 4096 (file_of s.files name).bytes))) is_block ∙ block_told m s fits name is_slot

@@ -21,6 +21,7 @@ use Rattle.lis_store.proofs.Steps.{form_taken, pairs_same, sound_lost, holds_beh
 use Rattle.lis_store.proofs.ToldBy.{told_held}
 use Rattle.lis_store.proofs.Torn.{ended_broken}
 use Rattle.lis_store.proofs.WriteFile.{found_there}
+use Rattle.lis_kept.specs.Image.{image_shape}
 
 -- one that is refused
 pub removed_refused : {T : Type 0} (old : Stored) (m : Meaning) (place : List Formula) (name : List ℕ) (result : Result T Change) → IsSound old → is_among old.parts place name ≡ false
@@ -99,7 +100,7 @@ module _ {old now : Stored} (view : old ≡ now) (sound : IsSound old) (unbroken
     pub removed_change : IsChange old q
     removed_change = record {
       settles = λ after.
-          settled_sound q old.journal (form_removed slot rec mid q form_given out) (pairs_same old.parts q same_axioms sound.pairs) (sound.image ∙ ap image_blocks (sym same_limits)) (sound.journal unbroken);
+          settled_sound q old.journal (form_removed slot rec mid q form_given out) (pairs_same old.parts q same_axioms sound.pairs) (sound.image ∙ ap image_shape (sym same_limits)) (sound.journal unbroken);
       limits = same_limits;
       room = omega (arith, few_marked slot rec mid q form_given out, gives.takes.marks.few, none_marked old.parts (sound.clean unbroken), sound.few unbroken);
       edits = subst (λ (e : Ext). AreEditsFew e q.ext) (ap (λ (k : Kept). k.ext) gives.takes.parts) (few_edits slot rec mid q form_given out);

@@ -10,23 +10,25 @@ use Rattle.lis_store.specs.declared.change.Change.{Change}
 use Rattle.lis_store.specs.declared.change.Change.TheVariants.{Refused, Disk}
 use Rattle.lis_store.specs.Contents.{ContentTorn, IsRenewed, Renews, ContentPut, ContentGiven, ContentRenewed}
 use Rattle.lis_store.specs.Contents.Trades.{First, Last}
+use Rattle.lis_journal.specs.declared.layout.Layout.{Layout}
+use Rattle.lis_kept.proofs.Image.{same_layout}
 
 -- ---- images
 -- what is kept in placed blocks does not count
-pub stands_same : (blocks : ℕ) (placed : List ℕ) (kept was : ℕ → List ℕ) (image : List ℕ) → ((n : ℕ) → is_among placed n ≡ false → kept n ≡ was n)
-    → StandsBut blocks placed kept image → StandsBut blocks placed was image
+pub stands_same : (layout : Layout) (placed : List ℕ) (kept was : ℕ → List ℕ) (image : List ℕ) → ((n : ℕ) → is_among placed n ≡ false → kept n ≡ was n)
+    → StandsBut layout placed kept image → StandsBut layout placed was image
 unfolding StandsBut
-stands_same blocks placed kept was image same but = search (rules)
+stands_same layout placed kept was image same but = search (rules)
 
 -- blocks that are placed among the homes of these
-pub stands_homes : (blocks base : ℕ) (placed some : List ℕ) (kept : ℕ → List ℕ) (image : List ℕ) → ((n : ℕ) → is_among placed n ≡ true → has_home base some n ≡ true)
-    → StandsBut blocks placed kept image → StandsBut blocks (homes_of base some) kept image
-stands_homes blocks base placed some kept image homes but = search (rules, stands_less, false_from_ne_true, both_ways, among_homes)
+pub stands_homes : (layout : Layout) (base : ℕ) (placed some : List ℕ) (kept : ℕ → List ℕ) (image : List ℕ) → ((n : ℕ) → is_among placed n ≡ true → has_home base some n ≡ true)
+    → StandsBut layout placed kept image → StandsBut layout (homes_of base some) kept image
+stands_homes layout base placed some kept image homes but = search (rules, stands_less, false_from_ne_true, both_ways, among_homes)
 
 -- with nothing placed, an image stands for what is kept
-unplaced_stands : (journal : Held) {m : Meaning} {kept : ℕ → List ℕ} (more : List ℕ) → journal.placed ≡ [] → Fits journal m kept → (image : List ℕ) → m.images image → StandsBut journal.blocks more kept image
+unplaced_stands : (journal : Held) {m : Meaning} {kept : ℕ → List ℕ} (more : List ℕ) → journal.placed ≡ [] → Fits journal m kept → (image : List ℕ) → m.images image → StandsBut journal.layout more kept image
 unplaced_stands journal {m} {kept} more none fits image is =
-    stands_less journal.blocks journal.placed more kept image (λ n absent. ap (λ ns. is_among ns n) none) (fits_but journal fits image is)
+    stands_less journal.layout journal.placed more kept image (λ n absent. ap (λ ns. is_among ns n) none) (fits_but journal fits image is)
 
 -- ---- blocks are taken, once or twice
 marked_bitmap : (p q : Kept) → AreSound p → (ts : List Bool) → Takes ts p q → is_marked q (bitmap_start p.limits) ≡ true
@@ -79,11 +81,11 @@ module _ (p q : Kept) (ts ms : List Bool) (rec : FileRecord) (bytes numbers : Li
   none_placed : new.placed ≡ []
   none_placed = puts.unplaced small
 
-  pub first_moments : (kept : ℕ → List ℕ) → Fits old before kept → Leaves before after (StandsBut old.blocks new.placed kept)
+  pub first_moments : (kept : ℕ → List ℕ) → Fits old before kept → Leaves before after (StandsBut old.layout new.placed kept)
   first_moments kept fits =
-      leaves_then (leaves_weaken (StandsBut old.blocks new.placed kept) (asks.reads.moments fits.honest) (unplaced_stands old new.placed unplaced fits)) (puts.moments kept (asks.fits kept fits))
+      leaves_then (leaves_weaken (StandsBut old.layout new.placed kept) (asks.reads.moments fits.honest) (unplaced_stands old new.placed unplaced fits)) (puts.moments kept (asks.fits kept fits))
 
-  pub first_past : (kept : ℕ → List ℕ) → Fits old before kept → KeepsPast old.blocks before after
+  pub first_past : (kept : ℕ → List ℕ) → Fits old before kept → KeepsPast old.layout.blocks before after
   first_past kept fits n le = puts.fills.past kept (asks.fits kept fits) n le ∙ ap (block n) (asks.reads.same fits.honest).bytes
 
   first_renewed : (kept : ℕ → List ℕ) → Fits old before kept → IsRenewed bytes numbers puts.blocks (Some rec) p q kept old new after
@@ -125,17 +127,17 @@ module _ (p : Kept) (ts ms : List Bool) (bytes numbers : List ℕ) (old new : He
   put = record p { taken = ts; marks = ms }
 
   -- what is asked leaves the images of then
-  asked_stands : (kept : ℕ → List ℕ) → Fits old before kept → (image : List ℕ) → placed.images image → StandsBut old.blocks new.placed kept image
+  asked_stands : (kept : ℕ → List ℕ) → Fits old before kept → (image : List ℕ) → placed.images image → StandsBut old.layout new.placed kept image
   asked_stands kept fits image is =
       let lands = puts.lands kept fits in
-      stands_same old.blocks new.placed lands.kept kept image (puts.stays kept fits)
-      (subst (λ n. StandsBut n new.placed lands.kept image) puts.image (fits_but new lands.fits image is))
+      stands_same old.layout new.placed lands.kept kept image (puts.stays kept fits)
+      (subst (λ l. StandsBut l new.placed lands.kept image) (same_layout puts.image) (fits_but new lands.fits image is))
 
-  last_moments : (kept : ℕ → List ℕ) → Fits old before kept → Leaves before after (StandsBut old.blocks new.placed kept)
+  last_moments : (kept : ℕ → List ℕ) → Fits old before kept → Leaves before after (StandsBut old.layout new.placed kept)
   last_moments kept fits =
-      leaves_then (puts.moments kept fits) (leaves_weaken (StandsBut old.blocks new.placed kept) (asks.reads.moments (puts.lands kept fits).fits.honest) (asked_stands kept fits))
+      leaves_then (puts.moments kept fits) (leaves_weaken (StandsBut old.layout new.placed kept) (asks.reads.moments (puts.lands kept fits).fits.honest) (asked_stands kept fits))
 
-  last_past : (kept : ℕ → List ℕ) → Fits old before kept → KeepsPast old.blocks before after
+  last_past : (kept : ℕ → List ℕ) → Fits old before kept → KeepsPast old.layout.blocks before after
   last_past kept fits n le = ap (block n) (asks.reads.same (puts.lands kept fits).fits.honest).bytes ∙ puts.fills.past kept fits n le
 
   -- blocks that are not given back then
@@ -151,8 +153,8 @@ module _ (p : Kept) (ts ms : List Bool) (bytes numbers : List ℕ) (old new : He
         were_free = free;
         small = small;
         moments = λ kept fits.
-            leaves_weaken (StandsBut old.blocks (homes_of (data_start p.limits) spare) kept) (last_moments kept fits) (λ image but.
-            stands_homes old.blocks (data_start p.limits) new.placed spare kept image homes but);
+            leaves_weaken (StandsBut old.layout (homes_of (data_start p.limits) spare) kept) (last_moments kept fits) (λ image but.
+            stands_homes old.layout (data_start p.limits) new.placed spare kept image homes but);
         past = last_past;
       }
 

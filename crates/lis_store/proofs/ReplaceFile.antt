@@ -25,6 +25,9 @@ use Rattle.lis_store.proofs.SavedAlone.{IsChange, MayBeSaved, unplaced_stands}
 use Rattle.lis_store.proofs.Steps.{pairs_same, small_or_alone, holds_behind, but_stands}
 use Rattle.lis_store.proofs.ToldBy.{ToldBy, told_held}
 use Rattle.lis_store.proofs.WriteFile.{found_there, written_enough}
+use Rattle.lis_journal.specs.Journal.{shape_of}
+use Rattle.lis_kept.specs.Image.{image_shape}
+use Rattle.lis_kept.proofs.Image.{same_layout, same_blocks, same_staged}
 
 may_retaken : (p : Kept) (taken marks : List Bool) (slot : ℕ) (rec : FileRecord) (draft : Draft) → MayReplace p slot rec draft → MayReplace (retaken p taken marks) slot rec draft
 may_retaken p taken marks slot rec draft may = search (rules)
@@ -54,9 +57,9 @@ module _ (old : Stored) (taken marks : List Bool) (q : Kept) (j : Held) (gone : 
   pub limits_then : q.limits ≡ o.limits
   limits_then = limits_refiled again
 
-  pub replaced_sound : old.journal.blocks ≡ j.blocks → j.is_broken ≡ false → AreSound q → IsSound (settled q j)
+  pub replaced_sound : shape_of old.journal ≡ shape_of j → j.is_broken ≡ false → AreSound q → IsSound (settled q j)
   replaced_sound image unbroken after =
-      settled_sound q j (form_refiled again) (pairs_same o q (axioms_refiled again) sound.pairs) (sym image ∙ (sound.image ∙ ap image_blocks (sym limits_then))) unbroken
+      settled_sound q j (form_refiled again) (pairs_same o q (axioms_refiled again) sound.pairs) (sym image ∙ (sound.image ∙ ap image_shape (sym limits_then))) unbroken
 
   pub replaced_marks : marked_count q ≤ marked_count p + 513
   replaced_marks = few_refiled gone form again
@@ -75,7 +78,7 @@ module _ (old : Stored) (taken marks : List Bool) (q : Kept) (j : Held) (gone : 
   pub replaced_holds : {T : Type 0} (base : State) (now : Situation) (new : Stored) (before after : Meaning) (result : Result T Change) (outcome : Outcome) (at kept : ℕ → List ℕ) (held : List ℕ)
       → parts_before.limits ≡ base.limits → (tells : Tells parts_before at now.state) → AreOwnWords (file_gone now.state gone).declared (file_gone now.state gone).axioms own file → IsSaved (retaken parts_before taken marks) at
       → IsHoused parts_before.limits parts_before.taken taken (blocks_gone parts_before.limits at gone) held file.bytes numbers at (looked j.staged kept)
-      → Fits j before kept → ((image : List ℕ) → StandsBut j.blocks j.placed kept image → Stands image base)
+      → Fits j before kept → ((image : List ℕ) → StandsBut j.layout j.placed kept image → Stands image base)
       → used_blocks (file_gone now.state gone) + blocks_taken (file_gone now.state gone).limits.version (length file.bytes) ≤ (file_gone now.state gone).limits.blocks
       → outcome ≡ changed now (file_added (file_gone now.state gone) file) → Saves q j new before after result → Holds base now outcome new before after result
   replaced_holds base now new before after result outcome at kept held limits tells are_own saved housed fits stands room done saves =
@@ -155,8 +158,8 @@ module _ {old now : Stored} (same : old ≡ now) {mid : Kept} {j : Held} (slot :
       by true le = le
       by false le = omega (arith, le)
 
-  pub mid_image : j.blocks ≡ now.journal.blocks
-  mid_image = renews.image ∙ ap (λ (o : Stored). o.journal.blocks) same
+  pub mid_image : shape_of j ≡ shape_of now.journal
+  mid_image = renews.image ∙ ap (λ (o : Stored). shape_of o.journal) same
 
   module _ {q : Kept} (again_mid : RefilesIn (record_in mid slot) (draft_of file) numbers mid q) where
     again : RefilesIn goes (draft_of file) numbers renewed q
@@ -178,7 +181,7 @@ module _ {old now : Stored} (same : old ≡ now) {mid : Kept} {j : Held} (slot :
       pub written_saves : MayBeSaved q j
       written_saves = record {
         settles = replaced_sound old mid.taken mid.marks q j goes (draft_of file) numbers sound sound_renewed again (sym renews.image) written_unbroken;
-        image = renews.image ∙ (sound.image ∙ ap image_blocks (sym written_same));
+        image = renews.image ∙ (sound.image ∙ ap image_shape (sym written_same));
         placed = λ n among.
             let at = among_from_any (λ b. data_start k.limits + b == n) renews.spare (renews.placed n among) in
             let bitmap = subst (λ (x : Kept). is_marked x (bitmap_start k.limits) ≡ true) renews.parts renews.bitmap in (
@@ -187,7 +190,7 @@ module _ {old now : Stored} (same : old ≡ now) {mid : Kept} {j : Held} (slot :
             );
         room =
             let some = replaced_marks old mid.taken mid.marks q j goes (draft_of file) numbers sound sound_renewed again in
-            omega (arith, some, sound.few unbroken, renews.few_staged, renews.marks.few, none_marked k (sound.clean unbroken), ap (λ (x : Kept). marked_count x) renews.parts);
+            omega (arith, some, sound.few unbroken, renews.few_staged, renews.marks.few, none_marked k (sound.clean unbroken), ap (λ (x : Kept). marked_count x) renews.parts, same_staged (renews.image ∙ sound.image));
       }
 
     -- from a state that memory told
@@ -240,12 +243,13 @@ module _ {old now : Stored} (same : old ≡ now) {mid : Kept} {j : Held} (slot :
 
       -- what is kept but for placed blocks stands for the base
       module _ (alone : is_large (length bytes) ≡ true → old.journal.staged ≡ []) where
-        stands_old : (image : List ℕ) → StandsBut old.journal.blocks j.placed holds.kept image → Stands image base
+        stands_old : (image : List ℕ) → StandsBut old.journal.layout j.placed holds.kept image → Stands image base
         stands_old =
             but_stands old base s before sound holds j.placed renews.spare renews.were_free renews.placed (small_or_alone (length bytes) j.placed old.journal.staged renews.unplaced alone)
 
-        stands_then : (image : List ℕ) → StandsBut j.blocks j.placed comes.lands.kept image → Stands image base
-        stands_then image but = search (rules, stands_old, stands_same, comes)
+        stands_then : (image : List ℕ) → StandsBut j.layout j.placed comes.lands.kept image → Stands image base
+        stands_then image but =
+            stands_old image (stands_same old.journal.layout j.placed comes.lands.kept holds.kept image comes.stays (subst (λ l. StandsBut l j.placed comes.lands.kept image) (same_layout renews.image) but))
 
         -- where its blocks are enough
         replaces : {T : Type 0} (new : Stored) (after : Meaning) (result : Result T Change) → blocks_taken k.limits.version (length bytes) ≤ free_for k goes → Saves q j new placed after result
@@ -253,7 +257,7 @@ module _ {old now : Stored} (same : old ≡ now) {mid : Kept} {j : Held} (slot :
         replaces new after result enough saves =
             let outcome = changed was (file_added (file_gone s goes) file) in
             holds_behind base was outcome new before placed after result (leaves_weaken (λ image. Stands image base) (renews.moments holds.kept holds.journal) stands_old)
-            (subst (λ n. KeepsPast n before placed) (sound.image ∙ ap image_blocks holds.limits) (renews.past holds.kept holds.journal))
+            (subst (λ n. KeepsPast n before placed) (same_blocks (sound.image ∙ ap image_shape holds.limits)) (renews.past holds.kept holds.journal))
             (replaced_holds old mid.taken mid.marks q j goes file (derived_words name bytes) numbers sound sound_renewed again base was new placed after result outcome at comes.lands.kept renews.blocks
             holds.limits holds.tells refl saved_at housed comes.lands.fits stands_then (room enough) refl saves)
 

@@ -4,6 +4,8 @@ use Rattle.lis_kept.specs.Sound.{IsSoundAxiom}
 use Rattle.lis_store.specs.Stored.{Stored, PairsAreApart, IsSound}
 use Rattle.lis_store.specs.Saving.{clean, settled}
 use Rattle.lis_store.specs.ReplacingIn.{AreInForm}
+use Rattle.lis_journal.specs.Journal.{shape_of}
+use Rattle.lis_kept.specs.Image.{image_shape}
 
 -- ---- where other blocks are taken
 module _ (p : Kept) (taken marks : List Bool) where
@@ -32,15 +34,15 @@ pub in_form : (k : Stored) → IsSound k → AreInForm k.parts
 in_form k sound = record { sound = sound.parts; free = sound.free; closed = sound.closed; short = sound.short; in_use = sound.in_use; tests = sound.tests }
 
 -- one at rest
-pub sound_at : (q : Kept) (j : Held) (b : Bool) → AreInForm q → PairsAreApart q → j.blocks ≡ image_blocks q.limits → j.is_broken ≡ false → length j.staged ≤ 44 → IsTrue (are_whole j.staged) → j.placed ≡ []
+pub sound_at : (q : Kept) (j : Held) (b : Bool) → AreInForm q → PairsAreApart q → shape_of j ≡ image_shape q.limits → j.is_broken ≡ false → length j.staged ≤ 44 → IsTrue (are_whole j.staged) → j.placed ≡ []
     → q.marks ≡ replicate (length q.marks) false → IsSound (record { parts = q; journal = j; is_broken = b })
 sound_at q j b form pairs image unbroken few whole placed unmarked = assumption
 
 -- and one that is broken
-pub sound_lost : (q : Kept) (j : Held) → AreInForm q → PairsAreApart q → j.blocks ≡ image_blocks q.limits → IsSound (record { parts = q; journal = j; is_broken = true })
+pub sound_lost : (q : Kept) (j : Held) → AreInForm q → PairsAreApart q → shape_of j ≡ image_shape q.limits → IsSound (record { parts = q; journal = j; is_broken = true })
 sound_lost q j form pairs image = search rules
 
-pub settled_sound : (q : Kept) (j : Held) → AreInForm q → PairsAreApart q → j.blocks ≡ image_blocks q.limits → j.is_broken ≡ false → IsSound (settled q j)
+pub settled_sound : (q : Kept) (j : Held) → AreInForm q → PairsAreApart q → shape_of j ≡ image_shape q.limits → j.is_broken ≡ false → IsSound (settled q j)
 settled_sound q j form pairs image unbroken =
     sound_at (clean q) (record j { staged = []; placed = [] }) false (form_clean q form) pairs image unbroken (omega arith) refl refl
     (ap (λ n. replicate n false) (sym (length-replicate (length q.marks) false)))

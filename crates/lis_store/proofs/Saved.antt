@@ -15,9 +15,12 @@ use Rattle.lis_store.proofs.Elsewhere.{tells_there}
 use Rattle.lis_store.proofs.Retaken.{in_form, sound_at, sound_lost}
 use Rattle.lis_store.proofs.Told.{retold}
 use Rattle.lis_store.proofs.Standing.{stands_all_but, stands_none_but, change_stands}
+use Rattle.lis_journal.specs.Journal.{shape_of}
+use Rattle.lis_kept.specs.Image.{image_shape}
+use Rattle.lis_kept.proofs.Image.{same_layout, same_blocks}
 
 -- ---- what holds of the store afterwards
-module _ (p : Kept) (j x : Held) (settles : IsSound (settled p j)) (image : x.blocks ≡ j.blocks) where
+module _ (p : Kept) (j x : Held) (settles : IsSound (settled p j)) (image : shape_of x ≡ shape_of j) where
   pub sound_held : (q : Kept) (b : Bool) → q ≡ clean p → x.is_broken ≡ false → length x.staged ≤ 44 → IsTrue (are_whole x.staged) → x.placed ≡ [] → IsSound (record { parts = q; journal = x; is_broken = b })
   sound_held q b is unbroken few whole placed =
       subst (λ (k : Kept). IsSound (record { parts = k; journal = x; is_broken = b })) (sym is)
@@ -66,9 +69,9 @@ tells_clean : (p : Kept) (at : ℕ → List ℕ) (s : State) → Tells p at s �
 tells_clean p at s tells = search (rules, retold, contains_from_among)
 
 -- ---- what becomes of a change whose blocks are staged
-module _ (p : Kept) (j mid : Held) (before : Meaning) (stages : Stages p j mid) (sound : AreSound p) (settles : IsSound (settled p j)) (image_is : j.blocks ≡ image_blocks p.limits)
+module _ (p : Kept) (j mid : Held) (before : Meaning) (stages : Stages p j mid) (sound : AreSound p) (settles : IsSound (settled p j)) (image_is : shape_of j ≡ image_shape p.limits)
     (base : State) (now : Situation) (outcome : Outcome) (t : State) (kept : ℕ → List ℕ) (fits : Fits j before kept) (limits : p.limits ≡ base.limits)
-    (stood : (image : List ℕ) → StandsBut j.blocks j.placed kept image → Stands image base)
+    (stood : (image : List ℕ) → StandsBut j.layout j.placed kept image → Stands image base)
     (ready : IsReady p (looked j.staged kept) t) (is : outcome ≡ changed now t) where
   abbrev there : ℕ → List ℕ
   there = looked mid.staged kept
@@ -94,12 +97,13 @@ module _ (p : Kept) (j mid : Held) (before : Meaning) (stages : Stages p j mid) 
   journal_fits : Fits mid before kept
   journal_fits = search (rules)
 
-  base_stands : (image : List ℕ) → StandsBut mid.blocks mid.placed kept image → Stands image base
-  base_stands image but = search (rules)
+  base_stands : (image : List ℕ) → StandsBut mid.layout mid.placed kept image → Stands image base
+  base_stands image but =
+      stood image (subst (λ l. StandsBut l j.placed kept image) (same_layout stages.image) (subst (λ ns. StandsBut mid.layout ns kept image) stages.placed but))
 
-  next_stands : (image : List ℕ) → StandsFor mid.blocks there image → Stands image next
+  next_stands : (image : List ℕ) → StandsFor mid.layout there image → Stands image next
   next_stands image stands =
-      change_stands (settled p j) mid.blocks there next settles.parts settles.free settles.pairs tells written (stages.image ∙ image_is) image stands
+      change_stands (settled p j) mid.layout there next settles.parts settles.free settles.pairs tells written (same_layout (stages.image ∙ image_is)) image stands
 
   -- held back: the disk stays
   pub change_held : {T : Type 0} (q : Kept) (b : Bool) (done : T) → q ≡ clean p → b ≡ false → Holds base now outcome (record { parts = q; journal = mid; is_broken = b }) before before (Ok done)
@@ -110,12 +114,12 @@ module _ (p : Kept) (j mid : Held) (before : Meaning) (stages : Stages p j mid) 
     moments : Leaves before after (λ image. (Stands image base ⊎ Stands image now.state) ⊎ Stands image next)
     moments = leaves_weaken (λ image. (Stands image base ⊎ Stands image now.state) ⊎ Stands image next) (keeps.moments kept journal_fits) by
       where
-        by : (image : List ℕ) → StandsForAllOrNone mid.blocks mid.placed kept mid.staged image → (Stands image base ⊎ Stands image now.state) ⊎ Stands image next
+        by : (image : List ℕ) → StandsForAllOrNone mid.layout mid.placed kept mid.staged image → (Stands image base ⊎ Stands image now.state) ⊎ Stands image next
         by image (inl old) = inl (inl (base_stands image old))
         by image (inr new) = inr (next_stands image new)
 
     past_image : KeepsPast (image_blocks base.limits) before after
-    past_image = subst (λ (n : ℕ). KeepsPast n before after) (stages.image ∙ (image_is ∙ ap image_blocks limits)) (keeps.past kept journal_fits)
+    past_image = subst (λ (n : ℕ). KeepsPast n before after) (same_blocks (stages.image ∙ (image_is ∙ ap image_shape limits))) (keeps.past kept journal_fits)
 
     pub change_committed : (q : Kept) (b : Bool) → q ≡ clean p → SaveEnded b result → Holds base now outcome (record { parts = q; journal = x; is_broken = b }) before after result
     change_committed q b parts ends =
@@ -124,14 +128,14 @@ module _ (p : Kept) (j mid : Held) (before : Meaning) (stages : Stages p j mid) 
         by : (r : Result T Change) → KeepsStaged mid x before after r → SaveEnded b r → HeldEnded base now outcome (record { parts = clean p; journal = x; is_broken = b }) after r
         by (Ok done) keeps whole =
             let staged : x.staged ≡ [] = ap (λ (h : Held). h.staged) keeps.done in
-            let blocks : x.blocks ≡ mid.blocks = ap (λ (h : Held). h.blocks) keeps.done in (
+            let layout : x.layout ≡ mid.layout = ap (λ (h : Held). h.layout) keeps.done in (
               ap (λ (o : Outcome). o.reply) is,
               inr (record {
                 kept = there;
                 journal = keeps.kept kept journal_fits;
                 unbroken = whole;
                 limits = ap (λ (s : State). s.limits) tells.state;
-                stands = λ image stands. next_stands image (subst (λ n. StandsFor n there image) blocks stands);
+                stands = λ image stands. next_stands image (subst (λ l. StandsFor l there image) layout stands);
                 tells = subst (λ (es : List HomeBlock). Tells (clean p) (looked es there) next) (sym staged) tells;
                 written = subst (λ (es : List HomeBlock). IsWritten (clean p) (looked es there)) (sym staged) written;
               }),
@@ -156,17 +160,17 @@ module _ {T : Type 0} (old : Stored) (x : Held) (b : Bool) (before after : Meani
   pub committed : (base s : State) → StoreHolds old before base s → Commits base s (record { parts = old.parts; journal = x; is_broken = b }) before after result
   committed base s holds = record {
     moments = leaves_weaken (λ image. Stands image base ⊎ Stands image s) (keeps.moments kept holds.journal) one_of;
-    past = subst (λ n. KeepsPast n before after) (sound.image ∙ ap image_blocks holds.limits) (keeps.past kept holds.journal);
+    past = subst (λ n. KeepsPast n before after) (same_blocks (sound.image ∙ ap image_shape holds.limits)) (keeps.past kept holds.journal);
     ended = by result keeps ends;
   }
     where
       kept : ℕ → List ℕ
       kept = holds.kept
 
-      one_of : (image : List ℕ) → StandsForAllOrNone old.journal.blocks old.journal.placed kept old.journal.staged image → Stands image base ⊎ Stands image s
-      one_of image (inl but) = inl (holds.stands image (stands_none_but old.journal.blocks old.journal.placed kept image (sound.placed unbroken) but))
+      one_of : (image : List ℕ) → StandsForAllOrNone old.journal.layout old.journal.placed kept old.journal.staged image → Stands image base ⊎ Stands image s
+      one_of image (inl but) = inl (holds.stands image (stands_none_but old.journal.layout old.journal.placed kept image (sound.placed unbroken) but))
       one_of image (inr all) =
-          inr (change_stands old old.journal.blocks (looked old.journal.staged kept) s sound.parts sound.free sound.pairs holds.tells holds.written sound.image image all)
+          inr (change_stands old old.journal.layout (looked old.journal.staged kept) s sound.parts sound.free sound.pairs holds.tells holds.written (same_layout sound.image) image all)
 
       by : (r : Result T Change) → KeepsStaged old.journal x before after r → SaveEnded b r → CommitEnded s (record { parts = old.parts; journal = x; is_broken = b }) after r
       by (Ok done) keeps whole = record {

@@ -1,4 +1,5 @@
 -- Calls that change memory alone before they are saved.
+use Rattle.std.proofs.Common.{arith}
 use Rattle.lis_store.proofs.Common.{◌≡◌, sym, ap, ◌∙◌, subst, ℕ, ◌+◌, ◌≤◌, false, List, length, Result, Meaning, looked, image_blocks, State, Situation, Outcome, Held, Kept, AreSound, marked_count, StandsBut, changed}
 use Rattle.lis_store.specs.declared.change.Change.{Change}
 use Rattle.lis_store.specs.Stands.{Stands}
@@ -7,32 +8,35 @@ use Rattle.lis_store.specs.Changes.{Holds, AreEditsFew}
 use Rattle.lis_store.specs.Saving.{settled, ArePlaced, IsReady, Saves}
 use Rattle.lis_store.proofs.Saved.{none_are_placed}
 use Rattle.lis_store.proofs.Standing.{stands_none_but}
+use Rattle.lis_journal.specs.Journal.{shape_of}
+use Rattle.lis_kept.specs.Image.{image_capacity, image_shape}
+use Rattle.lis_kept.proofs.Image.{same_staged}
 
 -- What a change makes of the memory of a store, where the journal stays.
 pub record IsChange (old : Stored) (q : Kept) : Type 0 where
   pub settles : AreSound q → IsSound (settled q old.journal)
   pub limits : q.limits ≡ old.parts.limits
-  pub room : length old.journal.staged + marked_count q ≤ 575
+  pub room : length old.journal.staged + marked_count q ≤ (image_capacity q.limits).staged
   pub edits : AreEditsFew old.parts.ext q.ext
 
 -- What is asked of memory that is to be saved.
 pub record MayBeSaved (q : Kept) (j : Held) : Type 0 where
   pub settles : AreSound q → IsSound (settled q j)
-  pub image : j.blocks ≡ image_blocks q.limits
+  pub image : shape_of j ≡ image_shape q.limits
   pub placed : ArePlaced q j
-  pub room : length j.staged + marked_count q ≤ 575
+  pub room : length j.staged + marked_count q ≤ j.capacity.staged
 
 pub change_saves : {old : Stored} {q : Kept} → IsSound old → old.is_broken ≡ false → IsChange old q → MayBeSaved q old.journal
 change_saves {old} {q} sound unbroken change = record {
   settles = change.settles;
-  image = sound.image ∙ ap image_blocks (sym change.limits);
+  image = sound.image ∙ ap image_shape (sym change.limits);
   placed = none_are_placed q old.journal (sound.placed unbroken);
-  room = change.room;
+  room = omega (arith, change.room, same_staged sound.image);
 }
 
 module _ (old : Stored) (sound : IsSound old) (unbroken : old.is_broken ≡ false) where
-  pub unplaced_stands : (base s : State) (before : Meaning) (holds : StoreHolds old before base s) (image : List ℕ) → StandsBut old.journal.blocks old.journal.placed holds.kept image → Stands image base
-  unplaced_stands base s before holds image but = holds.stands image (stands_none_but old.journal.blocks old.journal.placed holds.kept image (sound.placed unbroken) but)
+  pub unplaced_stands : (base s : State) (before : Meaning) (holds : StoreHolds old before base s) (image : List ℕ) → StandsBut old.journal.layout old.journal.placed holds.kept image → Stands image base
+  unplaced_stands base s before holds image but = holds.stands image (stands_none_but old.journal.layout old.journal.placed holds.kept image (sound.placed unbroken) but)
 
   -- what is kept by then as before, and tells the next state
   pub saves_alone : {T : Type 0} {q : Kept} {new : Stored} {before after : Meaning} {result : Result T Change} {base : State} {outcome : Outcome} → IsChange old q → Saves q old.journal new before after result

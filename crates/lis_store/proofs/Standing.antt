@@ -9,6 +9,9 @@ use Rattle.lis_store.specs.Stands.{Stands}
 use Rattle.lis_store.specs.Stored.{Stored, PairsAreApart, IsSound, StoreFits}
 use Rattle.lis_store.proofs.Elsewhere.{AreSameBut, tells_elsewhere, written_elsewhere}
 use Rattle.lis_store.proofs.Spelled.{contents_of, tells_spells}
+use Rattle.lis_kept.specs.Image.{image_layout}
+use Rattle.lis_journal.specs.declared.layout.Layout.{Layout}
+use Rattle.lis_kept.proofs.Image.{same_layout}
 
 -- What memory tells by these blocks, each image stands for that has a replayed image with them, whatever it has in blocks that are free.
 module _ (k : Kept) (at : ℕ → List ℕ) (s : State) (sound : AreSound k) (empty : FreeSlotsAreEmpty k) (pairs : PairsAreApart k) (tells : Tells k at s) (written : IsWritten k at)
@@ -19,22 +22,22 @@ module _ (k : Kept) (at : ℕ → List ℕ) (s : State) (sound : AreSound k) (em
   limits_are : k.limits ≡ s.limits
   limits_are = ap (λ (t : State). t.limits) tells.state
 
-  same_replay : (count : ℕ) (replay : List ℕ) → KeepsBut count placed at replay → AreSameBut k blocks at (λ n. block n replay)
-  same_replay count replay keeps n out none = keeps.same n out (among_homes (data_start k.limits) blocks n ∙ none)
+  same_replay : (replay : List ℕ) → KeepsBut (image_layout s.limits) placed at replay → AreSameBut k blocks at (λ n. block n replay)
+  same_replay replay keeps n out none = keeps.same n out (among_homes (data_start k.limits) blocks n ∙ none)
 
-  pub told_stands : (image : List ℕ) → StandsBut (image_blocks s.limits) placed at image → Stands image s
+  pub told_stands : (image : List ℕ) → StandsBut (image_layout s.limits) placed at image → Stands image s
   unfolding StandsBut Stands
-  told_stands image but = by (replayed (image_blocks s.limits) image) refl but.1
+  told_stands image but = by (replayed (image_layout s.limits) image) refl but.1
     where
-      by : (o : Option (List ℕ)) → replayed (image_blocks s.limits) image ≡ o → IsSomeAnd o (KeepsBut (image_blocks s.limits) placed at) → Stands image s
+      by : (o : Option (List ℕ)) → replayed (image_layout s.limits) image ≡ o → IsSomeAnd o (KeepsBut (image_layout s.limits) placed at) → Stands image s
       by None none keeps = absurd keeps
       by (Some r) is keeps =
           let there : ℕ → List ℕ = λ n. block n r in
-          let same = same_replay (image_blocks s.limits) r keeps in
+          let same = same_replay r keeps in
           let tells_then = tells_elsewhere k blocks at there sound free same s tells in
           record {
             range = tells.formed.limits;
-            super = subst (λ (bytes : List ℕ). SpellsSuper s.limits bytes) (replayed-front (image_blocks s.limits) image r (omega arith) but.0 is) tells_then.super;
+            super = subst (λ (bytes : List ℕ). SpellsSuper s.limits bytes) (replayed-front (image_layout s.limits) image r (omega arith) but.0 is) tells_then.super;
             long = but.0;
             replay = r;
             replays = is;
@@ -42,31 +45,31 @@ module _ (k : Kept) (at : ℕ → List ℕ) (s : State) (sound : AreSound k) (em
             spells = tells_spells k there s sound empty pairs (written_elsewhere k blocks at there sound free same written) tells_then;
           }
 
-  pub stands_but : (count : ℕ) → count ≡ image_blocks k.limits → (image : List ℕ) → StandsBut count placed at image → Stands image s
-  stands_but count is image but = told_stands image (subst (λ n. StandsBut n placed at image) (is ∙ ap image_blocks limits_are) but)
+  pub stands_but : (layout : Layout) → layout ≡ image_layout k.limits → (image : List ℕ) → StandsBut layout placed at image → Stands image s
+  stands_but layout is image but = told_stands image (subst (λ l. StandsBut l placed at image) (is ∙ ap image_layout limits_are) but)
 
 -- what keeps all blocks keeps all but some
-pub stands_all_but : (count : ℕ) (ns : List ℕ) (at : ℕ → List ℕ) (image : List ℕ) → KeptBy count at image → StandsBut count ns at image
+pub stands_all_but : (layout : Layout) (ns : List ℕ) (at : ℕ → List ℕ) (image : List ℕ) → KeptBy layout at image → StandsBut layout ns at image
 unfolding StandsBut KeptBy
-stands_all_but count ns at image kept = search (rules)
+stands_all_but layout ns at image kept = search (rules)
 
 -- and back, where there are none
-pub stands_none_but : (count : ℕ) (ns : List ℕ) (at : ℕ → List ℕ) (image : List ℕ) → ns ≡ [] → StandsBut count ns at image → KeptBy count at image
+pub stands_none_but : (layout : Layout) (ns : List ℕ) (at : ℕ → List ℕ) (image : List ℕ) → ns ≡ [] → StandsBut layout ns at image → KeptBy layout at image
 unfolding StandsBut KeptBy
-stands_none_but count ns at image none but = search (rules)
+stands_none_but layout ns at image none but = search (rules)
 
 -- ---- the laws
 pub placed_stand : (k : Stored) (kept : ℕ → List ℕ) (blocks : List ℕ) (s : State) → IsSound k → Tells k.parts kept s → IsWritten k.parts kept → IsTrue (are_free k.parts.taken blocks)
-    → (image : List ℕ) → StandsBut k.journal.blocks (homes_of (data_start k.parts.limits) blocks) kept image → Stands image s
-placed_stand k kept blocks s sound tells written free image but = search (rules, stands_but)
+    → (image : List ℕ) → StandsBut k.journal.layout (homes_of (data_start k.parts.limits) blocks) kept image → Stands image s
+placed_stand k kept blocks s sound tells written free image but = stands_but k.parts kept s sound.parts sound.free sound.pairs tells written blocks free k.journal.layout (same_layout sound.image) image but
 
-pub change_stands : (new : Stored) (blocks : ℕ) (kept : ℕ → List ℕ) (t : State) → AreSound new.parts → FreeSlotsAreEmpty new.parts → PairsAreApart new.parts
-    → Tells new.parts kept t → IsWritten new.parts kept → blocks ≡ image_blocks new.parts.limits
-    → (image : List ℕ) → KeptBy blocks kept image → Stands image t
-change_stands new blocks kept t sound empty pairs tells written is image stands =
-    stands_but new.parts kept t sound empty pairs tells written [] refl blocks is image (stands_all_but blocks [] kept image stands)
+pub change_stands : (new : Stored) (layout : Layout) (kept : ℕ → List ℕ) (t : State) → AreSound new.parts → FreeSlotsAreEmpty new.parts → PairsAreApart new.parts
+    → Tells new.parts kept t → IsWritten new.parts kept → layout ≡ image_layout new.parts.limits
+    → (image : List ℕ) → KeptBy layout kept image → Stands image t
+change_stands new layout kept t sound empty pairs tells written is image stands =
+    stands_but new.parts kept t sound empty pairs tells written [] refl layout is image (stands_all_but layout [] kept image stands)
 
 pub fitting_stands : (m : Meaning) (k : Stored) (s : State) → IsSound k → StoreFits k m s → Always m (λ image. Stands image s)
 fitting_stands m k s sound fits =
     always_weaken (λ image. Stands image s) (fits_stand k.journal (sound.placed fits.unbroken) fits.journal)
-    (λ image stands. change_stands k k.journal.blocks fits.kept s sound.parts sound.free sound.pairs fits.tells fits.written sound.image image stands)
+    (λ image stands. change_stands k k.journal.layout fits.kept s sound.parts sound.free sound.pairs fits.tells fits.written (same_layout sound.image) image stands)

@@ -15,6 +15,9 @@ use Rattle.lis_store.proofs.OneState.{one_state}
 use Rattle.lis_store.proofs.Renewed.{stands_homes}
 use Rattle.lis_store.proofs.Retaken.{form_retaken, sound_retaken}
 use Rattle.lis_store.proofs.Standing.{stands_none_but, placed_stand, fitting_stands}
+use Rattle.lis_journal.specs.Journal.{shape_of}
+use Rattle.lis_kept.specs.Image.{image_shape}
+use Rattle.lis_kept.proofs.Image.{same_blocks}
 
 -- ---- memory
 -- it is in form where other blocks are taken
@@ -44,8 +47,8 @@ pub holds_lost : {T : Type 0} (base : State) (now : Situation) (outcome : Outcom
 holds_lost base now outcome new before after result first past broken ends = search (rules, leaves_weaken)
 
 module _ (old : Stored) (base s : State) (before : Meaning) (sound : IsSound old) (holds : StoreHolds old before base s) where
-  image_is : old.journal.blocks ≡ image_blocks base.limits
-  image_is = sound.image ∙ ap image_blocks holds.limits
+  image_is : shape_of old.journal ≡ image_shape base.limits
+  image_is = sound.image ∙ ap image_shape holds.limits
 
   -- while the disk is asked alone
   module _ (after : Meaning) (asks : Asks old.journal before after) where
@@ -60,17 +63,17 @@ module _ (old : Stored) (base s : State) (before : Meaning) (sound : IsSound old
   -- What an image keeps but for spare blocks stands for the base, where none is placed or nothing is held back.
   module _ (blocks spare : List ℕ) (free : are_free old.parts.taken spare ≡ true) (among : (n : ℕ) → is_among blocks n ≡ true → has_home (data_start old.parts.limits) spare n ≡ true)
       (none : (blocks ≡ []) ⊎ (old.journal.staged ≡ [])) where
-    pub but_stands : (image : List ℕ) → StandsBut old.journal.blocks blocks holds.kept image → Stands image base
+    pub but_stands : (image : List ℕ) → StandsBut old.journal.layout blocks holds.kept image → Stands image base
     but_stands image but = by none
       where
         by : (blocks ≡ []) ⊎ (old.journal.staged ≡ []) → Stands image base
-        by (inl none) = holds.stands image (stands_none_but old.journal.blocks blocks holds.kept image none but)
+        by (inl none) = holds.stands image (stands_none_but old.journal.layout blocks holds.kept image none but)
         by (inr settled) =
             let fits = held_fits old before base s settled holds in
             let reads = (fits_stand old.journal (sound.placed holds.unbroken) holds.journal).reads in
             let same : s ≡ base = one_state before.bytes s base ((fitting_stands before old s sound fits).reads) (holds.stands before.bytes reads) in
             subst (λ (t : State). Stands image t) same
-            (placed_stand old holds.kept spare s sound fits.tells fits.written free image (stands_homes old.journal.blocks (data_start old.parts.limits) blocks spare holds.kept image among but))
+            (placed_stand old holds.kept spare s sound fits.tells fits.written free image (stands_homes old.journal.layout (data_start old.parts.limits) blocks spare holds.kept image among but))
 
   -- where the disk fails while a content is put
   module _ (bytes : List ℕ) (mid : Kept) (new : Held) (after : Meaning) (torn : ContentTorn bytes old.parts mid old.journal new before after) (alone : is_large (length bytes) ≡ true → old.journal.staged ≡ []) where
@@ -81,4 +84,4 @@ module _ (old : Stored) (base s : State) (before : Meaning) (sound : IsSound old
         (small_or_alone (length bytes) (homes_of (data_start old.parts.limits) torn.spare) old.journal.staged (λ small. ap (homes_of (data_start old.parts.limits)) (torn.small small)) alone))
 
     pub torn_past : KeepsPast (image_blocks base.limits) before after
-    torn_past = subst (λ n. KeepsPast n before after) image_is (torn.past holds.kept holds.journal)
+    torn_past = subst (λ n. KeepsPast n before after) (same_blocks image_is) (torn.past holds.kept holds.journal)

@@ -36,6 +36,8 @@ use Rattle.lis_laws.proofs.Steps.{mkdir_fits}
 use Rattle.lis_dict.proofs.Places.{filter_all}
 use Rattle.lis_store.specs.declared.closing.Rebuild.TheVariants.{Meeting}
 use Rattle.lis_laws.proofs.Forms as forms
+use Rattle.lis_journal.specs.Journal.{shape_of}
+use Rattle.lis_kept.specs.Image.{image_shape}
 
 -- ---- the sizes of files
 -- a slot whose file meets a test has one
@@ -290,7 +292,7 @@ module _ {p made : Kept} {word : List ℕ} {rights : List ℕ} (form : AreInForm
         keeps : KeepsInUse made
         keeps = in_use_then form.sound may stands form.in_use
 
-    sound_then : (j : Held) → PairsAreApart p → j.blocks ≡ image_blocks p.limits → j.is_broken ≡ false → AreSound q → IsSound (settled q j)
+    sound_then : (j : Held) → PairsAreApart p → shape_of j ≡ image_shape p.limits → j.is_broken ≡ false → AreSound q → IsSound (settled q j)
     sound_then j pairs image unbroken after =
         subst (λ (k : Kept). IsSound (settled k j)) (sym anew_is.redescribes.parts)
         (settled_sound end j (record {
@@ -300,7 +302,7 @@ module _ {p made : Kept} {word : List ℕ} {rights : List ℕ} (form : AreInForm
           short = short_made anew_is few_gained (subst (λ (k : Kept). DescriptionsAreShort k) (sym made_is) form.short);
           in_use = used_then;
           tests = tests_then;
-        }) (apart_then form.sound may stands pairs) (subst (λ (k : Kept). j.blocks ≡ image_blocks k.limits) (sym made_is) image) unbroken)
+        }) (apart_then form.sound may stands pairs) (subst (λ (k : Kept). shape_of j ≡ image_shape k.limits) (sym made_is) image) unbroken)
 
     limits_then : q.limits ≡ p.limits
     limits_then = ap (λ (k : Kept). k.limits) anew_is.redescribes.parts ∙ ap (λ (k : Kept). k.limits) made_is

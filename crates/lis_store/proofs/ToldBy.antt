@@ -3,6 +3,7 @@ use Rattle.lis_store.proofs.Common.{◌≡◌, inr, ℕ, ◌+◌, ◌<◌, ◌==
 use Rattle.lis_journal.specs.Images.{look}
 use Rattle.lis_journal.proofs.Fitting.{kept_whole}
 use Rattle.lis_store.specs.Stored.{Stored, IsSound, StoreFits, StoreHolds}
+use Rattle.lis_kept.proofs.Image.{same_blocks, same_homes}
 
 -- by these blocks memory tells the state and is written, and each data block is whole
 pub record ToldBy (k : Stored) (s : State) : Type 0 where
@@ -27,7 +28,7 @@ told_fits k m s sound fits = record {
   kept = fits.kept;
   tells = fits.tells;
   written = fits.written;
-  whole = λ b lt. kept_whole k.journal fits.journal (data_start k.parts.limits + b) (inr (omega arith)) (omega (arith, lt, sound.image));
+  whole = λ b lt. kept_whole k.journal fits.journal (data_start k.parts.limits + b) (inr (omega (arith, same_homes sound.image))) (omega (arith, lt, same_blocks sound.image));
 }
 
 abbrev pub told_held : (k : Stored) (m : Meaning) (base s : State) → IsSound k → StoreHolds k m base s → ToldBy k s
@@ -37,5 +38,5 @@ told_held k m base s sound holds = record {
   written = holds.written;
   whole = λ b lt.
       look_whole k.journal.staged (data_start k.parts.limits + b) (holds.kept (data_start k.parts.limits + b)) (sound.whole holds.unbroken)
-      (kept_whole k.journal holds.journal (data_start k.parts.limits + b) (inr (omega arith)) (omega (arith, lt, sound.image)));
+      (kept_whole k.journal holds.journal (data_start k.parts.limits + b) (inr (omega (arith, same_homes sound.image))) (omega (arith, lt, same_blocks sound.image)));
 }

@@ -40,6 +40,7 @@ use Rattle.lis_store.proofs.SavedAlone.{IsChange, saves_alone}
 use Rattle.lis_store.proofs.Retaken.{settled_sound}
 use Rattle.lis_store.specs.ReplacingIn.{AreInForm}
 use Rattle.lis_laws.proofs.Forms as forms
+use Rattle.lis_kept.specs.Image.{image_shape}
 
 -- ---- an axiom that is looked for
 -- an axiom by its numbers is one that is kept
@@ -423,7 +424,7 @@ module _ {left right : ℕ} {old : Stored} {q : Kept} (was : IsSound old) (takes
   unaxiom_change unbroken = record {
     settles = λ after.
         subst (λ (u : Kept). IsSound (settled u old.journal)) (sym end_is)
-        (settled_sound end old.journal (form_end (subst (λ (u : Kept). AreSound u) end_is after)) (pairs_unlinked takes.unlinks was.pairs) (was.image ∙ ap (λ (u : Kept). image_blocks u.limits) (sym takes.unlinks.parts)) (was.journal unbroken));
+        (settled_sound end old.journal (form_end (subst (λ (u : Kept). AreSound u) end_is after)) (pairs_unlinked takes.unlinks was.pairs) (was.image ∙ ap (λ (u : Kept). image_shape u.limits) (sym takes.unlinks.parts)) (was.journal unbroken));
     limits = ap (λ (u : Kept). u.limits) end_is ∙ ap (λ (u : Kept). u.limits) takes.unlinks.parts;
     room =
         let few = few_made (is_rebuilt lessened) (some_had k.ext left) ups ups_had (λ slot n here turned. turned_up slot n turned) in

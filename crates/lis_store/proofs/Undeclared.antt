@@ -34,6 +34,8 @@ use Rattle.lis_laws.proofs.Touched.{had_test, undeclared_split}
 use Rattle.lis_store.proofs.FileTests.{tested_word}
 use Rattle.lis_store.proofs.Retaken.{settled_sound}
 use Rattle.lis_laws.proofs.Forms as forms
+use Rattle.lis_journal.specs.Journal.{shape_of}
+use Rattle.lis_kept.specs.Image.{image_shape}
 
 -- ---- a declared word
 module _ (k : Kept) (sound : AreSound k) (word : List ℕ) (n : ℕ) (numbered : number_of k.dict word ≡ Some n) (declared : is_declared k word ≡ true) where
@@ -253,7 +255,7 @@ module _ {old : Stored} {word : List ℕ} {number : ℕ} (sound : IsSound old) (
     pub undeclared_change : IsChange old q
     undeclared_change = record {
       settles = λ after.
-          settled_sound q old.journal (form_then after) (subst (λ (k : Kept). PairsAreApart k) (sym q_is) sound.pairs) (subst (λ (k : Kept). old.journal.blocks ≡ image_blocks k.limits) (sym q_is) sound.image) (sound.journal unbroken);
+          settled_sound q old.journal (form_then after) (subst (λ (k : Kept). PairsAreApart k) (sym q_is) sound.pairs) (subst (λ (k : Kept). shape_of old.journal ≡ image_shape k.limits) (sym q_is) sound.image) (sound.journal unbroken);
       limits = ap (λ (k : Kept). k.limits) q_is;
       room = omega (arith, few_marked, sound.few unbroken);
       edits = subst (λ (k : Kept). AreEditsFew p.ext k.ext) (sym q_parts) (redescribed_edits (without_number p number) p.limits.files p made gone.takes sound.parts.files (without_past p sound.parts number));

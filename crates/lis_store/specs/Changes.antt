@@ -16,6 +16,7 @@ use Rattle.lis_store.specs.Stands.{Stands}
 use Rattle.lis_store.specs.Stored.{Stored, IsSound, StoreFits, StoreHolds}
 use Rattle.lis_store.specs.declared.change.Change.{Change}
 use Rattle.lis_store.specs.declared.change.Change.TheVariants.{Refused, Disk}
+use Rattle.lis_journal.specs.Journal.{shape_of}
 
 -- a judgement that answers the first refusal of a row, or that none holds
 abbrev pub Judges : {T : Type 0} → List (Bool × Refusal) → Result T Refusal → Type 0
@@ -60,6 +61,19 @@ pub record Commits {T : Type 0} (base s : State) (new : Stored) (before after : 
   pub past : KeepsPast (image_blocks base.limits) before after
   pub ended : CommitEnded s new after result
 
+-- At Ok the store fits the new state; a refusal leaves all that was held back as it was.
+abbrev pub AppliedEnded : {T : Type 0} → State → Situation → Outcome → Stored → Meaning → Result T Change → Type 0
+AppliedEnded base now outcome new m (Ok done) = (outcome.reply ≡ ok_line) × StoreFits new m outcome.next.state
+AppliedEnded base now outcome new m (Err (Refused refusal)) = (outcome ≡ refused now refusal) × StoreHolds new m base now.state
+AppliedEnded base now outcome new m (Err Disk) = new.is_broken ≡ true
+
+-- A change is made, and committed with all that was held back: at each moment in the call the image stands for the base, the old state or
+-- the new one, and blocks past the image stay.
+pub record Applies {T : Type 0} (base : State) (now : Situation) (outcome : Outcome) (new : Stored) (before after : Meaning) (result : Result T Change) : Type 0 where
+  pub moments : Leaves before after (λ image. (Stands image base ⊎ Stands image now.state) ⊎ Stands image outcome.next.state)
+  pub past : KeepsPast (image_blocks base.limits) before after
+  pub ended : AppliedEnded base now outcome new after result
+
 -- ---- on any disk
 -- What a commit says of a store on any disk.
 abbrev pub CommitLeft : {T : Type 0} → Stored → Result T Change → Type 0
@@ -97,7 +111,7 @@ AreEditsFew old new = (old.edits ≤ new.edits) × (new.edits ≤ old.edits + di
 -- What a change, or a part of one, keeps of a store on any disk, whatever it answers.
 pub record ChangeKeeps {T : Type 0} (old new : Stored) (result : Result T Change) : Type 0 where
   pub limits : new.parts.limits ≡ old.parts.limits
-  pub image : new.journal.blocks ≡ old.journal.blocks
+  pub image : shape_of new.journal ≡ shape_of old.journal
   pub left : ChangeLeft old new result
   pub edits : AreEditsFew old.parts.ext new.parts.ext
   pub sound : IsSound new

@@ -7,6 +7,8 @@ use Rattle.lis_ext.specs.Ext.{Ext}
 use Rattle.lis_fields.specs.Records.{FileRecord}
 use Rattle.lis_fields.specs.declared.slots.AxiomSlot.{AxiomSlot}
 use Rattle.lis_fields.specs.declared.slots.AxiomSlot.TheVariants.{Free, Pair}
+use Rattle.lis_journal.specs.declared.layout.Layout.{Layout}
+use Rattle.lis_journal.specs.declared.layout.Capacity.{Capacity}
 use Rattle.lis_journal.specs.Journal.{OpenRecords, Held}
 use Rattle.lis_journal.specs.Record.{HomeBlock}
 use Rattle.lis_kept.specs.Kept.{Kept}
@@ -79,11 +81,20 @@ records_code =
     code_by (ℕ × (ℕ × List HomeBlock)) (coded× coded_ℕ (coded× coded_ℕ (coded_list entry_code))) (λ r. (r.count, (r.next, r.latest)))
     (λ p. record { count = p.0; next = p.1.0; latest = p.1.1 }) (λ _. refl)
 
+abbrev pub layout_code : Coded Layout
+layout_code =
+    code_by (ℕ × ℕ) (coded× coded_ℕ coded_ℕ) (λ l. (l.records, l.blocks)) (λ p. record { records = p.0; blocks = p.1 }) (λ _. refl)
+
+abbrev pub capacity_code : Coded Capacity
+capacity_code =
+    code_by (ℕ × ℕ) (coded× coded_ℕ coded_ℕ) (λ c. (c.staged, c.placed)) (λ p. record { staged = p.0; placed = p.1 }) (λ _. refl)
+
 abbrev pub held_code : Coded Held
 held_code =
-    code_by (ℕ × (List HomeBlock × (OpenRecords × (List ℕ × Bool)))) (coded× coded_ℕ (coded× (coded_list entry_code) (coded× records_code (coded× word_code coded_bool))))
-    (λ h. (h.blocks, (h.staged, (h.records, (h.placed, h.is_broken)))))
-    (λ p. record { blocks = p.0; staged = p.1.0; records = p.1.1.0; placed = p.1.1.1.0; is_broken = p.1.1.1.1 }) (λ _. refl)
+    code_by (Layout × (Capacity × (List HomeBlock × (OpenRecords × (List ℕ × Bool)))))
+    (coded× layout_code (coded× capacity_code (coded× (coded_list entry_code) (coded× records_code (coded× word_code coded_bool)))))
+    (λ h. (h.layout, (h.capacity, (h.staged, (h.records, (h.placed, h.is_broken))))))
+    (λ p. record { layout = p.0; capacity = p.1.0; staged = p.1.1.0; records = p.1.1.1.0; placed = p.1.1.1.1.0; is_broken = p.1.1.1.1.1 }) (λ _. refl)
 
 -- ---- a store
 abbrev pub stored_code : Coded Stored

@@ -4,7 +4,7 @@ use Rattle.std.specs.List.{list_all}
 use Rattle.arrayvec.specs.ArrayVec.{ArrayVec}
 use Rattle.lis_ports.specs.Meaning.{Meaning}
 use Rattle.lis_ports.specs.Runs.{Leaves}
-use Rattle.lis_journal.specs.Journal.{Held}
+use Rattle.lis_journal.specs.Journal.{Held, shape_of}
 use Rattle.lis_journal.specs.Images.{StandsBut, Fits, KeepsPast, JournalIsUsable, is_among}
 use Rattle.lis_journal.specs.Phases.{looked}
 use Rattle.lis_content.specs.Content.{given, marked, are_free, has_home}
@@ -21,6 +21,7 @@ use Rattle.lis_kept.specs.Changes.{Marks, Lands, GivesBack, Puts}
 use Rattle.lis_store.specs.declared.change.Change.{Change}
 use Rattle.lis_store.specs.declared.change.Change.TheVariants.{Refused, Disk}
 use Rattle.lis_model.specs.Sets.{are_distinct}
+use Rattle.lis_kept.specs.Image.{image_shape}
 
 -- the blocks of the file are blocks of the image
 abbrev pub AreContentsWithin : Limits → (ℕ → List ℕ) → FileRecord → Type 0
@@ -28,10 +29,10 @@ AreContentsWithin limits at rec = IsTrue (list_all (λ n. nat_lt n limits.blocks
 
 -- A content may be put: the journal is as long as the image and may be used, nothing is placed, and one more content can be staged.
 pub record IsReadyForContent (parts : Kept) (journal : Held) (m : Meaning) : Type 0 where
-  pub image : journal.blocks ≡ image_blocks parts.limits
+  pub image : shape_of journal ≡ image_shape parts.limits
   pub usable : JournalIsUsable journal m
   pub unplaced : journal.placed ≡ []
-  pub room : length journal.staged + 16 ≤ 575
+  pub room : length journal.staged + 16 ≤ journal.capacity.staged
 
 -- It breaks the store exactly at a fault of the disk, and refuses nothing.
 abbrev pub ContentEnded : {T : Type 0} → Bool → Result T Change → Type 0
@@ -43,12 +44,12 @@ ContentEnded is_broken (Err Disk) = is_broken ≡ true
 -- were free, and for a content that is not large all blocks.
 pub record ContentTorn (bytes : List ℕ) (p q : Kept) (old new : Held) (before after : Meaning) : Type 0 where
   pub parts : q ≡ record p { taken = q.taken; marks = q.marks }
-  pub image : new.blocks ≡ old.blocks
+  pub image : shape_of new ≡ shape_of old
   pub spare : List ℕ
   pub were_free : IsTrue (are_free p.taken spare)
   pub small : is_large (length bytes) ≡ false → spare ≡ []
-  pub moments : (kept : ℕ → List ℕ) → Fits old before kept → Leaves before after (StandsBut old.blocks (homes_of (data_start p.limits) spare) kept)
-  pub past : (kept : ℕ → List ℕ) → Fits old before kept → KeepsPast old.blocks before after
+  pub moments : (kept : ℕ → List ℕ) → Fits old before kept → Leaves before after (StandsBut old.layout (homes_of (data_start p.limits) spare) kept)
+  pub past : (kept : ℕ → List ℕ) → Fits old before kept → KeepsPast old.layout.blocks before after
 
 -- The bytes are put into free blocks, and the numbers that a slot has of them answered.
 abbrev pub ContentPut : List ℕ → Kept → Kept → Held → Held → Meaning → Meaning → Result (ArrayVec ℕ) Change → Type 0
@@ -88,15 +89,15 @@ pub record Renews (bytes numbers : List ℕ) (gone : Option FileRecord) (p q : K
   pub bitmap : is_marked q (bitmap_start p.limits) ≡ true
   pub in_form : IsTrue (are_blocks p.limits.version (length bytes) numbers)
   pub below : IsTrue (list_all (λ n. nat_lt n p.limits.blocks) numbers)
-  pub image : new.blocks ≡ old.blocks
+  pub image : shape_of new ≡ shape_of old
   pub broken : new.is_broken ≡ old.is_broken
   pub few_staged : length new.staged ≤ length old.staged + 16
   pub unplaced : is_large (length bytes) ≡ false → new.placed ≡ []
   pub spare : List ℕ
   pub were_free : IsTrue (are_free p.taken spare)
   pub placed : (n : ℕ) → is_among new.placed n ≡ true → has_home (data_start p.limits) spare n ≡ true
-  pub moments : (kept : ℕ → List ℕ) → Fits old before kept → Leaves before after (StandsBut old.blocks new.placed kept)
-  pub past : (kept : ℕ → List ℕ) → Fits old before kept → KeepsPast old.blocks before after
+  pub moments : (kept : ℕ → List ℕ) → Fits old before kept → Leaves before after (StandsBut old.layout new.placed kept)
+  pub past : (kept : ℕ → List ℕ) → Fits old before kept → KeepsPast old.layout.blocks before after
   pub blocks : List ℕ
   pub distinct : IsTrue (are_distinct blocks)
   pub renewed : (kept : ℕ → List ℕ) → Fits old before kept → IsRenewed bytes numbers blocks gone p q kept old new after

@@ -3,6 +3,7 @@ use Rattle.std.specs.Prelude.{◌≡◌, ℕ, ◌≤◌, List, Some, length, IsT
 use Rattle.lis_ports.specs.Meaning.{Meaning}
 use Rattle.lis_ports.specs.Runs.{Always, IsSettled}
 use Rattle.lis_ports.specs.Bytes.{part}
+use Rattle.lis_journal.specs.declared.layout.Layout.{Layout}
 use Rattle.lis_journal.specs.Images.{StandsFor, StandsBut}
 use Rattle.lis_content.specs.Content.{are_free}
 use Rattle.lis_content.specs.Placing.{homes_of}
@@ -10,7 +11,8 @@ use Rattle.lis_catalog.specs.Catalog.{slot_of, rec_at}
 use Rattle.lis_fields.specs.Records.{FileRecord}
 use Rattle.lis_fields.specs.Layouts.{SpellsSuper}
 use Rattle.lis_model.specs.declared.limits.Limits.{Limits}
-use Rattle.lis_model.specs.Image.{data_start, image_blocks}
+use Rattle.lis_model.specs.Image.{data_start}
+use Rattle.lis_kept.specs.Image.{image_layout}
 use Rattle.lis_model.specs.Ranges.{are_in_range}
 use Rattle.lis_model.specs.State.{State, empty_state}
 use Rattle.lis_model.specs.Changes.{file_of}
@@ -72,14 +74,14 @@ abbrev pub PlacedStand : Type 0
 PlacedStand =
     (k : Stored) (kept : ℕ → List ℕ) (blocks : List ℕ) (s : State) → IsSound k → Tells k.parts kept s → IsWritten k.parts kept
     → IsTrue (are_free k.parts.taken blocks)
-    → (image : List ℕ) → StandsBut k.journal.blocks (homes_of (data_start k.parts.limits) blocks) kept image → Stands image s
+    → (image : List ℕ) → StandsBut k.journal.layout (homes_of (data_start k.parts.limits) blocks) kept image → Stands image s
 
 -- What is staged over blocks that tell t makes blocks of it: then each image that has all that is staged stands for t.
 abbrev pub ChangesStand : Type 0
 ChangesStand =
-    (new : Stored) (blocks : ℕ) (kept : ℕ → List ℕ) (t : State) → AreSound new.parts → FreeSlotsAreEmpty new.parts → PairsAreApart new.parts
-    → Tells new.parts kept t → IsWritten new.parts kept → blocks ≡ image_blocks new.parts.limits
-    → (image : List ℕ) → StandsFor blocks kept image → Stands image t
+    (new : Stored) (layout : Layout) (kept : ℕ → List ℕ) (t : State) → AreSound new.parts → FreeSlotsAreEmpty new.parts → PairsAreApart new.parts
+    → Tells new.parts kept t → IsWritten new.parts kept → layout ≡ image_layout new.parts.limits
+    → (image : List ℕ) → StandsFor layout kept image → Stands image t
 
 -- to create a file is to add one without bytes
 abbrev pub CreateIsAdd : Type 0

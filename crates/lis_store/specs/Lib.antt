@@ -3,6 +3,7 @@ pub mod Stands
 pub mod Blank
 pub mod Stored
 pub mod Changes
+pub mod Writes
 pub mod Seen
 pub mod Laws
 pub mod Saving

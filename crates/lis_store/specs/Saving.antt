@@ -37,8 +37,8 @@ pub record IsReady (k : Kept) (at : ℕ → List ℕ) (s : State) : Type 0 where
 
 -- What is staged is kept, all or none of it, as a commit of the journal says.
 pub record KeepsStaged {T : Type 0} (old new : Held) (before after : Meaning) (result : Result T Change) : Type 0 where
-  pub moments : (kept : ℕ → List ℕ) → Fits old before kept → Leaves before after (StandsForAllOrNone old.blocks old.placed kept old.staged)
-  pub past : (kept : ℕ → List ℕ) → Fits old before kept → KeepsPast old.blocks before after
+  pub moments : (kept : ℕ → List ℕ) → Fits old before kept → Leaves before after (StandsForAllOrNone old.layout old.placed kept old.staged)
+  pub past : (kept : ℕ → List ℕ) → Fits old before kept → KeepsPast old.layout.blocks before after
   pub kept : OnOk result ((kept : ℕ → List ℕ) → Fits old before kept → Fits new after (looked old.staged kept))
   pub done : OnOk result (new ≡ record old { staged = []; records = new.records; placed = new.placed })
   pub none_placed : OnOk result (0 < length old.staged → new.placed ≡ [])
@@ -49,7 +49,7 @@ pub record KeepsStaged {T : Type 0} (old new : Held) (before after : Meaning) (r
 abbrev pub Saves : {T : Type 0} → Kept → Held → Stored → Meaning → Meaning → Result T Change → Type 0
 Saves k j new before after result =
     (base : State) (now : Situation) (outcome : Outcome) (t : State) (kept : ℕ → List ℕ) → Fits j before kept → k.limits ≡ base.limits
-    → ((image : List ℕ) → StandsBut j.blocks j.placed kept image → Stands image base)
+    → ((image : List ℕ) → StandsBut j.layout j.placed kept image → Stands image base)
     → (AreSound k → IsReady k (looked j.staged kept) t) → outcome ≡ changed now t → Holds base now outcome new before after result
 
 -- It breaks the store exactly at a fault of the disk, and refuses nothing.

@@ -25,6 +25,7 @@ use Rattle.lis_model.specs.Sets.{set_of, are_distinct}
 use Rattle.lis_model.specs.State.{State, File, pair_cmp, file_cmp, known, description, WellFormed}
 use Rattle.lis_kept.specs.Areas.{property_slots, axiom_slots, file_slots, row_slots}
 use Rattle.lis_kept.specs.Telling.{pair_by, bytes_told, blocks_told, HasIndex}
+use Rattle.lis_kept.specs.Image.{image_layout}
 
 -- what the slots of an image are, each array in the order of its numbers
 pub record Contents : Type 0 where
@@ -149,7 +150,7 @@ pub record StandsFor (image : List ℕ) (s : State) : Type 0 where
   pub super : SpellsSuper s.limits (part 0 4096 image)
   pub long : 4096 * image_blocks s.limits ≤ length image
   pub replay : List ℕ
-  pub replays : replayed (image_blocks s.limits) image ≡ Some replay
+  pub replays : replayed (image_layout s.limits) image ≡ Some replay
   pub contents : Contents
   pub spells : Spells s.limits contents (λ n. block n replay) s
 

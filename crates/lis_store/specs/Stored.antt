@@ -1,7 +1,7 @@
 -- A store: what memory keeps of an image, with its journal, and when it fits a disk.
 use Rattle.std.specs.Prelude.{◌≡◌, ℕ, ◌*◌, ◌≤◌, Bool, true, false, Some, is_some, List, [], length, replicate, slice_get, IsTrue}
 use Rattle.lis_ports.specs.Meaning.{Meaning}
-use Rattle.lis_journal.specs.Journal.{Held, no_records}
+use Rattle.lis_journal.specs.Journal.{Held, no_records, shape_of}
 use Rattle.lis_journal.specs.Images.{StandsFor, Fits, held_in}
 use Rattle.lis_journal.specs.Phases.{looked}
 use Rattle.lis_journal.specs.Staging.{are_whole}
@@ -12,7 +12,7 @@ use Rattle.lis_content.specs.Large.{is_large, index_home}
 use Rattle.lis_fields.specs.Records.{FileRecord}
 use Rattle.lis_fields.specs.declared.slots.AxiomSlot.TheVariants.{Free as FreeAxiom, Pair}
 use Rattle.lis_model.specs.declared.limits.Limits.{Limits}
-use Rattle.lis_model.specs.Image.{image_blocks, data_start}
+use Rattle.lis_model.specs.Image.{data_start}
 use Rattle.lis_model.specs.State.{State}
 use Rattle.lis_model.specs.Tests.{is_met}
 use Rattle.lis_kept.specs.Kept.{Kept}
@@ -24,6 +24,7 @@ use Rattle.lis_kept.specs.TestEdges.{test_by}
 use Rattle.lis_kept.specs.Forgetting.{KeepsInUse}
 use Rattle.lis_store.specs.Stands.{Stands}
 use Rattle.lis_model.specs.Sets.{has_number}
+use Rattle.lis_kept.specs.Image.{image_layout, image_capacity, image_shape}
 
 pub record Stored : Type 0 where
   pub parts : Kept
@@ -34,7 +35,7 @@ pub record Stored : Type 0 where
 -- A store may be used on this disk: it is not broken, and the disk has all its blocks.
 pub record IsUsable (k : Stored) (m : Meaning) : Type 0 where
   pub unbroken : k.is_broken ≡ false
-  pub long : 4096 * k.journal.blocks ≤ m.len
+  pub long : 4096 * k.journal.layout.blocks ≤ m.len
 
 -- a file that has a number has all numbers to which it is linked
 abbrev pub AreClosed : Kept → Type 0
@@ -66,7 +67,7 @@ pub record IsSound (k : Stored) : Type 0 where
   pub short : DescriptionsAreShort k.parts
   pub tests : TestsAreMet k.parts
   pub in_use : KeepsInUse k.parts
-  pub image : k.journal.blocks ≡ image_blocks k.parts.limits
+  pub image : shape_of k.journal ≡ image_shape k.parts.limits
   pub journal : k.is_broken ≡ false → k.journal.is_broken ≡ false
   pub few : k.is_broken ≡ false → length k.journal.staged ≤ 44
   pub whole : k.is_broken ≡ false → IsTrue (are_whole k.journal.staged)
@@ -89,7 +90,7 @@ pub record StoreHolds (k : Stored) (m : Meaning) (base s : State) : Type 0 where
   pub journal : Fits k.journal m kept
   pub unbroken : k.is_broken ≡ false
   pub limits : k.parts.limits ≡ base.limits
-  pub stands : (image : List ℕ) → StandsFor k.journal.blocks kept image → Stands image base
+  pub stands : (image : List ℕ) → StandsFor k.journal.layout kept image → Stands image base
   pub tells : Tells k.parts (looked k.journal.staged kept) s
   pub written : IsWritten k.parts (looked k.journal.staged kept)
 
@@ -110,7 +111,7 @@ empty_parts limits blocks = record {
 abbrev pub empty_stored : Limits → ℕ → Stored
 empty_stored limits blocks = record {
   parts = empty_parts limits blocks;
-  journal = record { blocks = image_blocks limits; staged = []; records = no_records; placed = []; is_broken = false };
+  journal = record { layout = image_layout limits; capacity = image_capacity limits; staged = []; records = no_records; placed = []; is_broken = false };
   is_broken = false;
 }
 

@@ -13,6 +13,8 @@ ghost use Rattle.lis_store.specs.Instead.{free_instead, free_for};
 ghost use Rattle.lis_store.specs.ReplacingIn.{record_in};
 ghost use Rattle.lis_store.specs.Changes.{ChangesDisk};
 ghost use Rattle.lis_store.specs.Contents.{IsReadyForContent, ContentPut, ContentGiven, ContentRenewed, ContentEnded};
+ghost use Rattle.lis_journal.specs.Journal.{shape_of};
+ghost use Rattle.lis_kept.specs.Image.{image_shape};
 
 use crate::change::Change;
 use arrayvec::ArrayVec;
@@ -57,7 +59,7 @@ pub(crate) fn free_content<D: Disk>(
     slot: u16,
 ) -> Result<(), Change>
     requires there { IsSome (rec_at parts.old.catalog slot) }
-    requires image { journal.now.blocks ≡ image_blocks parts.old.limits }
+    requires image { shape_of journal.now ≡ image_shape parts.old.limits }
     requires usable { JournalIsUsable journal.now (D.meaning disk.old) }
     requires whole { is_broken.old ≡ false }
     ensures given { (rec : FileRecord) → rec_at parts.old.catalog slot ≡ Some rec

@@ -9,6 +9,8 @@ ghost use Rattle.lis_fields.specs.Records.{FileRecord};
 ghost use Rattle.lis_model.specs.Image.{image_blocks};
 ghost use Rattle.lis_kept.specs.Telling.{bytes_told};
 ghost use Rattle.lis_store.specs.Contents.{AreContentsWithin};
+ghost use Rattle.lis_journal.specs.Journal.{shape_of};
+ghost use Rattle.lis_kept.specs.Image.{image_shape};
 
 use lis_content::Buffer;
 use lis_journal::Journal;
@@ -24,7 +26,7 @@ pub(crate) fn read_file<D: Disk>(
     slot: u16,
 ) -> Result<(), Failed>
     requires there { IsSome (rec_at parts.now.catalog slot) }
-    requires image { journal.now.blocks ≡ image_blocks parts.now.limits }
+    requires image { shape_of journal.now ≡ image_shape parts.now.limits }
     requires usable { JournalIsUsable journal.now (D.meaning disk.old) }
     ensures read { OnOk result ((rec : FileRecord) (kept : ℕ → List ℕ) → rec_at parts.now.catalog slot ≡ Some rec
         → Fits journal.now (D.meaning disk.old) kept → AreContentsWithin parts.now.limits (looked journal.now.staged kept) rec → bytes.new ≡ bytes_told parts.now.limits (looked journal.now.staged kept) rec) }

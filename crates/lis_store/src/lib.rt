@@ -29,8 +29,10 @@ mod saving;
 mod store;
 mod tags;
 mod testing;
+mod write;
 
 pub use admitting::NewFile;
 pub use change::Change;
 pub use counting::Counts;
 pub use store::{Built, Store};
+pub use write::Write;

@@ -10,6 +10,8 @@ ghost use Rattle.lis_store.specs.Stored.{IsSound};
 ghost use Rattle.lis_kept.specs.Staging.{Stages};
 ghost use Rattle.lis_store.specs.Changes.{ChangesDisk};
 ghost use Rattle.lis_store.specs.Saving.{clean, settled, ArePlaced, KeepsStaged, Saves, SaveEnded};
+ghost use Rattle.lis_journal.specs.Journal.{shape_of};
+ghost use Rattle.lis_kept.specs.Image.{image_shape};
 
 use crate::change::Change;
 use lis_content::is_large;
@@ -32,12 +34,12 @@ pub(crate) fn most_held(payload: &[u8]) -> u32
     MOST_HELD
 }
 
-// Stages all marked blocks, at most 575 with those that are staged. Then nothing is marked.
+// Stages all marked blocks, with those that are staged at most as many as can be. Then nothing is marked.
 fn stage(parts: &mut Parts, journal: &mut Journal)
-    requires image { journal.old.blocks ≡ image_blocks parts.old.limits }
+    requires image { shape_of journal.old ≡ image_shape parts.old.limits }
     requires unbroken { journal.old.is_broken ≡ false }
     requires placed { ArePlaced parts.old journal.old }
-    requires room { length journal.old.staged + marked_count parts.old ≤ 575 }
+    requires room { length journal.old.staged + marked_count parts.old ≤ journal.old.capacity.staged }
     ensures parts { parts.new ≡ clean parts.old }
     ensures staged { Stages parts.old journal.old journal.new }
     ensures sound { AreSound parts.old }
@@ -57,7 +59,7 @@ pub(crate) fn commit<D: Disk>(
     ensures keeps { KeepsStaged journal.old journal.new (D.meaning disk.old) (D.meaning disk.new) result }
     ensures idle { journal.old.staged ≡ [] → (result ≡ Ok _) × (disk.new ≡ disk.old) × (journal.new ≡ journal.old) }
     ensures ended { SaveEnded is_broken.new result }
-    ensures image { journal.new.blocks ≡ journal.old.blocks }
+    ensures image { shape_of journal.new ≡ shape_of journal.old }
     ensures disk { ChangesDisk (D.meaning disk.old) (D.meaning disk.new) result }
 {
     if let Err(fault) = journal.commit(disk) {
@@ -76,20 +78,20 @@ pub(crate) fn hold<D: Disk>(
     most: u32,
 ) -> Result<(), Change>
     requires sound { AreSound parts.old → IsSound (settled parts.old journal.old) }
-    requires image { journal.old.blocks ≡ image_blocks parts.old.limits }
+    requires image { shape_of journal.old ≡ image_shape parts.old.limits }
     requires usable { JournalIsUsable journal.old (D.meaning disk.old) }
     requires whole { is_broken.old ≡ false }
     requires placed { ArePlaced parts.old journal.old }
     requires unplaced { 0 < most → journal.old.placed ≡ [] }
     requires few { most ≤ 44 }
-    requires room { length journal.old.staged + marked_count parts.old ≤ 575 }
+    requires room { length journal.old.staged + marked_count parts.old ≤ journal.old.capacity.staged }
     ensures sound { IsSound (record { parts = parts.new; journal = journal.new; is_broken = is_broken.new }) }
     ensures saves { Saves parts.old journal.old (record { parts = parts.new; journal = journal.new; is_broken = is_broken.new })
         (D.meaning disk.old) (D.meaning disk.new) result }
     ensures ended { SaveEnded is_broken.new result }
     ensures few { OnOk result (length journal.new.staged ≤ most) }
     ensures parts { parts.new ≡ record parts.old { marks = parts.new.marks } }
-    ensures image { journal.new.blocks ≡ journal.old.blocks }
+    ensures image { shape_of journal.new ≡ shape_of journal.old }
     ensures disk { ChangesDisk (D.meaning disk.old) (D.meaning disk.new) result }
 {
     stage(parts, journal);

@@ -6,38 +6,34 @@ ghost use Rattle.lis_ports.specs.Calls.{ReadsDisk};
 ghost use Rattle.lis_catalog.specs.Catalog.{slot_of, rec_at};
 ghost use Rattle.lis_fields.specs.Records.{FileRecord};
 ghost use Rattle.lis_model.specs.declared.refusal.Refusal.{Refusal};
-ghost use Rattle.lis_content.specs.Large.{is_large};
-ghost use Rattle.lis_model.specs.Changes.{file_of, new_file, file_added};
-ghost use Rattle.lis_model.specs.State.{State, file_limit};
-ghost use Rattle.lis_model.specs.Step.{Situation, changed, add, rm};
+ghost use Rattle.lis_model.specs.Changes.{file_of};
+ghost use Rattle.lis_model.specs.State.{State};
 ghost use Rattle.lis_eval.specs.Room.{HasRoom};
 ghost use Rattle.lis_kept.specs.Telling.{is_declared};
 ghost use Rattle.lis_store.specs.declared.change.Change.TheVariants.{Refused};
 ghost use Rattle.lis_store.specs.Stored.{IsSound, StoreFits, StoreHolds, IsIndex, IsUsable};
 ghost use Rattle.lis_store.specs.Judging.{is_among};
-ghost use Rattle.lis_store.specs.Changes.{Changes, Holds, Commits, CommitLeft, ChangeKeeps, ChangesDisk};
-ghost use Rattle.lis_store.specs.Saving.{SaveEnded};
-ghost use Rattle.lis_store.specs.ReplacingIn.{MayPutBytes, record_in, file_gone};
+ghost use Rattle.lis_store.specs.Changes.{Applies, Changes, Holds, Commits, CommitLeft, ChangeKeeps, ChangesDisk};
+ghost use Rattle.lis_store.specs.Writes.{IsWhole, LeavesUntouched, written};
+ghost use Rattle.lis_journal.specs.Journal.{shape_of};
 
+mod adding;
 mod declaring;
 mod linking;
+mod removing;
 mod replacing;
 mod undeclaring;
 mod unlinking;
 
-use crate::admitting::{NewFile, may_add};
 use crate::change::Change;
-use crate::contents::{free_content, put_anew};
-use crate::removing::take_out;
-use crate::replacing::replace_record;
-use crate::saving::{MOST_HELD, commit, hold, most_held};
-use lis_content::{Buffer, Laid, is_large, read_block, read_block_by, read_index_block};
+use crate::saving::commit;
+use crate::write::Write;
+use lis_content::{Buffer, Laid, read_block, read_block_by, read_index_block};
 use lis_eval::{Scratch, View, evaluate, found};
 use lis_ext::Ext;
 use lis_journal::Journal;
 use lis_kept::{Parts, data_start};
 use lis_model::limits::Limits;
-use lis_model::refusal::Refusal;
 use lis_place::Place;
 use lis_ports::{Disk, Failed};
 use lis_taxonomy::Taxonomy;
@@ -92,6 +88,66 @@ impl Store {
     /// is checked once.
     pub fn close(self) {}
 
+    /// Makes a change, and commits it with all that was held back.
+    pub fn apply<D: Disk>(
+        &mut self,
+        disk: &mut D,
+        scratch: &mut Scratch,
+        place: &Place,
+        write: Write,
+    ) -> Result<(), Change>
+        requires whole { IsWhole self.old.parts.limits.version write }
+        requires scratch { HasRoom scratch.old self.old.parts.limits }
+        requires usable { IsUsable self.old (D.meaning disk.old) }
+        ensures scratch { HasRoom scratch.new self.old.parts.limits }
+        ensures changes { (s : State) → StoreFits self.old (D.meaning disk.old) s
+            → Changes (record { state = s; place = place.now }) (written (record { state = s; place = place.now }) write.entry)
+            self.new (D.meaning disk.old) (D.meaning disk.new) result }
+        ensures applies { (base : State) (s : State) → StoreHolds self.old (D.meaning disk.old) base s
+            → Applies base (record { state = s; place = place.now }) (written (record { state = s; place = place.now }) write.entry)
+            self.new (D.meaning disk.old) (D.meaning disk.new) result }
+        ensures untouched { (refusal : Refusal) → result ≡ Err (Refused refusal) → LeavesUntouched D.meaning write.entry disk.old disk.new }
+        ensures settled { OnOk result (self.new.journal.staged ≡ []) }
+        ensures keeps { ChangeKeeps self.old self.new result }
+        ensures disk { ChangesDisk (D.meaning disk.old) (D.meaning disk.new) result }
+    {
+        self.hold(disk, scratch, place, write)?;
+        self.commit(disk)
+    }
+
+    /// Makes a change and holds it back: it is in memory, and its blocks are committed with those of later ones.
+    pub fn hold<D: Disk>(
+        &mut self,
+        disk: &mut D,
+        scratch: &mut Scratch,
+        place: &Place,
+        write: Write,
+    ) -> Result<(), Change>
+        requires whole { IsWhole self.old.parts.limits.version write }
+        requires scratch { HasRoom scratch.old self.old.parts.limits }
+        requires usable { IsUsable self.old (D.meaning disk.old) }
+        ensures scratch { HasRoom scratch.new self.old.parts.limits }
+        ensures holds { (base : State) (s : State) → StoreHolds self.old (D.meaning disk.old) base s
+            → Holds base (record { state = s; place = place.now }) (written (record { state = s; place = place.now }) write.entry)
+            self.new (D.meaning disk.old) (D.meaning disk.new) result }
+        ensures untouched { (refusal : Refusal) → result ≡ Err (Refused refusal) → LeavesUntouched D.meaning write.entry disk.old disk.new }
+        ensures entry { IsSound self.old }
+        ensures keeps { ChangeKeeps self.old self.new result }
+        ensures disk { ChangesDisk (D.meaning disk.old) (D.meaning disk.new) result }
+    {
+        match write {
+            Write::Declare(word) => self.declare(disk, place, word),
+            Write::Undeclare(word) => self.undeclare(disk, word),
+            Write::Axiom(left, right) => self.axiom(disk, left, right),
+            Write::Unaxiom(left, right) => self.unaxiom(disk, left, right),
+            Write::Add(file) => self.add(disk, scratch, place, file),
+            Write::Write(name, bytes, size) => self.write(disk, scratch, place, name, bytes, size),
+            Write::Remove(name) => self.remove(disk, scratch, place, name),
+            Write::Retag(name, text) => self.retag(disk, scratch, place, name, text),
+            Write::Rename(name, other) => self.rename(disk, scratch, place, name, other),
+        }
+    }
+
     /// Commits all changes that are held back. Where there are none it makes no call of the disk.
     pub fn commit<D: Disk>(&mut self, disk: &mut D) -> Result<(), Change>
         requires usable { IsUsable self.old (D.meaning disk.old) }
@@ -99,7 +155,7 @@ impl Store {
             → Commits base s self.new (D.meaning disk.old) (D.meaning disk.new) result }
         ensures idle { self.old.journal.staged ≡ [] → (result ≡ Ok _) × (disk.new ≡ disk.old) × (self.new ≡ self.old) }
         ensures parts { self.new.parts ≡ self.old.parts }
-        ensures image { self.new.journal.blocks ≡ self.old.journal.blocks }
+        ensures image { shape_of self.new.journal ≡ shape_of self.old.journal }
         ensures left { CommitLeft self.new result }
         ensures sound { IsSound self.new }
         ensures disk { ChangesDisk (D.meaning disk.old) (D.meaning disk.new) result }
@@ -248,178 +304,6 @@ impl Store {
             return Some(slot);
         }
         None
-    }
-
-    /// Makes a file of these bytes: `create` and `add` at the place. Where there are more bytes than a file may have, only their
-    /// number counts.
-    pub fn add_file<D: Disk>(
-        &mut self,
-        disk: &mut D,
-        scratch: &mut Scratch,
-        place: &Place,
-        file: NewFile,
-    ) -> Result<(), Change>
-        requires whole { file.size ≤ file_limit self.old.parts.limits.version → length file.bytes.now ≡ file.size }
-        requires scratch { HasRoom scratch.old self.old.parts.limits }
-        requires usable { IsUsable self.old (D.meaning disk.old) }
-        ensures scratch { HasRoom scratch.new self.old.parts.limits }
-        ensures changes { (s : State) → StoreFits self.old (D.meaning disk.old) s
-            → Changes (record { state = s; place = place.now })
-            (add (record { state = s; place = place.now }) file.entry.name.now file.entry.tags.now (record { size = file.entry.size; bytes = file.entry.bytes.now }))
-            self.new (D.meaning disk.old) (D.meaning disk.new) result }
-        ensures untouched { (refusal : Refusal) → result ≡ Err (Refused refusal) → disk.new ≡ disk.old }
-        ensures settled { OnOk result (self.new.journal.staged ≡ []) }
-        ensures keeps { ChangeKeeps self.old self.new result }
-        ensures disk { ChangesDisk (D.meaning disk.old) (D.meaning disk.new) result }
-    {
-        self.add_file_held(disk, scratch, place, file)?;
-        self.commit(disk)
-    }
-
-    /// As `add_file`, and held back: the change is in memory, and its blocks are committed with those of later ones.
-    pub fn add_file_held<D: Disk>(
-        &mut self,
-        disk: &mut D,
-        scratch: &mut Scratch,
-        place: &Place,
-        file: NewFile,
-    ) -> Result<(), Change>
-        requires whole { file.size ≤ file_limit self.old.parts.limits.version → length file.bytes.now ≡ file.size }
-        requires scratch { HasRoom scratch.old self.old.parts.limits }
-        requires usable { IsUsable self.old (D.meaning disk.old) }
-        ensures scratch { HasRoom scratch.new self.old.parts.limits }
-        ensures holds { (base : State) (s : State) → StoreHolds self.old (D.meaning disk.old) base s
-            → Holds base (record { state = s; place = place.now })
-            (add (record { state = s; place = place.now }) file.entry.name.now file.entry.tags.now (record { size = file.entry.size; bytes = file.entry.bytes.now }))
-            self.new (D.meaning disk.old) (D.meaning disk.new) result }
-        ensures untouched { (refusal : Refusal) → result ≡ Err (Refused refusal) → disk.new ≡ disk.old }
-        ensures entry { IsSound self.old }
-        ensures keeps { ChangeKeeps self.old self.new result }
-        ensures disk { ChangesDisk (D.meaning disk.old) (D.meaning disk.new) result }
-    {
-        let assigned = may_add(&self.parts, scratch, place, file)?;
-        if is_large(file.bytes.len() as u32) {
-            self.commit(disk)?;
-        }
-        self.put_file(
-            disk,
-            scratch,
-            None,
-            file.name,
-            assigned.as_slice(),
-            file.bytes,
-        )
-    }
-
-    // Puts a file in, in the place of the one in the slot if one is told. A large one is committed at once.
-    fn put_file<D: Disk>(
-        &mut self,
-        disk: &mut D,
-        scratch: &mut Scratch,
-        slot: Option<u16>,
-        name: &Name,
-        assigned: &[Word],
-        payload: &[u8],
-    ) -> Result<(), Change>
-        requires may { MayPutBytes self.old.parts slot (new_file name.now assigned.now payload.now) }
-        requires alone { is_large (length payload.now) ≡ true → self.old.journal.staged ≡ [] }
-        requires scratch { HasRoom scratch.old self.old.parts.limits }
-        requires usable { IsUsable self.old (D.meaning disk.old) }
-        ensures scratch { HasRoom scratch.new self.old.parts.limits }
-        ensures holds { (base : State) (now : Situation) → StoreHolds self.old (D.meaning disk.old) base now.state
-            → Holds base now (changed now (file_added (file_gone now.state (record_in self.old.parts slot)) (new_file name.now assigned.now payload.now)))
-            self.new (D.meaning disk.old) (D.meaning disk.new) result }
-        ensures settled { is_large (length payload.now) ≡ true → OnOk result (self.new.journal.staged ≡ []) }
-        ensures ended { SaveEnded self.new.is_broken result }
-        ensures keeps { ChangeKeeps self.old self.new result }
-        ensures disk { ChangesDisk (D.meaning disk.old) (D.meaning disk.new) result }
-    {
-        let blocks = put_anew(
-            &mut self.parts,
-            &mut self.journal,
-            &mut self.is_broken,
-            disk,
-            slot,
-            payload,
-        )?;
-        replace_record(
-            &mut self.parts,
-            scratch,
-            slot,
-            name,
-            assigned,
-            payload,
-            blocks,
-        );
-        hold(
-            &mut self.parts,
-            &mut self.journal,
-            &mut self.is_broken,
-            disk,
-            most_held(payload),
-        )
-    }
-
-    /// Takes a file away: `rm` at the place.
-    pub fn remove<D: Disk>(
-        &mut self,
-        disk: &mut D,
-        scratch: &mut Scratch,
-        place: &Place,
-        name: &Name,
-    ) -> Result<(), Change>
-        requires scratch { HasRoom scratch.old self.old.parts.limits }
-        requires usable { IsUsable self.old (D.meaning disk.old) }
-        ensures scratch { HasRoom scratch.new self.old.parts.limits }
-        ensures changes { (s : State) → StoreFits self.old (D.meaning disk.old) s
-            → Changes (record { state = s; place = place.now }) (rm (record { state = s; place = place.now }) name.now)
-            self.new (D.meaning disk.old) (D.meaning disk.new) result }
-        ensures untouched { (refusal : Refusal) → result ≡ Err (Refused refusal) → disk.new ≡ disk.old }
-        ensures settled { OnOk result (self.new.journal.staged ≡ []) }
-        ensures keeps { ChangeKeeps self.old self.new result }
-        ensures disk { ChangesDisk (D.meaning disk.old) (D.meaning disk.new) result }
-    {
-        self.remove_held(disk, scratch, place, name)?;
-        self.commit(disk)
-    }
-
-    /// As `remove`, and held back: the change is in memory, and its blocks are committed with those of later ones.
-    pub fn remove_held<D: Disk>(
-        &mut self,
-        disk: &mut D,
-        scratch: &mut Scratch,
-        place: &Place,
-        name: &Name,
-    ) -> Result<(), Change>
-        requires scratch { HasRoom scratch.old self.old.parts.limits }
-        requires usable { IsUsable self.old (D.meaning disk.old) }
-        ensures scratch { HasRoom scratch.new self.old.parts.limits }
-        ensures holds { (base : State) (s : State) → StoreHolds self.old (D.meaning disk.old) base s
-            → Holds base (record { state = s; place = place.now }) (rm (record { state = s; place = place.now }) name.now)
-            self.new (D.meaning disk.old) (D.meaning disk.new) result }
-        ensures untouched { (refusal : Refusal) → result ≡ Err (Refused refusal) → disk.new ≡ disk.old }
-        ensures entry { IsSound self.old }
-        ensures keeps { ChangeKeeps self.old self.new result }
-        ensures disk { ChangesDisk (D.meaning disk.old) (D.meaning disk.new) result }
-    {
-        let Some(slot) = self.slot_here(scratch, place, name) else {
-            return Err(Change::Refused(Refusal::NoFileHere));
-        };
-        free_content(
-            &mut self.parts,
-            &self.journal,
-            &mut self.is_broken,
-            disk,
-            slot,
-        )?;
-        take_out(&mut self.parts, slot);
-        hold(
-            &mut self.parts,
-            &mut self.journal,
-            &mut self.is_broken,
-            disk,
-            MOST_HELD,
-        )
     }
 }
 

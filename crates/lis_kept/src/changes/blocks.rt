@@ -7,11 +7,13 @@ ghost use Rattle.lis_blockmap.specs.Bitmap.{free_count};
 ghost use Rattle.lis_catalog.specs.Catalog.{rec_at};
 ghost use Rattle.lis_content.specs.Large.{is_large};
 ghost use Rattle.lis_fields.specs.Records.{FileRecord};
-ghost use Rattle.lis_model.specs.Image.{bitmap_start, data_start, image_blocks};
+ghost use Rattle.lis_model.specs.Image.{bitmap_start, data_start};
 ghost use Rattle.lis_model.specs.Ranges.{are_in_range};
 ghost use Rattle.lis_model.specs.State.{blocks_taken, file_limit};
 ghost use Rattle.lis_kept.specs.Changes.{GivesBack, Puts, PutTorn};
 ghost use Rattle.lis_kept.specs.Sound.{AreSound};
+ghost use Rattle.lis_journal.specs.Journal.{shape_of};
+ghost use Rattle.lis_kept.specs.Image.{image_shape};
 
 use crate::parts::Parts;
 use crate::places::{bitmap_start, data_start};
@@ -42,11 +44,11 @@ impl Parts {
     ) -> Result<ArrayVec<u16, 16>, Failed>
         requires short { length bytes.now ≤ file_limit self.old.limits.version }
         requires enough { blocks_taken self.old.limits.version (length bytes.now) ≤ free_count self.old.taken }
-        requires image { journal.old.blocks ≡ image_blocks self.old.limits }
+        requires image { shape_of journal.old ≡ image_shape self.old.limits }
         requires usable { JournalIsUsable journal.old (D.meaning disk.old) }
         requires unplaced { journal.old.placed ≡ [] }
         requires unstaged { is_large (length bytes.now) ≡ true → journal.old.staged ≡ [] }
-        requires room { length journal.old.staged + 16 ≤ 575 }
+        requires room { length journal.old.staged + 16 ≤ journal.old.capacity.staged }
         ensures ended { MatchResult result
             (λ numbers. Puts bytes.now numbers.items self.old self.new journal.old journal.new (D.meaning disk.old) (D.meaning disk.new))
             (λ _. PutTorn self.old self.new journal.old journal.new (D.meaning disk.old) (D.meaning disk.new)) }
@@ -76,7 +78,7 @@ impl Parts {
         slot: u16,
     ) -> Result<(), Failed>
         requires there { IsSome (rec_at self.old.catalog slot) }
-        requires image { journal.now.blocks ≡ image_blocks self.old.limits }
+        requires image { shape_of journal.now ≡ image_shape self.old.limits }
         requires usable { JournalIsUsable journal.now (D.meaning disk.old) }
         ensures gives { OnOk result ((rec : FileRecord) → rec_at self.old.catalog slot ≡ Some rec → GivesBack rec self.old self.new journal.now (D.meaning disk.old)) }
         ensures stays { OnErr result (self.new ≡ self.old) }

@@ -1,12 +1,12 @@
 //! Words that are declared.
 
-ghost use Rattle.std.specs.Prelude.{◌≡◌, [], Err, OnOk};
+ghost use Rattle.std.specs.Prelude.{◌≡◌, Err};
 ghost use Rattle.lis_model.specs.declared.refusal.Refusal.{Refusal};
 ghost use Rattle.lis_model.specs.State.{State};
 ghost use Rattle.lis_model.specs.Step.{mkdir};
 ghost use Rattle.lis_store.specs.declared.change.Change.TheVariants.{Refused};
-ghost use Rattle.lis_store.specs.Stored.{IsSound, StoreFits, StoreHolds, IsUsable};
-ghost use Rattle.lis_store.specs.Changes.{Changes, Holds, ChangeKeeps, ChangesDisk};
+ghost use Rattle.lis_store.specs.Stored.{IsSound, StoreHolds, IsUsable};
+ghost use Rattle.lis_store.specs.Changes.{Holds, ChangeKeeps, ChangesDisk};
 
 use crate::change::Change;
 use crate::judging::may_declare;
@@ -19,27 +19,7 @@ use lis_words::Word;
 
 impl Store {
     /// Declares a word: `mkdir` at the place.
-    pub fn declare<D: Disk>(
-        &mut self,
-        disk: &mut D,
-        place: &Place,
-        word: &Word,
-    ) -> Result<(), Change>
-        requires usable { IsUsable self.old (D.meaning disk.old) }
-        ensures changes { (s : State) → StoreFits self.old (D.meaning disk.old) s
-            → Changes (record { state = s; place = place.now }) (mkdir (record { state = s; place = place.now }) word.now)
-            self.new (D.meaning disk.old) (D.meaning disk.new) result }
-        ensures untouched { (refusal : Refusal) → result ≡ Err (Refused refusal) → disk.new ≡ disk.old }
-        ensures settled { OnOk result (self.new.journal.staged ≡ []) }
-        ensures keeps { ChangeKeeps self.old self.new result }
-        ensures disk { ChangesDisk (D.meaning disk.old) (D.meaning disk.new) result }
-    {
-        self.declare_held(disk, place, word)?;
-        self.commit(disk)
-    }
-
-    /// As `declare`, and held back: the change is in memory, and its blocks are committed with those of later ones.
-    pub fn declare_held<D: Disk>(
+    pub(crate) fn declare<D: Disk>(
         &mut self,
         disk: &mut D,
         place: &Place,

@@ -1,12 +1,12 @@
 //! Axioms of a store.
 
-ghost use Rattle.std.specs.Prelude.{◌≡◌, [], Err, OnOk};
+ghost use Rattle.std.specs.Prelude.{◌≡◌, Err};
 ghost use Rattle.lis_model.specs.declared.refusal.Refusal.{Refusal};
 ghost use Rattle.lis_model.specs.Step.{Situation, add_axiom};
 ghost use Rattle.lis_model.specs.State.{State};
 ghost use Rattle.lis_store.specs.declared.change.Change.TheVariants.{Refused};
-ghost use Rattle.lis_store.specs.Stored.{IsSound, StoreFits, StoreHolds, IsUsable};
-ghost use Rattle.lis_store.specs.Changes.{Changes, Holds, ChangeKeeps, ChangesDisk};
+ghost use Rattle.lis_store.specs.Stored.{IsSound, StoreHolds, IsUsable};
+ghost use Rattle.lis_store.specs.Changes.{Holds, ChangeKeeps, ChangesDisk};
 
 use crate::change::Change;
 use crate::relating::may_relate;
@@ -18,21 +18,7 @@ use lis_words::Word;
 
 impl Store {
     /// Adds an axiom: from now on each file that has the left word has all that the right one entails.
-    pub fn axiom<D: Disk>(&mut self, disk: &mut D, left: &Word, right: &Word) -> Result<(), Change>
-        requires usable { IsUsable self.old (D.meaning disk.old) }
-        ensures changes { (now : Situation) → StoreFits self.old (D.meaning disk.old) now.state
-            → Changes now (add_axiom now (left.now, right.now)) self.new (D.meaning disk.old) (D.meaning disk.new) result }
-        ensures untouched { (refusal : Refusal) → result ≡ Err (Refused refusal) → disk.new ≡ disk.old }
-        ensures settled { OnOk result (self.new.journal.staged ≡ []) }
-        ensures keeps { ChangeKeeps self.old self.new result }
-        ensures disk { ChangesDisk (D.meaning disk.old) (D.meaning disk.new) result }
-    {
-        self.axiom_held(disk, left, right)?;
-        self.commit(disk)
-    }
-
-    /// As `axiom`, and held back: the change is in memory, and its blocks are committed with those of later ones.
-    pub fn axiom_held<D: Disk>(
+    pub(crate) fn axiom<D: Disk>(
         &mut self,
         disk: &mut D,
         left: &Word,

@@ -1,14 +1,14 @@
 //! Calls that change a file.
 
-ghost use Rattle.std.specs.Prelude.{◌≡◌, ◌≤◌, [], length, Err, IsTrue, OnOk};
+ghost use Rattle.std.specs.Prelude.{◌≡◌, ◌≤◌, length, Err, IsTrue};
 ghost use Rattle.lis_ports.specs.Calls.{IsUnchanged};
 ghost use Rattle.lis_model.specs.declared.refusal.Refusal.{Refusal};
 ghost use Rattle.lis_model.specs.State.{State, file_limit};
 ghost use Rattle.lis_model.specs.Step.{write, rename, mv};
 ghost use Rattle.lis_eval.specs.Room.{HasRoom};
 ghost use Rattle.lis_store.specs.declared.change.Change.TheVariants.{Refused};
-ghost use Rattle.lis_store.specs.Stored.{IsSound, StoreFits, StoreHolds, IsUsable};
-ghost use Rattle.lis_store.specs.Changes.{Changes, Holds, ChangeKeeps, ChangesDisk};
+ghost use Rattle.lis_store.specs.Stored.{IsSound, StoreHolds, IsUsable};
+ghost use Rattle.lis_store.specs.Changes.{Holds, ChangeKeeps, ChangesDisk};
 
 use crate::admitting::file_limit;
 use crate::change::Change;
@@ -29,34 +29,7 @@ use lis_words::{Name, Word};
 
 impl Store {
     /// Gives a file other bytes: `write` at the place. Where there are more bytes than a file may have, only their number counts.
-    pub fn write<D: Disk>(
-        &mut self,
-        disk: &mut D,
-        scratch: &mut Scratch,
-        place: &Place,
-        name: &Name,
-        payload: &[u8],
-        size: u64,
-    ) -> Result<(), Change>
-        requires whole { size ≤ file_limit self.old.parts.limits.version → length payload.now ≡ size }
-        requires scratch { HasRoom scratch.old self.old.parts.limits }
-        requires usable { IsUsable self.old (D.meaning disk.old) }
-        ensures scratch { HasRoom scratch.new self.old.parts.limits }
-        ensures changes { (s : State) → StoreFits self.old (D.meaning disk.old) s
-            → Changes (record { state = s; place = place.now })
-            (write (record { state = s; place = place.now }) name.now (record { size = size; bytes = payload.now }))
-            self.new (D.meaning disk.old) (D.meaning disk.new) result }
-        ensures untouched { (refusal : Refusal) → result ≡ Err (Refused refusal) → disk.new ≡ disk.old }
-        ensures settled { OnOk result (self.new.journal.staged ≡ []) }
-        ensures keeps { ChangeKeeps self.old self.new result }
-        ensures disk { ChangesDisk (D.meaning disk.old) (D.meaning disk.new) result }
-    {
-        self.write_held(disk, scratch, place, name, payload, size)?;
-        self.commit(disk)
-    }
-
-    /// As `write`, and held back: the change is in memory, and its blocks are committed with those of later ones.
-    pub fn write_held<D: Disk>(
+    pub(crate) fn write<D: Disk>(
         &mut self,
         disk: &mut D,
         scratch: &mut Scratch,
@@ -92,32 +65,7 @@ impl Store {
     }
 
     /// Gives a file another name: `rename` at the place. Its bytes are read, since words are derived from them.
-    pub fn rename<D: Disk>(
-        &mut self,
-        disk: &mut D,
-        scratch: &mut Scratch,
-        place: &Place,
-        name: &Name,
-        new: &Name,
-    ) -> Result<(), Change>
-        requires scratch { HasRoom scratch.old self.old.parts.limits }
-        requires usable { IsUsable self.old (D.meaning disk.old) }
-        ensures scratch { HasRoom scratch.new self.old.parts.limits }
-        ensures changes { (s : State) → StoreFits self.old (D.meaning disk.old) s
-            → Changes (record { state = s; place = place.now }) (rename (record { state = s; place = place.now }) name.now new.now)
-            self.new (D.meaning disk.old) (D.meaning disk.new) result }
-        ensures untouched { (refusal : Refusal) → result ≡ Err (Refused refusal) → IsTrue (D.meaning disk.old).is_honest
-            → IsUnchanged (D.meaning disk.old) (D.meaning disk.new) }
-        ensures settled { OnOk result (self.new.journal.staged ≡ []) }
-        ensures keeps { ChangeKeeps self.old self.new result }
-        ensures disk { ChangesDisk (D.meaning disk.old) (D.meaning disk.new) result }
-    {
-        self.rename_held(disk, scratch, place, name, new)?;
-        self.commit(disk)
-    }
-
-    /// As `rename`, and held back: the change is in memory, and its blocks are committed with those of later ones.
-    pub fn rename_held<D: Disk>(
+    pub(crate) fn rename<D: Disk>(
         &mut self,
         disk: &mut D,
         scratch: &mut Scratch,
@@ -168,31 +116,7 @@ impl Store {
     }
 
     /// Moves a file to the place to which a text leads: `mv` at the place. Its bytes are not read: the words derived from it stay.
-    pub fn retag<D: Disk>(
-        &mut self,
-        disk: &mut D,
-        scratch: &mut Scratch,
-        place: &Place,
-        name: &Name,
-        text: &Text,
-    ) -> Result<(), Change>
-        requires scratch { HasRoom scratch.old self.old.parts.limits }
-        requires usable { IsUsable self.old (D.meaning disk.old) }
-        ensures scratch { HasRoom scratch.new self.old.parts.limits }
-        ensures changes { (s : State) → StoreFits self.old (D.meaning disk.old) s
-            → Changes (record { state = s; place = place.now }) (mv (record { state = s; place = place.now }) name.now text.now)
-            self.new (D.meaning disk.old) (D.meaning disk.new) result }
-        ensures untouched { (refusal : Refusal) → result ≡ Err (Refused refusal) → disk.new ≡ disk.old }
-        ensures settled { OnOk result (self.new.journal.staged ≡ []) }
-        ensures keeps { ChangeKeeps self.old self.new result }
-        ensures disk { ChangesDisk (D.meaning disk.old) (D.meaning disk.new) result }
-    {
-        self.retag_held(disk, scratch, place, name, text)?;
-        self.commit(disk)
-    }
-
-    /// As `retag`, and held back: the change is in memory, and its blocks are committed with those of later ones.
-    pub fn retag_held<D: Disk>(
+    pub(crate) fn retag<D: Disk>(
         &mut self,
         disk: &mut D,
         scratch: &mut Scratch,

@@ -1,12 +1,12 @@
 //! `unaxiom`.
 
-ghost use Rattle.std.specs.Prelude.{◌≡◌, [], Err, OnOk};
+ghost use Rattle.std.specs.Prelude.{◌≡◌, Err};
 ghost use Rattle.lis_model.specs.declared.refusal.Refusal.{Refusal};
 ghost use Rattle.lis_model.specs.Step.{Situation, unaxiom};
 ghost use Rattle.lis_model.specs.State.{State};
 ghost use Rattle.lis_store.specs.declared.change.Change.TheVariants.{Refused};
-ghost use Rattle.lis_store.specs.Stored.{IsSound, StoreFits, StoreHolds, IsUsable};
-ghost use Rattle.lis_store.specs.Changes.{Changes, Holds, ChangeKeeps, ChangesDisk};
+ghost use Rattle.lis_store.specs.Stored.{IsSound, StoreHolds, IsUsable};
+ghost use Rattle.lis_store.specs.Changes.{Holds, ChangeKeeps, ChangesDisk};
 
 use crate::change::Change;
 use crate::lessening::take_axiom;
@@ -19,26 +19,7 @@ use lis_words::Word;
 
 impl Store {
     /// Takes an axiom away: `unaxiom`.
-    pub fn unaxiom<D: Disk>(
-        &mut self,
-        disk: &mut D,
-        left: &Word,
-        right: &Word,
-    ) -> Result<(), Change>
-        requires usable { IsUsable self.old (D.meaning disk.old) }
-        ensures changes { (now : Situation) → StoreFits self.old (D.meaning disk.old) now.state
-            → Changes now (unaxiom now (left.now, right.now)) self.new (D.meaning disk.old) (D.meaning disk.new) result }
-        ensures untouched { (refusal : Refusal) → result ≡ Err (Refused refusal) → disk.new ≡ disk.old }
-        ensures settled { OnOk result (self.new.journal.staged ≡ []) }
-        ensures keeps { ChangeKeeps self.old self.new result }
-        ensures disk { ChangesDisk (D.meaning disk.old) (D.meaning disk.new) result }
-    {
-        self.unaxiom_held(disk, left, right)?;
-        self.commit(disk)
-    }
-
-    /// As `unaxiom`, and held back: the change is in memory, and its blocks are committed with those of later ones.
-    pub fn unaxiom_held<D: Disk>(
+    pub(crate) fn unaxiom<D: Disk>(
         &mut self,
         disk: &mut D,
         left: &Word,

@@ -1,6 +1,7 @@
 use Rattle.std.proofs.Common.{◌≡◌, ℕ, ◌+◌, ◌++◌, min, cond, eqb, List, length, sym, ◌∙◌, ap, arith}
 use Rattle.std.proofs.lemmas.Bool.{eqb-true, eqb-false}
 use Rattle.lis_journal.specs.Images.{look, is_among}
+use Rattle.lis_journal.specs.Journal.{Shape}
 use Rattle.lis_journal.specs.Staging.{with_entry}
 use Rattle.lis_words.specs.Bytes.{padded}
 use Rattle.lis_content.proofs.Numbers.{length-marked}
@@ -10,12 +11,15 @@ use Rattle.lis_content.proofs.content.stage_bytes.Goals as goal
 pub home-requires : goal.home-requires
 home-requires c =
     let was = c.loop-rest.invariant in
-    omega (arith, c.requires.within, c.in-Some.ensures.within, ap length was.marks, length-marked c.args.map.now c.loop-rest.taken.items, was.image)
+    omega (arith, c.requires.within, c.in-Some.ensures.within, ap length was.marks, length-marked c.args.map.now c.loop-rest.taken.items, ap (λ (s : Shape). s.layout.blocks) was.image)
 
 pub stage_front-requires-clause-within : goal.stage_front-requires-clause-within
 stage_front-requires-clause-within c =
     let was = c.loop-rest.invariant in
-    omega (arith, c.home.ensures, c.requires.within, c.in-Some.ensures.within, ap length was.marks, length-marked c.args.map.now c.loop-rest.taken.items, was.image)
+    omega (arith, c.home.ensures, c.requires.within, c.in-Some.ensures.within, ap length was.marks, length-marked c.args.map.now c.loop-rest.taken.items, ap (λ (s : Shape). s.layout.blocks) was.image)
+
+pub stage_front-requires-clause-home : goal.stage_front-requires-clause-home
+stage_front-requires-clause-home c = omega (arith, c.home.ensures, c.requires.home, ap (λ (s : Shape). s.layout.records) c.loop-rest.invariant.image)
 
 pub loop-rest-preserved : goal.loop-rest-preserved
 loop-rest-preserved c =

@@ -4,4 +4,4 @@ use Rattle.lis_content.proofs.large.read_within.Goals as goal
 
 pub returns-then-from-blocks-clause-read : goal.returns-then-from-blocks-clause-read
 returns-then-from-blocks-clause-read g c = λ kept fits.
-    c.fill.ensures ∙ sym (cond-false _ _ _ (le-ltb (c.args.base + c.args.number) c.args.journal.now.blocks (omega arith)))
+    c.fill.ensures ∙ sym (cond-false _ _ _ (le-ltb (c.args.base + c.args.number) c.args.journal.now.layout.blocks (omega arith)))

@@ -18,7 +18,7 @@ returns-in_err-place_run-clause-ended g c =
       count = count;
       writes = record {
         row = c.take_row-row.ensures.row;
-        moments = λ kept fits. subst (λ h. Leaves (g.D.Disk.meaning c.args.disk.now) (g.D.Disk.meaning c.place_run.new.disk) (StandsBut c.args.journal.now.blocks (range_with_len h count ++ c.args.journal.now.placed) kept)) c.home-first.ensures (c.place_run.ensures.any_moment kept fits);
+        moments = λ kept fits. subst (λ h. Leaves (g.D.Disk.meaning c.args.disk.now) (g.D.Disk.meaning c.place_run.new.disk) (StandsBut c.args.journal.now.layout (range_with_len h count ++ c.args.journal.now.placed) kept)) c.home-first.ensures (c.place_run.ensures.any_moment kept fits);
         past = c.place_run.ensures.past;
       };
       journal = c.in_err-place_run.ensures.broken;
@@ -35,7 +35,7 @@ returns-clause-ended g c =
       placed = record {
         writes = record {
           row = c.take_row-row.ensures.row;
-          moments = λ kept fits. subst (λ h. Leaves (g.D.Disk.meaning c.args.disk.now) (g.D.Disk.meaning c.place_run.new.disk) (StandsBut c.args.journal.now.blocks (range_with_len h count ++ c.args.journal.now.placed) kept)) c.home-first.ensures (c.place_run.ensures.any_moment kept fits);
+          moments = λ kept fits. subst (λ h. Leaves (g.D.Disk.meaning c.args.disk.now) (g.D.Disk.meaning c.place_run.new.disk) (StandsBut c.args.journal.now.layout (range_with_len h count ++ c.args.journal.now.placed) kept)) c.home-first.ensures (c.place_run.ensures.any_moment kept fits);
           past = c.place_run.ensures.past;
         };
         journal = c.in_ok-place_run.ensures.done ∙ ap (λ h. record c.args.journal.now { records = c.place_run.new.self.records; placed = c.args.journal.now.placed ++ range_with_len h count }) c.home-first.ensures;

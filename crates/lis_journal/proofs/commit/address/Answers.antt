@@ -16,4 +16,4 @@ pub returns-in-Homes-clause-within : goal.returns-in-Homes-clause-within
 returns-in-Homes-clause-within c =
     let nothing : HomeBlock = record { home = 0; bytes = [] } in
     let s = c.args.stage.now in
-    omega (arith, c.from-in-Homes.ensures, c.home.ensures nothing, home_within s.blocks 577 s.entries c.args.k nothing c.requires.staging.rise c.requires.k)
+    omega (arith, c.from-in-Homes.ensures, c.home.ensures nothing, home_within s.layout.blocks (s.layout.records + 1) s.entries c.args.k nothing c.requires.staging.rise c.requires.k)

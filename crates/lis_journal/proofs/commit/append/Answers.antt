@@ -11,7 +11,7 @@ returns-in_err-write_record-clause-any_moment g c = λ latest placed kept fits.
 
 pub returns-in_err-write_record-clause-past : goal.returns-in_err-write_record-clause-past
 returns-in_err-write_record-clause-past g c = λ honest.
-    torn_past c.args.stage.now.blocks _ _ c.requires.blocks (omega (arith, c.requires.room)) (c.write_record.ensures.spreads honest)
+    torn_past c.args.stage.now.layout _ _ c.requires.blocks (omega (arith, c.requires.room)) (c.write_record.ensures.spreads honest)
 
 pub returns-clause-any_moment : goal.returns-clause-any_moment
 returns-clause-any_moment g c = λ latest placed kept fits.
@@ -33,5 +33,5 @@ returns-clause-kept g c = on_ok c.write_gate.result (λ settled. λ latest later
 pub returns-clause-past : goal.returns-clause-past
 returns-clause-past g c = λ honest.
     then_past
-    (torn_past c.args.stage.now.blocks _ _ c.requires.blocks (omega (arith, c.requires.room)) (c.write_record.ensures.spreads honest))
-    (torn_past c.args.stage.now.blocks _ _ c.requires.blocks (omega (arith, c.requires.few)) (c.write_gate.ensures.spreads (c.write_record.ensures.disk.run.honest ∙ honest)))
+    (torn_past c.args.stage.now.layout _ _ c.requires.blocks (omega (arith, c.requires.room)) (c.write_record.ensures.spreads honest))
+    (torn_past c.args.stage.now.layout _ _ c.requires.blocks (omega (arith, c.requires.few)) (c.write_gate.ensures.spreads (c.write_record.ensures.disk.run.honest ∙ honest)))

@@ -25,7 +25,7 @@ returns-in_err-write_gate-clause-any_moment g c = λ count next placed kept open
 pub returns-in_err-write_gate-clause-around : goal.returns-in_err-write_gate-clause-around
 returns-in_err-write_gate-clause-around g c = λ honest.
     let plan = plan_of c.args.latest.now c.requires.blocks c.write_synced.ensures.staging in
-    gate_around c.args.latest.now.blocks c.requires.blocks 4096 1 (omega arith) (homes_around plan (c.write_synced.ensures.spreads honest)) (c.write_gate.ensures.spreads (c.write_synced.ensures.disk.run.honest ∙ honest))
+    gate_around c.args.latest.now.layout c.requires.blocks 4096 1 (omega arith) (homes_around plan (c.write_synced.ensures.spreads honest)) (c.write_gate.ensures.spreads (c.write_synced.ensures.disk.run.honest ∙ honest))
 
 pub returns-clause-any_moment : goal.returns-clause-any_moment
 returns-clause-any_moment g c = λ count next placed kept opened.
@@ -51,7 +51,7 @@ returns-clause-kept g c = on_ok c.close_others.result (λ settled. λ count next
 pub returns-clause-around : goal.returns-clause-around
 returns-clause-around g c = λ honest.
     let plan = plan_of c.args.latest.now c.requires.blocks c.write_synced.ensures.staging in
-    let blocks = c.args.latest.now.blocks in
+    let blocks = c.args.latest.now.layout in
     let still = c.write_synced.ensures.disk.run.honest ∙ honest in
     gate_around blocks c.requires.blocks 4097 63 (omega arith)
     (gate_around blocks c.requires.blocks 4096 1 (omega arith) (homes_around plan (c.write_synced.ensures.spreads honest)) (c.write_gate.ensures.spreads still))

@@ -7,7 +7,7 @@ pub loop-low-preserved-then-staged-middle : goal.loop-low-preserved-then-staged-
 loop-low-preserved-then-staged-middle c = record {
   in_order = omega arith;
   in_range = c.loop-low.invariant.in_range;
-  below = rise_below c.requires.0 c.args.n _ c.args.staged.now _ c.requires.1 (omega arith) c.if-staged-middle.true;
+  below = rise_below c.requires.0 c.requires.1.0 c.args.n _ c.args.staged.now _ c.requires.1.1 (omega arith) c.if-staged-middle.true;
   above = c.loop-low.invariant.above;
 }
 
@@ -16,7 +16,7 @@ loop-low-preserved c = record {
   in_order = omega arith;
   in_range = omega arith;
   below = c.loop-low.invariant.below;
-  above = rise_above c.requires.0 c.args.n _ c.args.staged.now _ c.requires.1 (omega arith) c.if-staged-middle.false;
+  above = rise_above c.requires.0 c.requires.1.0 c.args.n _ c.args.staged.now _ c.requires.1.1 (omega arith) c.if-staged-middle.false;
 }
 
 pub returns-then-staged-low-clause-place : goal.returns-then-staged-low-clause-place

@@ -3,9 +3,13 @@ use Rattle.lis_kept.proofs.InArea.{few_files}
 use Rattle.lis_open.proofs.BlocksRead.{few_blocks}
 use Rattle.lis_open.proofs.Lefts.{row_read}
 use Rattle.lis_open.proofs.checks.read_row.Goals as goal
+use Rattle.lis_kept.proofs.Image.{same_homes, same_blocks}
+
+pub read_slot-requires-clause-home : goal.read_slot-requires-clause-home
+read_slot-requires-clause-home g c = omega (arith, c.rows_start.ensures, same_homes c.requires.readable.image)
 
 pub read_slot-requires-clause-few : goal.read_slot-requires-clause-few
-read_slot-requires-clause-few g c = few_blocks c.args.limits.now _ c.requires.readable.range c.requires.readable.image
+read_slot-requires-clause-few g c = few_blocks c.args.limits.now _ c.requires.readable.range (same_blocks c.requires.readable.image)
 
 pub returns-clause-read : goal.returns-clause-read
 returns-clause-read g c = λ kept fits recalls.

@@ -1,6 +1,11 @@
 use Rattle.lis_open.proofs.Common.{◌∙◌, sym, ap, ap₂, ◌+◌, ◌++◌, data_start}
 use Rattle.lis_open.proofs.BlocksRead.{large_found, large_missed}
 use Rattle.lis_open.proofs.indexes.all_blocks.Goals as goal
+use Rattle.std.proofs.Common.{arith}
+use Rattle.lis_kept.proofs.Image.{same_homes, same_blocks}
+
+pub read_numbers-requires-clause-home : goal.read_numbers-requires-clause-home
+read_numbers-requires-clause-home g c = omega (arith, c.data_start.ensures.start, same_homes c.requires.readable.image)
 
 pub returns-in_default-clause-found : goal.returns-in_default-clause-found
 returns-in_default-clause-found g c = λ kept fits.

@@ -1,5 +1,7 @@
-use Rattle.std.proofs.Common.{IfOk}
+use Rattle.std.proofs.Common.{IfOk, ap₂}
 use Rattle.lis_open.proofs.Common.{rules, refl, ◌≡◌, ◌⊎◌, ℕ, List, ◌∙◌, sym, ap, subst, Err, Result, false, arith, err_from_is_err_and, block, Held, Leaves, IsSettled, image_blocks, Stored, IsSound, recovered}
+use Rattle.lis_journal.specs.declared.layout.Capacity.{Capacity}
+use Rattle.lis_journal.specs.Journal.{shape_of}
 use Rattle.lis_journal.specs.Recovery.{InRecovery, MountEnded}
 use Rattle.lis_journal.specs.declared.journal.JournalFault.{JournalFault}
 use Rattle.lis_journal.specs.declared.journal.JournalFault.TheVariants.{DiskFault as JournalDisk}
@@ -9,6 +11,37 @@ use Rattle.lis_open.specs.declared.mounting.OpenFault.{OpenFault}
 use Rattle.lis_open.proofs.Opening.{one_fault, memory_opened, journal_cause, journal_enough, journal_opened, journal_moments, store_opened, store_moments}
 use Rattle.lis_open.specs.Opens.{journal_fault}
 use Rattle.lis_open.proofs.mounting.mount_image.Goals as goal
+use Rattle.lis_kept.specs.Image.{image_layout}
+use Rattle.lis_journal.specs.declared.layout.Layout.{Layout}
+
+pub mount-requires-clause-blocks : goal.mount-requires-clause-blocks
+mount-requires-clause-blocks g c = omega (arith, ap (λ (l : Layout). l.records) c.image_layout-layout.ensures, ap (λ (l : Layout). l.blocks) c.image_layout-layout.ensures)
+
+pub mount-requires-clause-few : goal.mount-requires-clause-few
+mount-requires-clause-few g c = omega (arith, ap (λ (l : Layout). l.records) c.image_layout-layout.ensures)
+
+pub mount-requires-clause-fits : goal.mount-requires-clause-fits
+mount-requires-clause-fits g c = omega (arith, ap (λ (l : Layout). l.records) c.image_layout-layout.ensures, ap (λ (k : Capacity). k.staged) c.image_capacity.ensures)
+
+pub mount-requires-clause-placed : goal.mount-requires-clause-placed
+mount-requires-clause-placed g c = omega (arith, ap (λ (k : Capacity). k.placed) c.image_capacity.ensures)
+
+pub mount-requires-clause-long : goal.mount-requires-clause-long
+mount-requires-clause-long g c = omega (arith, ap (λ (l : Layout). l.blocks) c.image_layout-layout.ensures, c.requires.long)
+
+pub read_store-requires-clause-readable : goal.read_store-requires-clause-readable
+read_store-requires-clause-readable g c =
+    let held = c.in-Ok.ensures.held in
+    let blocks = ap (λ (h : Held). h.layout.blocks) held ∙ ap (λ (l : Layout). l.blocks) c.image_layout-layout.ensures in
+    record {
+      range = c.requires.range;
+      image = ap shape_of held ∙ ap₂ (λ (l : Layout) (k : Capacity). record { layout = l; capacity = k }) c.image_layout-layout.ensures c.image_capacity.ensures;
+      clean = ap (λ (h : Held). h.staged) held;
+      usable = record {
+        unbroken = ap (λ (h : Held). h.is_broken) held;
+        long = omega (arith, blocks, c.requires.long, c.mount.ensures.run.len);
+      };
+    }
 
 pub returns-in_err-room-clause-opened : goal.returns-in_err-room-clause-opened
 returns-in_err-room-clause-opened g c = λ honest.
@@ -21,7 +54,7 @@ returns-in-Err g c =
     let old = g.D.Disk.meaning c.args.disk.now in
     let new = g.D.Disk.meaning c.mount.new.disk in
     let fault = c.in-Err.fault in
-    let mounted = rw c.image_blocks.ensures.blocks at c.mount.ensures in
+    let mounted = rw c.image_layout-layout.ensures at c.mount.ensures in
     let failed : c.mount.result ≡ Err JournalDisk → fault ≡ JournalDisk = λ is. one_fault (sym c.in-Err.is ∙ is) in
     record {
       run = search rules;
@@ -42,10 +75,10 @@ pub returns-in-Ok-clause-opened : goal.returns-in-Ok-clause-opened
 returns-in-Ok-clause-opened g c = λ honest.
     let old = g.D.Disk.meaning c.args.disk.now in
     let mid = g.D.Disk.meaning c.mount.new.disk in
-    let ended = subst (λ b. MountEnded b old mid c.mount.result) c.image_blocks.ensures.blocks (c.mount.ensures.ended honest) in
+    let ended = subst (λ b. MountEnded b old mid c.mount.result) c.image_layout-layout.ensures (c.mount.ensures.ended honest) in
     store_opened old c.args.limits (c.requires.begins honest) c.requires.long (g.met.D.Disk.reads_len c.args.disk.now honest) c.in-Ok.journal mid (g.D.Disk.meaning c.read_store.new.disk) c.read_store.result
-    (subst (λ (o : Result Held JournalFault). MountEnded (image_blocks c.args.limits) old mid o) c.in-Ok.is ended)
-    (subst (λ b. IsSettled mid (recovered b old.bytes)) c.image_blocks.ensures.blocks (c.in-Ok.ensures.left honest)) c.read_store.ensures.disk.reads
+    (subst (λ (o : Result Held JournalFault). MountEnded (image_layout c.args.limits) old mid o) c.in-Ok.is ended)
+    (subst (λ b. IsSettled mid (recovered b old.bytes)) c.image_layout-layout.ensures (c.in-Ok.ensures.left honest)) c.read_store.ensures.disk.reads
     (λ store is. record {
       sound = subst (λ (o : Result Stored OpenFault). IfOk o IsSound) is c.read_store.ensures.sound;
       over = subst (λ (o : Result Stored OpenFault). IfOk o (λ k. k.journal ≡ c.in-Ok.journal)) is c.read_store.ensures.journal;
@@ -59,10 +92,10 @@ returns-in-Ok-clause-any_moment g c = λ honest.
     let old = g.D.Disk.meaning c.args.disk.now in
     let mid = g.D.Disk.meaning c.mount.new.disk in
     store_moments old c.args.limits (c.requires.begins honest) c.requires.long mid (g.D.Disk.meaning c.read_store.new.disk)
-    (subst (λ b. (image : List ℕ) → mid.images image → old.images image ⊎ InRecovery b old.bytes image) c.image_blocks.ensures.blocks (c.in-Ok.ensures.images honest))
-    (subst (λ b. Leaves old mid (λ image. old.images image ⊎ InRecovery b old.bytes image)) c.image_blocks.ensures.blocks (c.mount.ensures.any_moment honest))
+    (subst (λ b. (image : List ℕ) → mid.images image → old.images image ⊎ InRecovery b old.bytes image) c.image_layout-layout.ensures (c.in-Ok.ensures.images honest))
+    (subst (λ b. Leaves old mid (λ image. old.images image ⊎ InRecovery b old.bytes image)) c.image_layout-layout.ensures (c.mount.ensures.any_moment honest))
     (c.read_store.ensures.disk.reads.moments (c.mount.ensures.run.honest ∙ honest))
 
 pub returns-in-Ok-clause-past : goal.returns-in-Ok-clause-past
 returns-in-Ok-clause-past g c = λ honest settled n past.
-    ap (block n) (c.read_store.ensures.disk.reads.same (c.mount.ensures.run.honest ∙ honest)).bytes ∙ c.in-Ok.ensures.past honest (λ e. absurd (cc)) n (omega (arith, past, c.image_blocks.ensures.blocks))
+    ap (block n) (c.read_store.ensures.disk.reads.same (c.mount.ensures.run.honest ∙ honest)).bytes ∙ c.in-Ok.ensures.past honest (λ e. absurd (cc)) n (omega (arith, past, ap (λ (l : Layout). l.blocks) c.image_layout-layout.ensures))

@@ -4,6 +4,7 @@ use Rattle.lis_ports.proofs.Moments.{run_then}
 use Rattle.lis_store.proofs.FreeAgain.{first_version}
 use Rattle.lis_open.proofs.Upgraded.{fault_of, handed_on, not_refused, opening_moments, second_left, second_stands, first_left, upgrade_moments, upgrade_past, first_stands}
 use Rattle.lis_open.proofs.upgrading.upgrade.Goals as goal
+use Rattle.lis_kept.proofs.Image.{same_blocks}
 
 -- it is refused
 pub returns-in_err-store : goal.returns-in_err-store
@@ -47,7 +48,7 @@ returns-then-version-eq2 g c =
     }
 
 pub write_gate-requires : goal.write_gate-requires
-write_gate-requires g c = omega (arith, c.in_ok-store.ensures.long, c.limits-version.ensures.sound.image)
+write_gate-requires g c = omega (arith, c.in_ok-store.ensures.long, same_blocks c.limits-version.ensures.sound.image)
 
 -- the gate is not written, or not synced
 pub returns-in_err-write_gate : goal.returns-in_err-write_gate

@@ -11,6 +11,6 @@ returns-in-OtherMarks-clause-puts g c = λ back returns state fitting.
 
 pub returns-in-Whole-clause-puts : goal.returns-in-Whole-clause-puts
 returns-in-Whole-clause-puts g c = λ back returns state fitting.
-    let written = rw (c.root-root.ensures, c.bytes.ensures.bytes, c.size.ensures) at c.write-written.ensures.changes in
-    puts_content c.args.name.now c.args.made.now back fitting g.T.Disk.meaning c.write-written.new.disk c.conclude.new.station c.write-written.result (rw c.in-Whole.is at returns)
-    c.write-written.ensures.keeps.sound (written state fitting.own) c.conclude.ensures
+    let written = rw (c.root-root.ensures, c.bytes.ensures.bytes, c.size.ensures) at c.apply-written.ensures.changes in
+    puts_content c.args.name.now c.args.made.now back fitting g.T.Disk.meaning c.apply-written.new.disk c.conclude.new.station c.apply-written.result (rw c.in-Whole.is at returns)
+    c.apply-written.ensures.keeps.sound (written state fitting.own) c.conclude.ensures

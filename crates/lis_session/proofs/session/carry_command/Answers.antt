@@ -1,8 +1,10 @@
 use Rattle.std.proofs.Common.{rules, refl}
 use Rattle.lis_model.specs.Step.{Situation, cd, pwd}
+use Rattle.lis_session.proofs.Settled.{settled_applied}
 use Rattle.lis_session.proofs.Staying.{done_stays}
 use Rattle.lis_session.proofs.Answering.{words_known, change_item}
 use Rattle.lis_session.proofs.Saying.{shows_item}
+use Rattle.lis_session.proofs.Written.{makes_written}
 use Rattle.lis_session.proofs.session.carry_command.Goals as goal
 
 pub returns-in-Cd-clause-carries : goal.returns-in-Cd-clause-carries
@@ -23,5 +25,11 @@ returns-in-Stat-clause-carries g c = rw c.in-Stat.is (c.stat.ensures.carries c.a
 pub returns-in-Mkdir-clause-carries : goal.returns-in-Mkdir-clause-carries
 returns-in-Mkdir-clause-carries g c = λ state fitting.
     let now : Situation = record { state = state; place = c.args.place.now } in
-    change_item (done_stays now c.args.command.now c.args.payload.now (search rules)) c.change-changed.ensures.keeps.sound g.T.Disk.meaning c.change-changed.new.disk c.conclude.new.station c.change-changed.result
-    (c.change-changed.ensures.makes state fitting.own) c.conclude.ensures
+    change_item (done_stays now c.args.command.now c.args.payload.now (search rules)) c.apply-changed.ensures.keeps.sound g.T.Disk.meaning c.apply-changed.new.disk c.conclude.new.station c.apply-changed.result
+    (makes_written c.write_of.result c.write_of.ensures.written c.apply-changed.ensures.changes state fitting.own) c.conclude.ensures
+
+pub apply-changed-requires-clause-whole : goal.apply-changed-requires-clause-whole
+apply-changed-requires-clause-whole g c = c.write_of.ensures.whole c.args.store.now.parts.limits.version
+
+pub returns-in-Mkdir-clause-settled : goal.returns-in-Mkdir-clause-settled
+returns-in-Mkdir-clause-settled g c = settled_applied c.args.store.now c.apply-changed.new.self c.apply-changed.result c.apply-changed.ensures.keeps.left c.apply-changed.ensures.settled

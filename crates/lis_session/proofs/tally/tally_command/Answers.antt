@@ -9,9 +9,11 @@ use Rattle.lis_model.specs.Step.{Situation, entry_at, cd, ls, pwd, stat}
 use Rattle.lis_model.specs.Table.{Table, table}
 use Rattle.lis_store.proofs.ToldBy.{told_fits}
 use Rattle.lis_store.proofs.StoreSays.{table_told}
+use Rattle.lis_session.proofs.Settled.{settled_applied}
 use Rattle.lis_session.proofs.Staying.{done_stays}
 use Rattle.lis_session.proofs.Answering.{words_known}
 use Rattle.lis_session.proofs.Tallying.{tally_with, tallied_change, tallied_still, tallied_look, refused_answer, no_refusal, listing_no_refusal}
+use Rattle.lis_session.proofs.Written.{makes_written}
 use Rattle.lis_session.proofs.tally.tally_command.Goals as goal
 
 pub returns-in-Cat-clause-tallies : goal.returns-in-Cat-clause-tallies
@@ -62,4 +64,10 @@ returns-in-Stat-clause-tallies g c =
 pub returns-in-Mkdir-clause-tallies : goal.returns-in-Mkdir-clause-tallies
 returns-in-Mkdir-clause-tallies g c = λ state fitting.
     let now : Situation = record { state = state; place = c.args.place.now } in
-    tallied_change (done_stays now c.args.command.now c.args.payload.now (search rules)) (search rules) c.change.ensures.keeps.sound c.change.result (c.change.ensures.makes state fitting.own) c.concluded.ensures
+    tallied_change (done_stays now c.args.command.now c.args.payload.now (search rules)) (search rules) c.apply.ensures.keeps.sound c.apply.result (makes_written c.write_of-write.result c.write_of-write.ensures.written c.apply.ensures.changes state fitting.own) c.concluded.ensures
+
+pub apply-requires-clause-whole : goal.apply-requires-clause-whole
+apply-requires-clause-whole g c = c.write_of-write.ensures.whole c.args.store.now.parts.limits.version
+
+pub returns-in-Mkdir-clause-settled : goal.returns-in-Mkdir-clause-settled
+returns-in-Mkdir-clause-settled g c = settled_applied c.args.store.now c.apply.new.self c.apply.result c.apply.ensures.keeps.left c.apply.ensures.settled

@@ -3,6 +3,7 @@ use Rattle.std.proofs.lemmas.Bool.{cond-true}
 use Rattle.lis_store.proofs.FreeAgain.{rec_some, first_version, enough_given}
 use Rattle.lis_store.proofs.Renewed.{renews_placed, lost_last, lost_first, put_last}
 use Rattle.lis_store.proofs.contents.put_instead.Goals as goal
+use Rattle.lis_kept.specs.Image.{image_shape}
 
 -- ---- in version 2
 pub put_content-requires-clause-enough : goal.put_content-requires-clause-enough
@@ -44,7 +45,7 @@ pub put_content-requires-2-clause-ready : goal.put_content-requires-2-clause-rea
 put_content-requires-2-clause-ready g c =
     let found = rec_some (rec_at c.args.parts.now.catalog c.args.slot) c.requires.there in
     let given = c.in_ok-free_content-2.ensures.given found.0 found.1 in
-    let image = c.requires.ready.image ∙ sym (ap (λ (x : Kept). image_blocks x.limits) given.0.takes.parts) in
+    let image = c.requires.ready.image ∙ sym (ap (λ (x : Kept). image_shape x.limits) given.0.takes.parts) in
     record { image = image; usable = record { unbroken = c.requires.ready.usable.unbroken; long = omega (arith, c.requires.ready.usable.long, given.1.reads.run.len) }; unplaced = c.requires.ready.unplaced; room = c.requires.ready.room }
 
 pub put_content-requires-2-clause-enough : goal.put_content-requires-2-clause-enough

@@ -3,6 +3,7 @@ use Rattle.lis_kept.proofs.BlocksTaken.{slot_within}
 use Rattle.lis_kept.proofs.Contents.{slot_counted}
 use Rattle.lis_store.proofs.ReadBack.{read_told}
 use Rattle.lis_store.proofs.file_bytes.read_file.Goals as goal
+use Rattle.lis_kept.proofs.Image.{same_blocks}
 
 pub read-requires-clause-short : goal.read-requires-clause-short
 read-requires-clause-short g c =
@@ -22,8 +23,8 @@ pub read-requires-clause-within : goal.read-requires-clause-within
 read-requires-clause-within g c =
     let k = c.args.parts.now in
     let rec = c.in-Some.rec.now in
-    slot_within k rec c.data_start-base.result c.args.journal.now.blocks c.as_slice.result.now (c.limits.ensures.sound.records c.args.slot rec c.in-Some.ensures)
-    (c.data_start-base.ensures.start ∙ ap data_start c.limits.ensures.value) c.requires.image (c.as_slice.ensures.value ∙ ap (λ (r : FileRecord). r.blocks) c.rec-2.view_is)
+    slot_within k rec c.data_start-base.result c.args.journal.now.layout.blocks c.as_slice.result.now (c.limits.ensures.sound.records c.args.slot rec c.in-Some.ensures)
+    (c.data_start-base.ensures.start ∙ ap data_start c.limits.ensures.value) (same_blocks c.requires.image) (c.as_slice.ensures.value ∙ ap (λ (r : FileRecord). r.blocks) c.rec-2.view_is)
 
 pub returns-clause-read : goal.returns-clause-read
 returns-clause-read g c =
@@ -31,7 +32,7 @@ returns-clause-read g c =
     (λ read. λ rec kept is fits within.
     let same : c.in-Some.rec.now ≡ rec = same_Some c.in-Some.rec.now rec (sym c.in-Some.ensures ∙ is) in
     let fields = c.rec-2.view_is ∙ same in
-    read_told c.args.parts.now.limits rec (looked c.args.journal.now.staged kept) c.read.new.self c.args.journal.now.blocks c.data_start-base.result c.rec-2.inside.size c.as_slice.result.now
-    c.requires.image (c.data_start-base.ensures.start ∙ ap data_start c.limits.ensures.value) (ap (λ (r : FileRecord). r.size) fields)
+    read_told c.args.parts.now.limits rec (looked c.args.journal.now.staged kept) c.read.new.self c.args.journal.now.layout.blocks c.data_start-base.result c.rec-2.inside.size c.as_slice.result.now
+    (same_blocks c.requires.image) (c.data_start-base.ensures.start ∙ ap data_start c.limits.ensures.value) (ap (λ (r : FileRecord). r.size) fields)
     (c.as_slice.ensures.value ∙ ap (λ (r : FileRecord). r.blocks) fields) within (read kept fits))
     c.read.ensures.read

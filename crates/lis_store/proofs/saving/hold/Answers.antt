@@ -1,6 +1,13 @@
 use Rattle.lis_store.proofs.Common.{◌∙◌, arith}
+use Rattle.lis_kept.proofs.Image.{same_blocks}
 use Rattle.lis_store.proofs.Saved.{sound_held, sound_committed, none_placed, change_held, change_committed}
 use Rattle.lis_store.proofs.saving.hold.Goals as goal
+
+pub commit-requires-clause-usable : goal.commit-requires-clause-usable
+commit-requires-clause-usable g c = record {
+  unbroken = c.stage.ensures.staged.broken ∙ c.requires.usable.unbroken;
+  long = omega (arith, same_blocks c.stage.ensures.staged.image, c.requires.usable.long);
+}
 
 pub returns-then-staged-most-clause-sound : goal.returns-then-staged-most-clause-sound
 returns-then-staged-most-clause-sound g c =

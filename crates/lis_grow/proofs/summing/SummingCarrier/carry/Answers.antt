@@ -4,6 +4,7 @@ use Rattle.lis_line.specs.Reading.{asked_by}
 use Rattle.lis_kept.proofs.InArea.{few_files, few_properties}
 use Rattle.lis_grow.proofs.Going.{sums_more, sums_into, one_at_most}
 use Rattle.lis_grow.proofs.summing.SummingCarrier.carry.Goals as goal
+use Rattle.lis_kept.proofs.Image.{same_blocks}
 
 pub returns-in_err-tally-clause-carried : goal.returns-in_err-tally-clause-carried
 returns-in_err-tally-clause-carried g c = λ start entry first done.
@@ -24,7 +25,7 @@ returns-clause-ready g c = λ more ready.
       sound = c.in_ok-tally.ensures.sound;
       usable = record {
         unbroken = c.in_ok-tally.ensures.unbroken;
-        long = omega (arith, c.in_ok-tally.ensures.image, c.in_ok-tally.ensures.disk.run.len, ready.usable.long);
+        long = omega (arith, same_blocks c.in_ok-tally.ensures.image, c.in_ok-tally.ensures.disk.run.len, ready.usable.long);
       };
       replies = omega (arith, c.add.ensures.replies, ready.replies);
       refused = omega (arith, c.add.ensures.refused, ready.refused, one_at_most c.in_ok-tally.tally.refused);

@@ -7,5 +7,5 @@ use Rattle.lis_journal.proofs.records.Records.make_room.Goals as goal
 
 pub returns-clause-kept : goal.returns-clause-kept
 returns-clause-kept g c = on_both c.clear.result (λ stays done. λ placed kept fits.
-    subst (λ (log : Log). FitsAt log.blocks log.records placed (g.D.Disk.meaning c.clear.new.disk) kept) (sym done) (fits_placed placed (stays placed kept fits)))
+    subst (λ (log : Log). FitsAt log.layout log.records placed (g.D.Disk.meaning c.clear.new.disk) kept) (sym done) (fits_placed placed (stays placed kept fits)))
     c.clear.ensures.kept c.clear.ensures.done

@@ -8,7 +8,10 @@ loop-last-preserved c =
     let inv = c.loop-last.invariant in
     let rest = cleared _ _ _ _ c.in-Some.last c.in-Some.ensures.items c.give.ensures.given inv.whole inv.apart in
     record {
-      blocks = inv.blocks;
+      layout = inv.layout;
+      capacity = inv.capacity;
+      narrow = inv.narrow;
+      small = inv.small;
       wide = ap (λ (r : Region ℕ). r.width) c.give.ensures.given ∙ inv.wide;
       whole = rest.0;
       apart = rest.1;

@@ -1,4 +1,4 @@
-use Rattle.std.proofs.Common.{List, [], IsTrue, sym, ◌∙◌, ap, subst, get_or}
+use Rattle.std.proofs.Common.{◌+◌, List, [], IsTrue, sym, ◌∙◌, ap, subst, get_or}
 use Rattle.lis_journal.specs.declared.stage.Staged.{Staged}
 use Rattle.lis_journal.specs.Record.{HomeBlock, rises}
 use Rattle.lis_journal.specs.Images.{look}
@@ -11,9 +11,12 @@ use Rattle.lis_journal.proofs.stage.Stage.get.Goals as goal
 pub find-requires : goal.find-requires
 find-requires c =
     let inside = c.self.inside in (
-      inside.blocks,
-      subst (λ (xs : List Staged). IsTrue (rises inside.blocks 577 (home_list xs))) (sym c.deref.ensures.value)
-          (list_rises inside.region inside.staged.items inside.blocks c.self.invariant.staging.rise),
+      inside.layout.blocks,
+      (
+        inside.layout.records + 1,
+        subst (λ (xs : List Staged). IsTrue (rises inside.layout.blocks (inside.layout.records + 1) (home_list xs))) (sym c.deref.ensures.value)
+            (list_rises inside.pool inside.staged.items inside.layout.blocks (inside.layout.records + 1) c.self.invariant.staging.rise),
+      ),
     )
 
 pub returns-in-Ok-clause-some : goal.returns-in-Ok-clause-some
@@ -24,7 +27,7 @@ returns-in-Ok-clause-some c = λ old.
     let nothing : HomeBlock = record { home = 0; bytes = [] } in
     let found : FoundAt n place inside.staged.items = subst (λ (xs : List Staged). FoundAt n place xs) c.deref.ensures.value c.in-Ok.ensures.place in
     ap (λ (s : Staging). look s.entries n old) (sym c.self.view_is)
-    ∙ (look-found inside.region inside.staged.items inside.blocks 577 n place nothing old c.self.invariant.staging.rise found
+    ∙ (look-found inside.pool inside.staged.items inside.layout.blocks (inside.layout.records + 1) n place nothing old c.self.invariant.staging.rise found
     ∙ (ap (λ (s : Staging). (get_or s.entries place nothing).bytes) c.self.view_is ∙ sym (c.bytes.ensures.bytes nothing)))
 
 pub returns-in-Err-clause-none : goal.returns-in-Err-clause-none
@@ -33,12 +36,12 @@ returns-in-Err-clause-none c =
     let n = c.args.n in
     let place : PlaceFor n c.in-Err.field-0 inside.staged.items = subst (λ (xs : List Staged). PlaceFor n c.in-Err.field-0 xs) c.deref.ensures.value c.in-Err.ensures.place in
     ap (λ (s : Staging). has_entry s.entries n) (sym c.self.view_is)
-    ∙ (has-homes inside.region inside.staged.items n
-    ∙ absent inside.blocks 577 n c.in-Err.field-0 inside.staged.items (list_rises inside.region inside.staged.items inside.blocks c.self.invariant.staging.rise) place)
+    ∙ (has-homes inside.pool inside.staged.items n
+    ∙ absent inside.layout.blocks (inside.layout.records + 1) n c.in-Err.field-0 inside.staged.items (list_rises inside.pool inside.staged.items inside.layout.blocks (inside.layout.records + 1) c.self.invariant.staging.rise) place)
 
 pub returns-in-Ok-clause-has : goal.returns-in-Ok-clause-has
 returns-in-Ok-clause-has c =
     let inside = c.self.inside in
     let n = c.args.n in
     let found : FoundAt n c.in-Ok.place inside.staged.items = subst (λ (xs : List Staged). FoundAt n c.in-Ok.place xs) c.deref.ensures.value c.in-Ok.ensures.place in
-    ap (λ (s : Staging). has_entry s.entries n) (sym c.self.view_is) ∙ has-found inside.region inside.staged.items n c.in-Ok.place found
+    ap (λ (s : Staging). has_entry s.entries n) (sym c.self.view_is) ∙ has-found inside.pool inside.staged.items n c.in-Ok.place found

@@ -1,19 +1,24 @@
+use Rattle.std.proofs.Common.{arith}
 use Rattle.lis_kept.proofs.Common.{◌∙◌, ◌≤◌, ap, sym, subst, ◌≡◌, length, same_Some, rec_at, slot_count, FileRecord}
 use Rattle.lis_fields.proofs.Parts.{size_fits}
 use Rattle.lis_model.specs.Image.{image_blocks}
 use Rattle.lis_kept.specs.Kept.{Kept}
 use Rattle.lis_kept.proofs.Dropped.{record_in_form}
 use Rattle.lis_kept.proofs.BlocksTaken.{takes, slot_within, gives}
+use Rattle.lis_kept.proofs.Image.{same_homes, same_blocks}
 use Rattle.lis_kept.proofs.Contents.{slot_counted}
 use Rattle.lis_kept.specs.contracts.parts.Parts.{the_view}
 use Rattle.lis_kept.proofs.parts.Parts.give_blocks.Goals as goal
 
+pub drop_large-requires-clause-home : goal.drop_large-requires-clause-home
+drop_large-requires-clause-home g c = omega (arith, c.data_start-base.ensures.start, same_homes c.requires.image)
+
 pub drop_large-requires-clause-within : goal.drop_large-requires-clause-within
 drop_large-requires-clause-within g c =
     let k = the_view c.self.inside in
-    slot_within k c.in-Some.rec.now c.data_start-base.result c.args.journal.now.blocks c.as_slice.result.now
+    slot_within k c.in-Some.rec.now c.data_start-base.result c.args.journal.now.layout.blocks c.as_slice.result.now
     (c.self.invariant.sound.records c.args.slot c.in-Some.rec.now c.in-Some.ensures)
-    c.data_start-base.ensures.start (c.requires.image ∙ ap (λ (x : Kept). image_blocks x.limits) (sym c.self.view_is)) (c.as_slice.ensures.value ∙ ap (λ (r : FileRecord). r.blocks) c.rec-2.view_is)
+    c.data_start-base.ensures.start (same_blocks c.requires.image ∙ ap (λ (x : Kept). image_blocks x.limits) (sym c.self.view_is)) (c.as_slice.ensures.value ∙ ap (λ (r : FileRecord). r.blocks) c.rec-2.view_is)
 
 pub drop_large-requires-clause-few : goal.drop_large-requires-clause-few
 drop_large-requires-clause-few g c =

@@ -1,5 +1,6 @@
 use Rattle.std.proofs.Common.{arith}
 use Rattle.lis_kept.proofs.Common.{◌+◌, ◌<◌, length, sym, ap, ◌∙◌, subst, Held, data_start}
+use Rattle.lis_journal.specs.Journal.{Shape}
 use Rattle.lis_kept.specs.Inside.{StagedBelow}
 use Rattle.lis_kept.proofs.Staged.{staged_none, staged_past, staged_more, staged_all, marks_before}
 use Rattle.lis_kept.proofs.parts.Parts.stage.Goals.{then-is_marked, else-is_marked}
@@ -11,7 +12,7 @@ loop-n-init c = staged_none c.args.self.now c.args.journal.now c.limits.ensures.
 pub stage_block-requires-clause-room : goal.stage_block-requires-clause-room
 stage_block-requires-clause-room c =
     let lt : c.loop-n.n < length c.args.self.now.marks = omega (arith, c.loop-n-test.true, c.data_start-end.ensures.start, ap data_start c.limits.ensures.value, c.limits.ensures.sound.marks) in
-    omega (arith, c.requires.room, c.loop-n.invariant.few, marks_before c.args.self.now c.loop-n.n lt (sym c.is_marked.ensures ∙ c.if-is_marked.true))
+    omega (arith, c.requires.room, c.loop-n.invariant.few, marks_before c.args.self.now c.loop-n.n lt (sym c.is_marked.ensures ∙ c.if-is_marked.true), ap (λ (s : Shape). s.capacity.staged) c.loop-n.invariant.image)
 
 pub loop-n-preserved : goal.loop-n-preserved
 loop-n-preserved c =

@@ -1,11 +1,25 @@
+use Rattle.std.proofs.Common.{arith}
 use Rattle.lis_kept.proofs.Common.{refl, ◌∙◌, subst}
 use Rattle.lis_blockmap.specs.Bitmap.{bitmap_bytes}
 use Rattle.lis_kept.specs.Kept.{Kept}
 use Rattle.lis_kept.specs.Inside.{IsBlock}
 use Rattle.lis_kept.specs.contracts.parts.Parts.{the_view}
+use Rattle.lis_kept.proofs.Image.{same_homes, same_blocks}
 use Rattle.lis_kept.proofs.Spelled.{bitmap_block}
 use Rattle.lis_kept.proofs.Staged.{stages_block}
 use Rattle.lis_kept.proofs.parts.Parts.stage_block.Goals as goal
+
+pub stage_to-requires-clause-home : goal.stage_to-requires-clause-home
+stage_to-requires-clause-home c = omega (arith, c.requires.from, same_homes c.requires.image)
+
+pub stage_to-requires-clause-within : goal.stage_to-requires-clause-within
+stage_to-requires-clause-within c = omega (arith, c.requires.to, same_blocks c.requires.image)
+
+pub stage-requires-clause-home : goal.stage-requires-clause-home
+stage-requires-clause-home c = omega (arith, c.requires.from, same_homes c.requires.image)
+
+pub stage-requires-clause-within : goal.stage-requires-clause-within
+stage-requires-clause-within c = omega (arith, c.requires.to, same_blocks c.requires.image)
 
 pub returns-then-n-bitmap_start : goal.returns-then-n-bitmap_start
 returns-then-n-bitmap_start c =

@@ -1,19 +1,38 @@
-use Rattle.lis_store.proofs.Common.{◌∙◌, ap, Err, err_from_is_err_and, rules, Situation}
-use Rattle.lis_store.specs.Stored.{StoreFits}
-use Rattle.lis_store.proofs.Holding.{call_ended, call_committed}
-use Rattle.lis_store.proofs.Keeping.{keeps_committed}
+use Rattle.lis_store.proofs.Common.{◌∙◌, ap, Err, err_from_is_err_and, rules, State, Situation}
+use Rattle.lis_store.specs.Stored.{StoreHolds}
+use Rattle.lis_store.proofs.Judged.{view_refused}
+use Rattle.lis_store.proofs.Keeping.{keeps_saved}
+use Rattle.lis_store.proofs.Related.{related, axiom_refused, axiom_done, axiom_fit}
+use Rattle.lis_store.proofs.Relates.{axiom_change, axiom_holds}
+use Rattle.lis_store.proofs.SavedAlone.{change_saves, whole_view, held_view}
 use Rattle.lis_store.proofs.store.Store.axiom.Goals as goal
 
-pub returns-in_err-axiom_held : goal.returns-in_err-axiom_held
-returns-in_err-axiom_held g c =
-    let changes = λ (now : Situation) (fits : StoreFits c.args.self.now (g.D.Disk.meaning c.args.disk.now) now.state).
+pub returns-in_err-may_relate : goal.returns-in_err-may_relate
+returns-in_err-may_relate g c =
+    let holds = λ (base : State) (now : Situation) (fits : StoreHolds c.args.self.now (g.D.Disk.meaning c.args.disk.now) base now.state).
     let p = err_from_is_err_and c.from_residual.result c.from_residual.ensures.1 in
-    call_ended c.axiom_held.ensures.entry now fits (λ base held. c.axiom_held.ensures.holds base now held) c.in_err-axiom_held.was (p.1 ∙ ap Err p.2) c.axiom_held.ensures.keeps.left in
-    search (rules, changes)
+    let refusal = c.in_err-may_relate.field-0.0 in
+    view_refused c.self.view_is now refusal fits
+    (λ held. axiom_refused c.self.invariant now held.tells c.args.left.now c.args.right.now refusal c.in_err-may_relate.ensures.row) (p.1 ∙ ap Err p.2) in
+    search (rules, holds)
 
-pub returns-clause-changes : goal.returns-clause-changes
-returns-clause-changes g c = λ now fits.
-    call_committed c.axiom_held.ensures.entry now fits (λ base held. c.axiom_held.ensures.holds base now held) c.in_ok-axiom_held.was c.commit.ensures.commits c.axiom_held.ensures.keeps.limits
+pub relate-requires-clause-may : goal.relate-requires-clause-may
+relate-requires-clause-may g c = related c.self.invariant.parts c.in_ok-may_relate.ensures.row
+
+pub hold-requires : goal.hold-requires
+hold-requires g c =
+    let change = axiom_change c.self.invariant (related c.self.invariant.parts c.in_ok-may_relate.ensures.row) c.relate.ensures (whole_view c.self.view_is c.requires.usable.unbroken) in
+    let asks = change_saves c.self.invariant (whole_view c.self.view_is c.requires.usable.unbroken) change in
+    search (rules, asks.settles, asks.image, asks.placed, asks.room)
+
+pub returns-clause-holds : goal.returns-clause-holds
+returns-clause-holds g c = λ base now fits.
+    let held = held_view c.self.view_is fits in
+    let row = c.in_ok-may_relate.ensures.row in
+    axiom_holds c.self.invariant (related c.self.invariant.parts row) c.relate.ensures (whole_view c.self.view_is c.requires.usable.unbroken) c.hold.ensures.saves now held
+    (axiom_fit c.self.invariant now held.tells c.args.left.now c.args.right.now row) (axiom_done c.self.invariant now held.tells c.args.left.now c.args.right.now row)
 
 pub returns-clause-keeps : goal.returns-clause-keeps
-returns-clause-keeps g c = keeps_committed c.commit.result c.axiom_held.ensures.keeps c.commit.ensures.sound c.commit.ensures.left c.commit.ensures.parts c.commit.ensures.image
+returns-clause-keeps g c =
+    let change = axiom_change c.self.invariant (related c.self.invariant.parts c.in_ok-may_relate.ensures.row) c.relate.ensures (whole_view c.self.view_is c.requires.usable.unbroken) in
+    keeps_saved c.self.view_is c.relate.new.parts c.hold.result change.limits change.edits c.hold.ensures.sound c.hold.ensures.parts c.hold.ensures.image c.hold.ensures.ended

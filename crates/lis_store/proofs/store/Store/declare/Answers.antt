@@ -1,19 +1,40 @@
-use Rattle.lis_store.proofs.Common.{◌∙◌, ap, Err, err_from_is_err_and, rules, State}
-use Rattle.lis_store.specs.Stored.{StoreFits}
-use Rattle.lis_store.proofs.Holding.{call_ended, call_committed}
-use Rattle.lis_store.proofs.Keeping.{keeps_committed}
+use Rattle.lis_store.proofs.Common.{◌∙◌, sym, ap, subst, List, ℕ, Err, err_from_is_err_and, rules, State}
+use Rattle.lis_store.specs.Stored.{StoreHolds}
+use Rattle.lis_store.specs.Testing.{MayDeclare}
+use Rattle.lis_store.proofs.Judged.{view_refused}
+use Rattle.lis_store.proofs.Keeping.{keeps_saved}
+use Rattle.lis_store.proofs.Retaken.{in_form}
+use Rattle.lis_store.proofs.SavedAlone.{change_saves, whole_view, held_view}
+use Rattle.lis_store.proofs.Tested.{declared_change, declared_holds, declared_refused}
 use Rattle.lis_store.proofs.store.Store.declare.Goals as goal
 
-pub returns-in_err-declare_held : goal.returns-in_err-declare_held
-returns-in_err-declare_held g c =
-    let changes = λ (s : State) (fits : StoreFits c.args.self.now (g.D.Disk.meaning c.args.disk.now) s).
+pub returns-in_err-places : goal.returns-in_err-places
+returns-in_err-places g c =
+    let holds = λ (base : State) (s : State) (fits : StoreHolds c.args.self.now (g.D.Disk.meaning c.args.disk.now) base s).
     let p = err_from_is_err_and c.from_residual.result c.from_residual.ensures.1 in
-    call_ended c.declare_held.ensures.entry (record { state = s; place = c.args.place.now }) fits (λ base held. c.declare_held.ensures.holds base s held) c.in_err-declare_held.was (p.1 ∙ ap Err p.2) c.declare_held.ensures.keeps.left in
-    search (rules, changes)
+    let refusal = c.in_err-places.field-0.0 in
+    view_refused c.self.view_is (record { state = s; place = c.args.place.now }) refusal fits
+    (λ held. declared_refused c.self.invariant c.args.place.now c.args.word.now refusal c.may_declare.ensures.word c.in_err-places.ensures.row s held) (p.1 ∙ ap Err p.2) in
+    search (rules, holds)
 
-pub returns-clause-changes : goal.returns-clause-changes
-returns-clause-changes g c = λ s fits.
-    call_committed c.declare_held.ensures.entry (record { state = s; place = c.args.place.now }) fits (λ base held. c.declare_held.ensures.holds base s held) c.in_ok-declare_held.was c.commit.ensures.commits c.declare_held.ensures.keeps.limits
+pub declare_tested-requires-clause-form : goal.declare_tested-requires-clause-form
+declare_tested-requires-clause-form g c = in_form _ c.self.invariant
+
+pub declare_tested-requires-clause-may : goal.declare_tested-requires-clause-may
+declare_tested-requires-clause-may g c = subst (λ (ns : List ℕ). MayDeclare c.self.inside.parts c.args.word.now ns) (sym c.as_slice.ensures.value) c.in_ok-places.ensures.may
+
+pub hold-requires : goal.hold-requires
+hold-requires g c =
+    let change = declared_change c.self.invariant (whole_view c.self.view_is c.requires.usable.unbroken) c.in_ok-places.ensures.may c.as_slice.ensures.value c.declare_tested.ensures in
+    let asks = change_saves c.self.invariant (whole_view c.self.view_is c.requires.usable.unbroken) change in
+    search (rules, asks.settles, asks.image, asks.placed, asks.room)
 
 pub returns-clause-keeps : goal.returns-clause-keeps
-returns-clause-keeps g c = keeps_committed c.commit.result c.declare_held.ensures.keeps c.commit.ensures.sound c.commit.ensures.left c.commit.ensures.parts c.commit.ensures.image
+returns-clause-keeps g c =
+    let change = declared_change c.self.invariant (whole_view c.self.view_is c.requires.usable.unbroken) c.in_ok-places.ensures.may c.as_slice.ensures.value c.declare_tested.ensures in
+    keeps_saved c.self.view_is c.declare_tested.new.parts c.hold.result change.limits change.edits c.hold.ensures.sound c.hold.ensures.parts c.hold.ensures.image c.hold.ensures.ended
+
+pub returns-clause-holds : goal.returns-clause-holds
+returns-clause-holds g c = λ base s fits.
+    declared_holds c.self.invariant (whole_view c.self.view_is c.requires.usable.unbroken) c.in_ok-places.ensures.may c.as_slice.ensures.value c.declare_tested.ensures
+    c.hold.ensures.saves c.args.place.now c.may_declare.ensures.word c.in_ok-places.ensures.told c.in_ok-places.ensures.row s (held_view c.self.view_is fits)

@@ -8,6 +8,7 @@ use Rattle.lis_store.proofs.Large.{none_left}
 use Rattle.lis_store.proofs.ReplaceFile.{anew_there, anew_small, mid_form, mid_first, mid_in_form, mid_below, mid_limits, mid_short, mid_image, written_unbroken, written_saves, written_same, written_edits, written_holds}
 use Rattle.lis_store.proofs.Torn.{lost_sound, lost_holds, lost_keeps}
 use Rattle.lis_store.proofs.store.Store.put_file.Goals as goal
+use Rattle.lis_kept.proofs.Image.{same_blocks}
 
 pub invariant_of-self : goal.invariant_of-self
 invariant_of-self g c =
@@ -55,7 +56,7 @@ hold-requires g c =
       image = asks.image;
       usable = record {
         unbroken = written_unbroken c.self.view_is c.args.slot c.args.name.now c.args.assigned.now c.args.payload.now c.in_ok-blocks.blocks.items c.self.invariant c.in_ok-blocks.ensures.sound c.requires.may.0 c.in_ok-blocks.ensures.renewed c.replace_record.ensures.refiles c.requires.usable.unbroken;
-        long = omega (arith, c.requires.usable.long, image, c.in_ok-blocks.ensures.disk.run.len);
+        long = omega (arith, c.requires.usable.long, same_blocks image, c.in_ok-blocks.ensures.disk.run.len);
       };
       whole = search rules;
       placed = asks.placed;

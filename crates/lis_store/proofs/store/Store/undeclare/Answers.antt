@@ -1,19 +1,37 @@
-use Rattle.lis_store.proofs.Common.{◌∙◌, ap, Err, err_from_is_err_and, rules, Situation}
-use Rattle.lis_store.specs.Stored.{StoreFits}
-use Rattle.lis_store.proofs.Holding.{call_ended, call_committed}
-use Rattle.lis_store.proofs.Keeping.{keeps_committed}
+use Rattle.lis_store.proofs.Common.{◌∙◌, ap, Err, is_some, err_from_is_err_and, rules, State, Situation}
+use Rattle.lis_store.specs.Stored.{StoreHolds}
+use Rattle.lis_store.proofs.Judged.{view_refused}
+use Rattle.lis_store.proofs.Keeping.{keeps_saved}
+use Rattle.lis_store.proofs.Undeclared.{undeclared_may, undeclared_named, undeclared_change, undeclared_holds, undeclared_refused}
+use Rattle.lis_store.proofs.SavedAlone.{change_saves, whole_view, held_view}
 use Rattle.lis_store.proofs.store.Store.undeclare.Goals as goal
 
-pub returns-in_err-undeclare_held : goal.returns-in_err-undeclare_held
-returns-in_err-undeclare_held g c =
-    let changes = λ (now : Situation) (fits : StoreFits c.args.self.now (g.D.Disk.meaning c.args.disk.now) now.state).
+pub returns-in_err-number : goal.returns-in_err-number
+returns-in_err-number g c =
+    let holds = λ (base : State) (now : Situation) (fits : StoreHolds c.args.self.now (g.D.Disk.meaning c.args.disk.now) base now.state).
     let p = err_from_is_err_and c.from_residual.result c.from_residual.ensures.1 in
-    call_ended c.undeclare_held.ensures.entry now fits (λ base held. c.undeclare_held.ensures.holds base now held) c.in_err-undeclare_held.was (p.1 ∙ ap Err p.2) c.undeclare_held.ensures.keeps.left in
-    search (rules, changes)
+    let refusal = c.in_err-number.field-0.0 in
+    view_refused c.self.view_is now refusal fits (λ held. undeclared_refused c.self.invariant c.args.word.now refusal c.in_err-number.ensures.row now held) (p.1 ∙ ap Err p.2) in
+    search (rules, holds)
 
-pub returns-clause-changes : goal.returns-clause-changes
-returns-clause-changes g c = λ now fits.
-    call_committed c.undeclare_held.ensures.entry now fits (λ base held. c.undeclare_held.ensures.holds base now held) c.in_ok-undeclare_held.was c.commit.ensures.commits c.undeclare_held.ensures.keeps.limits
+pub undeclare_unmet-requires-clause-may : goal.undeclare_unmet-requires-clause-may
+undeclare_unmet-requires-clause-may g c = undeclared_may c.self.invariant c.in_ok-number.ensures.may
+
+pub undeclare_unmet-requires-clause-number : goal.undeclare_unmet-requires-clause-number
+undeclare_unmet-requires-clause-number g c = ap is_some (undeclared_named c.self.invariant c.in_ok-number.ensures.may)
+
+pub hold-requires : goal.hold-requires
+hold-requires g c =
+    let change = undeclared_change c.self.invariant c.in_ok-number.ensures.may (whole_view c.self.view_is c.requires.usable.unbroken) c.undeclare_unmet.ensures in
+    let asks = change_saves c.self.invariant (whole_view c.self.view_is c.requires.usable.unbroken) change in
+    search (rules, asks.settles, asks.image, asks.placed, asks.room)
 
 pub returns-clause-keeps : goal.returns-clause-keeps
-returns-clause-keeps g c = keeps_committed c.commit.result c.undeclare_held.ensures.keeps c.commit.ensures.sound c.commit.ensures.left c.commit.ensures.parts c.commit.ensures.image
+returns-clause-keeps g c =
+    let change = undeclared_change c.self.invariant c.in_ok-number.ensures.may (whole_view c.self.view_is c.requires.usable.unbroken) c.undeclare_unmet.ensures in
+    keeps_saved c.self.view_is c.undeclare_unmet.new.parts c.hold.result change.limits change.edits c.hold.ensures.sound c.hold.ensures.parts c.hold.ensures.image c.hold.ensures.ended
+
+pub returns-clause-holds : goal.returns-clause-holds
+returns-clause-holds g c = λ base now fits.
+    undeclared_holds c.self.invariant c.in_ok-number.ensures.may (whole_view c.self.view_is c.requires.usable.unbroken) c.undeclare_unmet.ensures c.hold.ensures.saves c.in_ok-number.ensures.row now
+    (held_view c.self.view_is fits)

@@ -1,0 +1,112 @@
+//! Files that are made.
+
+ghost use Rattle.std.specs.Prelude.{◌≡◌, ◌≤◌, true, [], length, Err, OnOk};
+ghost use Rattle.lis_content.specs.Large.{is_large};
+ghost use Rattle.lis_model.specs.declared.refusal.Refusal.{Refusal};
+ghost use Rattle.lis_model.specs.Changes.{new_file, file_added};
+ghost use Rattle.lis_model.specs.State.{State, file_limit};
+ghost use Rattle.lis_model.specs.Step.{Situation, changed, add};
+ghost use Rattle.lis_eval.specs.Room.{HasRoom};
+ghost use Rattle.lis_store.specs.declared.change.Change.TheVariants.{Refused};
+ghost use Rattle.lis_store.specs.Stored.{IsSound, StoreHolds, IsUsable};
+ghost use Rattle.lis_store.specs.Changes.{Holds, ChangeKeeps, ChangesDisk};
+ghost use Rattle.lis_store.specs.Saving.{SaveEnded};
+ghost use Rattle.lis_store.specs.ReplacingIn.{MayPutBytes, record_in, file_gone};
+
+use crate::admitting::{NewFile, may_add};
+use crate::change::Change;
+use crate::contents::put_anew;
+use crate::replacing::replace_record;
+use crate::saving::{hold, most_held};
+use crate::store::Store;
+use lis_content::is_large;
+use lis_eval::Scratch;
+use lis_place::Place;
+use lis_ports::Disk;
+use lis_words::{Name, Word};
+
+impl Store {
+    /// Makes a file of these bytes: `create` and `add` at the place. Where there are more bytes than a file may have, only their number counts.
+    pub(crate) fn add<D: Disk>(
+        &mut self,
+        disk: &mut D,
+        scratch: &mut Scratch,
+        place: &Place,
+        file: NewFile,
+    ) -> Result<(), Change>
+        requires whole { file.size ≤ file_limit self.old.parts.limits.version → length file.bytes.now ≡ file.size }
+        requires scratch { HasRoom scratch.old self.old.parts.limits }
+        requires usable { IsUsable self.old (D.meaning disk.old) }
+        ensures scratch { HasRoom scratch.new self.old.parts.limits }
+        ensures holds { (base : State) (s : State) → StoreHolds self.old (D.meaning disk.old) base s
+            → Holds base (record { state = s; place = place.now })
+            (add (record { state = s; place = place.now }) file.entry.name.now file.entry.tags.now (record { size = file.entry.size; bytes = file.entry.bytes.now }))
+            self.new (D.meaning disk.old) (D.meaning disk.new) result }
+        ensures untouched { (refusal : Refusal) → result ≡ Err (Refused refusal) → disk.new ≡ disk.old }
+        ensures entry { IsSound self.old }
+        ensures keeps { ChangeKeeps self.old self.new result }
+        ensures disk { ChangesDisk (D.meaning disk.old) (D.meaning disk.new) result }
+    {
+        let assigned = may_add(&self.parts, scratch, place, file)?;
+        if is_large(file.bytes.len() as u32) {
+            self.commit(disk)?;
+        }
+        self.put_file(
+            disk,
+            scratch,
+            None,
+            file.name,
+            assigned.as_slice(),
+            file.bytes,
+        )
+    }
+
+    /// Puts a file in, in the place of the one in the slot if one is told. A large one is committed at once.
+    pub(crate) fn put_file<D: Disk>(
+        &mut self,
+        disk: &mut D,
+        scratch: &mut Scratch,
+        slot: Option<u16>,
+        name: &Name,
+        assigned: &[Word],
+        payload: &[u8],
+    ) -> Result<(), Change>
+        requires may { MayPutBytes self.old.parts slot (new_file name.now assigned.now payload.now) }
+        requires alone { is_large (length payload.now) ≡ true → self.old.journal.staged ≡ [] }
+        requires scratch { HasRoom scratch.old self.old.parts.limits }
+        requires usable { IsUsable self.old (D.meaning disk.old) }
+        ensures scratch { HasRoom scratch.new self.old.parts.limits }
+        ensures holds { (base : State) (now : Situation) → StoreHolds self.old (D.meaning disk.old) base now.state
+            → Holds base now (changed now (file_added (file_gone now.state (record_in self.old.parts slot)) (new_file name.now assigned.now payload.now)))
+            self.new (D.meaning disk.old) (D.meaning disk.new) result }
+        ensures settled { is_large (length payload.now) ≡ true → OnOk result (self.new.journal.staged ≡ []) }
+        ensures ended { SaveEnded self.new.is_broken result }
+        ensures keeps { ChangeKeeps self.old self.new result }
+        ensures disk { ChangesDisk (D.meaning disk.old) (D.meaning disk.new) result }
+    {
+        let blocks = put_anew(
+            &mut self.parts,
+            &mut self.journal,
+            &mut self.is_broken,
+            disk,
+            slot,
+            payload,
+        )?;
+        replace_record(
+            &mut self.parts,
+            scratch,
+            slot,
+            name,
+            assigned,
+            payload,
+            blocks,
+        );
+        hold(
+            &mut self.parts,
+            &mut self.journal,
+            &mut self.is_broken,
+            disk,
+            most_held(payload),
+        )
+    }
+}

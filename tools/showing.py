@@ -1,0 +1,31 @@
+"""Shows names, words and contents so that they do nothing to a terminal. Whatever did not come from a tool itself is shown by this."""
+import re
+
+# The characters that every terminal shows as they are.
+PLAIN = re.compile(r"[^ -~]")
+# Where a byte that is no UTF-8 stands in a text, as Python reads a path or a name.
+BYTES = 0xdc00
+
+
+def harmless(data, kept=""):
+    """Bytes, or a text, as characters that do nothing to a terminal. A control is shown as `^X` or `\\xNN`, a byte that is no UTF-8 as `\\xNN`,
+    and any other character without a look of its own, as one that turns the direction of writing, as `\\xNN`, `\\uNNNN` or `\\UNNNNNNNN`. The
+    characters `kept` stay as they are: a line feed and a tab, where a content is shown, and none of them where a line is to stay one line."""
+    def shown(found):
+        character = found[0]
+        if character in kept or character.isprintable():
+            return character
+        number = ord(character)
+        if number < 32 or number == 127:
+            return "^" + chr(number ^ 64)
+        if BYTES + 128 <= number < BYTES + 256:
+            number -= BYTES
+        return f"\\x{number:02x}" if number < 256 else f"\\u{number:04x}" if number < 65_536 else f"\\U{number:08x}"
+
+    return PLAIN.sub(shown, data if isinstance(data, str) else data.decode("utf-8", "surrogateescape"))
+
+
+def write_line(stream, data, kept=""):
+    """Writes bytes, or a text, as a line of a text stream. Characters that the stream's encoding lacks are shown as escapes too."""
+    encoding = stream.encoding or "utf-8"
+    stream.write(harmless(data, kept).encode(encoding, "backslashreplace").decode(encoding) + "\n")
