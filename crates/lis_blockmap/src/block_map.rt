@@ -8,11 +8,9 @@ ghost use Rattle.lis_journal.specs.Record.{homes_start};
 
 use lis_bits::Rows;
 use lis_journal::Journal;
+use lis_limits::{BLOCK_LEN, MAX_BLOCKS};
 use std::alloc::{AllocError, Global};
 use std::marker::Model;
-
-// How many bits a block has.
-const BITS: u32 = 32_768;
 
 /// Which blocks are taken, by their numbers. All memory is taken by `new`.
 #[derive(Drop)]
@@ -45,7 +43,7 @@ fn has_bit(bytes: &[u8], n: u32) -> bool
 
 // A row with the bits of so many blocks, all of them free.
 fn free_row(alloc: Global, blocks: u32) -> Result<Rows, AllocError>
-    requires { blocks ≤ 32768 }
+    requires { blocks ≤ MAX_BLOCKS }
     ensures { IfOk result (λ rows. HasFree rows blocks blocks) }
 {
     let mut rows = Rows::new(alloc, 1, (blocks + 63) / 64 * 64)?;
@@ -59,7 +57,7 @@ impl BlockMap {
     /// The bitmap of so many blocks, all of them free.
     pub fn new(alloc: Global, blocks: u32) -> Result<BlockMap, AllocError>
         requires some { 1 ≤ blocks }
-        requires few { blocks ≤ 32768 }
+        requires few { blocks ≤ MAX_BLOCKS }
         ensures { IfOk result (λ map. map ≡ replicate blocks false) }
     {
         Ok(BlockMap {
@@ -72,7 +70,7 @@ impl BlockMap {
     /// How many blocks there are.
     pub fn len(&self) -> usize
         ensures value { result ≡ length self.now }
-        ensures few { result ≤ 32768 }
+        ensures few { result ≤ MAX_BLOCKS }
     {
         self.blocks as usize
     }
@@ -146,7 +144,7 @@ impl BlockMap {
 
     /// The first bit in which a block differs from the bitmap's block.
     pub fn first_difference(&self, bytes: &[u8]) -> Option<u32>
-        requires { length bytes.now ≡ 4096 }
+        requires { length bytes.now ≡ BLOCK_LEN }
         ensures same { IfNone result (bytes.now ≡ bitmap_bytes self.now) }
         ensures differs { IfSome result (IsFirstDifference bytes.now self.now) }
     {
@@ -160,7 +158,7 @@ impl BlockMap {
 
     // Writes the bitmap's block.
     fn write_to(&self, bytes: &mut [u8])
-        requires { length bytes.old ≡ 4096 }
+        requires { length bytes.old ≡ BLOCK_LEN }
         ensures { bytes.new ≡ bitmap_bytes self.now }
     {
         // The bits past the last block are 0.

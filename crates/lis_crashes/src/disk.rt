@@ -4,7 +4,8 @@ ghost use Rattle.std.specs.Prelude.{◌≡◌, ◌+◌, ◌<◌, ◌≤◌, leng
 ghost use Rattle.lis_memdisk.specs.MemStation.{meaning_of};
 ghost use Rattle.lis_crashes.specs.Idle.{IsAtRest, HasStaged, IsSameDisk};
 
-use lis_journal::{BLOCK_LEN, Capacity, Journal, Layout};
+use lis_journal::{Capacity, Journal, Layout};
+use lis_limits::BLOCK_LEN;
 use lis_memdisk::MemStation;
 use std::alloc::{AllocError, Global};
 use std::test::Fail;

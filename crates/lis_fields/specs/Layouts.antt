@@ -2,6 +2,7 @@
 use Rattle.std.specs.Prelude.{◌≡◌, ℕ, ◌+◌, ◌-◌, ◌^◌, ◌==◌, nat_lt, nat_le, Bool, true, not, ◌&&◌, ◌||◌, if◌then◌else◌, List, [], ◌∷◌, ◌++◌, length, replicate, codes}
 use Rattle.std.specs.List.{flat_map}
 use Rattle.std.specs.Ordering.{nat_cmp}
+use Rattle.lis_limits.specs.declared.TheConstants.{BLOCK_LEN, FILE_LEN}
 use Rattle.byteorder.specs.Endian.{little_bytes}
 use Rattle.lis_graph.specs.Graph.{is_rising}
 use Rattle.lis_words.specs.Bytes.{padded}
@@ -43,7 +44,7 @@ version_gate version = if version == 2 then 2 else 0
 
 -- a super block with that gate: how it begins, its limits, the gate of its version, and zeros
 unfoldable pub super_with : ℕ → Limits → List ℕ
-super_with gate limits = super_start ++ (super_numbers limits ++ gate ∷ zeros 4071)
+super_with gate limits = super_start ++ (super_numbers limits ++ gate ∷ zeros (BLOCK_LEN - 25))
 
 -- the super block that is written
 abbrev pub super_bytes : Limits → List ℕ
@@ -97,11 +98,11 @@ file_start name count = 1 ∷ text_bytes name ++ count ∷ 0 ∷ []
 -- a file slot that is used: the name, how many words, the size, the words' slots, the block numbers, and zeros
 abbrev pub record_bytes : FileRecord → List ℕ
 record_bytes rec =
-    file_start rec.name (length rec.tags) ++ (little_bytes 4 rec.size ++ (numbers rec.tags ++ (numbers rec.blocks ++ zeros 124)))
+    file_start rec.name (length rec.tags) ++ (little_bytes 4 rec.size ++ (numbers rec.tags ++ (numbers rec.blocks ++ zeros (FILE_LEN - 132))))
 
 -- a file slot
 unfoldable pub file_bytes : FileSlot → List ℕ
-file_bytes FreeFile = zeros 256
+file_bytes FreeFile = zeros FILE_LEN
 file_bytes (Used rec) = record_bytes rec
 
 -- at most 16 slot numbers, strictly rising

@@ -17,10 +17,8 @@ use crate::fields::{
 };
 use crate::slots::{FileRec, FileSlot};
 use arrayvec::ArrayVec;
+use lis_limits::FILE_LEN;
 use lis_words::{Name, read_name};
-
-/// How many bytes a file slot has.
-pub const FILE_LEN: usize = 256;
 
 /// How many bytes stand before the size.
 const START_LEN: usize = 64;
@@ -141,14 +139,14 @@ struct FileFields<'a> {
 }
 
 fn cut(bytes: &[u8]) -> FileFields<'_>
-    requires { length bytes.now ≡ 256 }
+    requires { length bytes.now ≡ FILE_LEN }
     ensures whole { bytes.now
         ≡ result.start.now ++ (result.size.now ++ (result.tags.now ++ (result.block_numbers.now ++ result.end.now))) }
     ensures start_len { length result.start.now ≡ 64 }
     ensures size_len { length result.size.now ≡ 4 }
     ensures tags_len { length result.tags.now ≡ 32 }
     ensures blocks_len { length result.block_numbers.now ≡ 32 }
-    ensures end_len { length result.end.now ≡ 124 }
+    ensures end_len { length result.end.now ≡ FILE_LEN - 132 }
 {
     let (start, rest) = bytes.split_at(START_LEN);
     let (size, rest) = rest.split_at(4);
@@ -164,7 +162,7 @@ fn cut(bytes: &[u8]) -> FileFields<'_>
 }
 
 fn read_record(bytes: &[u8], version: u32) -> Option<FileRec>
-    requires { length bytes.now ≡ 256 }
+    requires { length bytes.now ≡ FILE_LEN }
     ensures spelled { IfSome result (λ rec. IsTrue (is_record version rec) × (bytes.now ≡ record_bytes rec)) }
     ensures same { (rec : FileRecord) → IsTrue (is_record version rec) → bytes.now ≡ record_bytes rec → result ≡ Some rec }
 {
@@ -216,7 +214,7 @@ fn write_start(name: &Name, count: u8, bytes: &mut [u8])
 }
 
 fn write_record(rec: &FileRec, bytes: &mut [u8])
-    requires { length bytes.old ≡ 256 }
+    requires { length bytes.old ≡ FILE_LEN }
     ensures { bytes.new ≡ record_bytes rec.now }
 {
     let (start, rest) = bytes.split_at_mut(START_LEN);
@@ -233,7 +231,7 @@ fn write_record(rec: &FileRec, bytes: &mut [u8])
 /// Writes a file slot of an image of that version.
 #[tactic(auto, unfolding(crate::specs::Layouts::file_bytes))]
 pub fn write_file(slot: &FileSlot, bytes: &mut [u8], version: u32)
-    requires len { length bytes.old ≡ 256 }
+    requires len { length bytes.old ≡ FILE_LEN }
     requires range { IsTrue (is_file version slot.now) }
     ensures { bytes.new ≡ file_bytes slot.now }
 {

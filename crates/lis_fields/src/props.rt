@@ -9,10 +9,8 @@ ghost use Rattle.lis_fields.specs.declared.slots.PropSlot.TheVariants.{Known, De
 
 use crate::fields::{TEXT_FIELD, are_zeros, read_text, write_text, write_zeros};
 use crate::slots::PropSlot;
+use lis_limits::PROP_LEN;
 use lis_words::{Word, is_builtin, is_head, is_plain_word, is_valued, read_word, test_of};
-
-/// How many bytes a property slot has.
-pub const PROP_LEN: usize = 64;
 
 /// Whether the word may be known without being declared.
 fn is_undeclared(word: &Word) -> bool

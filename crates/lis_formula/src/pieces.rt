@@ -4,6 +4,7 @@ ghost use Rattle.std.specs.Prelude.{◌≡◌, ◌+◌, ◌<◌, ◌≤◌, [], 
 ghost use Rattle.lis_formula.specs.Pieces.{stacked_text, with_front, with_end, with_joint};
 
 use arrayvec::ArrayVec;
+use lis_limits::MAX_FORMULA;
 use lis_place::Text;
 use std::marker::Model;
 
@@ -44,7 +45,7 @@ impl Pieces {
 
     /// Puts a text on the stack.
     pub fn push(&mut self, bytes: &[u8])
-        requires room { length (stacked_text self.old) + length bytes.now ≤ 1024 }
+        requires room { length (stacked_text self.old) + length bytes.now ≤ MAX_FORMULA }
         requires place { length self.old < 64 }
         ensures text { self.new ≡ bytes.now ∷ self.old }
         ensures bytes { length (stacked_text self.new) ≡ length (stacked_text self.old) + length bytes.now }
@@ -67,7 +68,7 @@ impl Pieces {
 
     /// Puts bytes at the end of the last text.
     pub fn put_end(&mut self, bytes: &[u8])
-        requires { length (stacked_text self.old) + length bytes.now ≤ 1024 }
+        requires { length (stacked_text self.old) + length bytes.now ≤ MAX_FORMULA }
         ensures text { self.new ≡ with_end bytes.now self.old }
         ensures bytes { length (stacked_text self.new) ≤ length (stacked_text self.old) + length bytes.now }
         ensures count { length self.new ≡ length self.old }

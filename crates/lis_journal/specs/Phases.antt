@@ -1,5 +1,6 @@
 -- The phases of a commit, of a checkpoint and of a recovery, each as a fact about one image.
 use Rattle.std.specs.Prelude.{◌≡◌, ◌≢◌, ℕ, ◌+◌, ◌*◌, ◌<◌, ◌≤◌, nat_lt, true, false, List, [], ◌∷◌, length, None, Result, OnOk, IsTrue}
+use Rattle.lis_limits.specs.declared.TheConstants.{BLOCK_LEN}
 use Rattle.lis_ports.specs.Meaning.{Meaning}
 use Rattle.lis_ports.specs.Runs.{Leaves, IsSettled}
 use Rattle.lis_journal.specs.declared.layout.Layout.{Layout}
@@ -53,7 +54,7 @@ pub record IsLoaded (layout : Layout) (count : ℕ) (latest : List HomeBlock) (m
   pub opened : has_open m.bytes ≡ true
   pub settled : IsSettled m m.bytes
   pub enough : homes_start layout < layout.blocks
-  pub long : 4096 * layout.blocks ≤ length m.bytes
+  pub long : BLOCK_LEN * layout.blocks ≤ length m.bytes
   pub counted : open_count m.bytes ≡ count
   pub form : first_bad layout 2 count m.bytes ≡ None
   pub latest_is : (n : ℕ) (old : List ℕ) → look (all_recorded 2 count m.bytes) n old ≡ look latest n old

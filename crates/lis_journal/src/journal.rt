@@ -13,7 +13,8 @@ use crate::header::{header_len, write_front};
 use crate::layout::{Capacity, Layout};
 use crate::mount::recover;
 use crate::records::Records;
-use crate::stage::{BLOCK_LEN, Stage};
+use crate::stage::Stage;
+use lis_limits::BLOCK_LEN;
 use lis_ports::{Disk, Failed};
 use std::alloc::{AllocError, Global};
 use std::marker::Model;
@@ -97,8 +98,8 @@ fn take_room(alloc: Global, layout: Layout, capacity: Capacity) -> Result<Room, 
     ensures latest { IfOk result (λ room. room.latest ≡ record { layout = layout; capacity = layout.records - 1; entries = [] }) }
     ensures placed { IfOk result (λ room. room.placed.items ≡ []) }
     ensures many { IfOk result (λ room. (room.most_placed ≡ capacity.placed) × (capacity.placed ≤ vec_capacity room.placed)) }
-    ensures header { IfOk result (λ room. length room.header.items ≡ 4096 * header_blocks layout.records) }
-    ensures block { IfOk result (λ room. length room.block.items ≡ 4096) }
+    ensures header { IfOk result (λ room. length room.header.items ≡ BLOCK_LEN * header_blocks layout.records) }
+    ensures block { IfOk result (λ room. length room.block.items ≡ BLOCK_LEN) }
 {
     Ok(Room {
         placed: Vec::with_capacity(alloc, capacity.placed as usize)?,
@@ -119,7 +120,7 @@ fn mounted(room: Room) -> Journal
     requires empty { room.stage.entries ≡ [] }
     requires placed { room.placed.items ≡ [] }
     requires many { room.most_placed ≤ vec_capacity room.placed }
-    requires header { length room.header.items ≡ 4096 * header_blocks room.stage.layout.records }
+    requires header { length room.header.items ≡ BLOCK_LEN * header_blocks room.stage.layout.records }
     ensures { result ≡ record { layout = room.stage.layout; capacity = record { staged = room.stage.capacity; placed = room.most_placed }; staged = []; records = no_records; placed = []; is_broken = false } }
 {
     let mut latest = room.latest;
@@ -165,7 +166,7 @@ impl Journal {
         requires few { layout.records ≤ 2 ^ 16 }
         requires fits { record_len capacity.staged ≤ layout.records }
         requires placed { capacity.placed ≤ 2 ^ 16 }
-        requires long { 4096 * layout.blocks ≤ (D.meaning disk.old).len }
+        requires long { BLOCK_LEN * layout.blocks ≤ (D.meaning disk.old).len }
         ensures held { IfOk result (λ journal. journal
             ≡ record { layout = layout; capacity = capacity; staged = []; records = no_records; placed = []; is_broken = false }) }
         ensures run { IsDiskRun (D.meaning disk.old) (D.meaning disk.new) }
@@ -236,7 +237,7 @@ impl Journal {
         ensures none { IfNone result ((has_entry self.now.staged n ≡ false) × (has_entry self.now.records.latest n ≡ false)) }
         ensures some { IfSome result (λ bytes. (old : List ℕ)
             → look self.now.staged n (look self.now.records.latest n old) ≡ bytes.now) }
-        ensures whole { IfSome result (λ bytes. length bytes.now ≡ 4096) }
+        ensures whole { IfSome result (λ bytes. length bytes.now ≡ BLOCK_LEN) }
     {
         match self.stage.get(n) {
             Some(bytes) => Some(bytes),
@@ -248,7 +249,7 @@ impl Journal {
     pub fn read<D: Disk>(&self, disk: &mut D, n: u32, buf: &mut [u8]) -> Result<(), Failed>
         requires home { homes_start self.now.layout ≤ n }
         requires within { n < self.now.layout.blocks }
-        requires whole { length buf.old ≡ 4096 }
+        requires whole { length buf.old ≡ BLOCK_LEN }
         requires usable { JournalIsUsable self.now (D.meaning disk.old) }
         ensures read { OnOk result ((kept : ℕ → List ℕ) → Fits self.now (D.meaning disk.old) kept
             → buf.new ≡ look self.now.staged n (kept n)) }
@@ -271,7 +272,7 @@ impl Journal {
     pub fn stage(&mut self, n: u32, bytes: &[u8])
         requires home { homes_start self.old.layout ≤ n }
         requires within { n < self.old.layout.blocks }
-        requires whole { length bytes.now ≡ 4096 }
+        requires whole { length bytes.now ≡ BLOCK_LEN }
         requires unbroken { self.old.is_broken ≡ false }
         requires unplaced { is_among self.old.placed n ≡ false }
         requires room { IsTrue (has_entry self.old.staged n) ⊎ (length self.old.staged < self.old.capacity.staged) }
@@ -346,7 +347,7 @@ impl Journal {
     pub fn place<D: Disk>(&mut self, disk: &mut D, n: u32, bytes: &[u8]) -> Result<(), Failed>
         requires home { homes_start self.old.layout ≤ n }
         requires within { n < self.old.layout.blocks }
-        requires whole { length bytes.now ≡ 4096 }
+        requires whole { length bytes.now ≡ BLOCK_LEN }
         requires usable { JournalIsUsable self.old (D.meaning disk.old) }
         requires unstaged { has_entry self.old.staged n ≡ false }
         requires room { IsTrue (is_among self.old.placed n) ⊎ (length self.old.placed < self.old.capacity.placed) }
@@ -387,7 +388,7 @@ impl Journal {
         requires home { homes_start self.old.layout ≤ first }
         requires within { first + count ≤ self.old.layout.blocks }
         requires wide { first + count ≤ 2 ^ 32 }
-        requires whole { length bytes.now ≡ 4096 * count }
+        requires whole { length bytes.now ≡ BLOCK_LEN * count }
         requires usable { JournalIsUsable self.old (D.meaning disk.old) }
         requires unstaged { HasNone self.old.staged first count }
         requires room { length self.old.placed + count ≤ self.old.capacity.placed }

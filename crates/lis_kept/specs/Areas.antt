@@ -1,5 +1,6 @@
 -- The parts of an image that memory spells, and the blocks that are yet to be written.
 use Rattle.std.specs.Prelude.{◌≡◌, ℕ, ◌+◌, ◌*◌, ◌/◌, ◌<◌, false, Bool, List, count_by}
+use Rattle.lis_limits.specs.declared.TheConstants.{BLOCK_LEN, BLOCK_BITS, FILE_LEN, AXIOMS_PER_BLOCK}
 use Rattle.lis_slots.specs.Slots.{Slots, slot, home}
 use Rattle.lis_blockmap.specs.Bitmap.{is_taken, bitmap_bytes}
 use Rattle.lis_kept.specs.Rows.{row_bytes}
@@ -20,17 +21,17 @@ property_slots limits = record { first = properties_start; count = limits.props;
 
 -- slots of whole blocks: those past the last number stay free
 abbrev pub axiom_slots : Limits → Slots
-axiom_slots limits = record { first = axioms_start limits; count = 512 * ((limits.props + 511) / 512); width = 8 }
+axiom_slots limits = record { first = axioms_start limits; count = AXIOMS_PER_BLOCK * ((limits.props + (AXIOMS_PER_BLOCK - 1)) / AXIOMS_PER_BLOCK); width = 8 }
 
 abbrev pub file_slots : Limits → Slots
-file_slots limits = record { first = files_start limits; count = limits.files; width = 256 }
+file_slots limits = record { first = files_start limits; count = limits.files; width = FILE_LEN }
 
 -- rows of whole blocks: those past the last number have no bit
 abbrev pub row_slots : Limits → Slots
-row_slots limits = record { first = rows_start limits; count = (4096 / (limits.files / 8)) * ((limits.props * limits.files + 32767) / 32768); width = limits.files / 8 }
+row_slots limits = record { first = rows_start limits; count = (BLOCK_LEN / (limits.files / 8)) * ((limits.props * limits.files + (BLOCK_BITS - 1)) / BLOCK_BITS); width = limits.files / 8 }
 
 abbrev pub bitmap_slots : Limits → Slots
-bitmap_slots limits = record { first = bitmap_start limits; count = 1; width = 4096 }
+bitmap_slots limits = record { first = bitmap_start limits; count = 1; width = BLOCK_LEN }
 
 abbrev pub slots_of : Limits → Area → Slots
 slots_of limits Properties = property_slots limits

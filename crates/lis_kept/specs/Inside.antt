@@ -1,5 +1,6 @@
 -- How one block is spelled and staged. No public clause cites this module.
 use Rattle.std.specs.Prelude.{◌≡◌, ◌≢◌, ◌⊎◌, ℕ, ◌+◌, ◌<◌, ◌≤◌, Bool, true, false, List, length, take, count_by, IsSome}
+use Rattle.lis_limits.specs.declared.TheConstants.{FILE_LEN, NUMBERS}
 use Rattle.lis_ports.specs.Bytes.{part}
 use Rattle.lis_journal.specs.Journal.{Held, shape_of}
 use Rattle.lis_journal.specs.Images.{look}
@@ -16,7 +17,7 @@ use Rattle.lis_kept.specs.Areas.Area.{Properties, Axioms, Files, Rows, Bitmap}
 abbrev pub bytes_in : Limits → Area → ℕ → List ℕ → List ℕ
 bytes_in limits Properties m block = part (place (property_slots limits) m) 64 block
 bytes_in limits Axioms m block = part (place (axiom_slots limits) m) 8 block
-bytes_in limits Files m block = part (place (file_slots limits) m) 256 block
+bytes_in limits Files m block = part (place (file_slots limits) m) FILE_LEN block
 bytes_in limits Rows m block = part (place (row_slots limits) m) (row_slots limits).width block
 bytes_in limits Bitmap m block = block
 
@@ -27,7 +28,7 @@ IsBlock k n block = (area : Area) (m : ℕ) → m < (slots_of k.limits area).cou
 -- a dictionary whose numbers have 16 bits
 pub record IsShort (d : Dict) : Type 0 where
   pub dict : IsDict d
-  pub short : (n : ℕ) → IsSome (word_of d n) → n < 65536
+  pub short : (n : ℕ) → IsSome (word_of d n) → n < NUMBERS
 
 -- one block is staged as memory spells it
 pub record StagesBlock (k : Kept) (n : ℕ) (old new : Held) : Type 0 where

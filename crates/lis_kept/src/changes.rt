@@ -22,7 +22,7 @@ use crate::spelling::FILES_PER_BLOCK;
 use lis_bits::Flags;
 use lis_ext::Ext;
 use lis_fields::FileRec;
-use lis_journal::BLOCK_LEN;
+use lis_limits::BLOCK_LEN;
 use lis_model::limits::Limits;
 
 // Marks the blocks of the rows that changed.

@@ -19,7 +19,6 @@ mod words;
 pub use joining::Fields;
 pub use parts::Parts;
 pub use places::{
-    PROPERTIES_START, axioms_start, bitmap_start, data_start, files_start, image_capacity,
-    image_layout, rows_start,
+    axioms_start, bitmap_start, data_start, files_start, image_capacity, image_layout, rows_start,
 };
 pub use test_edges::{link_nearest, link_weaker};

@@ -12,9 +12,9 @@ ghost use Rattle.lis_kept.specs.Linking.{is_free, is_filled, MayLink, Links, May
 
 use crate::parts::Parts;
 use crate::places::axioms_start;
-use crate::spelling::AXIOMS_PER_BLOCK;
 use lis_bits::Flags;
 use lis_fields::AxiomSlot;
+use lis_limits::{AXIOMS_PER_BLOCK, MAX_PROPS};
 use lis_model::limits::Limits;
 
 // Marks the block of an axiom slot.
@@ -68,7 +68,7 @@ fn has_pair(axioms: &[AxiomSlot], left: u32, right: u32) -> bool
 
 // How many slots an axiom is in.
 fn filled_count(axioms: &[AxiomSlot]) -> u32
-    requires { length axioms.now ≤ 8192 }
+    requires { length axioms.now ≤ MAX_PROPS }
     ensures { result ≡ count_by is_filled axioms.now }
 {
     let mut count = 0;

@@ -6,13 +6,10 @@ ghost use Rattle.lis_model.specs.Image.{properties_start, bitmap_start, data_sta
 ghost use Rattle.lis_journal.specs.Journal.{shape_of};
 ghost use Rattle.lis_kept.specs.Image.{image_shape};
 
-use crate::places::{
-    PROPERTIES_START, axioms_start, bitmap_start, data_start, files_start, rows_start,
-};
+use crate::places::{axioms_start, bitmap_start, data_start, files_start, rows_start};
 use crate::rows::write_rows;
 use crate::spelling::{
-    AXIOMS_PER_BLOCK, FILES_PER_BLOCK, PROPERTIES_PER_BLOCK, write_axioms, write_files,
-    write_properties,
+    FILES_PER_BLOCK, PROPERTIES_PER_BLOCK, write_axioms, write_files, write_properties,
 };
 use lis_bits::Flags;
 use lis_blockmap::BlockMap;
@@ -20,7 +17,8 @@ use lis_catalog::Catalog;
 use lis_dict::Dict;
 use lis_ext::Ext;
 use lis_fields::AxiomSlot;
-use lis_journal::{BLOCK_LEN, Journal};
+use lis_journal::Journal;
+use lis_limits::{AXIOMS_PER_BLOCK, BLOCK_LEN, PROPERTIES_START};
 use lis_model::limits::Limits;
 use lis_taxonomy::Taxonomy;
 use std::marker::Model;
@@ -126,7 +124,7 @@ impl Parts {
     fn write_block(&self, n: u32, block: &mut [u8])
         requires from { properties_start ≤ n }
         requires to { n < bitmap_start self.now.limits }
-        requires whole { length block.old ≡ 4096 }
+        requires whole { length block.old ≡ BLOCK_LEN }
         ensures { IsBlock self.now n block.new }
     {
         let axioms = axioms_start(&self.limits);

@@ -6,6 +6,7 @@ ghost use Rattle.lis_model.specs.Ranges.{are_in_range};
 ghost use Rattle.lis_model.specs.Image.{axioms_start, files_start, rows_start, bitmap_start, data_start};
 
 use lis_journal::{Capacity, Layout};
+use lis_limits::{MAX_IMAGE_BLOCKS, PROPERTIES_START};
 use lis_model::limits::{Limits, image_blocks};
 
 // How many blocks of an image hold records.
@@ -36,9 +37,6 @@ pub fn image_capacity(_limits: &Limits) -> Capacity
     }
 }
 
-/// The first block of property slots.
-pub const PROPERTIES_START: u32 = 578;
-
 /// The first block of axiom slots.
 pub fn axioms_start(limits: &Limits) -> u32
     requires { IsTrue (are_in_range limits.now) }
@@ -67,7 +65,7 @@ pub fn rows_start(limits: &Limits) -> u32
 pub fn data_start(limits: &Limits) -> u32
     requires { IsTrue (are_in_range limits.now) }
     ensures start { result ≡ data_start limits.now }
-    ensures few { result ≤ 34771 }
+    ensures few { result ≤ MAX_IMAGE_BLOCKS }
 {
     image_blocks(limits) - limits.blocks
 }

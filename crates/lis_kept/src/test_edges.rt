@@ -8,6 +8,7 @@ ghost use Rattle.lis_kept.specs.TestEdges.{declared_test, TestsAreOrdered, Links
 
 use lis_bits::Flags;
 use lis_dict::Dict;
+use lis_limits::MAX_PROPS;
 use lis_taxonomy::Taxonomy;
 use lis_words::test_of;
 
@@ -80,7 +81,7 @@ fn is_nearer(nearest: Option<(bool, u64)>, test: (bool, u64)) -> bool {
 
 // A number that has a declared test which is weaker than this one, and it is the nearest.
 fn nearest_weaker(dict: &Dict, declared: &Flags, props: u32, test: (bool, u64)) -> Option<u32>
-    requires few { props ≤ 8192 }
+    requires few { props ≤ MAX_PROPS }
     requires bits { length declared.now ≡ props }
     ensures below { IfSome result (λ number. number < props) }
     ensures weaker { IfSome result (λ number. are_weaker (declared_test dict.now declared.now number) (Some test) ≡ true) }
@@ -102,7 +103,7 @@ fn nearest_weaker(dict: &Dict, declared: &Flags, props: u32, test: (bool, u64)) 
 /// is done for all numbers, each test entails all that are weaker, and their edges come fast.
 pub fn link_nearest(dict: &Dict, declared: &Flags, taxonomy: &mut Taxonomy, props: u32, number: u32)
     requires props { props ≡ taxonomy.old.props }
-    requires few { props ≤ 8192 }
+    requires few { props ≤ MAX_PROPS }
     requires number { number < props }
     requires bits { length declared.now ≡ props }
     ensures { LinksSome dict.now declared.now taxonomy.old taxonomy.new }
@@ -121,7 +122,7 @@ pub fn link_nearest(dict: &Dict, declared: &Flags, taxonomy: &mut Taxonomy, prop
 /// its edges.
 pub fn link_weaker(dict: &Dict, declared: &Flags, taxonomy: &mut Taxonomy, props: u32, number: u32)
     requires props { props ≡ taxonomy.old.props }
-    requires few { props ≤ 8192 }
+    requires few { props ≤ MAX_PROPS }
     requires number { number < props }
     requires dict { IsDict dict.now }
     requires names { dict.now.props ≡ props }
@@ -149,7 +150,7 @@ pub(crate) fn link_stronger(
     number: u32,
 )
     requires props { props ≡ taxonomy.old.props }
-    requires few { props ≤ 8192 }
+    requires few { props ≤ MAX_PROPS }
     requires number { number < props }
     requires dict { IsDict dict.now }
     requires names { dict.now.props ≡ props }

@@ -23,7 +23,6 @@ mod undeclaring;
 mod without;
 
 use crate::parts::Parts;
-use crate::places::PROPERTIES_START;
 use crate::spelling::PROPERTIES_PER_BLOCK;
 use crate::test_edges::{link_stronger, link_weaker};
 use crate::words::without::is_had_without;
@@ -31,6 +30,7 @@ use lis_bits::Flags;
 use lis_dict::Dict;
 use lis_ext::Ext;
 use lis_fields::AxiomSlot;
+use lis_limits::PROPERTIES_START;
 use lis_model::limits::Limits;
 use lis_taxonomy::Taxonomy;
 use lis_words::{Word, head_of, is_valued};

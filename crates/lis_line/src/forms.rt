@@ -9,6 +9,7 @@ ghost use Rattle.lis_model.specs.Script.{words_of, one_word_form, two_words_form
 ghost use Rattle.lis_line.specs.Forms.{asked_of, word_asks, pair_asks};
 
 use crate::line::{next_word, no_words, only_word, two_words};
+use lis_limits::MAX_LINE;
 use lis_model::command::{Command, Tags};
 use lis_model::refusal::Refusal;
 use lis_place::Text;
@@ -177,7 +178,7 @@ pub fn cat_form(text: &[u8]) -> Result<Command, Refusal>
 }
 
 pub fn mv_form(text: &[u8]) -> Result<Command, Refusal>
-    requires { length text.now ≤ 1024 }
+    requires { length text.now ≤ MAX_LINE }
     ensures { (payload : Payload) → asked_of payload result ≡ two_words_form is_file_name any_word (λ name word. Do (Mv name word) no_payload) (words_of text.now) }
 {
     let Some((first, path)) = two_words(text) else {
@@ -217,7 +218,7 @@ pub fn rm_form(text: &[u8]) -> Result<Command, Refusal>
 }
 
 pub fn cd_form(text: &[u8]) -> Result<Command, Refusal>
-    requires { length text.now ≤ 1024 }
+    requires { length text.now ≤ MAX_LINE }
     ensures { (payload : Payload) → asked_of payload result ≡ one_word_form any_word (λ word. Do (Cd word) no_payload) (words_of text.now) }
 {
     let Some(word) = only_word(text) else {

@@ -2,6 +2,7 @@
 use Rattle.std.specs.Prelude.{ℕ, nat_lt, nat_le, zero, suc, Bool, false, true, ◌&&◌, ◌||◌, if◌then◌else◌, Option, Some, None, Result, Ok, Err, List, [], ◌∷◌, ◌++◌, length, take, drop, filter, codes}
 use Rattle.std.specs.Option.{option_to_list}
 use Rattle.std.specs.List.{list_any, list_all}
+use Rattle.lis_limits.specs.declared.TheConstants.{MAX_LINE, MAX_PAYLOAD}
 use Rattle.lis_words.specs.Bytes.{is_feed, is_blank, is_some_bytes, without_return}
 use Rattle.lis_words.specs.Words.{same_word, is_property, is_file_name, is_count, count_of}
 use Rattle.lis_model.specs.declared.refusal.Refusal.{Refusal}
@@ -104,7 +105,7 @@ item_of_words (first ∷ words) payload = Some (form_of first words payload)
 
 -- more bytes than a line may have before its line feed
 abbrev pub is_long : List ℕ → Bool
-is_long text = nat_lt 1024 (length text)
+is_long text = nat_lt MAX_LINE (length text)
 
 abbrev pub line_words : List ℕ → List (List ℕ)
 line_words text = words_of (without_return text)
@@ -127,7 +128,7 @@ payload_size text = if is_long text then None else size_of_words (line_words tex
 
 -- the most bytes of a payload that are kept: as many as a file of version 2 may have
 abbrev pub payload_limit : ℕ
-payload_limit = 1048576
+payload_limit = MAX_PAYLOAD
 
 -- of a larger payload its size alone is kept
 abbrev pub payload_of : ℕ → List ℕ → Payload

@@ -2,6 +2,7 @@
 -- the state that it would give are told of `made`.
 use Rattle.std.specs.Prelude.{ℕ, ◌+◌, ◌-◌, ◌==◌, nat_lt, nat_le, Bool, false, not, ◌&&◌, ◌||◌, if◌then◌else◌, is_some, unwrap_or, option_map, Option, Some, None, List, [], ◌∷◌, ◌++◌, length, map, filter, codes}
 use Rattle.std.specs.List.{list_any, list_all, flat_map}
+use Rattle.lis_limits.specs.declared.TheConstants.{MAX_DESCRIPTION}
 use Rattle.lis_words.specs.Words.{same_word, has_word, is_plain_word, is_head, is_valued, is_test, is_built_in}
 use Rattle.lis_grammar.specs.Formula.{Formula}
 use Rattle.lis_grammar.specs.Printing.{printed}
@@ -84,7 +85,7 @@ abbrev pub exceeds_known : State → Bool
 exceeds_known s = nat_lt s.limits.props (length (known s))
 
 abbrev pub exceeds_words : State → Bool
-exceeds_words s = list_any (λ (file : File). nat_lt 128 (length (description s file))) s.files
+exceeds_words s = list_any (λ (file : File). nat_lt MAX_DESCRIPTION (length (description s file))) s.files
 
 -- the words of a place, and those that a file in it can be given; none where it has none
 abbrev pub words_at : List Formula → List (List ℕ)

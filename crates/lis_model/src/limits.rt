@@ -4,6 +4,7 @@ ghost use Rattle.std.specs.Prelude.{◌≡◌, ◌<◌, ◌≤◌, IsTrue};
 ghost use Rattle.lis_model.specs.Ranges.{is_files_limit, is_props_limit, is_blocks_limit, is_version, are_in_range};
 ghost use Rattle.lis_model.specs.Image.{image_blocks};
 
+use lis_limits::MAX_IMAGE_BLOCKS;
 /// How much a state may hold. In range are: files a power of two from 64 to 4,096, properties a multiple of 64
 /// from 64 to 8,192, 1 to 32,768 data blocks of 4,096 bytes, and the versions 1 and 2.
 #[derive(Clone, Copy, Debug, PartialEq, Eq)]
@@ -56,7 +57,7 @@ pub fn is_version(version: u64) -> bool
 pub fn image_blocks(limits: &Limits) -> u32
     requires { IsTrue (are_in_range limits.now) }
     ensures blocks { result ≡ image_blocks limits.now }
-    ensures few { result ≤ 34771 }
+    ensures few { result ≤ MAX_IMAGE_BLOCKS }
 {
     let properties = limits.props / 64;
     let axioms = limits.props.div_ceil(512);

@@ -13,7 +13,7 @@ ghost use Rattle.lis_open.specs.Faults.{IsShortWhere, HasMakeCause};
 ghost use Rattle.lis_open.specs.declared.making.MakeFault.TheVariants.{TooShort, DiskFault as DiskFailed};
 
 use crate::clearing::{FIRST_BYTE, take_name, wipe, write_first};
-use lis_journal::BLOCK_LEN;
+use lis_limits::BLOCK_LEN;
 use lis_model::limits::{Limits, image_blocks};
 use lis_ports::{Disk, Failed};
 use thiserror::Error;
@@ -42,7 +42,7 @@ impl From<Failed> for MakeFault {
 // Makes an image on a disk that is long enough.
 fn write_image<D: Disk>(disk: &mut D, limits: &Limits) -> Result<(), Failed>
     requires range { IsTrue (are_in_range limits.now) }
-    requires long { 4096 * image_blocks limits.now ≤ (D.meaning disk.old).len }
+    requires long { BLOCK_LEN * image_blocks limits.now ≤ (D.meaning disk.old).len }
     ensures disk { UsesDisk (D.meaning disk.old) (D.meaning disk.new) result }
     ensures made { OnOk result (IsTrue (D.meaning disk.old).is_honest
         → Always (D.meaning disk.new) (λ image. Stands image (empty_state limits.now))) }

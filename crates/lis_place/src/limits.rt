@@ -8,13 +8,8 @@ ghost use Rattle.lis_place.specs.declared.node.Node.TheVariants.{Word as NodeWor
 
 use crate::node::Node;
 use itoa::Buffer;
+use lis_limits::{MAX_FORMULA, MAX_NODES};
 use lis_words::{Word, is_word};
-
-/// The most nodes of a place's formula.
-pub const MAX_NODES: usize = 64;
-
-/// The most bytes of a printed place.
-pub const MAX_BYTES: usize = 1024;
 
 /// The first number that is too large for a test.
 const TEST_LIMIT: u64 = 1_000_000_000_000;
@@ -145,7 +140,7 @@ pub fn are_place(nodes: &[Node]) -> bool
     if nodes.len() + joints > MAX_NODES {
         return false;
     }
-    tally.bytes + joints <= MAX_BYTES
+    tally.bytes + joints <= MAX_FORMULA
 }
 
 /// How many trees the nodes of a place make.

@@ -7,9 +7,10 @@ ghost use Rattle.lis_grammar.specs.Places.{IsPlace, without_last};
 ghost use Rattle.lis_place.specs.Nodes.{nodes_of};
 ghost use Rattle.lis_place.specs.Steps.{operands, before_last};
 
-use crate::limits::{MAX_NODES, are_place, tree_count};
+use crate::limits::{are_place, tree_count};
 use crate::node::Node;
 use arrayvec::ArrayVec;
+use lis_limits::MAX_NODES;
 use std::marker::Model;
 
 /// A place: a list of steps, each a tree of nodes, which stands for the files of which all steps hold. It has at most 64

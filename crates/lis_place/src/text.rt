@@ -3,6 +3,7 @@
 ghost use Rattle.std.specs.Prelude.{◌≡◌, ◌==◌, ℕ, ◌<◌, ◌≤◌, List, length, MatchOption};
 
 use arrayvec::ArrayVec;
+use lis_limits::MAX_FORMULA;
 use std::marker::Model;
 
 /// At most 1,024 bytes.
@@ -26,7 +27,7 @@ impl Text {
     pub fn of(bytes: &[u8]) -> Option<Text>
         ensures { MatchOption result
             (1024 < length bytes.now)
-            (λ text. (text ≡ bytes.now) × (length bytes.now ≤ 1024)) }
+            (λ text. (text ≡ bytes.now) × (length bytes.now ≤ MAX_FORMULA)) }
     {
         let mut held = ArrayVec::new();
         held.try_extend_from_slice(bytes).ok()?;
@@ -36,7 +37,7 @@ impl Text {
     /// How many bytes the text has.
     pub fn len(&self) -> usize
         ensures value { result ≡ length self.now }
-        ensures short { result ≤ 1024 }
+        ensures short { result ≤ MAX_FORMULA }
     {
         self.held.len()
     }
@@ -51,7 +52,7 @@ impl Text {
     /// The text's bytes.
     pub fn bytes(&self) -> &[u8]
         ensures bytes { result.now ≡ self.now }
-        ensures short { length result.now ≤ 1024 }
+        ensures short { length result.now ≤ MAX_FORMULA }
     {
         self.held.as_slice()
     }

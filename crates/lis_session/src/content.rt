@@ -15,6 +15,7 @@ ghost use Rattle.lis_session.specs.Parts.{only_shows, Ends};
 use crate::end::End;
 use crate::replies::{answer_bytes, answer_refusal, answer_size};
 use lis_eval::Scratch;
+use lis_limits::BLOCK_LEN;
 use lis_model::refusal::Refusal;
 use lis_place::Place;
 use lis_ports::{Failed, Station};
@@ -37,16 +38,16 @@ fn show_block<T: Station>(
     requires sound { IsSound store.now }
     requires size { IsSomeAnd (rec_at store.now.parts.catalog slot) (λ (rec : FileRecord). size ≡ rec.size) }
     requires within { 4096 * n < size }
-    requires index { length index.now ≡ 4096 }
-    requires whole { length block.old ≡ 4096 }
+    requires index { length index.now ≡ BLOCK_LEN }
+    requires whole { length block.old ≡ BLOCK_LEN }
     requires usable { IsUsable store.now (T.meaning station.old) }
     ensures shows { IsIndex store.now (T.meaning station.old).bytes slot index.now
         → (name : List ℕ) → slot_of store.now.parts.catalog name ≡ Some slot
-        → Does (λ (now : Situation). only_shows (part (4096 * n) 4096 (file_of now.state.files name).bytes) now) (StoreFits store.now (T.meaning station.old)) []
+        → Does (λ (now : Situation). only_shows (part (BLOCK_LEN * n) BLOCK_LEN (file_of now.state.files name).bytes) now) (StoreFits store.now (T.meaning station.old)) []
         (T.meaning station.old) (T.meaning station.new) result (StoreFits store.now (T.meaning station.new)) [] }
     ensures ends { Ends (T.meaning station.old) (T.meaning station.new) result }
     ensures bytes { IsTrue (T.meaning station.old).is_honest → (T.meaning station.new).bytes ≡ (T.meaning station.old).bytes }
-    ensures whole { length block.new ≡ 4096 }
+    ensures whole { length block.new ≡ BLOCK_LEN }
 {
     if let Err(Failed) = store.content_by(station, slot, index, n, block) {
         return Err(End::DiskFault);
@@ -65,7 +66,7 @@ fn show_blocks<T: Station>(
 ) -> Result<(), End>
     requires sound { IsSound store.now }
     requires size { IsSomeAnd (rec_at store.now.parts.catalog slot) (λ (rec : FileRecord). size ≡ rec.size) }
-    requires index { length index.now ≡ 4096 }
+    requires index { length index.now ≡ BLOCK_LEN }
     requires usable { IsUsable store.now (T.meaning station.old) }
     ensures shows { IsIndex store.now (T.meaning station.old).bytes slot index.now
         → (name : List ℕ) → slot_of store.now.parts.catalog name ≡ Some slot

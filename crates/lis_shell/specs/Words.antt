@@ -9,6 +9,7 @@ use Rattle.lis_shell.specs.declared.words.Task.TheVariants.{Try, Make, Upgrade, 
 use Rattle.lis_shell.specs.declared.words.ImageTask.{ImageTask}
 use Rattle.lis_shell.specs.declared.words.ImageTask.TheVariants.{Run, Load, Rooms, Dump, Grow, View, Put}
 use Rattle.std.specs.Option.{option_map}
+use Rattle.lis_limits.specs.declared.TheConstants.{BLOCK_LEN}
 
 -- three counts that are limits in range, of the version
 abbrev pub limits_of : ℕ → List ℕ → List ℕ → List ℕ → Option Limits
@@ -75,7 +76,7 @@ task_of (word ∷ second ∷ words) = if same_word word (codes "try") then optio
 abbrev pub length_for : Option Task → Option ℕ
 length_for None = None
 length_for (Some (Try limits)) = None
-length_for (Some (Make limits)) = Some (4096 * image_blocks limits)
+length_for (Some (Make limits)) = Some (BLOCK_LEN * image_blocks limits)
 length_for (Some Upgrade) = None
 length_for (Some (OnImage work)) = None
 

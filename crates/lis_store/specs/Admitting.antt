@@ -1,6 +1,7 @@
 -- What refuses a new file, told by what a store keeps.
 use Rattle.std.specs.Prelude.{◌≡◌, ℕ, ◌≤◌, ◌<◌, nat_lt, nat_le, Bool, not, is_some, None, List, [], ◌∷◌, ◌++◌, length, IsTrue}
 use Rattle.std.specs.List.{list_any, list_all}
+use Rattle.lis_limits.specs.declared.TheConstants.{MAX_DESCRIPTION}
 use Rattle.lis_graph.specs.Graph.{is_rising}
 use Rattle.lis_blockmap.specs.Bitmap.{free_count}
 use Rattle.lis_dict.specs.Dict.{words}
@@ -42,7 +43,7 @@ named_checks k place words file =
 abbrev pub room_checks : Kept → Draft → ℕ → List (Bool × Refusal)
 room_checks k draft size =
     (nat_le k.limits.files (length k.catalog.entries), NoFileRoom)
-    ∷ (nat_lt 128 (length (described_by k draft)), LargeDescription)
+    ∷ (nat_lt MAX_DESCRIPTION (length (described_by k draft)), LargeDescription)
     ∷ (nat_lt k.limits.props (length (known_with k draft)), NoPropertyRoom)
     ∷ (nat_lt (free_count k.taken) (blocks_taken k.limits.version size), NoSpace)
     ∷ []
@@ -63,8 +64,8 @@ pub record IsAdmitted (k : Kept) (draft : Draft) : Type 0 where
   pub assignable : IsTrue (list_all (is_assignable (declared_of k)) draft.assigned)
   pub few : length draft.assigned ≤ 16
   pub own : IsTrue (list_all is_built_in draft.own)
-  pub few_own : length draft.own ≤ 128
+  pub few_own : length draft.own ≤ MAX_DESCRIPTION
   pub slots : length k.catalog.entries < k.limits.files
-  pub short : length (described_by k draft) ≤ 128
+  pub short : length (described_by k draft) ≤ MAX_DESCRIPTION
   pub room : length (known_with k draft) ≤ k.limits.props
   pub small : draft.size ≤ file_limit k.limits.version

@@ -1,5 +1,6 @@
 -- The words that would be known with a file: beside all that are known, or in the place of another file.
 use Rattle.std.specs.Prelude.{ℕ, nat_lt, Bool, not, ◌&&◌, Option, Some, None, List, [], ◌∷◌, length}
+use Rattle.lis_limits.specs.declared.TheConstants.{MAX_DESCRIPTION}
 use Rattle.lis_bits.specs.Rows.{Rows, get}
 use Rattle.lis_dict.specs.Dict.{words}
 use Rattle.lis_ext.specs.Ext.{has}
@@ -26,7 +27,7 @@ known_beside k old draft = with_words (words_beside k old) (described_by k draft
 -- what the words of the file are refused for
 abbrev pub words_checks : Kept → Option ℕ → Draft → List (Bool × Refusal)
 words_checks k old draft =
-    (nat_lt 128 (length (described_by k draft)), LargeDescription)
+    (nat_lt MAX_DESCRIPTION (length (described_by k draft)), LargeDescription)
     ∷ (nat_lt k.limits.props (length (known_beside k old draft)), NoPropertyRoom)
     ∷ []
 

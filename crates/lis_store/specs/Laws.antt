@@ -1,5 +1,6 @@
 -- Laws on images that stand for a state.
 use Rattle.std.specs.Prelude.{◌≡◌, ℕ, ◌≤◌, List, Some, length, IsTrue, IsSomeAnd}
+use Rattle.lis_limits.specs.declared.TheConstants.{BLOCK_LEN}
 use Rattle.lis_ports.specs.Meaning.{Meaning}
 use Rattle.lis_ports.specs.Runs.{Always, IsSettled}
 use Rattle.lis_ports.specs.Bytes.{part}
@@ -67,7 +68,7 @@ EmptyStoresAreSound = (limits : Limits) (blocks : ℕ) → IsTrue (are_in_range 
 abbrev pub EmptyStoresFit : Meaning → Type 0
 EmptyStoresFit m =
     (limits : Limits) (blocks : ℕ) (image : List ℕ) → IsTrue (are_in_range limits) → data_start limits ≤ blocks → IsTrue m.is_honest → IsSettled m image
-    → SpellsSuper limits (part 0 4096 image) → IsBlank limits image → StoreFits (empty_stored limits blocks) m (empty_state limits)
+    → SpellsSuper limits (part 0 BLOCK_LEN image) → IsBlank limits image → StoreFits (empty_stored limits blocks) m (empty_state limits)
 
 -- While contents are placed in free blocks the image stands for the state as before, whatever these blocks hold.
 abbrev pub PlacedStand : Type 0

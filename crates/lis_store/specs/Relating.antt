@@ -1,6 +1,7 @@
 -- What refuses a new axiom, told by what a store keeps.
 use Rattle.std.specs.Prelude.{◌≡◌, ℕ, ◌+◌, ◌<◌, ◌≤◌, nat_lt, Bool, true, false, not, ◌&&◌, Option, Some, None, List, [], ◌∷◌, ◌++◌, length, count_by, IsTrue, IsSome}
 use Rattle.std.specs.List.{list_any, range_with_len}
+use Rattle.lis_limits.specs.declared.TheConstants.{MAX_DESCRIPTION}
 use Rattle.lis_dict.specs.Dict.{words, number_of}
 use Rattle.lis_ext.specs.Ext.{has, set_of as numbers_at}
 use Rattle.lis_ext.specs.Numbers.{has_number}
@@ -27,7 +28,7 @@ is_number_of numbers (Some n) = has_number numbers n
 
 -- the description in a slot has the left word, and would have more words than it may with all that the right one entails
 abbrev pub is_overfull : Kept → List ℕ → List ℕ → ℕ → Bool
-is_overfull k left right slot = is_number_of (numbers_at k.ext slot) (number_of k.dict left) && nat_lt 128 (length (wider k (is_gained_by k (right ∷ [])) slot))
+is_overfull k left right slot = is_number_of (numbers_at k.ext slot) (number_of k.dict left) && nat_lt MAX_DESCRIPTION (length (wider k (is_gained_by k (right ∷ [])) slot))
 
 abbrev pub has_overfull : Kept → List ℕ → List ℕ → Bool
 has_overfull k left right = list_any (is_overfull k left right) (range_with_len 0 k.limits.files)
@@ -64,4 +65,4 @@ pub record MayRelate (k : Kept) (left right : List ℕ) : Type 0 where
   pub slots : count_by is_filled k.axioms < k.limits.props
   pub room : length (with_words (words k.dict) (behind_head left)) ≤ k.limits.props
   -- no description that has the left word gets too large
-  pub short : (n slot : ℕ) → number_of k.dict left ≡ Some n → has k.ext n slot ≡ true → length (wider k (is_gained_by k (right ∷ [])) slot) ≤ 128
+  pub short : (n slot : ℕ) → number_of k.dict left ≡ Some n → has k.ext n slot ≡ true → length (wider k (is_gained_by k (right ∷ [])) slot) ≤ MAX_DESCRIPTION

@@ -1,6 +1,7 @@
 -- A file that takes the place of another.
 use Rattle.std.specs.Prelude.{◌≡◌, ◌≢◌, ℕ, ◌≤◌, Some, None, List, length, map, filter, IsTrue}
 use Rattle.std.specs.List.{list_all}
+use Rattle.lis_limits.specs.declared.TheConstants.{MAX_DESCRIPTION}
 use Rattle.lis_graph.specs.Graph.{is_rising}
 use Rattle.lis_catalog.specs.Catalog.{rec_at, slot_of}
 use Rattle.lis_fields.specs.Records.{FileRecord}
@@ -30,7 +31,7 @@ pub record MayReplace (k : Kept) (slot : ℕ) (rec : FileRecord) (draft : Draft)
   pub assignable : IsTrue (list_all (is_assignable (declared_of k)) draft.assigned)
   pub few : length draft.assigned ≤ 16
   pub own : IsTrue (list_all is_built_in draft.own)
-  pub few_own : length draft.own ≤ 128
-  pub short : length (described_by k draft) ≤ 128
+  pub few_own : length draft.own ≤ MAX_DESCRIPTION
+  pub short : length (described_by k draft) ≤ MAX_DESCRIPTION
   pub room : length (known_instead k slot draft) ≤ k.limits.props
   pub small : draft.size ≤ file_limit k.limits.version

@@ -3,6 +3,7 @@
 use Rattle.std.specs.Prelude.{◌≡◌, ℕ, ◌<◌, ◌≤◌, Option, None, Some, List, length, IsTrue, IsSomeAnd}
 use Rattle.std.specs.List.{list_all}
 use Rattle.std.specs.List.Sorted.{IsStrictlyIncreasing}
+use Rattle.lis_limits.specs.declared.TheConstants.{MAX_DESCRIPTION}
 use Rattle.lis_graph.specs.Graph.{is_rising}
 use Rattle.lis_catalog.specs.Catalog.{slot_of, rec_at}
 use Rattle.lis_ext.specs.Ext.{set_of}
@@ -60,8 +61,8 @@ pub record MayComeIn (k : Kept) (draft : Draft) : Type 0 where
   pub assignable : IsTrue (list_all (is_assignable (declared_of k)) draft.assigned)
   pub few : length draft.assigned ≤ 16
   pub own : IsTrue (list_all is_built_in draft.own)
-  pub few_own : length draft.own ≤ 128
-  pub short : length (described_by k draft) ≤ 128
+  pub few_own : length draft.own ≤ MAX_DESCRIPTION
+  pub short : length (described_by k draft) ≤ MAX_DESCRIPTION
   pub room : length (known_with k draft) ≤ k.limits.props
   pub small : draft.size ≤ file_limit k.limits.version
 
@@ -72,7 +73,7 @@ pub record IsVacant (slot : ℕ) (old : List ℕ) (k : Kept) : Type 0 where
   pub free : rec_at k.catalog slot ≡ None
   pub was : set_of k.ext slot ≡ old
   pub rising : IsStrictlyIncreasing old
-  pub few : length old ≤ 128
+  pub few : length old ≤ MAX_DESCRIPTION
   pub sound : AreSound k
   pub form : AreInForm (emptied k slot)
 
@@ -88,7 +89,7 @@ pub record LearnsOwn (draft : Draft) (tags numbers : List ℕ) (p q : Kept) : Ty
   pub sound : AreSound q
   pub tagged : tags ≡ numbers_named q.dict draft.assigned
   pub numbered : numbers ≡ numbers_named q.dict (described_by p draft)
-  pub few : length numbers ≤ 128
+  pub few : length numbers ≤ MAX_DESCRIPTION
 
 -- the record of a file of these blocks
 abbrev pub record_of : List ℕ → Draft → List ℕ → FileRecord

@@ -1,5 +1,6 @@
 -- A store: what memory keeps of an image, with its journal, and when it fits a disk.
 use Rattle.std.specs.Prelude.{◌≡◌, ℕ, ◌*◌, ◌≤◌, Bool, true, false, Some, is_some, List, [], length, replicate, slice_get, IsTrue}
+use Rattle.lis_limits.specs.declared.TheConstants.{BLOCK_LEN, MAX_DESCRIPTION}
 use Rattle.lis_ports.specs.Meaning.{Meaning}
 use Rattle.lis_journal.specs.Journal.{Held, no_records, shape_of}
 use Rattle.lis_journal.specs.Images.{StandsFor, Fits, held_in}
@@ -35,7 +36,7 @@ pub record Stored : Type 0 where
 -- A store may be used on this disk: it is not broken, and the disk has all its blocks.
 pub record IsUsable (k : Stored) (m : Meaning) : Type 0 where
   pub unbroken : k.is_broken ≡ false
-  pub long : 4096 * k.journal.layout.blocks ≤ m.len
+  pub long : BLOCK_LEN * k.journal.layout.blocks ≤ m.len
 
 -- a file that has a number has all numbers to which it is linked
 abbrev pub AreClosed : Kept → Type 0
@@ -48,7 +49,7 @@ PairsAreApart k =
 
 -- No file's description has more numbers than a state allows it words.
 abbrev pub DescriptionsAreShort : Kept → Type 0
-DescriptionsAreShort k = (slot : ℕ) → length (numbers_at k.ext slot) ≤ 128
+DescriptionsAreShort k = (slot : ℕ) → length (numbers_at k.ext slot) ≤ MAX_DESCRIPTION
 
 -- Tests come into descriptions by sizes alone: no file was given one, and a file has a known one exactly where its size meets it.
 pub record TestsAreMet (k : Kept) : Type 0 where

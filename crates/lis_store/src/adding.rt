@@ -15,6 +15,7 @@ use crate::meeting::leave_out_met;
 use arrayvec::ArrayVec;
 use lis_bits::{Rows, and_not_row};
 use lis_kept::Parts;
+use lis_limits::{MAX_DESCRIPTION, MAX_PROPS};
 use lis_words::{Word, head_of};
 
 // Gives the head of a valued word a number if it has none.
@@ -53,7 +54,7 @@ pub(crate) fn learn_words(parts: &mut Parts, words: &[Word])
 // The numbers whose bits are set, in rising order.
 pub(crate) fn numbers_in<const MOST: usize>(row: &Rows, props: u32) -> ArrayVec<u16, MOST>
     requires shape { HasShape row.now 1 props }
-    requires small { props ≤ 8192 }
+    requires small { props ≤ MAX_PROPS }
     requires few { length (numbers_where props (get row.now 0)) ≤ MOST }
     ensures { result.items ≡ numbers_where props (get row.now 0) }
 {
@@ -112,7 +113,7 @@ pub(crate) fn numbers_entailed(
 ) -> ArrayVec<u16, 128>
     requires shape { HasShape row.old 1 parts.now.limits.props }
     requires numbered { AreNumbered parts.now.dict (assigned.now ++ derived.now) }
-    requires few { length (all_up (declared_of parts.now) (axioms_of parts.now) (assigned.now ++ derived.now ++ met_tests (declared_of parts.now) size)) ≤ 128 }
+    requires few { length (all_up (declared_of parts.now) (axioms_of parts.now) (assigned.now ++ derived.now ++ met_tests (declared_of parts.now) size)) ≤ MAX_DESCRIPTION }
     ensures numbers { result.items
         ≡ numbers_named parts.now.dict (all_up (declared_of parts.now) (axioms_of parts.now) (assigned.now ++ derived.now ++ met_tests (declared_of parts.now) size)) }
     ensures shape { HasShape row.new 1 parts.now.limits.props }

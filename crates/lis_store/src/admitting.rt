@@ -18,6 +18,7 @@ use arrayvec::ArrayVec;
 use lis_derive::derive_words;
 use lis_eval::Scratch;
 use lis_kept::Parts;
+use lis_limits::MAX_DESCRIPTION;
 use lis_model::command::Tags;
 use lis_model::refusal::Refusal;
 use lis_place::Place;
@@ -122,7 +123,7 @@ fn has_room_for(
     size: u64,
 ) -> Result<(), Refusal>
     requires few { length draft.assigned.now ≤ 16 }
-    requires few_own { length draft.own.now ≤ 128 }
+    requires few_own { length draft.own.now ≤ MAX_DESCRIPTION }
     requires room { HasRoom scratch.old parts.now.limits }
     ensures room { HasRoom scratch.new parts.now.limits }
     ensures row { Judges (room_checks parts.now

@@ -14,6 +14,7 @@ use crate::crowding::is_met_at;
 use crate::removing::numbers_at;
 use arrayvec::ArrayVec;
 use lis_kept::Parts;
+use lis_limits::MAX_DESCRIPTION;
 
 /// Which descriptions are made anew, and of which numbers.
 #[derive(Clone, Copy)]
@@ -30,7 +31,7 @@ pub(crate) enum Rebuild {
 pub(crate) fn all_entailed(parts: &Parts, numbers: &[u16]) -> ArrayVec<u16, 128>
     requires sound { AreSound parts.now }
     requires named { IsTrue (list_all (λ n. is_some (word_of parts.now.dict n)) numbers.now) }
-    requires few { length (closure parts.now numbers.now) ≤ 128 }
+    requires few { length (closure parts.now numbers.now) ≤ MAX_DESCRIPTION }
     ensures { result.items ≡ closure parts.now numbers.now }
 {
     let entailed = parts.taxonomy().rows();
@@ -113,7 +114,7 @@ fn base_at(parts: &Parts, how: Rebuild, slot: u16, numbers: &[u16]) -> ArrayVec<
     requires sound { AreSound parts.now }
     requires named { has_words parts.now how ≡ true }
     requires numbers { IsTrue (list_all (λ n. is_some (word_of parts.now.dict n)) numbers.now) }
-    requires few { length numbers.now ≤ 128 }
+    requires few { length numbers.now ≤ MAX_DESCRIPTION }
     requires are { numbers.now ≡ set_of parts.now.ext slot }
     ensures { result.items ≡ base_at parts.now how slot }
 {
@@ -131,8 +132,8 @@ fn rebuild_slot(parts: &mut Parts, how: Rebuild, slot: u16)
     requires words { has_words parts.old how ≡ true }
     requires slot { slot < parts.old.limits.files }
     requires named { (n : ℕ) → has parts.old.ext n slot ≡ true → IsSome (word_of parts.old.dict n) }
-    requires short { length (set_of parts.old.ext slot) ≤ 128 }
-    requires few { is_concerned parts.old how slot ≡ true → length (closure parts.old (base_at parts.old how slot)) ≤ 128 }
+    requires short { length (set_of parts.old.ext slot) ≤ MAX_DESCRIPTION }
+    requires few { is_concerned parts.old how slot ≡ true → length (closure parts.old (base_at parts.old how slot)) ≤ MAX_DESCRIPTION }
     ensures gives { SlotHas slot (rebuilt parts.old how slot) parts.old parts.new }
     ensures sound { AreSound parts.new }
 {
@@ -151,7 +152,7 @@ pub(crate) fn rebuild_all(parts: &mut Parts, how: Rebuild)
     requires words { has_words parts.old how ≡ true }
     requires free { FreeSlotsAreEmpty parts.old }
     requires short { DescriptionsAreShort parts.old }
-    requires few { (slot : ℕ) → is_concerned parts.old how slot ≡ true → length (closure parts.old (base_at parts.old how slot)) ≤ 128 }
+    requires few { (slot : ℕ) → is_concerned parts.old how slot ≡ true → length (closure parts.old (base_at parts.old how slot)) ≤ MAX_DESCRIPTION }
     ensures rebuilt { Redescribes (rebuilt parts.old how) parts.old.limits.files parts.old parts.new }
     ensures sound { AreSound parts.new }
 {

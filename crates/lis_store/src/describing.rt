@@ -16,6 +16,7 @@ use crate::meeting::leave_out_met;
 use arrayvec::ArrayVec;
 use lis_bits::{Rows, and_not_row};
 use lis_kept::Parts;
+use lis_limits::MAX_DESCRIPTION;
 use lis_words::{Name, Word, head_of};
 
 /// A file as a change tells it: of its bytes only how many they are, and which words are derived from them and its name.
@@ -92,7 +93,7 @@ fn tell(parts: &Parts, row: &mut Rows, draft: Draft) -> Fresh
     requires sound { AreSound parts.now }
     requires shape { HasShape row.old 1 parts.now.limits.props }
     requires few { length draft.assigned.now ≤ 16 }
-    requires few_own { length draft.own.now ≤ 128 }
+    requires few_own { length draft.own.now ≤ MAX_DESCRIPTION }
     ensures { IsTold parts.now (drafted draft.entry.name.now draft.entry.size draft.entry.assigned.now draft.entry.own.now) row.new result.items }
 {
     // Rows of other rows are taken from a row, so it has at first what the file lacks.
@@ -149,7 +150,7 @@ pub(crate) fn measure(parts: &Parts, row: &mut Rows, beside: Option<u16>, draft:
     requires used { IfSome beside (λ slot. AreUsed parts.now) }
     requires shape { HasShape row.old 1 parts.now.limits.props }
     requires few { length draft.assigned.now ≤ 16 }
-    requires few_own { length draft.own.now ≤ 128 }
+    requires few_own { length draft.own.now ≤ MAX_DESCRIPTION }
     ensures shape { HasShape row.new 1 parts.now.limits.props }
     ensures words { result.words
         ≡ length (described_by parts.now (drafted draft.entry.name.now draft.entry.size draft.entry.assigned.now draft.entry.own.now)) }

@@ -23,6 +23,7 @@ use arrayvec::ArrayVec;
 use lis_derive::derive_words;
 use lis_eval::Scratch;
 use lis_kept::Parts;
+use lis_limits::MAX_DESCRIPTION;
 use lis_model::refusal::Refusal;
 use lis_words::{Name, Word, is_builtin};
 
@@ -88,9 +89,9 @@ fn own_word(parts: &Parts, number: u16) -> Option<Word>
 
 // The built-in words that have these numbers.
 fn own_among(parts: &Parts, numbers: &[u16]) -> ArrayVec<Word, 128>
-    requires { length numbers.now ≤ 128 }
+    requires { length numbers.now ≤ MAX_DESCRIPTION }
     ensures words { result.items ≡ flat_map (own_word parts.now) numbers.now }
-    ensures few { length result.items ≤ 128 }
+    ensures few { length result.items ≤ MAX_DESCRIPTION }
 {
     let mut words = ArrayVec::new();
     for number in numbers {
@@ -106,7 +107,7 @@ pub(crate) fn own_in(parts: &Parts, slot: u16) -> ArrayVec<Word, 128>
     requires there { IsSome (rec_at parts.now.catalog slot) }
     requires short { DescriptionsAreShort parts.now }
     ensures own { result.items ≡ own_kept parts.now slot }
-    ensures few { length result.items ≤ 128 }
+    ensures few { length result.items ≤ MAX_DESCRIPTION }
 {
     let numbers = numbers_at(parts.ext(), parts.limits().props, slot);
     own_among(parts, numbers.as_slice())
@@ -134,7 +135,7 @@ pub(crate) fn may_stand_instead(
     requires there { IsSome (rec_at parts.now.catalog slot) }
     requires used { AreUsed parts.now }
     requires few { length draft.assigned.now ≤ 16 }
-    requires few_own { length draft.own.now ≤ 128 }
+    requires few_own { length draft.own.now ≤ MAX_DESCRIPTION }
     requires room { HasRoom scratch.old parts.now.limits }
     ensures room { HasRoom scratch.new parts.now.limits }
     ensures row { Judges (instead_checks parts.now slot

@@ -17,6 +17,7 @@ ghost use Rattle.lis_store.specs.Relating.{entails_word, has_overfull, pair_chec
 
 use crate::crowding::is_full;
 use lis_kept::Parts;
+use lis_limits::MAX_DESCRIPTION;
 use lis_model::refusal::Refusal;
 use lis_words::{Word, head_of, is_builtin, is_head, is_plain_word, test_of};
 
@@ -136,7 +137,7 @@ fn is_overfull(parts: &Parts, slot: u16, left: u16, right: u16) -> bool
     requires slot { slot < parts.now.limits.files }
     requires left { IsSome (word_of parts.now.dict left) }
     requires right { IsSome (word_of parts.now.dict right) }
-    ensures { result ≡ (has parts.now.ext left slot && nat_lt 128 (length (wider parts.now (is_gained parts.now (right ∷ [])) slot))) }
+    ensures { result ≡ (has parts.now.ext left slot && nat_lt MAX_DESCRIPTION (length (wider parts.now (is_gained parts.now (right ∷ [])) slot))) }
 {
     if !parts.ext().has(u32::from(left), u32::from(slot)) {
         return false;

@@ -11,12 +11,13 @@ ghost use Rattle.lis_store.specs.Removing.{Vacates, TakesOut};
 use arrayvec::ArrayVec;
 use lis_ext::Ext;
 use lis_kept::Parts;
+use lis_limits::MAX_DESCRIPTION;
 
 // The numbers of the description in a slot.
 pub(crate) fn numbers_at(ext: &Ext, props: u32, slot: u16) -> ArrayVec<u16, 128>
     requires props { props ≡ ext.now.props }
     requires slot { slot < length ext.now.sets }
-    requires few { length (set_of ext.now slot) ≤ 128 }
+    requires few { length (set_of ext.now slot) ≤ MAX_DESCRIPTION }
     ensures numbers { result.items ≡ set_of ext.now slot }
     ensures rising { IsStrictlyIncreasing (set_of ext.now slot) }
     ensures below { All (λ n. n < ext.now.props) (set_of ext.now slot) }

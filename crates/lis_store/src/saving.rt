@@ -17,6 +17,7 @@ use crate::change::Change;
 use lis_content::is_large;
 use lis_journal::Journal;
 use lis_kept::Parts;
+use lis_limits::MAX_PAYLOAD;
 use lis_ports::Disk;
 
 /// The most blocks that are held back between two calls.
@@ -24,7 +25,7 @@ pub(crate) const MOST_HELD: u32 = 44;
 
 /// The most blocks that are held back behind a change with this content: none where it is large, and so was placed.
 pub(crate) fn most_held(payload: &[u8]) -> u32
-    requires { length payload.now ≤ 1048576 }
+    requires { length payload.now ≤ MAX_PAYLOAD }
     ensures few { result ≤ 44 }
     ensures large { 0 < result → is_large (length payload.now) ≡ false }
 {

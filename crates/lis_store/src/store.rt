@@ -33,6 +33,7 @@ use lis_eval::{Scratch, View, evaluate, found};
 use lis_ext::Ext;
 use lis_journal::Journal;
 use lis_kept::{Parts, data_start};
+use lis_limits::BLOCK_LEN;
 use lis_model::limits::Limits;
 use lis_place::Place;
 use lis_ports::{Disk, Failed};
@@ -210,12 +211,12 @@ impl Store {
         n: u32,
         buf: &mut [u8],
     ) -> Result<(), Failed>
-        requires within { IsSomeAnd (rec_at self.now.parts.catalog slot) (λ (rec : FileRecord). 4096 * n < rec.size) }
-        requires whole { length buf.old ≡ 4096 }
+        requires within { IsSomeAnd (rec_at self.now.parts.catalog slot) (λ (rec : FileRecord). BLOCK_LEN * n < rec.size) }
+        requires whole { length buf.old ≡ BLOCK_LEN }
         requires usable { IsUsable self.now (D.meaning disk.old) }
         ensures read { OnOk result ((s : State) (name : List ℕ) → StoreFits self.now (D.meaning disk.old) s → slot_of self.now.parts.catalog name ≡ Some slot
-            → take (length (part (4096 * n) 4096 (file_of s.files name).bytes)) buf.new ≡ part (4096 * n) 4096 (file_of s.files name).bytes) }
-        ensures len { length buf.new ≡ 4096 }
+            → take (length (part (BLOCK_LEN * n) BLOCK_LEN (file_of s.files name).bytes)) buf.new ≡ part (BLOCK_LEN * n) BLOCK_LEN (file_of s.files name).bytes) }
+        ensures len { length buf.new ≡ BLOCK_LEN }
         ensures disk { ReadsDisk (D.meaning disk.old) (D.meaning disk.new) result }
         ensures fits { (s : State) → StoreFits self.now (D.meaning disk.old) s → StoreFits self.now (D.meaning disk.new) s }
         ensures sound { IsSound self.now }
@@ -235,10 +236,10 @@ impl Store {
     /// Reads the index block of a file, where it has one, to be handed to `content_by`.
     pub fn index<D: Disk>(&self, disk: &mut D, slot: u16, index: &mut [u8]) -> Result<(), Failed>
         requires some { IsSomeAnd (rec_at self.now.parts.catalog slot) (λ (rec : FileRecord). 0 < rec.size) }
-        requires whole { length index.old ≡ 4096 }
+        requires whole { length index.old ≡ BLOCK_LEN }
         requires usable { IsUsable self.now (D.meaning disk.old) }
         ensures held { OnOk result (IsTrue (D.meaning disk.old).is_honest → IsIndex self.now (D.meaning disk.old).bytes slot index.new) }
-        ensures len { length index.new ≡ 4096 }
+        ensures len { length index.new ≡ BLOCK_LEN }
         ensures disk { ReadsDisk (D.meaning disk.old) (D.meaning disk.new) result }
         ensures fits { (s : State) → StoreFits self.now (D.meaning disk.old) s → StoreFits self.now (D.meaning disk.new) s }
         ensures sound { IsSound self.now }
@@ -264,14 +265,14 @@ impl Store {
         n: u32,
         buf: &mut [u8],
     ) -> Result<(), Failed>
-        requires within { IsSomeAnd (rec_at self.now.parts.catalog slot) (λ (rec : FileRecord). 4096 * n < rec.size) }
-        requires index { length index.now ≡ 4096 }
-        requires whole { length buf.old ≡ 4096 }
+        requires within { IsSomeAnd (rec_at self.now.parts.catalog slot) (λ (rec : FileRecord). BLOCK_LEN * n < rec.size) }
+        requires index { length index.now ≡ BLOCK_LEN }
+        requires whole { length buf.old ≡ BLOCK_LEN }
         requires usable { IsUsable self.now (D.meaning disk.old) }
         ensures read { OnOk result ((s : State) (name : List ℕ) → StoreFits self.now (D.meaning disk.old) s → slot_of self.now.parts.catalog name ≡ Some slot
             → IsIndex self.now (D.meaning disk.old).bytes slot index.now
-            → take (length (part (4096 * n) 4096 (file_of s.files name).bytes)) buf.new ≡ part (4096 * n) 4096 (file_of s.files name).bytes) }
-        ensures len { length buf.new ≡ 4096 }
+            → take (length (part (BLOCK_LEN * n) BLOCK_LEN (file_of s.files name).bytes)) buf.new ≡ part (BLOCK_LEN * n) BLOCK_LEN (file_of s.files name).bytes) }
+        ensures len { length buf.new ≡ BLOCK_LEN }
         ensures disk { ReadsDisk (D.meaning disk.old) (D.meaning disk.new) result }
         ensures fits { (s : State) → StoreFits self.now (D.meaning disk.old) s → StoreFits self.now (D.meaning disk.new) s }
         ensures sound { IsSound self.now }

@@ -14,6 +14,7 @@ use crate::closing::{Rebuild, rebuild_all};
 use crate::removing::numbers_at;
 use arrayvec::ArrayVec;
 use lis_kept::Parts;
+use lis_limits::MAX_DESCRIPTION;
 use lis_words::{Word, test_of};
 
 /// Declares a new word, with an axiom from it to the word of each of these numbers. A test comes into the descriptions of the
@@ -35,7 +36,7 @@ pub(crate) fn declare_tested(parts: &mut Parts, word: &Word, places: &[u16])
 
 // The numbers but for one.
 fn numbers_without(numbers: &[u16], number: u16) -> ArrayVec<u16, 128>
-    requires { length numbers.now ≤ 128 }
+    requires { length numbers.now ≤ MAX_DESCRIPTION }
     ensures { result.items ≡ filter (λ n. not (n == number)) numbers.now }
 {
     let mut rest = ArrayVec::new();
@@ -52,7 +53,7 @@ fn describe_without(parts: &mut Parts, number: u16, slot: u16)
     requires number { IsSome (word_of parts.old.dict number) }
     requires slot { slot < parts.old.limits.files }
     requires had { (n : ℕ) → has parts.old.ext n slot ≡ true → IsSome (word_of parts.old.dict n) }
-    requires short { length (set_of parts.old.ext slot) ≤ 128 }
+    requires short { length (set_of parts.old.ext slot) ≤ MAX_DESCRIPTION }
     ensures gives { SlotHas slot (without_number parts.old number slot) parts.old parts.new }
     ensures sound { AreSound parts.new }
 {
