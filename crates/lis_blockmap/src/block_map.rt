@@ -137,7 +137,7 @@ impl BlockMap {
         ensures looks { (m : ℕ) (old : List ℕ) → look journal.new.staged m old
             ≡ (if m == n then bitmap_bytes self.now else look journal.old.staged m old) }
     {
-        let mut bytes = [0; 4096];
+        let mut bytes = [0; BLOCK_LEN];
         self.write_to(&mut bytes);
         journal.stage(n, &bytes);
     }
@@ -170,7 +170,7 @@ impl BlockMap {
 
     // The byte that tells eight blocks, the first of them in its lowest bit.
     fn byte(&self, k: u32) -> u8
-        requires { k < 4096 }
+        requires { k < BLOCK_LEN }
         ensures { result ≡ bits_number 8 (λ i. is_taken self.now (8 * k + i)) }
     {
         // The row tells the free ones of eight blocks at once; the last byte may have fewer blocks.

@@ -93,7 +93,7 @@ pub fn read_index_block<D: Disk>(
 // The number at a place of a block, counted by numbers.
 fn number_at(block: &[u8], k: usize) -> u16
     requires whole { length block.now ≡ BLOCK_LEN }
-    requires place { k < 256 }
+    requires place { k < MAX_FILE_BLOCKS }
     ensures { result ≡ number_at block.now k }
 {
     LittleEndian::read_u16(&block[2 * k..])
@@ -216,7 +216,7 @@ fn give_all(map: &mut BlockMap, blocks: &[u16])
 }
 
 // So many numbers from the front of a block.
-fn numbers_in(block: &[u8], count: usize) -> ArrayVec<u16, 256>
+fn numbers_in(block: &[u8], count: usize) -> ArrayVec<u16, MAX_FILE_BLOCKS>
     requires whole { length block.now ≡ BLOCK_LEN }
     requires few { count ≤ MAX_FILE_BLOCKS }
     ensures { result.items ≡ numbers_in count block.now }
@@ -235,7 +235,7 @@ fn read_index<D: Disk>(
     disk: &mut D,
     n: u32,
     count: usize,
-) -> Result<ArrayVec<u16, 256>, Failed>
+) -> Result<ArrayVec<u16, MAX_FILE_BLOCKS>, Failed>
     requires home { homes_start journal.now.layout ≤ n }
     requires within { n < journal.now.layout.blocks }
     requires few { count ≤ MAX_FILE_BLOCKS }
@@ -261,7 +261,7 @@ pub fn are_zeros(bytes: &[u8]) -> bool
 
 /// The numbers that an index block has, for a content of so many bytes. None comes exactly where the block is out of form: where something
 /// else than zeros stands behind them.
-pub fn index_numbers(block: &[u8], size: u32) -> Option<ArrayVec<u16, 256>>
+pub fn index_numbers(block: &[u8], size: u32) -> Option<ArrayVec<u16, MAX_FILE_BLOCKS>>
     requires whole { length block.now ≡ BLOCK_LEN }
     requires few { size ≤ MAX_LARGE_FILE }
     ensures form { IfSome result (λ numbers. (numbers.items ≡ numbers_in (blocks_needed size) block.now) × (block.now ≡ index_bytes numbers.items)) }

@@ -125,7 +125,7 @@ fn place_block<D: Disk>(
 }
 
 // Puts the numbers of a row behind those that are there.
-fn push_row(taken: &mut ArrayVec<u16, 256>, row: Row)
+fn push_row(taken: &mut ArrayVec<u16, MAX_FILE_BLOCKS>, row: Row)
     requires room { length taken.old.items + row.count ≤ MAX_FILE_BLOCKS }
     requires narrow { row.first + row.count ≤ NUMBERS }
     ensures { taken.new.items ≡ taken.old.items ++ range_with_len row.first row.count }
@@ -142,7 +142,7 @@ fn place_bytes<D: Disk>(
     disk: &mut D,
     base: u32,
     bytes: &[u8],
-) -> Result<ArrayVec<u16, 256>, Failed>
+) -> Result<ArrayVec<u16, MAX_FILE_BLOCKS>, Failed>
     requires few { length bytes.now ≤ MAX_LARGE_FILE }
     requires enough { blocks_needed (length bytes.now) ≤ free_count map.old }
     requires home { homes_start journal.old.layout ≤ base }

@@ -98,7 +98,7 @@ file_start name count = 1 ∷ text_bytes name ++ count ∷ 0 ∷ []
 -- a file slot that is used: the name, how many words, the size, the words' slots, the block numbers, and zeros
 abbrev pub record_bytes : FileRecord → List ℕ
 record_bytes rec =
-    file_start rec.name (length rec.tags) ++ (little_bytes 4 rec.size ++ (numbers rec.tags ++ (numbers rec.blocks ++ zeros (FILE_LEN - 132))))
+    file_start rec.name (length rec.tags) ++ (little_bytes 4 rec.size ++ (numbers rec.tags ++ (numbers rec.blocks ++ zeros (FILE_LEN - (64 + 4 + 2 * 32)))))
 
 -- a file slot
 unfoldable pub file_bytes : FileSlot → List ℕ

@@ -17,14 +17,11 @@ use crate::fields::{
 };
 use crate::slots::{FileRec, FileSlot};
 use arrayvec::ArrayVec;
-use lis_limits::FILE_LEN;
+use lis_limits::{BLOCK_LEN, FILE_LEN, MAX_FILE, MAX_LARGE_FILE};
 use lis_words::{Name, read_name};
 
 /// How many bytes stand before the size.
 const START_LEN: usize = 64;
-
-/// How many bytes a data block has.
-const BLOCK_LEN: u32 = 4_096;
 
 /// The most block numbers of a slot.
 const MAX_BLOCKS: u32 = 16;
@@ -33,14 +30,18 @@ const MAX_BLOCKS: u32 = 16;
 fn file_limit(version: u32) -> u32
     ensures { result ≡ file_limit version }
 {
-    if version == 2 { 1_048_576 } else { 65_536 }
+    if version == 2 {
+        MAX_LARGE_FILE
+    } else {
+        MAX_FILE
+    }
 }
 
 /// How many block numbers the slot of a file has.
 fn slot_blocks(version: u32, size: u32) -> u32
     ensures { result ≡ slot_blocks version size }
 {
-    let needed = size.div_ceil(BLOCK_LEN);
+    let needed = size.div_ceil(BLOCK_LEN as u32);
     if version == 2 && needed > MAX_BLOCKS {
         return 1;
     }
@@ -146,7 +147,7 @@ fn cut(bytes: &[u8]) -> FileFields<'_>
     ensures size_len { length result.size.now ≡ 4 }
     ensures tags_len { length result.tags.now ≡ 32 }
     ensures blocks_len { length result.block_numbers.now ≡ 32 }
-    ensures end_len { length result.end.now ≡ FILE_LEN - 132 }
+    ensures end_len { length result.end.now ≡ FILE_LEN - (64 + 4 + 2 * 32) }
 {
     let (start, rest) = bytes.split_at(START_LEN);
     let (size, rest) = rest.split_at(4);

@@ -11,7 +11,7 @@ use std::marker::Model;
 /// Texts one behind another in one array, seen as a stack of them, the last first.
 #[derive(Drop)]
 pub struct Pieces {
-    text: ArrayVec<u8, 1024>,
+    text: ArrayVec<u8, MAX_FORMULA>,
     starts: ArrayVec<usize, 64>,
 }
 
@@ -56,7 +56,7 @@ impl Pieces {
 
     /// Puts a byte in front of the last text.
     pub fn put_front(&mut self, byte: u8)
-        requires { length (stacked_text self.old) < 1024 }
+        requires { length (stacked_text self.old) < MAX_FORMULA }
         ensures text { self.new ≡ with_front byte self.old }
         ensures bytes { length (stacked_text self.new) ≤ length (stacked_text self.old) + 1 }
         ensures count { length self.new ≡ length self.old }
@@ -80,7 +80,7 @@ impl Pieces {
 
     /// Makes one text of the last two, with a byte between them.
     pub fn join(&mut self, byte: u8)
-        requires { length (stacked_text self.old) < 1024 }
+        requires { length (stacked_text self.old) < MAX_FORMULA }
         ensures text { self.new ≡ with_joint byte self.old }
         ensures bytes { length (stacked_text self.new) ≤ length (stacked_text self.old) + 1 }
         ensures count { length self.new ≤ length self.old }

@@ -51,7 +51,7 @@ fn whole(rooted: bool, kept: &Kept) -> Result<Path, FormulaFault>
 
 /// Reads what stands behind the slash in front of a text.
 fn from_root(path: &[u8]) -> Result<Path, FormulaFault>
-    requires { length path.now < 1024 }
+    requires { length path.now < MAX_FORMULA }
     ensures computes { Computes (47 ∷ path.now) result }
     ensures place { IfOk result (λ read. IsPlace read.place) }
 {

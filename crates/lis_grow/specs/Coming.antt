@@ -1,8 +1,8 @@
 -- What a session still has to come. No public clause cites this module.
-use Rattle.std.specs.Prelude.{ℕ, ◌+◌, ◌-◌, List, [], ◌++◌, codes}
+use Rattle.std.specs.Prelude.{ℕ, ◌+◌, ◌-◌, List, [], ◌++◌, codes, ◌*◌}
 use Rattle.std.specs.List.{flat_map, range_with_len}
 use Rattle.lis_model.specs.Replies.{line}
-use Rattle.lis_grow.specs.Grow.{mkdir_line, axiom_line, files_from, rm_lines, last_lines}
+use Rattle.lis_grow.specs.Grow.{mkdir_line, axiom_line, files_from, rm_lines, last_lines, file_count}
 use Rattle.lis_grow.specs.declared.part.Part.{Part}
 use Rattle.lis_grow.specs.declared.part.Part.TheVariants.{Groups, Axioms, Files, Removals, Nothing}
 
@@ -11,10 +11,10 @@ unfoldable pub lines_from : (ℕ → List ℕ) → ℕ → ℕ → List ℕ
 lines_from text i end = flat_map text (range_with_len i (end - i))
 
 unfoldable pub removals_from : ℕ → List ℕ
-removals_from i = lines_from rm_lines i 1000 ++ last_lines
+removals_from i = lines_from rm_lines i file_count ++ last_lines
 
 unfoldable pub all_files_from : ℕ → ℕ → List ℕ
-all_files_from x i = files_from (1000 - i) i x ++ removals_from 0
+all_files_from x i = files_from (file_count - i) i x ++ removals_from 0
 
 unfoldable pub axioms_from : ℕ → ℕ → List ℕ
 axioms_from x i = lines_from axiom_line i 16 ++ all_files_from x 0
@@ -35,8 +35,8 @@ coming x Nothing = []
 
 -- more than how many steps there are to come
 abbrev pub steps_left : Part → ℕ
-steps_left (Groups i) = 2100 + (16 - i)
-steps_left (Axioms i) = 2050 + (16 - i)
-steps_left (Files i) = 1020 + (1000 - i)
-steps_left (Removals i) = 10 + (1000 - i)
+steps_left (Groups i) = (2 * file_count + 100) + (16 - i)
+steps_left (Axioms i) = (2 * file_count + 50) + (16 - i)
+steps_left (Files i) = (file_count + 20) + (file_count - i)
+steps_left (Removals i) = 10 + (file_count - i)
 steps_left Nothing = 0

@@ -14,7 +14,7 @@ use lis_limits::BLOCK_LEN;
 pub fn header_blocks(count: u32) -> u32
     ensures { result ≡ header_blocks count }
 {
-    count / 1_024 + 1
+    count / (BLOCK_LEN as u32 / 4) + 1
 }
 
 /// How many bytes it has.

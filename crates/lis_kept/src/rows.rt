@@ -21,12 +21,15 @@ fn write_row(ext: &Ext, props: u32, number: u32, row: &mut [u8])
     row.fill(0);
 }
 
+// More rows than any image has.
+const MAX_ROWS: u32 = 2_000_000;
+
 /// Writes so many rows, from that of a number on.
 pub fn write_rows(ext: &Ext, props: u32, first: u32, width: usize, count: u32, block: &mut [u8])
     requires props { props ≡ ext.now.props }
     requires width { 8 * width ≡ length ext.now.sets }
     requires whole { width * count ≡ BLOCK_LEN }
-    requires few { first + count ≤ 2000000 }
+    requires few { first + count ≤ MAX_ROWS }
     requires block { length block.old ≡ BLOCK_LEN }
     ensures { (k : ℕ) → k < count → part (width * k) width block.new ≡ row_bytes ext.now (first + k) }
 {

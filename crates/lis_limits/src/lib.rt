@@ -40,6 +40,12 @@ pub const MAX_FILE: u32 = 65_536;
 /// The most bytes of a file in an image of the second version.
 pub const MAX_LARGE_FILE: u32 = 1_048_576;
 
+/// A file that has bytes, and fewer than this, is small.
+pub const SMALL_FILE: usize = 1_024;
+
+/// A file that is not small, and has fewer bytes than this, is a medium one.
+pub const MEDIUM_FILE: usize = 16_384;
+
 /// The most blocks of a content, without its index.
 pub const MAX_FILE_BLOCKS: usize = 256;
 
@@ -72,3 +78,9 @@ pub const MAX_LINE: usize = 1_024;
 
 /// The most bytes of a payload.
 pub const MAX_PAYLOAD: u32 = 1_048_576;
+
+/// The most bytes of an edited view.
+pub const MAX_VIEW: u32 = 8_388_608;
+
+/// The most words that a file is given.
+pub const MAX_ASSIGNED: usize = 16;

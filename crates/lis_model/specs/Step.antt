@@ -20,7 +20,7 @@ use Rattle.lis_model.specs.Places.{place_words, is_tag}
 use Rattle.lis_model.specs.Table.{Entry, table, entry_of}
 use Rattle.lis_model.specs.Listing.{extension, increments, locals}
 use Rattle.lis_model.specs.Route.{route}
-use Rattle.lis_model.specs.Replies.{body_line, number_line, ok_line, refusal_line, listing_lines, content_lines}
+use Rattle.lis_model.specs.Replies.{body_line, number_line, ok_line, refusal_line, listing_lines, content_lines, word_letter, property_letter, place_letter}
 
 -- a state, and the place at which commands are said, or the places where there are several
 pub record SituationOf (P : Type 0) : Type 0 where
@@ -291,13 +291,13 @@ abbrev pub cat : Situation → List ℕ → Outcome
 cat now name = shown_here now name (content_lines (file_of now.state.files name).bytes)
 
 abbrev pub props : Situation → List ℕ → Outcome
-props now name = shown_here now name (flat_map (body_line 112) (description now.state (file_of now.state.files name)))
+props now name = shown_here now name (flat_map (body_line property_letter) (description now.state (file_of now.state.files name)))
 
 abbrev pub entry_at : State → List ℕ → Entry
 entry_at s name = entry_of s.declared s.axioms (file_of s.files name)
 
 abbrev pub way : Situation → List ℕ → Outcome
-way now name = shown_here now name (flat_map (body_line 100) (route (table now.state) now.place (entry_at now.state name)))
+way now name = shown_here now name (flat_map (body_line word_letter) (route (table now.state) now.place (entry_at now.state name)))
 
 -- ---- places
 -- the place becomes another, and the state stays
@@ -315,7 +315,7 @@ abbrev pub cd : Situation → List ℕ → Outcome
 cd now text = cd_to now text (resolved now.place text)
 
 abbrev pub pwd : Situation → Outcome
-pwd now = shown now (body_line 119 (printed now.place))
+pwd now = shown now (body_line place_letter (printed now.place))
 
 abbrev pub ls : Situation → Outcome
 ls now = shown now (listing_lines (increments (table now.state) now.place) (locals (table now.state) now.place))

@@ -62,7 +62,7 @@ impl LastBlock {
         requires width { 0 < length buf.old }
         requires divides { BLOCK_LEN % length buf.old ≡ 0 }
         requires home { homes_start journal.now.layout ≤ first }
-        requires within { first + k / (4096 / length buf.old) < journal.now.layout.blocks }
+        requires within { first + k / (BLOCK_LEN / length buf.old) < journal.now.layout.blocks }
         requires few { journal.now.layout.blocks < 2 ^ 32 }
         requires clean { journal.now.staged ≡ [] }
         requires usable { JournalIsUsable journal.now (D.meaning disk.old) }

@@ -21,7 +21,7 @@ use lis_content::{index_numbers, is_large};
 use lis_fields::FileRec;
 use lis_journal::Journal;
 use lis_kept::data_start;
-use lis_limits::{BLOCK_LEN, MAX_LARGE_FILE, MAX_PLACED};
+use lis_limits::{BLOCK_LEN, MAX_FILE_BLOCKS, MAX_LARGE_FILE, MAX_PLACED};
 use lis_model::limits::Limits;
 use lis_ports::{Disk, Failed};
 
@@ -68,7 +68,7 @@ fn read_numbers<D: Disk>(
     journal: &Journal,
     home: u32,
     size: u32,
-) -> Result<Option<ArrayVec<u16, 256>>, Failed>
+) -> Result<Option<ArrayVec<u16, MAX_FILE_BLOCKS>>, Failed>
     requires few { size ≤ MAX_LARGE_FILE }
     requires home { homes_start journal.now.layout ≤ home }
     requires within { home < journal.now.layout.blocks }

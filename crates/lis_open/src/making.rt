@@ -66,7 +66,7 @@ pub fn make<D: Disk>(disk: &mut D, limits: &Limits) -> Result<(), MakeFault>
     ensures run { IsDiskRun (D.meaning disk.old) (D.meaning disk.new) }
 
     // A disk is too short where it has fewer bytes than the image. It is left as it was.
-    ensures short { IsShortWhere (D.meaning disk.old).len (4096 * image_blocks limits.now) result }
+    ensures short { IsShortWhere (D.meaning disk.old).len (BLOCK_LEN * image_blocks limits.now) result }
     ensures untouched { (len need : ℕ) → result ≡ Err (TooShort len need) → disk.new ≡ disk.old }
     ensures cause { HasMakeCause (D.meaning disk.old).disk_faults (D.meaning disk.new).disk_faults result }
     ensures first_fault { DiskFaultEnds (D.meaning disk.old) (D.meaning disk.new) }

@@ -87,7 +87,7 @@ fn read_limits<D: Disk>(disk: &mut D) -> Result<Limits, OpenFault>
     ensures reads { OnlyReads (D.meaning disk.old) (D.meaning disk.new) }
     ensures cause { HasOpenCause (D.meaning disk.old).disk_faults (D.meaning disk.new).disk_faults result }
     ensures first_fault { DiskFaultEnds (D.meaning disk.old) (D.meaning disk.new) }
-    ensures small { (D.meaning disk.old).len < 4096
+    ensures small { (D.meaning disk.old).len < BLOCK_LEN
         → (result ≡ Err (TooShort (D.meaning disk.old).len BLOCK_LEN)) × (disk.new ≡ disk.old) }
     ensures numbers { (len need : ℕ) → result ≡ Err (TooShort len need) → (len ≡ (D.meaning disk.old).len) × (len < need) }
     ensures range { IfOk result (λ limits. IsTrue (are_in_range limits)) }
@@ -154,7 +154,7 @@ pub fn mount<D: Disk>(alloc: Global, disk: &mut D) -> Result<Store, OpenFault>
     // Of any disk: at `TooShort` the first number is its length, and the second is greater. What is shorter than a super block is not
     // read.
     ensures numbers { (len need : ℕ) → result ≡ Err (TooShort len need) → (len ≡ (D.meaning disk.old).len) × (len < need) }
-    ensures small { (D.meaning disk.old).len < 4096
+    ensures small { (D.meaning disk.old).len < BLOCK_LEN
         → (result ≡ Err (TooShort (D.meaning disk.old).len BLOCK_LEN)) × (disk.new ≡ disk.old) }
     ensures sound { IfOk result IsSound }
     ensures ready { IfOk result (λ store. store.is_broken ≡ false) }

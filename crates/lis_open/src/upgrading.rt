@@ -61,7 +61,7 @@ pub fn upgrade<D: Disk>(alloc: Global, disk: &mut D) -> Result<(), OpenFault>
 
     // Of any disk: how the answer goes with its length.
     ensures numbers { (len need : ℕ) → result ≡ Err (TooShort len need) → (len ≡ (D.meaning disk.old).len) × (len < need) }
-    ensures small { (D.meaning disk.old).len < 4096
+    ensures small { (D.meaning disk.old).len < BLOCK_LEN
         → (result ≡ Err (TooShort (D.meaning disk.old).len BLOCK_LEN)) × (disk.new ≡ disk.old) }
 
     // What lies past the image stays; where the disk failed, if a crash at entry left it as it read.

@@ -14,7 +14,7 @@ use lis_session::replies::answer_bytes;
 const ROOM: usize = 8_192;
 
 /// Bytes that are to be shown, and are kept until there is no room for more.
-pub type Kept = ArrayVec<u8, 8_192>;
+pub type Kept = ArrayVec<u8, ROOM>;
 
 /// Shows the bytes that are kept.
 pub fn flush<T: Station>(station: &mut T, kept: &mut Kept) -> Result<(), End>
@@ -27,7 +27,7 @@ pub fn flush<T: Station>(station: &mut T, kept: &mut Kept) -> Result<(), End>
 }
 
 fn keep(kept: &mut Kept, bytes: &[u8])
-    requires { array_vec_len kept.old + length bytes.now ≤ 8192 }
+    requires { array_vec_len kept.old + length bytes.now ≤ ROOM }
     ensures { kept.new.items ≡ kept.old.items ++ bytes.now }
 {
     kept.try_extend_from_slice(bytes).unwrap();

@@ -33,7 +33,7 @@ fn digit_count(number: u64) -> usize
 impl Tally {
     fn with_operand(self, bytes: usize) -> Option<Tally>
         requires trees { self.trees ≤ 64 }
-        requires sum { self.bytes ≤ 3840 }
+        requires sum { self.bytes ≤ 60 * MAX_NODES }
         requires bytes { bytes ≤ 60 }
         ensures { result ≡ with_operand self bytes }
     {
@@ -46,7 +46,7 @@ impl Tally {
     /// A word that no formula may have, as a test is, makes no tree.
     fn with_word(self, word: &Word) -> Option<Tally>
         requires trees { self.trees ≤ 64 }
-        requires sum { self.bytes ≤ 3840 }
+        requires sum { self.bytes ≤ 60 * MAX_NODES }
         ensures value { result ≡ tally_with self (NodeWord word.now) }
         ensures bytes { IfSome result (λ next. next.bytes ≤ self.bytes + 60) }
     {
@@ -58,7 +58,7 @@ impl Tally {
 
     fn with_test(self, sign: usize, number: u64) -> Option<Tally>
         requires trees { self.trees ≤ 64 }
-        requires sum { self.bytes ≤ 3840 }
+        requires sum { self.bytes ≤ 60 * MAX_NODES }
         requires sign { sign ≤ 6 }
         ensures value { result ≡ with_test self sign number }
         ensures bytes { IfSome result (λ next. next.bytes ≤ self.bytes + 60) }
@@ -70,7 +70,7 @@ impl Tally {
     }
 
     fn with_mark(self) -> Option<Tally>
-        requires sum { self.bytes ≤ 3840 }
+        requires sum { self.bytes ≤ 60 * MAX_NODES }
         ensures { result ≡ with_mark self }
     {
         if self.trees < 1 {
@@ -83,7 +83,7 @@ impl Tally {
     }
 
     fn with_joint(self) -> Option<Tally>
-        requires sum { self.bytes ≤ 3840 }
+        requires sum { self.bytes ≤ 60 * MAX_NODES }
         ensures { result ≡ with_joint self }
     {
         if self.trees < 2 {
@@ -97,7 +97,7 @@ impl Tally {
 
     fn with(self, node: &Node) -> Option<Tally>
         requires trees { self.trees ≤ 64 }
-        requires sum { self.bytes ≤ 3840 }
+        requires sum { self.bytes ≤ 60 * MAX_NODES }
         ensures value { result ≡ tally_with self node.now }
         ensures trees { IfSome result (λ next. next.trees ≤ self.trees + 1) }
         ensures bytes { IfSome result (λ next. next.bytes ≤ self.bytes + 60) }
@@ -117,7 +117,7 @@ fn tally_of(nodes: &[Node]) -> Option<Tally>
     requires { length nodes.now ≤ 64 }
     ensures value { result ≡ tally_after no_tally nodes.now }
     ensures trees { IfSome result (λ tally. tally.trees ≤ 64) }
-    ensures bytes { IfSome result (λ tally. tally.bytes ≤ 3840) }
+    ensures bytes { IfSome result (λ tally. tally.bytes ≤ 60 * MAX_NODES) }
 {
     let mut tally = Tally { trees: 0, bytes: 0 };
     for node in nodes {

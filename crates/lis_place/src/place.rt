@@ -17,7 +17,7 @@ use std::marker::Model;
 /// nodes and prints to at most 1,024 bytes, and the numbers of its tests are below 10^12.
 #[derive(Drop, Debug)]
 pub struct Place {
-    nodes: ArrayVec<Node, 64>,
+    nodes: ArrayVec<Node, MAX_NODES>,
 }
 
 impl Model for Place {
@@ -45,7 +45,7 @@ pub struct Path {
 }
 
 /// Puts copies of the nodes behind those that are held.
-fn extend(held: &mut ArrayVec<Node, 64>, nodes: &[Node])
+fn extend(held: &mut ArrayVec<Node, MAX_NODES>, nodes: &[Node])
     requires { array_vec_len held.old + length nodes.now ≤ 64 }
     ensures { held.new.items ≡ held.old.items ++ nodes.now }
 {

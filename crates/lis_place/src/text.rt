@@ -9,7 +9,7 @@ use std::marker::Model;
 /// At most 1,024 bytes.
 #[derive(Drop, Debug, PartialEq, Eq)]
 pub struct Text {
-    held: ArrayVec<u8, 1024>,
+    held: ArrayVec<u8, MAX_FORMULA>,
 }
 
 impl Model for Text {
@@ -26,7 +26,7 @@ impl Text {
     /// The text of these bytes. None comes exactly where there are more than 1,024.
     pub fn of(bytes: &[u8]) -> Option<Text>
         ensures { MatchOption result
-            (1024 < length bytes.now)
+            (MAX_FORMULA < length bytes.now)
             (λ text. (text ≡ bytes.now) × (length bytes.now ≤ MAX_FORMULA)) }
     {
         let mut held = ArrayVec::new();
@@ -68,10 +68,10 @@ impl Text {
 }
 
 /// A text takes over the bytes that were put together in place.
-impl From<ArrayVec<u8, 1024>> for Text {
+impl From<ArrayVec<u8, MAX_FORMULA>> for Text {
     ghost from_gives = { λ held text. text ≡ held.items };
 
-    fn from(held: ArrayVec<u8, 1024>) -> Self {
+    fn from(held: ArrayVec<u8, MAX_FORMULA>) -> Self {
         Text { held }
     }
 }

@@ -12,7 +12,7 @@ use Rattle.lis_model.specs.declared.command.Command.{Command}
 use Rattle.lis_model.specs.declared.command.Command.TheVariants.{Mkdir, Rmdir, Axiom, Unaxiom, Create, Add, Write, Mv, Rename, Rm}
 use Rattle.lis_model.specs.declared.refusal.Refusal.{Refusal}
 use Rattle.lis_model.specs.declared.refusal.Refusal.TheVariants.{BadFormula, UnknownProperty, LargeFormula}
-use Rattle.lis_model.specs.Replies.{body_line, ok_line, refusal_line}
+use Rattle.lis_model.specs.Replies.{body_line, ok_line, refusal_line, word_letter, file_letter}
 use Rattle.lis_model.specs.State.{State}
 use Rattle.lis_model.specs.Step.{SituationOf, OutcomeOf, Situation, Outcome}
 use Rattle.lis_incr.specs.declared.listing.Line.{Line}
@@ -53,8 +53,8 @@ Concludes meaning old new (Err DiskChange) result = (new ≡ old) × (result ≡
 
 -- a line of a listing, as it is shown
 abbrev pub shown_line : Line → List ℕ
-shown_line (Prop word) = body_line 100 word
-shown_line (File name) = body_line 102 name
+shown_line (Prop word) = body_line word_letter word
+shown_line (File name) = body_line file_letter name
 
 -- the place to which a text leads, by the known words, or why it is refused
 abbrev pub led_to : List (List ℕ) → List ℕ → Resolution → Result (List Formula) Refusal

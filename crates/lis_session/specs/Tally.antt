@@ -1,5 +1,6 @@
 -- What carrying out an item without showing its reply does to an image, and what is kept of the reply.
 use Rattle.std.specs.Prelude.{◌≡◌, ℕ, ◌+◌, ◌==◌, Bool, true, false, List, [], ◌∷◌, length, Result, Ok, Err, IfOk}
+use Rattle.lis_model.specs.Replies.{refusal_letter}
 use Rattle.lis_ports.specs.Meaning.{Meaning}
 use Rattle.lis_ports.specs.declared.disk.Failed.{Failed}
 use Rattle.lis_grammar.specs.Formula.{Formula}
@@ -20,7 +21,7 @@ use Rattle.lis_session.specs.Item.{FitsAt, OneItem}
 -- A reply is a refusal where it begins with `n`: every other one is `ok`, or begins with a line of another letter.
 abbrev pub is_refusal : List ℕ → Bool
 is_refusal [] = false
-is_refusal (letter ∷ bytes) = letter == 110
+is_refusal (letter ∷ bytes) = letter == refusal_letter
 
 -- how many lines of words and of files the listing of the place has
 abbrev pub listed_lines : Situation → ℕ

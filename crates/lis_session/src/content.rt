@@ -22,9 +22,6 @@ use lis_ports::{Failed, Station};
 use lis_store::Store;
 use lis_words::Name;
 
-/// How many bytes a data block has.
-const BLOCK_LEN: usize = 4_096;
-
 // Shows the n-th block of the file in the slot, by its index block. The buffer has the length of a block.
 fn show_block<T: Station>(
     store: &Store,
@@ -37,7 +34,7 @@ fn show_block<T: Station>(
 ) -> Result<(), End>
     requires sound { IsSound store.now }
     requires size { IsSomeAnd (rec_at store.now.parts.catalog slot) (λ (rec : FileRecord). size ≡ rec.size) }
-    requires within { 4096 * n < size }
+    requires within { BLOCK_LEN * n < size }
     requires index { length index.now ≡ BLOCK_LEN }
     requires whole { length block.old ≡ BLOCK_LEN }
     requires usable { IsUsable store.now (T.meaning station.old) }

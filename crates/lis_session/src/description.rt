@@ -3,7 +3,7 @@
 ghost use Rattle.std.specs.Prelude.{◌++◌, ◌<◌, length, slice_get, option_to_list};
 ghost use Rattle.std.specs.List.{flat_map};
 ghost use Rattle.lis_eval.specs.Room.{HasRoom};
-ghost use Rattle.lis_model.specs.Replies.{body_line, ok_line};
+ghost use Rattle.lis_model.specs.Replies.{body_line, ok_line, property_letter};
 ghost use Rattle.lis_model.specs.Step.{props};
 ghost use Rattle.lis_store.specs.Stored.{IsSound, StoreFits};
 ghost use Rattle.lis_session.specs.Item.{Does};
@@ -24,7 +24,7 @@ fn answer_word<T: Station>(store: &Store, slot: u16, k: u32, station: &mut T) ->
     requires sound { IsSound store.now }
     requires slot { slot < length store.now.parts.ext.sets }
     ensures { Answers (T.meaning station.old) (T.meaning station.new)
-        (flat_map (body_line 112) (words_had store.now.parts slot (option_to_list (slice_get store.now.parts.dict.entries k)))) result }
+        (flat_map (body_line property_letter) (words_had store.now.parts slot (option_to_list (slice_get store.now.parts.dict.entries k)))) result }
 {
     let Some((word, number)) = store.word_at(k) else {
         return Ok(());
@@ -40,7 +40,7 @@ fn answer_words<T: Station>(store: &Store, slot: u16, station: &mut T) -> Result
     requires sound { IsSound store.now }
     requires slot { slot < length store.now.parts.ext.sets }
     ensures { Answers (T.meaning station.old) (T.meaning station.new)
-        (flat_map (body_line 112) (words_had store.now.parts slot store.now.parts.dict.entries)) result }
+        (flat_map (body_line property_letter) (words_had store.now.parts slot store.now.parts.dict.entries)) result }
 {
     for k in 0..store.limits().props {
         answer_word(store, slot, k, station)?;
@@ -53,7 +53,7 @@ fn answer_description<T: Station>(store: &Store, slot: u16, station: &mut T) -> 
     requires sound { IsSound store.now }
     requires slot { slot < length store.now.parts.ext.sets }
     ensures { Answers (T.meaning station.old) (T.meaning station.new)
-        (flat_map (body_line 112) (words_had store.now.parts slot store.now.parts.dict.entries) ++ ok_line) result }
+        (flat_map (body_line property_letter) (words_had store.now.parts slot store.now.parts.dict.entries) ++ ok_line) result }
 {
     answer_words(store, slot, station)?;
     answer_ok(station)

@@ -2,7 +2,7 @@
 
 ghost use Rattle.std.specs.Prelude.{◌++◌, codes};
 ghost use Rattle.lis_grammar.specs.Printing.{printed};
-ghost use Rattle.lis_model.specs.Replies.{body_line, number_line, ok_line, refusal_line};
+ghost use Rattle.lis_model.specs.Replies.{body_line, number_line, ok_line, refusal_line, place_letter};
 ghost use Rattle.lis_session.specs.Parts.{answer_of, Answers, Concludes};
 
 use crate::end::End;
@@ -73,7 +73,7 @@ pub fn answer_result<T: Station>(station: &mut T, answer: Result<(), Refusal>) -
 
 /// Shows the place.
 pub fn answer_place<T: Station>(station: &mut T, place: &Place) -> Result<(), End>
-    ensures { Answers (T.meaning station.old) (T.meaning station.new) (body_line 119 (printed place.now) ++ ok_line) result }
+    ensures { Answers (T.meaning station.old) (T.meaning station.new) (body_line place_letter (printed place.now) ++ ok_line) result }
 {
     answer_line(station, b'w', print(place).bytes())?;
     answer_ok(station)

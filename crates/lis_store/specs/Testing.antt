@@ -18,7 +18,7 @@ use Rattle.lis_store.specs.Placing.{AreNumbersOf}
 -- ---- a new test
 -- a file meets the test, and would have too many words with it and with what it gains
 abbrev pub is_crowded : Kept → Option (Bool × ℕ) → List ℕ → ℕ → Bool
-is_crowded k test numbers slot = is_met_at k test slot && nat_le MAX_DESCRIPTION (length (wider k (is_gained k numbers) slot))
+is_crowded k test numbers slot = is_met_at k test slot && nat_lt (MAX_DESCRIPTION - 1) (length (wider k (is_gained k numbers) slot))
 
 abbrev pub has_crowded : Kept → Option (Bool × ℕ) → List ℕ → Bool
 has_crowded k test numbers = list_any (is_crowded k test numbers) (range_with_len 0 k.limits.files)

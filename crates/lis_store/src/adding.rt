@@ -110,7 +110,7 @@ pub(crate) fn numbers_entailed(
     derived: &[Word],
     size: u64,
     row: &mut Rows,
-) -> ArrayVec<u16, 128>
+) -> ArrayVec<u16, MAX_DESCRIPTION>
     requires shape { HasShape row.old 1 parts.now.limits.props }
     requires numbered { AreNumbered parts.now.dict (assigned.now ++ derived.now) }
     requires few { length (all_up (declared_of parts.now) (axioms_of parts.now) (assigned.now ++ derived.now ++ met_tests (declared_of parts.now) size)) ≤ MAX_DESCRIPTION }

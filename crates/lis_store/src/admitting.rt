@@ -18,30 +18,28 @@ use arrayvec::ArrayVec;
 use lis_derive::derive_words;
 use lis_eval::Scratch;
 use lis_kept::Parts;
-use lis_limits::MAX_DESCRIPTION;
+use lis_limits::{BLOCK_LEN, MAX_DESCRIPTION, MAX_FILE, MAX_LARGE_FILE};
 use lis_model::command::Tags;
 use lis_model::refusal::Refusal;
 use lis_place::Place;
 use lis_words::{Name, Word, is_builtin, is_head, test_of};
 
-/// How many bytes a data block has.
-const BLOCK_LEN: u64 = 4_096;
-
-/// The most words of a description.
-pub(crate) const MAX_DESCRIPTION: u32 = 128;
-
 /// How many bytes a file may have.
 pub(crate) fn file_limit(version: u32) -> u64
     ensures { result ≡ file_limit version }
 {
-    if version == 2 { 1_048_576 } else { 65_536 }
+    if version == 2 {
+        MAX_LARGE_FILE
+    } else {
+        MAX_FILE
+    }
 }
 
 /// How many blocks so many bytes take.
 pub(crate) fn blocks_taken(version: u32, size: u64) -> u64
     ensures { result ≡ blocks_taken version size }
 {
-    let blocks = size.div_ceil(BLOCK_LEN);
+    let blocks = size.div_ceil(BLOCK_LEN as u64);
     if version == 2 && blocks > 16 {
         blocks + 1
     } else {
@@ -134,7 +132,7 @@ fn has_room_for(
         return Err(Refusal::NoFileRoom);
     }
     let measure = measure(parts, &mut scratch.candidates, None, draft);
-    if measure.words > MAX_DESCRIPTION {
+    if measure.words > MAX_DESCRIPTION as u32 {
         return Err(Refusal::LargeDescription);
     }
     if measure.known > limits.props {

@@ -28,7 +28,7 @@ pub(crate) enum Rebuild {
 }
 
 /// The numbers of all that the words of these numbers entail, in rising order.
-pub(crate) fn all_entailed(parts: &Parts, numbers: &[u16]) -> ArrayVec<u16, 128>
+pub(crate) fn all_entailed(parts: &Parts, numbers: &[u16]) -> ArrayVec<u16, MAX_DESCRIPTION>
     requires sound { AreSound parts.now }
     requires named { IsTrue (list_all (λ n. is_some (word_of parts.now.dict n)) numbers.now) }
     requires few { length (closure parts.now numbers.now) ≤ MAX_DESCRIPTION }

@@ -9,11 +9,9 @@ ghost use Rattle.lis_store.specs.Closing.{is_gained, is_met_at, wider};
 ghost use Rattle.lis_store.specs.Testing.{is_crowded, has_crowded};
 
 use lis_kept::Parts;
+use lis_limits::MAX_DESCRIPTION;
 use lis_model::met::is_met;
 use lis_words::{Word, test_of};
-
-/// The most words that a file may have before it gets one more.
-const MOST: u32 = 127;
 
 /// Whether there is a file in the slot, and its size meets the test.
 pub(crate) fn is_met_at(parts: &Parts, test: (bool, u64), slot: u16) -> bool
@@ -59,7 +57,7 @@ fn is_crowded(parts: &Parts, test: (bool, u64), numbers: &[u16], slot: u16) -> b
     if !is_met_at(parts, test, slot) {
         return false;
     }
-    is_full(parts, numbers, slot, MOST)
+    is_full(parts, numbers, slot, MAX_DESCRIPTION as u32 - 1)
 }
 
 /// Whether some file does, where the word is a test.

@@ -49,7 +49,7 @@ fn has(words: &[Word], word: &Word) -> bool
 fn gather(parts: &Parts, lacked: &mut Rows, fresh: &mut Fresh, word: &Word)
     requires sound { AreSound parts.now }
     requires shape { HasShape lacked.old 1 parts.now.limits.props }
-    requires room { length fresh.old.items < 288 }
+    requires room { length fresh.old.items < 2 * (16 + MAX_DESCRIPTION) }
     ensures { Gathers parts.now (word.now ∷ []) lacked.old lacked.new fresh.old.items fresh.new.items }
 {
     if let Some(number) = parts.number_of(word) {
@@ -66,7 +66,7 @@ fn gather(parts: &Parts, lacked: &mut Rows, fresh: &mut Fresh, word: &Word)
 fn gather_with_head(parts: &Parts, lacked: &mut Rows, fresh: &mut Fresh, word: &Word)
     requires sound { AreSound parts.now }
     requires shape { HasShape lacked.old 1 parts.now.limits.props }
-    requires room { length fresh.old.items + 1 < 288 }
+    requires room { length fresh.old.items + 1 < 2 * (16 + MAX_DESCRIPTION) }
     ensures { Gathers parts.now (word.now ∷ heads word.now) lacked.old lacked.new fresh.old.items fresh.new.items }
 {
     gather(parts, lacked, fresh, word);
@@ -79,7 +79,7 @@ fn gather_with_head(parts: &Parts, lacked: &mut Rows, fresh: &mut Fresh, word: &
 fn gather_all(parts: &Parts, lacked: &mut Rows, fresh: &mut Fresh, words: &[Word])
     requires sound { AreSound parts.now }
     requires shape { HasShape lacked.old 1 parts.now.limits.props }
-    requires room { length fresh.old.items + 2 * length words.now ≤ 288 }
+    requires room { length fresh.old.items + 2 * length words.now ≤ 2 * (16 + MAX_DESCRIPTION) }
     ensures { Gathers parts.now (with_heads words.now) lacked.old lacked.new fresh.old.items fresh.new.items }
 {
     for word in words {

@@ -15,7 +15,7 @@ ghost use Rattle.lis_store.specs.Changes.{Judges};
 ghost use Rattle.lis_store.specs.Stored.{DescriptionsAreShort};
 ghost use Rattle.lis_store.specs.Instead.{given_before, free_instead, instead_checks, overwriting_checks, renaming_checks};
 
-use crate::admitting::{MAX_DESCRIPTION, blocks_taken};
+use crate::admitting::blocks_taken;
 use crate::assigning::{all_assignable, put_word};
 use crate::describing::{Draft, measure};
 use crate::removing::numbers_at;
@@ -88,7 +88,7 @@ fn own_word(parts: &Parts, number: u16) -> Option<Word>
 }
 
 // The built-in words that have these numbers.
-fn own_among(parts: &Parts, numbers: &[u16]) -> ArrayVec<Word, 128>
+fn own_among(parts: &Parts, numbers: &[u16]) -> ArrayVec<Word, MAX_DESCRIPTION>
     requires { length numbers.now ≤ MAX_DESCRIPTION }
     ensures words { result.items ≡ flat_map (own_word parts.now) numbers.now }
     ensures few { length result.items ≤ MAX_DESCRIPTION }
@@ -103,7 +103,7 @@ fn own_among(parts: &Parts, numbers: &[u16]) -> ArrayVec<Word, 128>
 }
 
 /// The derived words of the file in a slot and their heads, as its description has kept them.
-pub(crate) fn own_in(parts: &Parts, slot: u16) -> ArrayVec<Word, 128>
+pub(crate) fn own_in(parts: &Parts, slot: u16) -> ArrayVec<Word, MAX_DESCRIPTION>
     requires there { IsSome (rec_at parts.now.catalog slot) }
     requires short { DescriptionsAreShort parts.now }
     ensures own { result.items ≡ own_kept parts.now slot }
@@ -147,7 +147,7 @@ pub(crate) fn may_stand_instead(
         return Err(Refusal::UnknownProperty);
     }
     let measure = measure(parts, &mut scratch.candidates, Some(slot), draft);
-    if measure.words > MAX_DESCRIPTION {
+    if measure.words > MAX_DESCRIPTION as u32 {
         return Err(Refusal::LargeDescription);
     }
     if measure.known > limits.props {

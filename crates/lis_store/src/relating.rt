@@ -21,9 +21,6 @@ use lis_limits::MAX_DESCRIPTION;
 use lis_model::refusal::Refusal;
 use lis_words::{Word, head_of, is_builtin, is_head, is_plain_word, test_of};
 
-/// The most words of a description.
-const MAX_DESCRIPTION: u32 = 128;
-
 fn is_plain_or_test(word: &Word) -> bool
     ensures { result ≡ (is_plain_word word.now || is_test word.now) }
 {
@@ -142,7 +139,7 @@ fn is_overfull(parts: &Parts, slot: u16, left: u16, right: u16) -> bool
     if !parts.ext().has(u32::from(left), u32::from(slot)) {
         return false;
     }
-    is_full(parts, &[right], slot, MAX_DESCRIPTION)
+    is_full(parts, &[right], slot, MAX_DESCRIPTION as u32)
 }
 
 // Whether a description that has the left word would have more words than it may.

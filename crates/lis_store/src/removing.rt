@@ -14,7 +14,7 @@ use lis_kept::Parts;
 use lis_limits::MAX_DESCRIPTION;
 
 // The numbers of the description in a slot.
-pub(crate) fn numbers_at(ext: &Ext, props: u32, slot: u16) -> ArrayVec<u16, 128>
+pub(crate) fn numbers_at(ext: &Ext, props: u32, slot: u16) -> ArrayVec<u16, MAX_DESCRIPTION>
     requires props { props ≡ ext.now.props }
     requires slot { slot < length ext.now.sets }
     requires few { length (set_of ext.now slot) ≤ MAX_DESCRIPTION }
@@ -35,7 +35,7 @@ pub(crate) fn numbers_at(ext: &Ext, props: u32, slot: u16) -> ArrayVec<u16, 128>
 
 /// Takes the file out of its slot, and forgets the words that nothing else uses. The slot is described as before, by the numbers that it
 /// answers.
-pub(crate) fn unfile(parts: &mut Parts, slot: u16) -> ArrayVec<u16, 128>
+pub(crate) fn unfile(parts: &mut Parts, slot: u16) -> ArrayVec<u16, MAX_DESCRIPTION>
     requires form { AreInForm parts.old }
     requires there { IsSome (rec_at parts.old.catalog slot) }
     ensures vacated { (rec : FileRecord) → rec_at parts.old.catalog slot ≡ Some rec → Vacates slot rec parts.old parts.new }

@@ -18,20 +18,21 @@ use lis_derive::derive_words;
 use lis_eval::Scratch;
 use lis_fields::FileRec;
 use lis_kept::Parts;
+use lis_limits::MAX_DESCRIPTION;
 use lis_words::{Name, Word};
 
 // The numbers of the words that a file is given, and those of its description.
 #[derive(Drop)]
 struct Numbers {
     tags: ArrayVec<u16, 16>,
-    all: ArrayVec<u16, 128>,
+    all: ArrayVec<u16, MAX_DESCRIPTION>,
 }
 
 // A slot without a file, and the numbers by which it is described.
 #[derive(Drop)]
 struct Room {
     slot: u16,
-    numbers: ArrayVec<u16, 128>,
+    numbers: ArrayVec<u16, MAX_DESCRIPTION>,
 }
 
 // Gives numbers to those words of a file that have none, and answers the numbers of its words.

@@ -35,7 +35,7 @@ pub(crate) fn declare_tested(parts: &mut Parts, word: &Word, places: &[u16])
 }
 
 // The numbers but for one.
-fn numbers_without(numbers: &[u16], number: u16) -> ArrayVec<u16, 128>
+fn numbers_without(numbers: &[u16], number: u16) -> ArrayVec<u16, MAX_DESCRIPTION>
     requires { length numbers.now ≤ MAX_DESCRIPTION }
     ensures { result.items ≡ filter (λ n. not (n == number)) numbers.now }
 {
