@@ -24,7 +24,7 @@ use lis_words::{Name, read_name};
 const START_LEN: usize = 64;
 
 /// The most block numbers of a slot.
-const MAX_BLOCKS: u32 = 16;
+const SLOT_BLOCKS: u32 = 16;
 
 /// How many bytes a file of the version may have.
 fn file_limit(version: u32) -> u32
@@ -42,7 +42,7 @@ fn slot_blocks(version: u32, size: u32) -> u32
     ensures { result ≡ slot_blocks version size }
 {
     let needed = size.div_ceil(BLOCK_LEN as u32);
-    if version == 2 && needed > MAX_BLOCKS {
+    if version == 2 && needed > SLOT_BLOCKS {
         return 1;
     }
     needed

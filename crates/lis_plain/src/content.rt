@@ -16,9 +16,9 @@ pub fn file_limit(version: u32) -> u64
     ensures { result ≡ file_limit version }
 {
     if version == 2 {
-        MAX_LARGE_FILE
+        u64::from(MAX_LARGE_FILE)
     } else {
-        MAX_FILE
+        u64::from(MAX_FILE)
     }
 }
 
