@@ -35,7 +35,7 @@ coming x Nothing = []
 
 -- more than how many steps there are to come
 abbrev pub steps_left : Part → ℕ
-steps_left (Groups i) = (2 * file_count + 100) + (16 - i)
+steps_left (Groups i) = (2 * file_count + 99) + (16 - i)
 steps_left (Axioms i) = (2 * file_count + 50) + (16 - i)
 steps_left (Files i) = (file_count + 20) + (file_count - i)
 steps_left (Removals i) = 10 + (file_count - i)

@@ -124,7 +124,7 @@ fn write_record<D: Disk>(
     ensures spreads { IsTrue (D.meaning disk.old).is_honest
         → Spreads (D.meaning disk.old) (D.meaning disk.new) (Torn (BLOCK_LEN * first) (BLOCK_LEN * record_len (length stage.now.entries))) }
     ensures settled { OnOk result (IsTrue (D.meaning disk.old).is_honest → IsSettled (D.meaning disk.new)
-        (apply (renumbered (first + header_blocks (length stage.now.entries)) stage.now.entries) (put (D.meaning disk.old).bytes (4096 * first) header.now))) }
+        (apply (renumbered (first + header_blocks (length stage.now.entries)) stage.now.entries) (put (D.meaning disk.old).bytes (BLOCK_LEN * first) header.now))) }
 {
     disk.write_at(u64::from(first) * BLOCK_LEN as u64, header)?;
     let contents = Target::Record(first + header_blocks(stage.len() as u32));
