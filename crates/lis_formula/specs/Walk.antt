@@ -1,6 +1,6 @@
 -- The machine of the grammar with signs and nodes in place of trees: what the reader keeps.
 use Rattle.std.specs.Prelude.{ℕ, ◌==◌, nat_lt, Bool, true, false, if◌then◌else◌, Option, Some, None, option_map, option_and_then, List, [], ◌∷◌, ◌++◌, length, take}
-use Rattle.lis_words.specs.Bytes.{bar}
+use Rattle.lis_words.specs.Bytes.{bar_byte}
 use Rattle.lis_grammar.specs.Machine.{is_joint, is_operand_front}
 use Rattle.lis_place.specs.declared.node.Node.{Node}
 use Rattle.lis_place.specs.declared.node.Node.TheVariants.{Not, And, Or}
@@ -65,7 +65,7 @@ unwrapped held = if is_top Paren held.signs then Some (Ended (marked (popped hel
 
 abbrev pub walk_joint : ℕ → Held → Option Walk
 walk_joint b held =
-    if b == bar then Some (Begins (with_sign Bar (closed_bar held)))
+    if b == bar_byte then Some (Begins (with_sign Bar (closed_bar held)))
     else if b == 47 then Some (Begins (slashed (closed_slash (closed_bar held))))
     else if b == 41 then unwrapped (closed_slash (closed_bar held))
     else None

@@ -4,8 +4,8 @@ use Rattle.std.specs.Prelude.{ℕ, ◌-◌, ◌==◌, Bool, true, false, ◌||�
 abbrev pub is_feed : ℕ → Bool
 is_feed b = b == 10
 
-abbrev pub bar : ℕ
-bar = 124
+abbrev pub bar_byte : ℕ
+bar_byte = 124
 
 abbrev pub opening_brace : ℕ
 opening_brace = 123
