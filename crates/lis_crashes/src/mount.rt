@@ -1,6 +1,6 @@
 //! Mounts on images that no journal left: gates and records of any bytes.
 
-ghost use Rattle.std.specs.Prelude.{◌≡◌, ◌<◌, length, IfOk};
+ghost use Rattle.std.specs.Prelude.{◌-◌, ◌≡◌, ◌<◌, length, IfOk};
 
 use crate::disk::{CAPACITY, DISK_LEN, LAYOUT, zeros};
 use lis_journal::{Journal, JournalFault};

@@ -1,6 +1,6 @@
 //! File slots.
 
-ghost use Rattle.std.specs.Prelude.{◌≡◌, ◌==◌, ◌++◌, ℕ, ◌≤◌, List, length, Option, Some, IfSome, IsSomeAnd, IsTrue};
+ghost use Rattle.std.specs.Prelude.{◌-◌, ◌*◌, ◌+◌, ◌≡◌, ◌==◌, ◌++◌, ℕ, ◌≤◌, List, length, Option, Some, IfSome, IsSomeAnd, IsTrue};
 ghost use Rattle.std.specs.List.{list_any};
 ghost use Rattle.std.specs.Ordering.{nat_cmp};
 ghost use Rattle.lis_graph.specs.Graph.{is_rising};

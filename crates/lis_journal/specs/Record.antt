@@ -1,5 +1,5 @@
 -- The journal on a disk: blocks, gates, records, and the image that stands when the open records are done.
-use Rattle.std.specs.Prelude.{ℕ, ◌+◌, ◌*◌, ◌/◌, ◌==◌, zero, suc, nat_lt, nat_le, Bool, true, ◌&&◌, if◌then◌else◌, List, [], ◌∷◌, ◌++◌, drop, map, replicate, slice_index, Option, Some, None, is_some}
+use Rattle.std.specs.Prelude.{◌-◌, ℕ, ◌+◌, ◌*◌, ◌/◌, ◌==◌, zero, suc, nat_lt, nat_le, Bool, true, ◌&&◌, if◌then◌else◌, List, [], ◌∷◌, ◌++◌, drop, map, replicate, slice_index, Option, Some, None, is_some}
 use Rattle.std.specs.Int.{w32, from_le_bytes}
 use Rattle.std.specs.List.{list_all, list_any, prefix_len}
 use Rattle.lis_limits.specs.declared.TheConstants.{BLOCK_LEN, GATES}

@@ -1,6 +1,6 @@
 //! The phases of a commit and of a checkpoint: the record and its gate; the homes, gate 0 and the other gates.
 
-ghost use Rattle.std.specs.Prelude.{[], ◌∷◌, ◌≡◌, ◌+◌, ◌*◌, ◌<◌, ◌≤◌, ℕ, List, length, replicate, true, IsTrue, OnOk, slice_index_or};
+ghost use Rattle.std.specs.Prelude.{◌-◌, [], ◌∷◌, ◌≡◌, ◌+◌, ◌*◌, ◌<◌, ◌≤◌, ℕ, List, length, replicate, true, IsTrue, OnOk, slice_index_or};
 ghost use Rattle.lis_ports.specs.Bytes.{put, Torn};
 ghost use Rattle.lis_ports.specs.Runs.{Leaves, IsSettled};
 ghost use Rattle.lis_ports.specs.Calls.{UsesDisk};

@@ -1,5 +1,5 @@
 -- The parts of an image that memory spells, and the blocks that are yet to be written.
-use Rattle.std.specs.Prelude.{◌≡◌, ℕ, ◌+◌, ◌*◌, ◌/◌, ◌<◌, false, Bool, List, count_by}
+use Rattle.std.specs.Prelude.{◌-◌, ◌≡◌, ℕ, ◌+◌, ◌*◌, ◌/◌, ◌<◌, false, Bool, List, count_by}
 use Rattle.lis_limits.specs.declared.TheConstants.{BLOCK_LEN, BLOCK_BITS, FILE_LEN, AXIOMS_PER_BLOCK}
 use Rattle.lis_slots.specs.Slots.{Slots, slot, home}
 use Rattle.lis_blockmap.specs.Bitmap.{is_taken, bitmap_bytes}

@@ -1,5 +1,5 @@
 -- What a change touches: words that gain or lose a file, and words that enter or leave the known ones.
-use Rattle.std.specs.Prelude.{◌≡◌, ℕ, ◌≤◌, not, Bool, if◌then◌else◌, List, [], ◌∷◌, ◌++◌, length, map, filter, IsTrue}
+use Rattle.std.specs.Prelude.{◌*◌, ◌≡◌, ℕ, ◌≤◌, not, Bool, if◌then◌else◌, List, [], ◌∷◌, ◌++◌, length, map, filter, IsTrue}
 use Rattle.std.specs.List.{list_any, Contains}
 use Rattle.lis_limits.specs.declared.TheConstants.{MAX_DESCRIPTION}
 use Rattle.lis_words.specs.Words.{has_word, is_test}

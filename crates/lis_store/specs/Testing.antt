@@ -1,5 +1,5 @@
 -- Tests that are declared and that go: what descriptions gain and lose.
-use Rattle.std.specs.Prelude.{ℕ, ◌==◌, nat_lt, Bool, false, not, ◌&&◌, Option, None, List, [], length, filter, ◌≡◌, ◌<◌, ◌≤◌, ◌∷◌, IsTrue}
+use Rattle.std.specs.Prelude.{◌-◌, ℕ, ◌==◌, nat_lt, Bool, false, not, ◌&&◌, Option, None, List, [], length, filter, ◌≡◌, ◌<◌, ◌≤◌, ◌∷◌, IsTrue}
 use Rattle.std.specs.List.{list_any, range_with_len}
 use Rattle.lis_limits.specs.declared.TheConstants.{MAX_DESCRIPTION}
 use Rattle.lis_ext.specs.Ext.{set_of as numbers_at}
