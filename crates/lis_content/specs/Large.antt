@@ -2,7 +2,7 @@
 -- of that index block alone.
 use Rattle.std.specs.Prelude.{◌≡◌, ℕ, ◌+◌, ◌*◌, nat_lt, Bool, true, if◌then◌else◌, List, ◌++◌, map, drop, replicate, slice_index}
 use Rattle.std.specs.List.{flat_map, range_with_len}
-use Rattle.lis_limits.specs.declared.TheConstants.{BLOCK_LEN}
+use Rattle.lis_limits.specs.declared.TheConstants.{BLOCK_LEN, SLOT_BLOCKS}
 use Rattle.byteorder.specs.Endian.{little_bytes, little_number}
 use Rattle.lis_model.specs.State.{blocks_needed}
 use Rattle.lis_words.specs.Bytes.{padded}
@@ -10,7 +10,7 @@ use Rattle.lis_content.specs.Content.{content}
 
 -- so many bytes take more blocks than a slot numbers
 abbrev pub is_large : ℕ → Bool
-is_large size = nat_lt 16 (blocks_needed size)
+is_large size = nat_lt SLOT_BLOCKS (blocks_needed size)
 
 -- how many numbers a slot has for so many bytes
 abbrev pub slot_count : ℕ → ℕ

@@ -16,7 +16,7 @@ use crate::fault::PutFault;
 use arrayvec::ArrayVec;
 use lis_blockmap::BlockMap;
 use lis_journal::Journal;
-use lis_limits::{BLOCK_LEN, MAX_FILE};
+use lis_limits::{BLOCK_LEN, MAX_FILE, SLOT_BLOCKS};
 use lis_ports::{Disk, Failed};
 
 /// Gives the old blocks back, and stages the bytes in blocks that it takes. Whole blocks are staged, so the disk is not
@@ -36,7 +36,7 @@ pub fn put<D: Disk>(
     requires within { base + length map.old ≤ journal.old.layout.blocks }
     requires usable { JournalIsUsable journal.old (D.meaning disk.old) }
     requires unplaced { journal.old.placed ≡ [] }
-    requires room { length journal.old.staged + 16 ≤ journal.old.capacity.staged }
+    requires room { length journal.old.staged + SLOT_BLOCKS ≤ journal.old.capacity.staged }
     ensures ended { MatchResult result
         (λ blocks. IsPut base old.now bytes.now map.old map.new journal.old journal.new blocks.items)
         (λ fault. IsRefused old.now bytes.now map.old map.new journal.old journal.new fault) }
@@ -63,7 +63,7 @@ fn stage_bytes(
     requires within { base + length map.old ≤ journal.old.layout.blocks }
     requires unbroken { journal.old.is_broken ≡ false }
     requires unplaced { journal.old.placed ≡ [] }
-    requires room { length journal.old.staged + 16 ≤ journal.old.capacity.staged }
+    requires room { length journal.old.staged + SLOT_BLOCKS ≤ journal.old.capacity.staged }
     ensures { IsPut base [] bytes.now map.old map.new journal.old journal.new result.items }
 {
     let mut taken = ArrayVec::new();

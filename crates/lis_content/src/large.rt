@@ -16,11 +16,8 @@ use arrayvec::ArrayVec;
 use byteorder::{ByteOrder, LittleEndian};
 use lis_blockmap::BlockMap;
 use lis_journal::Journal;
-use lis_limits::{BLOCK_LEN, MAX_FILE_BLOCKS, MAX_LARGE_FILE};
+use lis_limits::{BLOCK_LEN, MAX_FILE_BLOCKS, MAX_LARGE_FILE, SLOT_BLOCKS};
 use lis_ports::{Disk, Failed};
-
-/// How many numbers of blocks a slot has.
-const SLOT_BLOCKS: u32 = 16;
 
 /// Where the content of a file lies: the first data block of the image, the numbers in the file's slot, and how many bytes it has.
 #[derive(Clone, Copy)]

@@ -20,7 +20,7 @@ use arrayvec::ArrayVec;
 use byteorder::{ByteOrder, LittleEndian};
 use lis_blockmap::BlockMap;
 use lis_journal::Journal;
-use lis_limits::{BLOCK_BITS, BLOCK_LEN, MAX_FILE_BLOCKS, MAX_LARGE_FILE, NUMBERS};
+use lis_limits::{BLOCK_BITS, BLOCK_LEN, MAX_FILE_BLOCKS, MAX_LARGE_FILE, NUMBERS, SLOT_BLOCKS};
 use lis_ports::{Disk, Failed};
 
 // Blocks that stand in a row.
@@ -202,7 +202,7 @@ fn place_index<D: Disk>(
 
 // The numbers, as a slot has them.
 fn slot_of(numbers: &[u16]) -> ArrayVec<u16, 16>
-    requires { length numbers.now ≤ 16 }
+    requires { length numbers.now ≤ SLOT_BLOCKS }
     ensures { result.items ≡ numbers.now }
 {
     let mut slot = ArrayVec::new();

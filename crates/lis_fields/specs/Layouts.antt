@@ -2,7 +2,7 @@
 use Rattle.std.specs.Prelude.{◌*◌, ◌≡◌, ℕ, ◌+◌, ◌-◌, ◌^◌, ◌==◌, nat_lt, nat_le, Bool, true, not, ◌&&◌, ◌||◌, if◌then◌else◌, List, [], ◌∷◌, ◌++◌, length, replicate, codes}
 use Rattle.std.specs.List.{flat_map}
 use Rattle.std.specs.Ordering.{nat_cmp}
-use Rattle.lis_limits.specs.declared.TheConstants.{BLOCK_LEN, FILE_LEN}
+use Rattle.lis_limits.specs.declared.TheConstants.{BLOCK_LEN, FILE_LEN, MAX_ASSIGNED, MAX_WORD, PROP_LEN, SLOT_BLOCKS}
 use Rattle.byteorder.specs.Endian.{little_bytes}
 use Rattle.lis_graph.specs.Graph.{is_rising}
 use Rattle.lis_words.specs.Bytes.{padded}
@@ -24,7 +24,7 @@ zeros n = replicate n 0
 
 -- a text of at most 60 bytes behind its length
 abbrev pub text_bytes : List ℕ → List ℕ
-text_bytes text = length text ∷ padded 60 text
+text_bytes text = length text ∷ padded MAX_WORD text
 
 -- how a super block begins: its name, and a 1 in both versions
 abbrev pub super_start : List ℕ
@@ -63,7 +63,7 @@ named kind word = kind ∷ text_bytes word ++ zeros 2
 
 -- a property slot: kind 1 is a word that is known and not declared, kind 2 a declared one
 unfoldable pub prop_bytes : PropSlot → List ℕ
-prop_bytes FreeProp = zeros 64
+prop_bytes FreeProp = zeros PROP_LEN
 prop_bytes (Known word) = named 1 word
 prop_bytes (Declared word) = named 2 word
 
@@ -107,12 +107,12 @@ file_bytes (Used rec) = record_bytes rec
 
 -- at most 16 slot numbers, strictly rising
 abbrev pub are_tags : List ℕ → Bool
-are_tags tags = nat_le (length tags) 16 && are_short tags && is_rising nat_cmp tags
+are_tags tags = nat_le (length tags) MAX_ASSIGNED && are_short tags && is_rising nat_cmp tags
 
 -- How many block numbers the slot of a file of that version and size has: as many as the content has blocks. Where these are more than 16,
 -- which version 2 alone has, it is one, that of the block that numbers them.
 abbrev pub slot_blocks : ℕ → ℕ → ℕ
-slot_blocks version size = if (version == 2) && nat_lt 16 (blocks_needed size) then 1 else blocks_needed size
+slot_blocks version size = if (version == 2) && nat_lt SLOT_BLOCKS (blocks_needed size) then 1 else blocks_needed size
 
 -- as many block numbers as a slot has, none of them twice
 abbrev pub are_blocks : ℕ → ℕ → List ℕ → Bool

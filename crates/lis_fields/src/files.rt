@@ -17,14 +17,11 @@ use crate::fields::{
 };
 use crate::slots::{FileRec, FileSlot};
 use arrayvec::ArrayVec;
-use lis_limits::{BLOCK_LEN, FILE_LEN, MAX_FILE, MAX_LARGE_FILE};
+use lis_limits::{BLOCK_LEN, FILE_LEN, MAX_FILE, MAX_LARGE_FILE, SLOT_BLOCKS};
 use lis_words::{Name, read_name};
 
 /// How many bytes stand before the size.
 const START_LEN: usize = 64;
-
-/// The most block numbers of a slot.
-const SLOT_BLOCKS: u32 = 16;
 
 /// How many bytes a file of the version may have.
 fn file_limit(version: u32) -> u32
@@ -81,7 +78,7 @@ fn are_distinct(numbers: &[u16]) -> bool
 
 /// The name, and how many words the file was given.
 fn read_start(bytes: &[u8]) -> Option<(Name, u8)>
-    requires { length bytes.now ≡ 64 }
+    requires { length bytes.now ≡ START_LEN }
     ensures spelled { IfSome result (λ found. IsTrue (is_file_name found.0) × (bytes.now ≡ file_start found.0 found.1)) }
     ensures same { (name : List ℕ) (count : ℕ) → IsTrue (is_file_name name) → bytes.now ≡ file_start name count
         → result ≡ Some (name, count) }
@@ -143,11 +140,11 @@ fn cut(bytes: &[u8]) -> FileFields<'_>
     requires { length bytes.now ≡ FILE_LEN }
     ensures whole { bytes.now
         ≡ result.start.now ++ (result.size.now ++ (result.tags.now ++ (result.block_numbers.now ++ result.end.now))) }
-    ensures start_len { length result.start.now ≡ 64 }
+    ensures start_len { length result.start.now ≡ START_LEN }
     ensures size_len { length result.size.now ≡ 4 }
     ensures tags_len { length result.tags.now ≡ 32 }
     ensures blocks_len { length result.block_numbers.now ≡ 32 }
-    ensures end_len { length result.end.now ≡ FILE_LEN - (64 + 4 + 2 * 32) }
+    ensures end_len { length result.end.now ≡ FILE_LEN - (START_LEN + 4 + 2 * 32) }
 {
     let (start, rest) = bytes.split_at(START_LEN);
     let (size, rest) = rest.split_at(4);
@@ -204,7 +201,7 @@ pub fn read_file(bytes: &[u8], version: u32) -> Option<FileSlot>
 }
 
 fn write_start(name: &Name, count: u8, bytes: &mut [u8])
-    requires { length bytes.old ≡ 64 }
+    requires { length bytes.old ≡ START_LEN }
     ensures { bytes.new ≡ file_start name.now count }
 {
     let (kind, rest) = bytes.split_at_mut(1);

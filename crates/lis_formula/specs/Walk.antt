@@ -1,5 +1,6 @@
 -- The machine of the grammar with signs and nodes in place of trees: what the reader keeps.
 use Rattle.std.specs.Prelude.{ℕ, ◌==◌, nat_lt, Bool, true, false, if◌then◌else◌, Option, Some, None, option_map, option_and_then, List, [], ◌∷◌, ◌++◌, length, take}
+use Rattle.lis_limits.specs.declared.TheConstants.{MAX_NODES}
 use Rattle.lis_words.specs.Bytes.{bar_byte}
 use Rattle.lis_grammar.specs.Machine.{is_joint, is_operand_front}
 use Rattle.lis_place.specs.declared.node.Node.{Node}
@@ -13,7 +14,7 @@ use Rattle.lis_formula.specs.Operands.{operand_node}
 
 -- what is kept of so many nodes
 abbrev pub first_64 : List Node → Kept
-first_64 nodes = record { nodes = record { items = take 64 nodes }; over = nat_lt 64 (length nodes) }
+first_64 nodes = record { nodes = record { items = take MAX_NODES nodes }; over = nat_lt MAX_NODES (length nodes) }
 
 abbrev pub no_nodes : Kept
 no_nodes = record { nodes = record { items = [] }; over = false }

@@ -4,7 +4,7 @@ ghost use Rattle.std.specs.Prelude.{◌≡◌, ◌+◌, ◌<◌, ◌≤◌, [], 
 ghost use Rattle.lis_formula.specs.Pieces.{stacked_text, with_front, with_end, with_joint};
 
 use arrayvec::ArrayVec;
-use lis_limits::MAX_FORMULA;
+use lis_limits::{MAX_FORMULA, MAX_NODES};
 use lis_place::Text;
 use std::marker::Model;
 
@@ -46,7 +46,7 @@ impl Pieces {
     /// Puts a text on the stack.
     pub fn push(&mut self, bytes: &[u8])
         requires room { length (stacked_text self.old) + length bytes.now ≤ MAX_FORMULA }
-        requires place { length self.old < 64 }
+        requires place { length self.old < MAX_NODES }
         ensures text { self.new ≡ bytes.now ∷ self.old }
         ensures bytes { length (stacked_text self.new) ≡ length (stacked_text self.old) + length bytes.now }
     {

@@ -8,13 +8,13 @@ ghost use Rattle.lis_formula.specs.Printer.{node_bytes, all_bytes, wrapped, with
 
 use crate::pieces::Pieces;
 use itoa::Buffer;
-use lis_limits::MAX_FORMULA;
+use lis_limits::{MAX_FORMULA, MAX_NODES};
 use lis_place::{Node, Place, Text};
 
 fn put_test(pieces: &mut Pieces, sign: &[u8], number: u64)
     requires room { length (stacked_text pieces.old) + length sign.now + length (decimal number)
         ≤ MAX_FORMULA }
-    requires place { length pieces.old < 64 }
+    requires place { length pieces.old < MAX_NODES }
     ensures text { pieces.new ≡ (sign.now ++ decimal number) ∷ pieces.old }
     ensures bytes { length (stacked_text pieces.new)
         ≤ length (stacked_text pieces.old) + length sign.now + length (decimal number) }
@@ -39,7 +39,7 @@ fn wrap(pieces: &mut Pieces, sign: u8)
 
 fn put(pieces: &mut Pieces, node: &Node)
     requires room { length (stacked_text pieces.old) + node_bytes node.now ≤ MAX_FORMULA }
-    requires place { length pieces.old < 64 }
+    requires place { length pieces.old < MAX_NODES }
     ensures text { pieces.new ≡ with_text pieces.old node.now }
     ensures bytes { length (stacked_text pieces.new) ≤ length (stacked_text pieces.old) + node_bytes node.now }
     ensures count { length pieces.new ≤ length pieces.old + 1 }
@@ -56,7 +56,7 @@ fn put(pieces: &mut Pieces, node: &Node)
 
 /// A text for each tree of the nodes.
 fn put_all(nodes: &[Node]) -> Pieces
-    requires few { length nodes.now ≤ 64 }
+    requires few { length nodes.now ≤ MAX_NODES }
     requires bytes { all_bytes nodes.now ≤ MAX_FORMULA }
     ensures { result ≡ fold with_text [] nodes.now }
 {

@@ -1,7 +1,7 @@
 -- Places, which are lists of steps within limits, and what a text makes of a place.
 use Rattle.std.specs.Prelude.{ℕ, ◌+◌, ◌-◌, ◌^◌, ◌<◌, ◌≤◌, nat_lt, nat_le, Bool, ◌&&◌, if◌then◌else◌, Option, Some, None, List, [], ◌∷◌, ◌++◌, length, sum_by, codes, IsTrue}
 use Rattle.std.specs.List.{list_all}
-use Rattle.lis_limits.specs.declared.TheConstants.{MAX_NODES, MAX_FORMULA}
+use Rattle.lis_limits.specs.declared.TheConstants.{MAX_FORMULA, MAX_NODES}
 use Rattle.lis_words.specs.Words.{is_word, same_word}
 use Rattle.lis_grammar.specs.Formula.{Formula, steps_words}
 use Rattle.lis_grammar.specs.Formula.Formula.{Has, SizeAtLeast, SizeBelow, Negation, Both, Either}
@@ -36,7 +36,7 @@ AreFit (step ∷ steps) = IsFit step × AreFit steps
 
 -- the steps are a place
 pub record IsPlace (steps : List Formula) : Type 0 where
-  pub nodes : place_nodes steps ≤ 64
+  pub nodes : place_nodes steps ≤ MAX_NODES
   pub bytes : length (printed steps) ≤ MAX_FORMULA
   pub fit : AreFit steps
 

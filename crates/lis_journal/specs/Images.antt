@@ -1,7 +1,7 @@
 -- What an image stands for, outside the gates and the records.
 use Rattle.std.specs.Prelude.{◌≡◌, ◌⊎◌, ℕ, zero, suc, ◌+◌, ◌*◌, ◌<◌, ◌≤◌, ◌==◌, nat_lt, Bool, false, if◌then◌else◌, List, [], ◌∷◌, ◌++◌, length, take, drop, None, IsTrue, IsSomeAnd}
 use Rattle.std.specs.List.{list_any}
-use Rattle.lis_limits.specs.declared.TheConstants.{BLOCK_LEN}
+use Rattle.lis_limits.specs.declared.TheConstants.{BLOCK_LEN, GATES}
 use Rattle.lis_ports.specs.Meaning.{Meaning}
 use Rattle.lis_journal.specs.declared.layout.Layout.{Layout}
 use Rattle.lis_journal.specs.Record.{homes_start, block, is_open, HomeBlock, behind, first_bad, all_recorded, replayed}
@@ -59,9 +59,9 @@ pub record Holds (layout : Layout) (records : OpenRecords) (placed : List ℕ) (
 
 -- It holds these records, their gates are open, and all other gates are closed.
 pub record IsAtRest (layout : Layout) (records : OpenRecords) (placed : List ℕ) (kept : ℕ → List ℕ) (image : List ℕ) : Type 0 where
-  pub few : records.count ≤ 64
+  pub few : records.count ≤ GATES
   pub holds : Holds layout records placed kept image
-  pub gates : (k : ℕ) → k < 64 → is_open k image ≡ nat_lt k records.count
+  pub gates : (k : ℕ) → k < GATES → is_open k image ≡ nat_lt k records.count
 
 -- A disk keeps these blocks under these records: it is honest, and it is at rest as it reads, and in each image but for the placed
 -- blocks.

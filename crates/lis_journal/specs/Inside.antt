@@ -1,7 +1,7 @@
 -- How frames make the entries that a contract sees. No public clause cites this module.
 use Rattle.std.specs.Prelude.{◌≡◌, ◌≢◌, ℕ, zero, suc, ◌+◌, ◌*◌, ◌≤◌, ◌<◌, nat_lt, List, [], ◌∷◌, length, map, unwrap_or, IsTrue}
 use Rattle.std.specs.List.{list_all}
-use Rattle.lis_limits.specs.declared.TheConstants.{BLOCK_LEN}
+use Rattle.lis_limits.specs.declared.TheConstants.{BLOCK_LEN, GATES}
 use Rattle.lis_region.specs.Region as region
 use Rattle.lis_journal.specs.declared.stage.Staged.{Staged}
 use Rattle.lis_journal.specs.declared.layout.Layout.{Layout}
@@ -63,7 +63,7 @@ pub record Log : Type 0 where
 -- Each record takes a block more than it has contents, or more. So many blocks as all records can have contents can be in memory.
 pub record IsLog (log : Log) (capacity : ℕ) : Type 0 where
   pub enough : homes_start log.layout < log.layout.blocks
-  pub few : log.records.count ≤ 64
+  pub few : log.records.count ≤ GATES
   pub fits : log.records.next ≤ homes_start log.layout
   pub room : length log.records.latest + log.records.count + 2 ≤ log.records.next
   pub none : log.records.count ≡ 0 → log.records.next ≤ 2

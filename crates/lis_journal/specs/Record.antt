@@ -10,10 +10,6 @@ use Rattle.lis_journal.specs.declared.layout.Layout.{Layout}
 abbrev pub homes_start : Layout → ℕ
 homes_start layout = layout.records + 2
 
--- how many records are open at most
-abbrev pub max_open : ℕ
-max_open = 64
-
 abbrev pub block : ℕ → List ℕ → List ℕ
 block n image = part (BLOCK_LEN * n) BLOCK_LEN image
 

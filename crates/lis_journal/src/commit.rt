@@ -17,10 +17,7 @@ use lis_limits::{BLOCK_LEN, GATES};
 use lis_ports::{Disk, Failed};
 
 /// Where the gates are, a byte each.
-pub const GATES_AT: u64 = 4_096;
-
-/// How many records are open at most.
-pub const MAX_OPEN: u32 = 64;
+pub const GATES_AT: u64 = BLOCK_LEN as u64;
 
 const CLOSED: u8 = 0;
 
@@ -84,7 +81,7 @@ fn write_synced<D: Disk>(disk: &mut D, stage: &Stage, target: Target) -> Result<
 
 // Writes a gate, in a write of its own, and syncs.
 fn write_gate<D: Disk>(disk: &mut D, gate: u32, value: u8) -> Result<(), Failed>
-    requires gate { gate < 64 }
+    requires gate { gate < GATES }
     requires long { 2 * BLOCK_LEN ≤ (D.meaning disk.old).len }
     ensures disk { UsesDisk (D.meaning disk.old) (D.meaning disk.new) result }
     ensures spreads { IsTrue (D.meaning disk.old).is_honest
@@ -145,7 +142,7 @@ pub fn append<D: Disk>(
     requires header { length header.now ≡ BLOCK_LEN * header_blocks (length stage.now.entries) }
     requires form { IsTrue (is_header stage.now.layout header.now) }
     requires homes { homes_of header.now ≡ homes stage.now.entries }
-    requires few { count < 64 }
+    requires few { count < GATES }
     requires room { next + record_len (length stage.now.entries) ≤ homes_start stage.now.layout }
     ensures disk { UsesDisk (D.meaning disk.old) (D.meaning disk.new) result }
     ensures any_moment { (latest : List HomeBlock) (placed : List ℕ) (kept : ℕ → List ℕ)

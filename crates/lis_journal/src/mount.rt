@@ -13,17 +13,17 @@ use crate::commit::{GATES_AT, checkpoint, close_others};
 use crate::header::{has_end, header_blocks, header_len, is_header, record_len, word};
 use crate::records::FIRST_RECORD;
 use crate::stage::Stage;
-use lis_limits::BLOCK_LEN;
+use lis_limits::{BLOCK_LEN, GATES};
 use lis_ports::{Disk, Failed};
 
 // Reads all gates.
-fn read_gates<D: Disk>(disk: &mut D) -> Result<[u8; 64], Failed>
+fn read_gates<D: Disk>(disk: &mut D) -> Result<[u8; GATES as usize], Failed>
     requires { 2 * BLOCK_LEN ≤ (D.meaning disk.old).len }
     ensures disk { UsesDisk (D.meaning disk.old) (D.meaning disk.new) result }
     ensures quiet { IsTrue (D.meaning disk.old).is_honest → IsQuiet (D.meaning disk.old) (D.meaning disk.new) }
     ensures gates { IfOk result (λ found. IsTrue (D.meaning disk.old).is_honest → found ≡ gates (D.meaning disk.old).bytes) }
 {
-    let mut gates = [0; 64];
+    let mut gates = [0; GATES as usize];
     disk.read_at(GATES_AT, &mut gates)?;
     Ok(gates)
 }
@@ -37,9 +37,9 @@ fn is_any_open(gates: &[u8]) -> bool
 
 // How many gates are open before the first closed one.
 fn count_open(gates: &[u8]) -> u32
-    requires { length gates.now ≡ 64 }
+    requires { length gates.now ≡ GATES }
     ensures count { result ≡ prefix_len (λ gate. gate == 1) gates.now }
-    ensures few { result ≤ 64 }
+    ensures few { result ≤ GATES }
 {
     let mut count = 0;
     for gate in gates {

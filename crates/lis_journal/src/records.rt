@@ -10,10 +10,10 @@ ghost use Rattle.lis_journal.specs.Spreads.{Spreads, SamePast};
 ghost use Rattle.lis_journal.specs.Staging.{IsStaging, has_entry, HasNone};
 ghost use Rattle.lis_journal.specs.Phases.{Absorbs, looked};
 
-use crate::commit::{MAX_OPEN, append, checkpoint};
+use crate::commit::{append, checkpoint};
 use crate::header::{has_end, record_len};
 use crate::stage::Stage;
-use lis_limits::BLOCK_LEN;
+use lis_limits::{BLOCK_LEN, GATES};
 use lis_ports::{Disk, Failed};
 use std::marker::Model;
 
@@ -97,10 +97,10 @@ impl Records {
     // Whether there is room for a record more of so many blocks. There always is where no record is open.
     fn has_room(&self, blocks: usize) -> bool
         requires { record_len blocks ≤ self.now.layout.records }
-        ensures room { IsTrue result → (self.now.records.count < 64) × (self.now.records.next + record_len blocks ≤ homes_start self.now.layout) }
+        ensures room { IsTrue result → (self.now.records.count < GATES) × (self.now.records.next + record_len blocks ≤ homes_start self.now.layout) }
         ensures full { result ≡ false → 0 < self.now.records.count }
     {
-        if self.count == MAX_OPEN {
+        if self.count == GATES {
             return false;
         }
         let layout = self.latest.layout();
@@ -143,7 +143,7 @@ impl Records {
             → FitsAt self.new.layout self.new.records placed (D.meaning disk.new) kept) }
         ensures past { IsTrue (D.meaning disk.old).is_honest
             → Spreads (D.meaning disk.old) (D.meaning disk.new) (SamePast self.old.layout.blocks) }
-        ensures room { OnOk result ((self.new.records.count < 64) × (self.new.records.next + record_len blocks ≤ homes_start self.new.layout)) }
+        ensures room { OnOk result ((self.new.records.count < GATES) × (self.new.records.next + record_len blocks ≤ homes_start self.new.layout)) }
         ensures layout { self.new.layout ≡ self.old.layout }
     {
         if self.has_room(blocks) {
@@ -160,7 +160,7 @@ impl Records {
         requires header { length header.now ≡ BLOCK_LEN * header_blocks (length stage.now.entries) }
         requires form { IsTrue (is_header stage.now.layout header.now) }
         requires homes { homes_of header.now ≡ homes stage.now.entries }
-        requires few { self.old.records.count < 64 }
+        requires few { self.old.records.count < GATES }
         requires room { self.old.records.next + record_len (length stage.now.entries) ≤ homes_start self.old.layout }
         ensures disk { UsesDisk (D.meaning disk.old) (D.meaning disk.new) result }
         ensures any_moment { (placed : List ℕ) (kept : ℕ → List ℕ)

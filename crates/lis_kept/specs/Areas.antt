@@ -1,6 +1,6 @@
 -- The parts of an image that memory spells, and the blocks that are yet to be written.
 use Rattle.std.specs.Prelude.{◌-◌, ◌≡◌, ℕ, ◌+◌, ◌*◌, ◌/◌, ◌<◌, false, Bool, List, count_by}
-use Rattle.lis_limits.specs.declared.TheConstants.{BLOCK_LEN, BLOCK_BITS, FILE_LEN, AXIOMS_PER_BLOCK}
+use Rattle.lis_limits.specs.declared.TheConstants.{AXIOMS_PER_BLOCK, AXIOM_LEN, BLOCK_BITS, BLOCK_LEN, FILE_LEN, PROP_LEN}
 use Rattle.lis_slots.specs.Slots.{Slots, slot, home}
 use Rattle.lis_blockmap.specs.Bitmap.{is_taken, bitmap_bytes}
 use Rattle.lis_kept.specs.Rows.{row_bytes}
@@ -17,11 +17,11 @@ pub data Area : Type 0 where
   Bitmap : Area
 
 abbrev pub property_slots : Limits → Slots
-property_slots limits = record { first = properties_start; count = limits.props; width = 64 }
+property_slots limits = record { first = properties_start; count = limits.props; width = PROP_LEN }
 
 -- slots of whole blocks: those past the last number stay free
 abbrev pub axiom_slots : Limits → Slots
-axiom_slots limits = record { first = axioms_start limits; count = AXIOMS_PER_BLOCK * ((limits.props + (AXIOMS_PER_BLOCK - 1)) / AXIOMS_PER_BLOCK); width = 8 }
+axiom_slots limits = record { first = axioms_start limits; count = AXIOMS_PER_BLOCK * ((limits.props + (AXIOMS_PER_BLOCK - 1)) / AXIOMS_PER_BLOCK); width = AXIOM_LEN }
 
 abbrev pub file_slots : Limits → Slots
 file_slots limits = record { first = files_start limits; count = limits.files; width = FILE_LEN }

@@ -6,6 +6,7 @@ use Rattle.lis_ports.specs.Runs.{Leaves}
 use Rattle.lis_journal.specs.Images.{StandsBut, Fits, KeepsPast, is_among, look}
 use Rattle.lis_journal.specs.Phases.{looked}
 use Rattle.std.specs.List.{list_all}
+use Rattle.lis_limits.specs.declared.TheConstants.{SLOT_BLOCKS}
 use Rattle.lis_content.specs.Content.{given, marked, are_free, has_home}
 use Rattle.lis_content.specs.Large.{is_large}
 use Rattle.lis_content.specs.Placing.{homes_of, HasFile}
@@ -140,7 +141,7 @@ pub record Puts (bytes numbers : List ℕ) (p q : Kept) (old new : Held) (before
   pub image : shape_of new ≡ shape_of old
   pub broken : new.is_broken ≡ old.is_broken
   pub placed : (n : ℕ) → is_among new.placed n ≡ true → has_home (data_start p.limits) blocks n ≡ true
-  pub few_staged : length new.staged ≤ length old.staged + 16
+  pub few_staged : length new.staged ≤ length old.staged + SLOT_BLOCKS
   pub others : (n : ℕ) (was : List ℕ) → has_home (data_start p.limits) blocks n ≡ false → look new.staged n was ≡ look old.staged n was
   pub lands : (kept : ℕ → List ℕ) → Fits old before kept → Lands p.limits bytes numbers blocks (looked old.staged kept) new after
   pub stays : (kept : ℕ → List ℕ) (fits : Fits old before kept) (n : ℕ) → is_among new.placed n ≡ false → (lands kept fits).kept n ≡ kept n

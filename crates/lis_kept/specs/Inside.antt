@@ -1,6 +1,6 @@
 -- How one block is spelled and staged. No public clause cites this module.
 use Rattle.std.specs.Prelude.{◌≡◌, ◌≢◌, ◌⊎◌, ℕ, ◌+◌, ◌<◌, ◌≤◌, Bool, true, false, List, length, take, count_by, IsSome}
-use Rattle.lis_limits.specs.declared.TheConstants.{FILE_LEN, NUMBERS}
+use Rattle.lis_limits.specs.declared.TheConstants.{FILE_LEN, NUMBERS, PROP_LEN}
 use Rattle.lis_ports.specs.Bytes.{part}
 use Rattle.lis_journal.specs.Journal.{Held, shape_of}
 use Rattle.lis_journal.specs.Images.{look}
@@ -15,7 +15,7 @@ use Rattle.lis_kept.specs.Areas.Area.{Properties, Axioms, Files, Rows, Bitmap}
 
 -- the bytes of a slot in its block; the bitmap is the whole block
 abbrev pub bytes_in : Limits → Area → ℕ → List ℕ → List ℕ
-bytes_in limits Properties m block = part (place (property_slots limits) m) 64 block
+bytes_in limits Properties m block = part (place (property_slots limits) m) PROP_LEN block
 bytes_in limits Axioms m block = part (place (axiom_slots limits) m) 8 block
 bytes_in limits Files m block = part (place (file_slots limits) m) FILE_LEN block
 bytes_in limits Rows m block = part (place (row_slots limits) m) (row_slots limits).width block

@@ -18,11 +18,10 @@ mod blocks;
 
 use crate::parts::Parts;
 use crate::places::{files_start, rows_start};
-use crate::spelling::FILES_PER_BLOCK;
 use lis_bits::Flags;
 use lis_ext::Ext;
 use lis_fields::FileRec;
-use lis_limits::BLOCK_LEN;
+use lis_limits::{BLOCK_LEN, FILES_PER_BLOCK};
 use lis_model::limits::Limits;
 
 // Marks the blocks of the rows that changed.

@@ -8,9 +8,7 @@ ghost use Rattle.lis_kept.specs.Image.{image_shape};
 
 use crate::places::{axioms_start, bitmap_start, data_start, files_start, rows_start};
 use crate::rows::write_rows;
-use crate::spelling::{
-    FILES_PER_BLOCK, PROPERTIES_PER_BLOCK, write_axioms, write_files, write_properties,
-};
+use crate::spelling::{write_axioms, write_files, write_properties};
 use lis_bits::Flags;
 use lis_blockmap::BlockMap;
 use lis_catalog::Catalog;
@@ -18,7 +16,9 @@ use lis_dict::Dict;
 use lis_ext::Ext;
 use lis_fields::AxiomSlot;
 use lis_journal::Journal;
-use lis_limits::{AXIOMS_PER_BLOCK, BLOCK_LEN, PROPERTIES_START};
+use lis_limits::{
+    AXIOMS_PER_BLOCK, BLOCK_LEN, FILES_PER_BLOCK, PROPERTIES_PER_BLOCK, PROPERTIES_START,
+};
 use lis_model::limits::Limits;
 use lis_taxonomy::Taxonomy;
 use std::marker::Model;

@@ -14,6 +14,7 @@ use crate::parts::Parts;
 use lis_blockmap::BlockMap;
 use lis_ext::Ext;
 use lis_fields::FileRec;
+use lis_limits::MAX_ASSIGNED;
 use lis_taxonomy::Taxonomy;
 use lis_words::{Name, Word};
 
@@ -113,7 +114,7 @@ impl Parts {
     pub fn taken_blocks(&self, slot: u16) -> usize
         requires { IsSome (rec_at self.now.catalog slot) }
         ensures taken { (rec : FileRecord) → rec_at self.now.catalog slot ≡ Some rec → result ≡ length (filter (is_taken self.now.taken) rec.blocks) }
-        ensures few { result ≤ 16 }
+        ensures few { result ≤ MAX_ASSIGNED }
     {
         let Some(rec) = self.catalog.rec(slot) else {
             unreachable!()

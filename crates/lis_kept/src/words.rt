@@ -23,14 +23,13 @@ mod undeclaring;
 mod without;
 
 use crate::parts::Parts;
-use crate::spelling::PROPERTIES_PER_BLOCK;
 use crate::test_edges::{link_stronger, link_weaker};
 use crate::words::without::is_had_without;
 use lis_bits::Flags;
 use lis_dict::Dict;
 use lis_ext::Ext;
 use lis_fields::AxiomSlot;
-use lis_limits::PROPERTIES_START;
+use lis_limits::{PROPERTIES_PER_BLOCK, PROPERTIES_START};
 use lis_model::limits::Limits;
 use lis_taxonomy::Taxonomy;
 use lis_words::{Word, head_of, is_valued};

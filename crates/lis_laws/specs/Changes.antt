@@ -1,7 +1,7 @@
 -- What must hold of a change so that it keeps a state well formed.
 use Rattle.std.specs.Prelude.{ℕ, ◌+◌, ◌<◌, ◌≤◌, nat_le, not, ◌&&◌, List, length, IsTrue}
 use Rattle.std.specs.List.{list_all, Contains}
-use Rattle.lis_limits.specs.declared.TheConstants.{MAX_DESCRIPTION}
+use Rattle.lis_limits.specs.declared.TheConstants.{MAX_ASSIGNED, MAX_DESCRIPTION}
 use Rattle.lis_words.specs.Words.{word_cmp, has_word, is_plain_word, is_file_name}
 use Rattle.lis_graph.specs.Graph.{is_rising}
 use Rattle.lis_model.specs.State.{State, File, WellFormed, up, description, known, is_declarable, is_assignable, is_nameable, file_limit, blocks_taken, used_blocks}
@@ -29,7 +29,7 @@ pub record FileFits (s : State) (file : File) : Type 0 where
   pub name : IsTrue (is_file_name file.name)
   pub assigned_set : IsTrue (is_rising word_cmp file.assigned)
   pub assigned : IsTrue (list_all (is_assignable s.declared) file.assigned)
-  pub few_assigned : length file.assigned ≤ 16
+  pub few_assigned : length file.assigned ≤ MAX_ASSIGNED
   pub few_words : length (description s file) ≤ MAX_DESCRIPTION
   pub short : length file.bytes ≤ file_limit s.limits.version
   pub few_files : length s.files < s.limits.files
@@ -41,7 +41,7 @@ pub record FileReplaces (s : State) (old new : File) : Type 0 where
   pub name : IsTrue (is_file_name new.name)
   pub assigned_set : IsTrue (is_rising word_cmp new.assigned)
   pub assigned : IsTrue (list_all (is_assignable s.declared) new.assigned)
-  pub few_assigned : length new.assigned ≤ 16
+  pub few_assigned : length new.assigned ≤ MAX_ASSIGNED
   pub few_words : length (description s new) ≤ MAX_DESCRIPTION
   pub short : length new.bytes ≤ file_limit s.limits.version
   pub few_known : length (known (file_replaced s old.name new)) ≤ s.limits.props

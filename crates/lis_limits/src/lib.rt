@@ -84,3 +84,18 @@ pub const MAX_VIEW: u32 = 8_388_608;
 
 /// The most words that a file is given.
 pub const MAX_ASSIGNED: usize = 16;
+
+/// The most words that are derived from one file.
+pub const MAX_DERIVED: usize = 48;
+
+/// The most bytes of a word, and of the name of a file.
+pub const MAX_WORD: usize = 60;
+
+/// The most blocks of a content whose numbers are in the slot of its file. A larger one has an index block.
+pub const SLOT_BLOCKS: u32 = 16;
+
+/// How many words have their slots in one block.
+pub const PROPERTIES_PER_BLOCK: u16 = 64;
+
+/// How many files have their slots in one block.
+pub const FILES_PER_BLOCK: u16 = 16;

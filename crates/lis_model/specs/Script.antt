@@ -2,7 +2,7 @@
 use Rattle.std.specs.Prelude.{ℕ, nat_lt, nat_le, zero, suc, Bool, false, true, ◌&&◌, ◌||◌, if◌then◌else◌, Option, Some, None, Result, Ok, Err, List, [], ◌∷◌, ◌++◌, length, take, drop, filter, codes}
 use Rattle.std.specs.Option.{option_to_list}
 use Rattle.std.specs.List.{list_any, list_all}
-use Rattle.lis_limits.specs.declared.TheConstants.{MAX_LINE, MAX_PAYLOAD}
+use Rattle.lis_limits.specs.declared.TheConstants.{MAX_ASSIGNED, MAX_LINE, MAX_PAYLOAD}
 use Rattle.lis_words.specs.Bytes.{is_feed, is_blank, is_some_bytes, without_return}
 use Rattle.lis_words.specs.Words.{same_word, is_property, is_file_name, is_count, count_of}
 use Rattle.lis_model.specs.declared.refusal.Refusal.{Refusal}
@@ -52,7 +52,7 @@ any_word word = true
 -- words that a file is to be given: at most 16 in one line
 abbrev pub tags_form : List (List ℕ) → Result (List (List ℕ)) Refusal
 tags_form words =
-    if list_all is_property words then (if nat_lt 16 (length words) then Err TooManyAssigned else Ok words) else Err BadLine
+    if list_all is_property words then (if nat_lt MAX_ASSIGNED (length words) then Err TooManyAssigned else Ok words) else Err BadLine
 
 abbrev pub with_tags : (List (List ℕ) → Item) → Result (List (List ℕ)) Refusal → Item
 with_tags item (Ok words) = item words

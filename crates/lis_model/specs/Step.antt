@@ -2,7 +2,7 @@
 -- the state that it would give are told of `made`.
 use Rattle.std.specs.Prelude.{ℕ, ◌+◌, ◌-◌, ◌==◌, nat_lt, nat_le, Bool, false, not, ◌&&◌, ◌||◌, if◌then◌else◌, is_some, unwrap_or, option_map, Option, Some, None, List, [], ◌∷◌, ◌++◌, length, map, filter, codes}
 use Rattle.std.specs.List.{list_any, list_all, flat_map}
-use Rattle.lis_limits.specs.declared.TheConstants.{MAX_DESCRIPTION}
+use Rattle.lis_limits.specs.declared.TheConstants.{MAX_ASSIGNED, MAX_DESCRIPTION}
 use Rattle.lis_words.specs.Words.{same_word, has_word, is_plain_word, is_head, is_valued, is_test, is_built_in}
 use Rattle.lis_grammar.specs.Formula.{Formula}
 use Rattle.lis_grammar.specs.Printing.{printed}
@@ -194,7 +194,7 @@ create_checks now words file made =
     ∷ (list_any is_built_in words, BuiltIn)
     ∷ (list_any is_head_or_test words, NotAssignable)
     ∷ (not (list_all (is_assignable now.state.declared) file.assigned), UnknownProperty)
-    ∷ (nat_lt 16 (length file.assigned), TooManyAssigned)
+    ∷ (nat_lt MAX_ASSIGNED (length file.assigned), TooManyAssigned)
     ∷ (nat_le now.state.limits.files (length now.state.files), NoFileRoom)
     ∷ (exceeds_words made, LargeDescription)
     ∷ (exceeds_known made, NoPropertyRoom)
@@ -251,7 +251,7 @@ mv_checks now place words new made =
     ∷ (list_any is_built_in words, BuiltIn)
     ∷ (list_any is_head words, NotAssignable)
     ∷ (not (list_all (is_assignable now.state.declared) (tags_at place)), UnknownProperty)
-    ∷ (nat_lt 16 (length new.assigned), TooManyAssigned)
+    ∷ (nat_lt MAX_ASSIGNED (length new.assigned), TooManyAssigned)
     ∷ room_checks made
 
 abbrev pub mv_with : Situation → List Formula → List (List ℕ) → File → File → Outcome

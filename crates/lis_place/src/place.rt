@@ -46,7 +46,7 @@ pub struct Path {
 
 /// Puts copies of the nodes behind those that are held.
 fn extend(held: &mut ArrayVec<Node, MAX_NODES>, nodes: &[Node])
-    requires { array_vec_len held.old + length nodes.now ≤ 64 }
+    requires { array_vec_len held.old + length nodes.now ≤ MAX_NODES }
     ensures { held.new.items ≡ held.old.items ++ nodes.now }
 {
     for node in nodes {
@@ -68,7 +68,7 @@ fn operands(node: &Node) -> usize
 
 /// Where the last tree of the nodes begins.
 fn last_start(nodes: &[Node]) -> usize
-    requires { length nodes.now ≤ 64 }
+    requires { length nodes.now ≤ MAX_NODES }
     ensures inside { result ≤ length nodes.now }
     ensures before { take result nodes.now ≡ before_last nodes.now }
 {
@@ -110,7 +110,7 @@ impl Place {
     pub fn nodes(&self) -> &[Node]
         ensures nodes { result.now ≡ nodes_of self.now }
         ensures place { IsPlace self.now }
-        ensures few { length result.now ≤ 64 }
+        ensures few { length result.now ≤ MAX_NODES }
     {
         self.nodes.as_slice()
     }

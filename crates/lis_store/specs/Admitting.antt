@@ -1,7 +1,7 @@
 -- What refuses a new file, told by what a store keeps.
 use Rattle.std.specs.Prelude.{◌≡◌, ℕ, ◌≤◌, ◌<◌, nat_lt, nat_le, Bool, not, is_some, None, List, [], ◌∷◌, ◌++◌, length, IsTrue}
 use Rattle.std.specs.List.{list_any, list_all}
-use Rattle.lis_limits.specs.declared.TheConstants.{MAX_DESCRIPTION}
+use Rattle.lis_limits.specs.declared.TheConstants.{MAX_ASSIGNED, MAX_DESCRIPTION}
 use Rattle.lis_graph.specs.Graph.{is_rising}
 use Rattle.lis_blockmap.specs.Bitmap.{free_count}
 use Rattle.lis_dict.specs.Dict.{words}
@@ -36,7 +36,7 @@ named_checks k place words file =
     ∷ (list_any is_built_in words, BuiltIn)
     ∷ (list_any is_head_or_test words, NotAssignable)
     ∷ (not (list_all (is_assignable (declared_of k)) file.assigned), UnknownProperty)
-    ∷ (nat_lt 16 (length file.assigned), TooManyAssigned)
+    ∷ (nat_lt MAX_ASSIGNED (length file.assigned), TooManyAssigned)
     ∷ []
 
 -- whether there is room for the file, and for its words
@@ -62,7 +62,7 @@ pub record IsAdmitted (k : Kept) (draft : Draft) : Type 0 where
   pub new : slot_of k.catalog draft.name ≡ None
   pub set : IsTrue (is_rising word_cmp draft.assigned)
   pub assignable : IsTrue (list_all (is_assignable (declared_of k)) draft.assigned)
-  pub few : length draft.assigned ≤ 16
+  pub few : length draft.assigned ≤ MAX_ASSIGNED
   pub own : IsTrue (list_all is_built_in draft.own)
   pub few_own : length draft.own ≤ MAX_DESCRIPTION
   pub slots : length k.catalog.entries < k.limits.files

@@ -1,6 +1,7 @@
 -- How the contents of files are put on the disk, and given back.
 use Rattle.std.specs.Prelude.{◌≡◌, ℕ, ◌+◌, ◌≤◌, nat_lt, Bool, true, false, Option, None, Some, List, [], length, Result, Ok, Err, IsTrue}
 use Rattle.std.specs.List.{list_all}
+use Rattle.lis_limits.specs.declared.TheConstants.{SLOT_BLOCKS}
 use Rattle.arrayvec.specs.ArrayVec.{ArrayVec}
 use Rattle.lis_ports.specs.Meaning.{Meaning}
 use Rattle.lis_ports.specs.Runs.{Leaves}
@@ -32,7 +33,7 @@ pub record IsReadyForContent (parts : Kept) (journal : Held) (m : Meaning) : Typ
   pub image : shape_of journal ≡ image_shape parts.limits
   pub usable : JournalIsUsable journal m
   pub unplaced : journal.placed ≡ []
-  pub room : length journal.staged + 16 ≤ journal.capacity.staged
+  pub room : length journal.staged + SLOT_BLOCKS ≤ journal.capacity.staged
 
 -- It breaks the store exactly at a fault of the disk, and refuses nothing.
 abbrev pub ContentEnded : {T : Type 0} → Bool → Result T Change → Type 0
@@ -91,7 +92,7 @@ pub record Renews (bytes numbers : List ℕ) (gone : Option FileRecord) (p q : K
   pub below : IsTrue (list_all (λ n. nat_lt n p.limits.blocks) numbers)
   pub image : shape_of new ≡ shape_of old
   pub broken : new.is_broken ≡ old.is_broken
-  pub few_staged : length new.staged ≤ length old.staged + 16
+  pub few_staged : length new.staged ≤ length old.staged + SLOT_BLOCKS
   pub unplaced : is_large (length bytes) ≡ false → new.placed ≡ []
   pub spare : List ℕ
   pub were_free : IsTrue (are_free p.taken spare)

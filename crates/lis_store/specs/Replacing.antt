@@ -1,7 +1,7 @@
 -- A file that takes the place of another.
 use Rattle.std.specs.Prelude.{◌≡◌, ◌≢◌, ℕ, ◌≤◌, Some, None, List, length, map, filter, IsTrue}
 use Rattle.std.specs.List.{list_all}
-use Rattle.lis_limits.specs.declared.TheConstants.{MAX_DESCRIPTION}
+use Rattle.lis_limits.specs.declared.TheConstants.{MAX_ASSIGNED, MAX_DESCRIPTION}
 use Rattle.lis_graph.specs.Graph.{is_rising}
 use Rattle.lis_catalog.specs.Catalog.{rec_at, slot_of}
 use Rattle.lis_fields.specs.Records.{FileRecord}
@@ -29,7 +29,7 @@ pub record MayReplace (k : Kept) (slot : ℕ) (rec : FileRecord) (draft : Draft)
   pub new : draft.name ≢ rec.name → slot_of k.catalog draft.name ≡ None
   pub set : IsTrue (is_rising word_cmp draft.assigned)
   pub assignable : IsTrue (list_all (is_assignable (declared_of k)) draft.assigned)
-  pub few : length draft.assigned ≤ 16
+  pub few : length draft.assigned ≤ MAX_ASSIGNED
   pub own : IsTrue (list_all is_built_in draft.own)
   pub few_own : length draft.own ≤ MAX_DESCRIPTION
   pub short : length (described_by k draft) ≤ MAX_DESCRIPTION

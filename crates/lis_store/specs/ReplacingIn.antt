@@ -3,7 +3,7 @@
 use Rattle.std.specs.Prelude.{◌≡◌, ℕ, ◌<◌, ◌≤◌, Option, None, Some, List, length, IsTrue, IsSomeAnd}
 use Rattle.std.specs.List.{list_all}
 use Rattle.std.specs.List.Sorted.{IsStrictlyIncreasing}
-use Rattle.lis_limits.specs.declared.TheConstants.{MAX_DESCRIPTION}
+use Rattle.lis_limits.specs.declared.TheConstants.{MAX_ASSIGNED, MAX_DESCRIPTION}
 use Rattle.lis_graph.specs.Graph.{is_rising}
 use Rattle.lis_catalog.specs.Catalog.{slot_of, rec_at}
 use Rattle.lis_ext.specs.Ext.{set_of}
@@ -59,7 +59,7 @@ pub record MayComeIn (k : Kept) (draft : Draft) : Type 0 where
   pub new : slot_of k.catalog draft.name ≡ None
   pub set : IsTrue (is_rising word_cmp draft.assigned)
   pub assignable : IsTrue (list_all (is_assignable (declared_of k)) draft.assigned)
-  pub few : length draft.assigned ≤ 16
+  pub few : length draft.assigned ≤ MAX_ASSIGNED
   pub own : IsTrue (list_all is_built_in draft.own)
   pub few_own : length draft.own ≤ MAX_DESCRIPTION
   pub short : length (described_by k draft) ≤ MAX_DESCRIPTION

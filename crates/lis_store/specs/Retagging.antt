@@ -1,6 +1,7 @@
 -- What a file is refused for that would move from one place to another, told by what a store keeps.
 use Rattle.std.specs.Prelude.{ℕ, nat_lt, Bool, not, ◌&&◌, is_some, List, [], ◌∷◌, ◌++◌, length, Result, Ok, Err}
 use Rattle.std.specs.List.{list_any, list_all}
+use Rattle.lis_limits.specs.declared.TheConstants.{MAX_ASSIGNED}
 use Rattle.lis_fields.specs.Records.{FileRecord}
 use Rattle.lis_words.specs.Words.{is_built_in, is_head}
 use Rattle.lis_grammar.specs.Formula.{Formula}
@@ -44,7 +45,7 @@ places_checks k here there words =
 
 -- what a file is refused for in the other place, whatever its bytes are
 abbrev pub moving_checks : Kept → List Formula → List Formula → List (List ℕ) → FileRecord → List (Bool × Refusal)
-moving_checks k here there words rec = places_checks k here there words ++ (nat_lt 16 (length (words_moved k rec here there)), TooManyAssigned) ∷ []
+moving_checks k here there words rec = places_checks k here there words ++ (nat_lt MAX_ASSIGNED (length (words_moved k rec here there)), TooManyAssigned) ∷ []
 
 abbrev pub retag_checks : Kept → List Formula → List Formula → List (List ℕ) → ℕ → FileRecord → Draft → List (Bool × Refusal)
 retag_checks k here there words slot rec draft = moving_checks k here there words rec ++ instead_checks k slot draft

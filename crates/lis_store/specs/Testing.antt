@@ -1,7 +1,7 @@
 -- Tests that are declared and that go: what descriptions gain and lose.
 use Rattle.std.specs.Prelude.{◌-◌, ℕ, ◌==◌, nat_lt, Bool, false, not, ◌&&◌, Option, None, List, [], length, filter, ◌≡◌, ◌<◌, ◌≤◌, ◌∷◌, IsTrue}
 use Rattle.std.specs.List.{list_any, range_with_len}
-use Rattle.lis_limits.specs.declared.TheConstants.{MAX_DESCRIPTION}
+use Rattle.lis_limits.specs.declared.TheConstants.{MAX_DESCRIPTION, MAX_NODES}
 use Rattle.lis_ext.specs.Ext.{set_of as numbers_at}
 use Rattle.lis_words.specs.Words.{test_of}
 use Rattle.lis_kept.specs.Kept.{Kept}
@@ -31,7 +31,7 @@ pub record MayDeclare (k : Kept) (word : List ℕ) (numbers : List ℕ) : Type 0
   pub under : MayStandUnder numbers k
   pub are : AreNumbersOf k (words_told k.dict numbers) numbers
   pub few : has_crowded k (test_of word) numbers ≡ false
-  pub short : length numbers ≤ 64
+  pub short : length numbers ≤ MAX_NODES
 
 -- The description in a slot, where the number is that of a new test: a file that meets it has it, and all that its words entail then.
 abbrev pub tested : Kept → Option (Bool × ℕ) → ℕ → ℕ → List ℕ

@@ -15,7 +15,7 @@ use crate::meeting::leave_out_met;
 use arrayvec::ArrayVec;
 use lis_bits::{Rows, and_not_row};
 use lis_kept::Parts;
-use lis_limits::{MAX_DESCRIPTION, MAX_PROPS};
+use lis_limits::{MAX_ASSIGNED, MAX_DESCRIPTION, MAX_PROPS};
 use lis_words::{Word, head_of};
 
 // Gives the head of a valued word a number if it has none.
@@ -70,7 +70,7 @@ pub(crate) fn numbers_in<const MOST: usize>(row: &Rows, props: u32) -> ArrayVec<
 // The numbers of the words.
 pub(crate) fn numbers_of(parts: &Parts, words: &[Word], row: &mut Rows) -> ArrayVec<u16, 16>
     requires shape { HasShape row.old 1 parts.now.limits.props }
-    requires few { length words.now ≤ 16 }
+    requires few { length words.now ≤ MAX_ASSIGNED }
     ensures numbers { result.items ≡ numbers_named parts.now.dict words.now }
     ensures shape { HasShape row.new 1 parts.now.limits.props }
     ensures sound { AreSound parts.now }

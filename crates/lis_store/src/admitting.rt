@@ -18,7 +18,7 @@ use arrayvec::ArrayVec;
 use lis_derive::derive_words;
 use lis_eval::Scratch;
 use lis_kept::Parts;
-use lis_limits::{BLOCK_LEN, MAX_DESCRIPTION, MAX_FILE, MAX_LARGE_FILE};
+use lis_limits::{BLOCK_LEN, MAX_ASSIGNED, MAX_DESCRIPTION, MAX_FILE, MAX_LARGE_FILE};
 use lis_model::command::Tags;
 use lis_model::refusal::Refusal;
 use lis_place::Place;
@@ -85,7 +85,7 @@ fn may_name(parts: &Parts, place: &Place, file: NewFile) -> Result<ArrayVec<Word
     ensures row { Judges ((nat_lt (file_limit parts.now.limits.version) file.entry.size, LargeFile) ∷ named_checks parts.now place.now file.entry.tags.now
         (new_file file.entry.name.now (assigned_at place.now file.entry.tags.now) file.entry.bytes.now)) result }
     ensures words { IfOk result (λ words. words.items ≡ assigned_at place.now file.entry.tags.now) }
-    ensures few { IfOk result (λ words. length words.items ≤ 16) }
+    ensures few { IfOk result (λ words. length words.items ≤ MAX_ASSIGNED) }
     ensures name { IfOk result (λ words. IsTrue (is_file_name file.entry.name.now)) }
 {
     let tags = file.tags;
@@ -120,7 +120,7 @@ fn has_room_for(
     draft: Draft,
     size: u64,
 ) -> Result<(), Refusal>
-    requires few { length draft.assigned.now ≤ 16 }
+    requires few { length draft.assigned.now ≤ MAX_ASSIGNED }
     requires few_own { length draft.own.now ≤ MAX_DESCRIPTION }
     requires room { HasRoom scratch.old parts.now.limits }
     ensures room { HasRoom scratch.new parts.now.limits }
@@ -151,7 +151,7 @@ fn has_room(
     file: NewFile,
     words: &[Word],
 ) -> Result<(), Refusal>
-    requires few { length words.now ≤ 16 }
+    requires few { length words.now ≤ MAX_ASSIGNED }
     requires room { HasRoom scratch.old parts.now.limits }
     ensures room { HasRoom scratch.new parts.now.limits }
     ensures row { Judges (room_checks parts.now (draft_of (new_file file.entry.name.now words.now file.entry.bytes.now)) file.entry.size) result }

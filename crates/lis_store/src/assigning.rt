@@ -14,6 +14,7 @@ ghost use Rattle.lis_store.specs.Assigning.{is_conjunct, node_tags, is_held, Tak
 
 use arrayvec::ArrayVec;
 use lis_kept::Parts;
+use lis_limits::MAX_ASSIGNED;
 use lis_model::command::Tags;
 use lis_place::{Node, Place};
 use lis_words::{Word, head_of, is_builtin, is_head, is_plain_word};
@@ -143,7 +144,7 @@ fn find_place(words: &[Word], word: &Word) -> Result<usize, usize>
 
 /// Puts a word into a set of words. The answer tells whether there is room for it.
 pub(crate) fn put_word(words: &mut ArrayVec<Word, 16>, word: &Word) -> bool
-    requires { length words.old.items ≤ 16 }
+    requires { length words.old.items ≤ MAX_ASSIGNED }
     ensures { Takes (word.now ∷ []) words.old.items words.new.items result }
 {
     match find_place(words.as_slice(), word) {
@@ -160,7 +161,7 @@ pub(crate) fn put_word(words: &mut ArrayVec<Word, 16>, word: &Word) -> bool
 
 // Puts the word of a node into a set of words, if a file can be given it.
 fn put_node(words: &mut ArrayVec<Word, 16>, node: &Node) -> bool
-    requires { length words.old.items ≤ 16 }
+    requires { length words.old.items ≤ MAX_ASSIGNED }
     ensures { Takes (node_tags node.now) words.old.items words.new.items result }
 {
     let Node::Word(word) = node else {
@@ -174,7 +175,7 @@ fn put_node(words: &mut ArrayVec<Word, 16>, node: &Node) -> bool
 
 /// Puts the words of a place into a set of words.
 pub(crate) fn put_place(words: &mut ArrayVec<Word, 16>, place: &Place) -> bool
-    requires { length words.old.items ≤ 16 }
+    requires { length words.old.items ≤ MAX_ASSIGNED }
     ensures { Takes (flat_map node_tags (nodes_of place.now)) words.old.items words.new.items result }
 {
     for node in place.nodes() {
@@ -187,7 +188,7 @@ pub(crate) fn put_place(words: &mut ArrayVec<Word, 16>, place: &Place) -> bool
 
 // Puts more words into a set of words.
 fn put_words(words: &mut ArrayVec<Word, 16>, more: &[Word]) -> bool
-    requires { length words.old.items ≤ 16 }
+    requires { length words.old.items ≤ MAX_ASSIGNED }
     ensures { Takes more.now words.old.items words.new.items result }
 {
     for word in more {
@@ -201,8 +202,8 @@ fn put_words(words: &mut ArrayVec<Word, 16>, more: &[Word]) -> bool
 /// The words that a new file is given, a set. None comes exactly where they are more than 16.
 pub(crate) fn assigned(place: &Place, tags: &Tags) -> Option<ArrayVec<Word, 16>>
     requires { IsSome (place_words place.now) }
-    ensures words { MatchOption result (16 < length (assigned_at place.now tags.now)) (λ words. words.items ≡ assigned_at place.now tags.now) }
-    ensures few { IfSome result (λ words. length words.items ≤ 16) }
+    ensures words { MatchOption result (MAX_ASSIGNED < length (assigned_at place.now tags.now)) (λ words. words.items ≡ assigned_at place.now tags.now) }
+    ensures few { IfSome result (λ words. length words.items ≤ MAX_ASSIGNED) }
 {
     let mut words = ArrayVec::new();
     if !put_place(&mut words, place) {

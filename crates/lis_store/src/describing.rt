@@ -16,7 +16,7 @@ use crate::meeting::leave_out_met;
 use arrayvec::ArrayVec;
 use lis_bits::{Rows, and_not_row};
 use lis_kept::Parts;
-use lis_limits::MAX_DESCRIPTION;
+use lis_limits::{MAX_ASSIGNED, MAX_DESCRIPTION};
 use lis_words::{Name, Word, head_of};
 
 /// A file as a change tells it: of its bytes only how many they are, and which words are derived from them and its name.
@@ -49,7 +49,7 @@ fn has(words: &[Word], word: &Word) -> bool
 fn gather(parts: &Parts, lacked: &mut Rows, fresh: &mut Fresh, word: &Word)
     requires sound { AreSound parts.now }
     requires shape { HasShape lacked.old 1 parts.now.limits.props }
-    requires room { length fresh.old.items < 2 * (16 + MAX_DESCRIPTION) }
+    requires room { length fresh.old.items < 2 * (MAX_ASSIGNED + MAX_DESCRIPTION) }
     ensures { Gathers parts.now (word.now ∷ []) lacked.old lacked.new fresh.old.items fresh.new.items }
 {
     if let Some(number) = parts.number_of(word) {
@@ -66,7 +66,7 @@ fn gather(parts: &Parts, lacked: &mut Rows, fresh: &mut Fresh, word: &Word)
 fn gather_with_head(parts: &Parts, lacked: &mut Rows, fresh: &mut Fresh, word: &Word)
     requires sound { AreSound parts.now }
     requires shape { HasShape lacked.old 1 parts.now.limits.props }
-    requires room { length fresh.old.items + 1 < 2 * (16 + MAX_DESCRIPTION) }
+    requires room { length fresh.old.items + 1 < 2 * (MAX_ASSIGNED + MAX_DESCRIPTION) }
     ensures { Gathers parts.now (word.now ∷ heads word.now) lacked.old lacked.new fresh.old.items fresh.new.items }
 {
     gather(parts, lacked, fresh, word);
@@ -79,7 +79,7 @@ fn gather_with_head(parts: &Parts, lacked: &mut Rows, fresh: &mut Fresh, word: &
 fn gather_all(parts: &Parts, lacked: &mut Rows, fresh: &mut Fresh, words: &[Word])
     requires sound { AreSound parts.now }
     requires shape { HasShape lacked.old 1 parts.now.limits.props }
-    requires room { length fresh.old.items + 2 * length words.now ≤ 2 * (16 + MAX_DESCRIPTION) }
+    requires room { length fresh.old.items + 2 * length words.now ≤ 2 * (MAX_ASSIGNED + MAX_DESCRIPTION) }
     ensures { Gathers parts.now (with_heads words.now) lacked.old lacked.new fresh.old.items fresh.new.items }
 {
     for word in words {
@@ -92,7 +92,7 @@ fn gather_all(parts: &Parts, lacked: &mut Rows, fresh: &mut Fresh, words: &[Word
 fn tell(parts: &Parts, row: &mut Rows, draft: Draft) -> Fresh
     requires sound { AreSound parts.now }
     requires shape { HasShape row.old 1 parts.now.limits.props }
-    requires few { length draft.assigned.now ≤ 16 }
+    requires few { length draft.assigned.now ≤ MAX_ASSIGNED }
     requires few_own { length draft.own.now ≤ MAX_DESCRIPTION }
     ensures { IsTold parts.now (drafted draft.entry.name.now draft.entry.size draft.entry.assigned.now draft.entry.own.now) row.new result.items }
 {
@@ -149,7 +149,7 @@ pub(crate) fn measure(parts: &Parts, row: &mut Rows, beside: Option<u16>, draft:
     requires there { IfSome beside (λ slot. IsSome (rec_at parts.now.catalog slot)) }
     requires used { IfSome beside (λ slot. AreUsed parts.now) }
     requires shape { HasShape row.old 1 parts.now.limits.props }
-    requires few { length draft.assigned.now ≤ 16 }
+    requires few { length draft.assigned.now ≤ MAX_ASSIGNED }
     requires few_own { length draft.own.now ≤ MAX_DESCRIPTION }
     ensures shape { HasShape row.new 1 parts.now.limits.props }
     ensures words { result.words

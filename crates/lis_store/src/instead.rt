@@ -23,13 +23,13 @@ use arrayvec::ArrayVec;
 use lis_derive::derive_words;
 use lis_eval::Scratch;
 use lis_kept::Parts;
-use lis_limits::MAX_DESCRIPTION;
+use lis_limits::{MAX_ASSIGNED, MAX_DESCRIPTION};
 use lis_model::refusal::Refusal;
 use lis_words::{Name, Word, is_builtin};
 
 // Puts the word of a number into a set of words, if there is one.
 fn put_number(parts: &Parts, words: &mut ArrayVec<Word, 16>, number: u16) -> bool
-    requires { length words.old.items ≤ 16 }
+    requires { length words.old.items ≤ MAX_ASSIGNED }
     ensures { Takes (option_to_list (word_of parts.now.dict number)) words.old.items words.new.items result }
 {
     let Some(word) = parts.word_of(number) else {
@@ -40,9 +40,9 @@ fn put_number(parts: &Parts, words: &mut ArrayVec<Word, 16>, number: u16) -> boo
 
 // The words that have these numbers.
 fn words_of(parts: &Parts, numbers: &[u16]) -> ArrayVec<Word, 16>
-    requires { length numbers.now ≤ 16 }
+    requires { length numbers.now ≤ MAX_ASSIGNED }
     ensures words { result.items ≡ words_told parts.now.dict numbers.now }
-    ensures few { length result.items ≤ 16 }
+    ensures few { length result.items ≤ MAX_ASSIGNED }
 {
     let mut words = ArrayVec::new();
     for number in numbers {
@@ -55,7 +55,7 @@ fn words_of(parts: &Parts, numbers: &[u16]) -> ArrayVec<Word, 16>
 pub(crate) fn assigned_in(parts: &Parts, slot: u16) -> ArrayVec<Word, 16>
     requires { IsSome (rec_at parts.now.catalog slot) }
     ensures words { (rec : FileRecord) → rec_at parts.now.catalog slot ≡ Some rec → result.items ≡ words_told parts.now.dict rec.tags }
-    ensures few { length result.items ≤ 16 }
+    ensures few { length result.items ≤ MAX_ASSIGNED }
 {
     let Some(rec) = parts.rec(slot) else {
         unreachable!()
@@ -134,7 +134,7 @@ pub(crate) fn may_stand_instead(
 ) -> Result<(), Refusal>
     requires there { IsSome (rec_at parts.now.catalog slot) }
     requires used { AreUsed parts.now }
-    requires few { length draft.assigned.now ≤ 16 }
+    requires few { length draft.assigned.now ≤ MAX_ASSIGNED }
     requires few_own { length draft.own.now ≤ MAX_DESCRIPTION }
     requires room { HasRoom scratch.old parts.now.limits }
     ensures room { HasRoom scratch.new parts.now.limits }
@@ -167,7 +167,7 @@ fn has_room_instead(
 ) -> Result<(), Refusal>
     requires there { IsSome (rec_at parts.now.catalog slot) }
     requires used { AreUsed parts.now }
-    requires few { length words.now ≤ 16 }
+    requires few { length words.now ≤ MAX_ASSIGNED }
     requires room { HasRoom scratch.old parts.now.limits }
     ensures room { HasRoom scratch.new parts.now.limits }
     ensures row { Judges (instead_checks parts.now slot (draft_of (new_file name.now words.now payload.now))) result }

@@ -17,6 +17,7 @@ use crate::crowding::has_crowded;
 use crate::placing::{has_plain_words, place_numbers};
 use arrayvec::ArrayVec;
 use lis_kept::Parts;
+use lis_limits::MAX_NODES;
 use lis_model::refusal::Refusal;
 use lis_place::Place;
 use lis_words::{Word, is_builtin, is_valued};
@@ -28,7 +29,7 @@ fn may_place(parts: &Parts, place: &Place, word: &Word) -> Result<ArrayVec<u16, 
     ensures form { OnOk result (IsTrue (is_declarable word.now)) }
     ensures word { IsTrue (is_property word.now) }
     ensures numbers { IfOk result (λ numbers. AreNumbersOf parts.now (words_at place.now) numbers.items) }
-    ensures few { IfOk result (λ numbers. length numbers.items ≤ 64) }
+    ensures few { IfOk result (λ numbers. length numbers.items ≤ MAX_NODES) }
 {
     let bytes = word.bytes();
     if is_builtin(word) {
@@ -52,7 +53,7 @@ fn may_place(parts: &Parts, place: &Place, word: &Word) -> Result<ArrayVec<u16, 
 // Whether there is room for the word, and for axioms from it to the words of these numbers.
 fn has_room(parts: &Parts, word: &Word, numbers: &[u16]) -> Result<(), Refusal>
     requires named { IsTrue (list_all (λ n. is_some (word_of parts.now.dict n)) numbers.now) }
-    requires few { length numbers.now ≤ 64 }
+    requires few { length numbers.now ≤ MAX_NODES }
     ensures { Judges (room_checks parts.now word.now (length numbers.now) numbers.now) result }
 {
     let props = parts.limits().props;

@@ -12,6 +12,7 @@ ghost use Rattle.lis_model.specs.Sets.{has_number};
 
 use arrayvec::ArrayVec;
 use lis_kept::Parts;
+use lis_limits::MAX_NODES;
 use lis_place::{Node, Place};
 use lis_words::{Word, is_plain_word};
 
@@ -63,7 +64,7 @@ fn has_number(numbers: &[u16], number: u16) -> bool
 // Puts the number of a word to others, if it is declared.
 fn take_number(parts: &Parts, numbers: &mut ArrayVec<u16, 64>, word: &Word) -> bool
     requires sound { AreSound parts.now }
-    requires room { length numbers.old.items < 64 }
+    requires room { length numbers.old.items < MAX_NODES }
     ensures { TakesNumbers parts.now (word.now ∷ []) numbers.old.items numbers.new.items result }
 {
     let Some(number) = declared_number(parts, word) else {
@@ -79,7 +80,7 @@ fn take_number(parts: &Parts, numbers: &mut ArrayVec<u16, 64>, word: &Word) -> b
 // Puts the number of a node's word to others, if it is declared.
 fn take_node(parts: &Parts, numbers: &mut ArrayVec<u16, 64>, node: &Node) -> bool
     requires sound { AreSound parts.now }
-    requires room { length numbers.old.items < 64 }
+    requires room { length numbers.old.items < MAX_NODES }
     ensures { TakesNumbers parts.now (node_words node.now) numbers.old.items numbers.new.items result }
 {
     let Node::Word(word) = node else {
@@ -94,7 +95,7 @@ pub(crate) fn place_numbers(parts: &Parts, place: &Place) -> Option<ArrayVec<u16
     requires place { IsSome (place_words place.now) }
     ensures numbers { MatchOption result (list_all (is_declared parts.now) (words_at place.now) ≡ false)
         (λ numbers. AreNumbersOf parts.now (words_at place.now) numbers.items) }
-    ensures few { IfSome result (λ numbers. length numbers.items ≤ 64) }
+    ensures few { IfSome result (λ numbers. length numbers.items ≤ MAX_NODES) }
 {
     let mut numbers = ArrayVec::new();
     for node in place.nodes() {

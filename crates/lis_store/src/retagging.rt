@@ -21,6 +21,7 @@ use crate::instead::assigned_in;
 use arrayvec::ArrayVec;
 use lis_formula::{FormulaFault, read_formula, resolve};
 use lis_kept::Parts;
+use lis_limits::MAX_ASSIGNED;
 use lis_model::command::Tags;
 use lis_model::refusal::Refusal;
 use lis_place::{Node, Place, Text};
@@ -120,9 +121,9 @@ fn has_tag(nodes: &[Node], word: &Word) -> bool
 
 // The words without those of the nodes that a file can be given.
 fn without_tags(words: &[Word], nodes: &[Node]) -> ArrayVec<Word, 16>
-    requires { length words.now ≤ 16 }
+    requires { length words.now ≤ MAX_ASSIGNED }
     ensures words { result.items ≡ filter (λ word. not (list_any (λ node. has_word (node_tags node) word) nodes.now)) words.now }
-    ensures few { length result.items ≤ 16 }
+    ensures few { length result.items ≤ MAX_ASSIGNED }
 {
     let mut kept = ArrayVec::new();
     for word in words {
@@ -138,10 +139,10 @@ fn without_tags(words: &[Word], nodes: &[Node]) -> ArrayVec<Word, 16>
 fn retagged(words: &[Word], here: &Place, there: &Place) -> Option<ArrayVec<Word, 16>>
     requires here { IsSome (place_words here.now) }
     requires there { IsSome (place_words there.now) }
-    requires few { length words.now ≤ 16 }
-    ensures words { IsStrictlySortedBy word_cmp words.now → MatchOption result (16 < length (retagged words.now (tags_at here.now) (tags_at there.now)))
+    requires few { length words.now ≤ MAX_ASSIGNED }
+    ensures words { IsStrictlySortedBy word_cmp words.now → MatchOption result (MAX_ASSIGNED < length (retagged words.now (tags_at here.now) (tags_at there.now)))
         (λ moved. moved.items ≡ retagged words.now (tags_at here.now) (tags_at there.now)) }
-    ensures few { IfSome result (λ moved. length moved.items ≤ 16) }
+    ensures few { IfSome result (λ moved. length moved.items ≤ MAX_ASSIGNED) }
 {
     let mut moved = without_tags(words, here.nodes());
     if !put_place(&mut moved, there) {
@@ -157,8 +158,8 @@ fn words_moved(parts: &Parts, slot: u16, here: &Place, there: &Place) -> Option<
     requires here { IsSome (place_words here.now) }
     requires there { IsSome (place_words there.now) }
     ensures words { (rec : FileRecord) → rec_at parts.now.catalog slot ≡ Some rec
-        → MatchOption result (16 < length (words_moved parts.now rec here.now there.now)) (λ moved. moved.items ≡ words_moved parts.now rec here.now there.now) }
-    ensures few { IfSome result (λ moved. length moved.items ≤ 16) }
+        → MatchOption result (MAX_ASSIGNED < length (words_moved parts.now rec here.now there.now)) (λ moved. moved.items ≡ words_moved parts.now rec here.now there.now) }
+    ensures few { IfSome result (λ moved. length moved.items ≤ MAX_ASSIGNED) }
 {
     let words = assigned_in(parts, slot);
     retagged(words.as_slice(), here, there)

@@ -21,6 +21,7 @@ use arrayvec::ArrayVec;
 use lis_bits::Flags;
 use lis_content::{PutFault, drop_large, is_large, place_file, put};
 use lis_journal::Journal;
+use lis_limits::SLOT_BLOCKS;
 use lis_model::limits::Limits;
 use lis_ports::{Disk, Failed};
 
@@ -48,7 +49,7 @@ impl Parts {
         requires usable { JournalIsUsable journal.old (D.meaning disk.old) }
         requires unplaced { journal.old.placed ≡ [] }
         requires unstaged { is_large (length bytes.now) ≡ true → journal.old.staged ≡ [] }
-        requires room { length journal.old.staged + 16 ≤ journal.old.capacity.staged }
+        requires room { length journal.old.staged + SLOT_BLOCKS ≤ journal.old.capacity.staged }
         ensures ended { MatchResult result
             (λ numbers. Puts bytes.now numbers.items self.old self.new journal.old journal.new (D.meaning disk.old) (D.meaning disk.new))
             (λ _. PutTorn self.old self.new journal.old journal.new (D.meaning disk.old) (D.meaning disk.new)) }
