@@ -6,11 +6,11 @@ ghost use Rattle.lis_formula.specs.Paths.{IsPath, IsNoPath, IsWhole, begins_here
 ghost use Rattle.lis_formula.specs.Answers.{ReadsTo, Computes};
 
 use crate::fault::FormulaFault;
-use crate::reader::{Held, Kept, Reader};
+use crate::reader::{Held, Nodes, Reader};
 use lis_limits::MAX_FORMULA;
 use lis_place::{Path, Place};
 
-fn read_path(text: &[u8]) -> Result<Kept, u32>
+fn read_path(text: &[u8]) -> Result<Nodes, u32>
     requires { length text.now ≤ MAX_FORMULA }
     ensures path { MatchResult result
         (λ kept. IsPath text.now kept)
@@ -37,7 +37,7 @@ fn read_path(text: &[u8]) -> Result<Kept, u32>
 }
 
 /// The path of what was kept.
-fn whole(rooted: bool, kept: &Kept) -> Result<Path, FormulaFault>
+fn whole(rooted: bool, kept: &Nodes) -> Result<Path, FormulaFault>
     ensures { IsWhole rooted kept.now result }
 {
     if kept.over {

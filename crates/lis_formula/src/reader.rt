@@ -14,12 +14,12 @@ use lis_place::Node;
 
 /// The first 64 nodes that were read, and whether there were more: a formula is judged to its end before it is too large.
 #[derive(Drop)]
-pub struct Kept {
+pub struct Nodes {
     pub nodes: ArrayVec<Node, 64>,
     pub over: bool,
 }
 
-impl Kept {
+impl Nodes {
     fn note(&mut self, node: Node)
         ensures { self.new ≡ noted self.old node }
     {
@@ -35,7 +35,7 @@ impl Kept {
 #[derive(Drop)]
 pub struct Held {
     pub signs: Signs,
-    pub kept: Kept,
+    pub kept: Nodes,
 }
 
 impl Held {
@@ -45,7 +45,7 @@ impl Held {
     {
         Held {
             signs: Signs::new(),
-            kept: Kept {
+            kept: Nodes {
                 nodes: ArrayVec::new(),
                 over: false,
             },

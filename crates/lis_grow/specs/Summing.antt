@@ -25,7 +25,7 @@ pub record CanSum (session : Situated) (sum : Sum) (m : Meaning) (more : ℕ) : 
 
 -- Since the start these items were carried out, from any state that fitted then; or all but the last one, where a call of the disk failed.
 pub record SumsTo (start : Situated) (entry : Meaning) (items : List Item) (now : Situated) (m : Meaning) (result : Result Sum Failed) : Type 0 where
-  pub limits : now.store.parts.limits ≡ start.store.parts.limits
+  pub limits : now.store.metadata.limits ≡ start.store.metadata.limits
   pub image : shape_of now.store.journal ≡ shape_of start.store.journal
   pub unbroken : IfOk result (λ sum. now.store.is_broken ≡ false)
   pub sound : IsSound now.store

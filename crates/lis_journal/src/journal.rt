@@ -78,7 +78,7 @@ fn zeros(alloc: Global, len: usize) -> Result<Vec<u8>, AllocError>
 
 // What a mounted journal keeps of memory, and a block to read into.
 #[derive(Drop)]
-struct Room {
+struct Buffers {
     placed: Vec<u32>,
     most_placed: u32,
     header: Vec<u8>,
@@ -87,21 +87,21 @@ struct Room {
     latest: Stage,
 }
 
-// Takes the room, what has most parts last: whatever was taken before is given back where a later part can't be had, and each such
+// Takes the buffers, what has most parts last: whatever was taken before is given back where a later part can't be had, and each such
 // end is checked with all that it gives back. So `mount` has one end for all of them.
-fn take_room(alloc: Global, layout: Layout, capacity: Capacity) -> Result<Room, AllocError>
+fn take_buffers(alloc: Global, layout: Layout, capacity: Capacity) -> Result<Buffers, AllocError>
     requires some { 1 ≤ layout.records }
     requires few { layout.records ≤ 2 ^ 16 }
     requires staged { capacity.staged ≤ 2 ^ 16 }
     requires placed { capacity.placed ≤ 2 ^ 16 }
-    ensures stage { IfOk result (λ room. room.stage ≡ record { layout = layout; capacity = capacity.staged; entries = [] }) }
-    ensures latest { IfOk result (λ room. room.latest ≡ record { layout = layout; capacity = layout.records - 1; entries = [] }) }
-    ensures placed { IfOk result (λ room. room.placed.items ≡ []) }
-    ensures many { IfOk result (λ room. (room.most_placed ≡ capacity.placed) × (capacity.placed ≤ vec_capacity room.placed)) }
-    ensures header { IfOk result (λ room. length room.header.items ≡ BLOCK_LEN * header_blocks layout.records) }
-    ensures block { IfOk result (λ room. length room.block.items ≡ BLOCK_LEN) }
+    ensures stage { IfOk result (λ buffers. buffers.stage ≡ record { layout = layout; capacity = capacity.staged; entries = [] }) }
+    ensures latest { IfOk result (λ buffers. buffers.latest ≡ record { layout = layout; capacity = layout.records - 1; entries = [] }) }
+    ensures placed { IfOk result (λ buffers. buffers.placed.items ≡ []) }
+    ensures many { IfOk result (λ buffers. (buffers.most_placed ≡ capacity.placed) × (capacity.placed ≤ vec_capacity buffers.placed)) }
+    ensures header { IfOk result (λ buffers. length buffers.header.items ≡ BLOCK_LEN * header_blocks layout.records) }
+    ensures block { IfOk result (λ buffers. length buffers.block.items ≡ BLOCK_LEN) }
 {
-    Ok(Room {
+    Ok(Buffers {
         placed: Vec::with_capacity(alloc, capacity.placed as usize)?,
         most_placed: capacity.placed,
         header: zeros(alloc, header_len(layout.records))?,
@@ -111,26 +111,26 @@ fn take_room(alloc: Global, layout: Layout, capacity: Capacity) -> Result<Room, 
     })
 }
 
-// A journal in this room, with nothing staged and no open record.
-fn mounted(room: Room) -> Journal
-    requires blocks { homes_start room.stage.layout < room.stage.layout.blocks }
-    requires same { room.latest.layout ≡ room.stage.layout }
-    requires frames { room.latest.layout.records ≤ room.latest.capacity + 1 }
-    requires fits { record_len room.stage.capacity ≤ room.stage.layout.records }
-    requires empty { room.stage.entries ≡ [] }
-    requires placed { room.placed.items ≡ [] }
-    requires many { room.most_placed ≤ vec_capacity room.placed }
-    requires header { length room.header.items ≡ BLOCK_LEN * header_blocks room.stage.layout.records }
-    ensures { result ≡ record { layout = room.stage.layout; capacity = record { staged = room.stage.capacity; placed = room.most_placed }; staged = []; records = no_records; placed = []; is_broken = false } }
+// A journal in these buffers, with nothing staged and no open record.
+fn mounted(buffers: Buffers) -> Journal
+    requires blocks { homes_start buffers.stage.layout < buffers.stage.layout.blocks }
+    requires same { buffers.latest.layout ≡ buffers.stage.layout }
+    requires frames { buffers.latest.layout.records ≤ buffers.latest.capacity + 1 }
+    requires fits { record_len buffers.stage.capacity ≤ buffers.stage.layout.records }
+    requires empty { buffers.stage.entries ≡ [] }
+    requires placed { buffers.placed.items ≡ [] }
+    requires many { buffers.most_placed ≤ vec_capacity buffers.placed }
+    requires header { length buffers.header.items ≡ BLOCK_LEN * header_blocks buffers.stage.layout.records }
+    ensures { result ≡ record { layout = buffers.stage.layout; capacity = record { staged = buffers.stage.capacity; placed = buffers.most_placed }; staged = []; records = no_records; placed = []; is_broken = false } }
 {
-    let mut latest = room.latest;
+    let mut latest = buffers.latest;
     latest.clear();
     Journal {
-        stage: room.stage,
+        stage: buffers.stage,
         records: Records::new(latest),
-        placed: room.placed,
-        most_placed: room.most_placed,
-        header: room.header,
+        placed: buffers.placed,
+        most_placed: buffers.most_placed,
+        header: buffers.header,
         is_broken: false,
     }
 }
@@ -195,9 +195,14 @@ impl Journal {
         ensures past { IsTrue (D.meaning disk.old).is_honest → (result ≡ Err DiskFault → IsSettledPast layout.blocks (D.meaning disk.old))
             → KeepsPast layout.blocks (D.meaning disk.old) (D.meaning disk.new) }
     {
-        let mut room = take_room(alloc, layout, capacity)?;
-        match recover(disk, &mut room.latest, &mut room.header, &mut room.block) {
-            Ok(None) => Ok(mounted(room)),
+        let mut buffers = take_buffers(alloc, layout, capacity)?;
+        match recover(
+            disk,
+            &mut buffers.latest,
+            &mut buffers.header,
+            &mut buffers.block,
+        ) {
+            Ok(None) => Ok(mounted(buffers)),
             Ok(Some(first)) => Err(JournalFault::BadRecord(first)),
             Err(Failed) => Err(JournalFault::DiskFault),
         }

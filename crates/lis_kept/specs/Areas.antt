@@ -7,7 +7,7 @@ use Rattle.lis_kept.specs.Rows.{row_bytes}
 use Rattle.lis_fields.specs.Layouts.{prop_bytes, axiom_bytes, file_bytes}
 use Rattle.lis_model.specs.declared.limits.Limits.{Limits}
 use Rattle.lis_model.specs.Image.{properties_start, axioms_start, files_start, rows_start, bitmap_start}
-use Rattle.lis_kept.specs.Kept.{Kept, property_at, axiom_at, record_at}
+use Rattle.lis_kept.specs.Metadata.{Metadata, property_at, axiom_at, record_at}
 
 pub data Area : Type 0 where
   Properties : Area
@@ -45,7 +45,7 @@ abbrev pub block_of : Limits → Area → ℕ → ℕ
 block_of limits area n = home (slots_of limits area) n
 
 -- the bytes that memory gives a slot
-abbrev pub spelled : Kept → Area → ℕ → List ℕ
+abbrev pub spelled : Metadata → Area → ℕ → List ℕ
 spelled k Properties n = prop_bytes (property_at k.dict k.declared n)
 spelled k Axioms n = axiom_bytes (axiom_at k.axioms n)
 spelled k Files n = file_bytes (record_at k.catalog n)
@@ -61,18 +61,18 @@ held_in limits Rows at n = slot (row_slots limits) at n
 held_in limits Bitmap at n = at (bitmap_start limits)
 
 -- every slot is spelled by what memory keeps
-abbrev pub IsWritten : Kept → (ℕ → List ℕ) → Type 0
+abbrev pub IsWritten : Metadata → (ℕ → List ℕ) → Type 0
 IsWritten k at = (area : Area) (n : ℕ) → n < (slots_of k.limits area).count → held_in k.limits area at n ≡ spelled k area n
 
-abbrev pub is_marked : Kept → ℕ → Bool
+abbrev pub is_marked : Metadata → ℕ → Bool
 is_marked k block = is_taken k.marks block
 
 -- every slot is, but in blocks that are yet to be written
-abbrev pub IsSaved : Kept → (ℕ → List ℕ) → Type 0
+abbrev pub IsSaved : Metadata → (ℕ → List ℕ) → Type 0
 IsSaved k at =
     (area : Area) (n : ℕ) → n < (slots_of k.limits area).count → is_marked k (block_of k.limits area n) ≡ false
     → held_in k.limits area at n ≡ spelled k area n
 
 -- how many blocks are yet to be written
-abbrev pub marked_count : Kept → ℕ
+abbrev pub marked_count : Metadata → ℕ
 marked_count k = count_by (λ (b : Bool). b) k.marks

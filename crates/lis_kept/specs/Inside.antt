@@ -9,7 +9,7 @@ use Rattle.lis_slots.specs.Slots.{place}
 use Rattle.lis_dict.specs.Dict.{Dict, IsDict, word_of}
 use Rattle.lis_model.specs.Image.{properties_start}
 use Rattle.lis_model.specs.declared.limits.Limits.{Limits}
-use Rattle.lis_kept.specs.Kept.{Kept}
+use Rattle.lis_kept.specs.Metadata.{Metadata}
 use Rattle.lis_kept.specs.Areas.{Area, slots_of, block_of, spelled, held_in, is_marked, IsSaved, property_slots, axiom_slots, file_slots, row_slots}
 use Rattle.lis_kept.specs.Areas.Area.{Properties, Axioms, Files, Rows, Bitmap}
 
@@ -22,7 +22,7 @@ bytes_in limits Rows m block = part (place (row_slots limits) m) (row_slots limi
 bytes_in limits Bitmap m block = block
 
 -- these bytes are those of the block with this number, whatever area it is in
-abbrev pub IsBlock : Kept → ℕ → List ℕ → Type 0
+abbrev pub IsBlock : Metadata → ℕ → List ℕ → Type 0
 IsBlock k n block = (area : Area) (m : ℕ) → m < (slots_of k.limits area).count → block_of k.limits area m ≡ n → bytes_in k.limits area m block ≡ spelled k area m
 
 -- a dictionary whose numbers have 16 bits
@@ -31,7 +31,7 @@ pub record IsShort (d : Dict) : Type 0 where
   pub short : (n : ℕ) → IsSome (word_of d n) → n < NUMBERS
 
 -- one block is staged as memory spells it
-pub record StagesBlock (k : Kept) (n : ℕ) (old new : Held) : Type 0 where
+pub record StagesBlock (k : Metadata) (n : ℕ) (old new : Held) : Type 0 where
   pub image : shape_of new ≡ shape_of old
   pub records : new.records ≡ old.records
   pub placed : new.placed ≡ old.placed
@@ -43,7 +43,7 @@ pub record StagesBlock (k : Kept) (n : ℕ) (old new : Held) : Type 0 where
   pub others : (other : ℕ) (was : List ℕ) → other ≢ n → look new.staged other was ≡ look old.staged other was
 
 -- the marked blocks below a number are staged
-pub record StagedBelow (k : Kept) (end : ℕ) (old new : Held) : Type 0 where
+pub record StagedBelow (k : Metadata) (end : ℕ) (old new : Held) : Type 0 where
   pub image : shape_of new ≡ shape_of old
   pub records : new.records ≡ old.records
   pub placed : new.placed ≡ old.placed

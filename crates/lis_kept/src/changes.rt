@@ -16,7 +16,7 @@ ghost use Rattle.lis_kept.specs.Changes.{Describes, Drops, Files};
 
 mod blocks;
 
-use crate::parts::Parts;
+use crate::metadata::Metadata;
 use crate::places::{files_start, rows_start};
 use lis_bits::Flags;
 use lis_ext::Ext;
@@ -55,7 +55,7 @@ fn mark_file(marks: &mut Flags, limits: &Limits, slot: u16)
     );
 }
 
-impl Parts {
+impl Metadata {
     /// Gives a file slot other numbers, those of its file's description.
     pub fn describe(&mut self, slot: u16, old: &[u16], new: &[u16])
         requires slot { slot < self.old.limits.files }

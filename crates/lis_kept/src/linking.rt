@@ -10,7 +10,7 @@ ghost use Rattle.lis_kept.specs.Links.{is_pair, has_pair};
 ghost use Rattle.lis_kept.specs.Sound.{AreSound};
 ghost use Rattle.lis_kept.specs.Linking.{is_free, is_filled, MayLink, Links, MayUnlink, Unlinks};
 
-use crate::parts::Parts;
+use crate::metadata::Metadata;
 use crate::places::axioms_start;
 use lis_bits::Flags;
 use lis_fields::AxiomSlot;
@@ -80,7 +80,7 @@ fn filled_count(axioms: &[AxiomSlot]) -> u32
     count
 }
 
-impl Parts {
+impl Metadata {
     /// How many axioms there are.
     pub fn axiom_count(&self) -> u32
         ensures { result ≡ count_by is_filled self.now.axioms }

@@ -10,7 +10,7 @@ ghost use Rattle.lis_words.specs.Words.{is_file_name, test_of};
 ghost use Rattle.lis_kept.specs.Links.{TellsLinks};
 ghost use Rattle.lis_kept.specs.Telling.{is_declared};
 
-use crate::parts::Parts;
+use crate::metadata::Metadata;
 use lis_blockmap::BlockMap;
 use lis_ext::Ext;
 use lis_fields::FileRec;
@@ -25,7 +25,7 @@ fn count_taken(map: &BlockMap, blocks: &[u16]) -> usize
     blocks.iter().filter(|n| map.is_taken(**n)).count()
 }
 
-impl Parts {
+impl Metadata {
     /// How many words have numbers.
     pub fn word_count(&self) -> u32
         ensures { result ≡ length self.now.dict.entries }

@@ -3,7 +3,7 @@
 ghost use Rattle.std.specs.Prelude.{◌≡◌, ℕ, ◌+◌, ◌*◌, ◌<◌, ◌≤◌, length, IsTrue};
 ghost use Rattle.lis_ports.specs.Bytes.{part};
 ghost use Rattle.lis_fields.specs.Layouts.{prop_bytes, is_prop, axiom_bytes, is_axiom, file_bytes, is_file};
-ghost use Rattle.lis_kept.specs.Kept.{property_at, axiom_at, record_at};
+ghost use Rattle.lis_kept.specs.Metadata.{property_at, axiom_at, record_at};
 
 use arrayvec::ArrayVec;
 use lis_bits::Flags;

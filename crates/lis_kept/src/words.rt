@@ -22,7 +22,7 @@ ghost use Rattle.lis_kept.specs.Telling.{is_left_of, is_head_by, is_left_head_of
 mod undeclaring;
 mod without;
 
-use crate::parts::Parts;
+use crate::metadata::Metadata;
 use crate::test_edges::{link_stronger, link_weaker};
 use crate::words::without::is_had_without;
 use lis_bits::Flags;
@@ -155,7 +155,7 @@ fn is_of_pass(word: &Word, valued: bool) -> bool
     }
 }
 
-impl Parts {
+impl Metadata {
     /// Gives a new word a free number, and declares it.
     pub fn declare(&mut self, word: &Word)
         requires form { IsTrue (is_declarable word.now) }

@@ -5,7 +5,7 @@ ghost use Rattle.lis_model.specs.Step.{no_payload};
 ghost use Rattle.lis_model.specs.Script.{payload_limit};
 ghost use Rattle.lis_line.specs.Inside.{frame_bytes, IsKept};
 ghost use Rattle.lis_line.specs.Taking.{UsesSource};
-ghost use Rattle.lis_line.specs.Parts.{with_bytes, TakesRun, Fills};
+ghost use Rattle.lis_line.specs.Segments.{with_bytes, TakesRun, Fills};
 
 use crate::stock::Stock;
 use lis_limits::MAX_PAYLOAD;

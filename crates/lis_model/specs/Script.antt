@@ -134,7 +134,7 @@ payload_limit = MAX_PAYLOAD
 abbrev pub payload_of : ℕ → List ℕ → Payload
 payload_of size bytes = record { size = size; bytes = if nat_le size payload_limit then bytes else [] }
 
--- the first part of an input: what it asks for, what is left behind it, and whether it ended with its own line feed
+-- the first segment of an input: what it asks for, what is left behind it, and whether it ended with its own line feed
 pub record FirstOf (I : Type 0) : Type 0 where
   pub item : Option I
   pub rest : List ℕ
@@ -167,7 +167,7 @@ first_by (Some size) bytes = first_with (before_feed bytes) size (after_feed byt
 abbrev pub first_of : List ℕ → First
 first_of bytes = first_by (payload_size (before_feed bytes)) bytes
 
--- The items of an input, taken one after another, where `first` tells its first part: at most as many as there are bytes, since each takes one
+-- The items of an input, taken one after another, where `first` tells its first segment: at most as many as there are bytes, since each takes one
 -- byte at least.
 abbrev pub items_within : {I : Type 0} → (List ℕ → FirstOf I) → ℕ → List ℕ → List I
 items_within first zero bytes = []
@@ -175,7 +175,7 @@ items_within first (suc n) [] = []
 items_within first (suc n) (b ∷ bytes) =
     option_to_list (first (b ∷ bytes)).item ++ items_within first n (first (b ∷ bytes)).rest
 
--- the same, up to the first part that has no line feed of its own
+-- the same, up to the first segment that has no line feed of its own
 abbrev pub whole_within : {I : Type 0} → (List ℕ → FirstOf I) → ℕ → List ℕ → List I
 whole_within first zero bytes = []
 whole_within first (suc n) [] = []

@@ -46,7 +46,7 @@ pub record Payload : Type 0 where
 abbrev pub no_payload : Payload
 no_payload = record { size = 0; bytes = [] }
 
--- what one part of the input asks for: a command with its payload, or nothing that can be done
+-- what one segment of the input asks for: a command with its payload, or nothing that can be done
 pub data Item : Type 0 where
   Do : Command → Payload → Item
   Bad : Refusal → Item

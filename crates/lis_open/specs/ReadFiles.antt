@@ -22,7 +22,7 @@ use Rattle.lis_model.specs.declared.limits.Limits.{Limits}
 use Rattle.lis_model.specs.Derived.{derived_words}
 use Rattle.lis_model.specs.State.{file_words, blocks_needed, is_assignable}
 use Rattle.lis_model.specs.Tests.{met_tests}
-use Rattle.lis_kept.specs.Kept.{record_at}
+use Rattle.lis_kept.specs.Metadata.{record_at}
 use Rattle.lis_kept.specs.Areas.{file_slots}
 use Rattle.lis_kept.specs.Sound.{is_sound_record}
 use Rattle.lis_kept.specs.Telling.{words_told, bytes_told, blocks_told, HasIndex, file_told, axioms_of}

@@ -14,7 +14,7 @@ use Rattle.lis_fields.specs.Layouts.{prop_bytes, is_prop, axiom_bytes}
 use Rattle.lis_words.specs.Words.{is_plain_word, is_valued, head_bytes, has_word}
 use Rattle.lis_model.specs.declared.limits.Limits.{Limits}
 use Rattle.lis_model.specs.State.{Acyclic, is_nameable}
-use Rattle.lis_kept.specs.Kept.{Kept, kept_of, property_at, axiom_at}
+use Rattle.lis_kept.specs.Metadata.{Metadata, metadata_of, property_at, axiom_at}
 use Rattle.lis_kept.specs.Areas.{property_slots, axiom_slots}
 use Rattle.lis_kept.specs.Edges.{head_number}
 use Rattle.lis_kept.specs.Telling.{bit_of, axioms_of, is_head_by}
@@ -78,9 +78,9 @@ abbrev pub declared_words : Words → List (List ℕ)
 declared_words words = filter (λ word. bit_of words.declared (number_of words.dict word)) (words_of words.dict)
 
 -- what memory keeps of words and axioms, with no file
-abbrev pub kept_words : Limits → Words → List AxiomSlot → Kept
+abbrev pub kept_words : Limits → Words → List AxiomSlot → Metadata
 kept_words limits words axioms =
-    kept_of limits words.dict words.declared axioms (record { files = limits.files; entries = [] }) (replicate limits.blocks false)
+    metadata_of limits words.dict words.declared axioms (record { files = limits.files; entries = [] }) (replicate limits.blocks false)
     (empty_ext limits.props limits.files) []
 
 -- ---- links to heads and between tests

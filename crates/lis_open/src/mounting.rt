@@ -17,8 +17,8 @@ ghost use Rattle.lis_open.specs.Reading.{Opened, LimitsRead};
 ghost use Rattle.lis_open.specs.declared.mounting.OpenFault.TheVariants.{TooShort, Damaged, DiskFault as DiskFailed};
 ghost use Rattle.lis_model.specs.declared.spot.Spot.{Spot as SpotOf};
 
+use crate::memory::take_memory;
 use crate::reading::read_store;
-use crate::room::take_room;
 use lis_fields::read_super;
 use lis_journal::{Journal, JournalFault};
 use lis_kept::{image_capacity, image_layout};
@@ -129,13 +129,13 @@ fn mount_image<D: Disk>(alloc: Global, disk: &mut D, limits: Limits) -> Result<S
         → (result ≡ Err DiskFailed → IsSettledPast (image_blocks limits) (D.meaning disk.old))
         → KeepsPast (image_blocks limits) (D.meaning disk.old) (D.meaning disk.new) }
 {
-    let room = take_room(alloc, &limits)?;
+    let memory = take_memory(alloc, &limits)?;
     let layout = image_layout(&limits);
     match Journal::mount(alloc, disk, layout, image_capacity(&limits)) {
-        Ok(journal) => read_store(disk, limits, journal, room),
+        Ok(journal) => read_store(disk, limits, journal, memory),
         // Closed by a call, since an end is checked with all that is let go there.
         Err(fault) => {
-            room.close();
+            memory.close();
             Err(OpenFault::from(fault))
         }
     }

@@ -4,11 +4,11 @@
 mod formula;
 mod gathering;
 mod loading;
-pub mod parts;
 mod putting;
 mod showing;
 mod viewing;
+pub mod workspace;
 
-pub use parts::Parts;
 pub use putting::put_file;
 pub use viewing::view_file;
+pub use workspace::Workspace;

@@ -11,8 +11,8 @@ use Rattle.lis_model.specs.State.{State}
 use Rattle.lis_model.specs.Table.{table}
 use Rattle.lis_model.specs.Step.{OutcomeOf, Situation, Item, Outcome, step}
 use Rattle.lis_model.specs.Step.Item.{Do, Bad}
-use Rattle.lis_store.specs.declared.change.Change.{Change}
-use Rattle.lis_store.specs.declared.change.Change.TheVariants.{Refused, Disk}
+use Rattle.lis_store.specs.declared.change_fault.ChangeFault.{ChangeFault}
+use Rattle.lis_store.specs.declared.change_fault.ChangeFault.TheVariants.{Refused, Disk}
 use Rattle.lis_session.specs.declared.end.End.{End}
 use Rattle.lis_session.specs.declared.end.End.TheVariants.{DiskFault}
 use Rattle.lis_session.specs.declared.tally.Tally.{Tally}
@@ -62,7 +62,7 @@ TalliesItem fits_before place_before old new result fits place item =
     Tallies (λ now. step now item) (λ now. listed now item) fits_before place_before old new result fits place
 
 -- the tally of what a change of the store is answered
-abbrev pub Concluded : Result (Unit {0}) Change → Result Tally Failed → Type 0
+abbrev pub Concluded : Result (Unit {0}) ChangeFault → Result Tally Failed → Type 0
 Concluded (Ok done) result = result ≡ Ok (record { refused = false; listed = 0 })
 Concluded (Err (Refused refusal)) result = result ≡ Ok (record { refused = true; listed = 0 })
 Concluded (Err Disk) result = result ≡ Err (record {})

@@ -11,7 +11,7 @@ use lis_model::refusal::Refusal;
 use lis_place::Place;
 use lis_ports::Station;
 use lis_reply::{show_all, show_line, show_number, show_ok, show_refusal};
-use lis_store::Change;
+use lis_store::ChangeFault;
 
 /// Shows bytes of a reply.
 pub fn answer_bytes<T: Station>(station: &mut T, bytes: &[u8]) -> Result<(), End>
@@ -80,12 +80,12 @@ pub fn answer_place<T: Station>(station: &mut T, place: &Place) -> Result<(), En
 }
 
 /// Shows what a change of the store comes to.
-pub fn conclude<T: Station>(station: &mut T, changed: Result<(), Change>) -> Result<(), End>
+pub fn conclude<T: Station>(station: &mut T, changed: Result<(), ChangeFault>) -> Result<(), End>
     ensures { Concludes T.meaning station.old station.new changed result }
 {
     match changed {
         Ok(()) => answer_ok(station),
-        Err(Change::Refused(refusal)) => answer_refusal(station, &refusal),
-        Err(Change::Disk) => Err(End::DiskFault),
+        Err(ChangeFault::Refused(refusal)) => answer_refusal(station, &refusal),
+        Err(ChangeFault::Disk) => Err(End::DiskFault),
     }
 }

@@ -33,9 +33,9 @@ fn answer_steps<T: Station>(mut steps: Steps<'_, Store>, station: &mut T) -> Res
 
 // Shows the route that was made last, and that the command was done.
 fn answer_route<T: Station>(store: &Store, scratch: &Scratch, station: &mut T) -> Result<(), End>
-    requires { HasRoute (seen_of store.now.parts) scratch.now }
+    requires { HasRoute (seen_of store.now.metadata) scratch.now }
     ensures { Answers (T.meaning station.old) (T.meaning station.new)
-        (flat_map (body_line word_letter) (words_left (seen_of store.now.parts) scratch.now 0) ++ ok_line) result }
+        (flat_map (body_line word_letter) (words_left (seen_of store.now.metadata) scratch.now 0) ++ ok_line) result }
 {
     answer_steps(left_steps(store, scratch), station)?;
     answer_ok(station)
@@ -50,8 +50,8 @@ pub fn way<T: Station>(
     station: &mut T,
 ) -> Result<(), End>
     requires sound { IsSound store.now }
-    requires scratch { HasRoom scratch.old store.now.parts.limits }
-    ensures scratch { HasRoom scratch.new store.now.parts.limits }
+    requires scratch { HasRoom scratch.old store.now.metadata.limits }
+    ensures scratch { HasRoom scratch.new store.now.metadata.limits }
     ensures carries { Does (λ now. way now name.now) (StoreFits store.now (T.meaning station.old)) place.now
         (T.meaning station.old) (T.meaning station.new) result (StoreFits store.now (T.meaning station.new)) place.now }
     ensures ends { Ends (T.meaning station.old) (T.meaning station.new) result }

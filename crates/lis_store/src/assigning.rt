@@ -13,7 +13,7 @@ ghost use Rattle.lis_kept.specs.Telling.{declared_of};
 ghost use Rattle.lis_store.specs.Assigning.{is_conjunct, node_tags, is_held, Takes};
 
 use arrayvec::ArrayVec;
-use lis_kept::Parts;
+use lis_kept::Metadata;
 use lis_limits::MAX_ASSIGNED;
 use lis_model::command::Tags;
 use lis_place::{Node, Place};
@@ -58,28 +58,28 @@ pub(crate) fn is_tag(word: &Word) -> bool
 }
 
 // Whether the word is plain and declared, or valued with a declared head.
-fn is_assignable(parts: &Parts, word: &Word) -> bool
-    ensures { result ≡ is_assignable (declared_of parts.now) word.now }
+fn is_assignable(metadata: &Metadata, word: &Word) -> bool
+    ensures { result ≡ is_assignable (declared_of metadata.now) word.now }
 {
     if is_plain_word(word.bytes()) {
-        return parts.is_declared(word);
+        return metadata.is_declared(word);
     }
     match head_of(word) {
         None => false,
-        Some(head) => parts.is_declared(&head),
+        Some(head) => metadata.is_declared(&head),
     }
 }
 
 /// Whether a file can be given each of the words.
-pub(crate) fn all_assignable(parts: &Parts, words: &[Word]) -> bool
-    ensures { result ≡ list_all (is_assignable (declared_of parts.now)) words.now }
+pub(crate) fn all_assignable(metadata: &Metadata, words: &[Word]) -> bool
+    ensures { result ≡ list_all (is_assignable (declared_of metadata.now)) words.now }
 {
-    words.iter().all(|word| is_assignable(parts, word))
+    words.iter().all(|word| is_assignable(metadata, word))
 }
 
 // Whether a file can be given the word of a node, where it is a tag.
-fn is_assignable_node(parts: &Parts, node: &Node) -> bool
-    ensures { result ≡ list_all (is_assignable (declared_of parts.now)) (node_tags node.now) }
+fn is_assignable_node(metadata: &Metadata, node: &Node) -> bool
+    ensures { result ≡ list_all (is_assignable (declared_of metadata.now)) (node_tags node.now) }
 {
     let Node::Word(word) = node else {
         return true;
@@ -87,25 +87,25 @@ fn is_assignable_node(parts: &Parts, node: &Node) -> bool
     if !is_tag(word) {
         return true;
     }
-    is_assignable(parts, word)
+    is_assignable(metadata, word)
 }
 
 // Whether a file can be given the words of all nodes that are tags.
-fn all_assignable_nodes(parts: &Parts, nodes: &[Node]) -> bool
-    ensures { result ≡ list_all (λ node. list_all (is_assignable (declared_of parts.now)) (node_tags node)) nodes.now }
+fn all_assignable_nodes(metadata: &Metadata, nodes: &[Node]) -> bool
+    ensures { result ≡ list_all (λ node. list_all (is_assignable (declared_of metadata.now)) (node_tags node)) nodes.now }
 {
-    nodes.iter().all(|node| is_assignable_node(parts, node))
+    nodes.iter().all(|node| is_assignable_node(metadata, node))
 }
 
 /// Whether a file can be given all words that a new one is given at the place.
-pub(crate) fn are_assignable(parts: &Parts, place: &Place, tags: &Tags) -> bool
+pub(crate) fn are_assignable(metadata: &Metadata, place: &Place, tags: &Tags) -> bool
     requires { IsSome (place_words place.now) }
-    ensures { result ≡ list_all (is_assignable (declared_of parts.now)) (assigned_at place.now tags.now) }
+    ensures { result ≡ list_all (is_assignable (declared_of metadata.now)) (assigned_at place.now tags.now) }
 {
-    if !all_assignable_nodes(parts, place.nodes()) {
+    if !all_assignable_nodes(metadata, place.nodes()) {
         return false;
     }
-    all_assignable(parts, tags.as_slice())
+    all_assignable(metadata, tags.as_slice())
 }
 
 // How many of the words, up to the first other one, are lower.

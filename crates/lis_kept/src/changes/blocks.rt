@@ -15,7 +15,7 @@ ghost use Rattle.lis_kept.specs.Sound.{AreSound};
 ghost use Rattle.lis_journal.specs.Journal.{shape_of};
 ghost use Rattle.lis_kept.specs.Image.{image_shape};
 
-use crate::parts::Parts;
+use crate::metadata::Metadata;
 use crate::places::{bitmap_start, data_start};
 use arrayvec::ArrayVec;
 use lis_bits::Flags;
@@ -34,7 +34,7 @@ fn mark_bitmap(marks: &mut Flags, limits: &Limits)
     marks.put(bitmap_start(limits), true);
 }
 
-impl Parts {
+impl Metadata {
     /// Puts bytes into free blocks, which it takes, and answers the numbers that a slot has of them. They are staged; where they are
     /// large, they are placed, with an index block, and then nothing may be staged. After a fault of the disk the journal is broken.
     pub fn put_content<D: Disk>(
