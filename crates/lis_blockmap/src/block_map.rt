@@ -8,11 +8,9 @@ ghost use Rattle.lis_journal.specs.Record.{homes_start};
 
 use lis_bits::Rows;
 use lis_journal::Journal;
+use lis_limits::{BLOCK_LEN, MAX_BLOCKS};
 use std::alloc::{AllocError, Global};
 use std::marker::Model;
-
-// How many bits a block has.
-const BITS: u32 = 32_768;
 
 /// Which blocks are taken, by their numbers. All memory is taken by `new`.
 #[derive(Drop)]
@@ -45,7 +43,7 @@ fn has_bit(bytes: &[u8], n: u32) -> bool
 
 // A row with the bits of so many blocks, all of them free.
 fn free_row(alloc: Global, blocks: u32) -> Result<Rows, AllocError>
-    requires { blocks ≤ 32768 }
+    requires { blocks ≤ MAX_BLOCKS }
     ensures { IfOk result (λ rows. HasFree rows blocks blocks) }
 {
     let mut rows = Rows::new(alloc, 1, (blocks + 63) / 64 * 64)?;
@@ -59,7 +57,7 @@ impl BlockMap {
     /// The bitmap of so many blocks, all of them free.
     pub fn new(alloc: Global, blocks: u32) -> Result<BlockMap, AllocError>
         requires some { 1 ≤ blocks }
-        requires few { blocks ≤ 32768 }
+        requires few { blocks ≤ MAX_BLOCKS }
         ensures { IfOk result (λ map. map ≡ replicate blocks false) }
     {
         Ok(BlockMap {
@@ -72,7 +70,7 @@ impl BlockMap {
     /// How many blocks there are.
     pub fn len(&self) -> usize
         ensures value { result ≡ length self.now }
-        ensures few { result ≤ 32768 }
+        ensures few { result ≤ MAX_BLOCKS }
     {
         self.blocks as usize
     }
@@ -139,14 +137,14 @@ impl BlockMap {
         ensures looks { (m : ℕ) (old : List ℕ) → look journal.new.staged m old
             ≡ (if m == n then bitmap_bytes self.now else look journal.old.staged m old) }
     {
-        let mut bytes = [0; 4096];
+        let mut bytes = [0; BLOCK_LEN];
         self.write_to(&mut bytes);
         journal.stage(n, &bytes);
     }
 
     /// The first bit in which a block differs from the bitmap's block.
     pub fn first_difference(&self, bytes: &[u8]) -> Option<u32>
-        requires { length bytes.now ≡ 4096 }
+        requires { length bytes.now ≡ BLOCK_LEN }
         ensures same { IfNone result (bytes.now ≡ bitmap_bytes self.now) }
         ensures differs { IfSome result (IsFirstDifference bytes.now self.now) }
     {
@@ -160,7 +158,7 @@ impl BlockMap {
 
     // Writes the bitmap's block.
     fn write_to(&self, bytes: &mut [u8])
-        requires { length bytes.old ≡ 4096 }
+        requires { length bytes.old ≡ BLOCK_LEN }
         ensures { bytes.new ≡ bitmap_bytes self.now }
     {
         // The bits past the last block are 0.
@@ -172,7 +170,7 @@ impl BlockMap {
 
     // The byte that tells eight blocks, the first of them in its lowest bit.
     fn byte(&self, k: u32) -> u8
-        requires { k < 4096 }
+        requires { k < BLOCK_LEN }
         ensures { result ≡ bits_number 8 (λ i. is_taken self.now (8 * k + i)) }
     {
         // The row tells the free ones of eight blocks at once; the last byte may have fewer blocks.

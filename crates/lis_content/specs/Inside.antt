@@ -1,5 +1,6 @@
 -- How a `Buffer` keeps its bytes. No public clause cites this module.
 use Rattle.std.specs.Prelude.{◌≡◌, ℕ, ◌≤◌, List, [], length, take, unwrap_or}
+use Rattle.lis_limits.specs.declared.TheConstants.{MAX_LARGE_FILE}
 use Rattle.lis_region.specs.Region.{Region, get, HasFrame}
 
 -- the bytes of the frame
@@ -13,5 +14,5 @@ kept_bytes region frame size = take size (frame_bytes region frame)
 -- the frame is taken, and has room for the bytes of any file
 pub record IsKept (region : Region ℕ) (frame size : ℕ) : Type 0 where
   pub taken : HasFrame region frame
-  pub wide : length (frame_bytes region frame) ≡ 1048576
-  pub within : size ≤ 1048576
+  pub wide : length (frame_bytes region frame) ≡ MAX_LARGE_FILE
+  pub within : size ≤ MAX_LARGE_FILE

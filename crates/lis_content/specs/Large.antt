@@ -2,6 +2,7 @@
 -- of that index block alone.
 use Rattle.std.specs.Prelude.{◌≡◌, ℕ, ◌+◌, ◌*◌, nat_lt, Bool, true, if◌then◌else◌, List, ◌++◌, map, drop, replicate, slice_index}
 use Rattle.std.specs.List.{flat_map, range_with_len}
+use Rattle.lis_limits.specs.declared.TheConstants.{BLOCK_LEN, SLOT_BLOCKS}
 use Rattle.byteorder.specs.Endian.{little_bytes, little_number}
 use Rattle.lis_model.specs.State.{blocks_needed}
 use Rattle.lis_words.specs.Bytes.{padded}
@@ -9,7 +10,7 @@ use Rattle.lis_content.specs.Content.{content}
 
 -- so many bytes take more blocks than a slot numbers
 abbrev pub is_large : ℕ → Bool
-is_large size = nat_lt 16 (blocks_needed size)
+is_large size = nat_lt SLOT_BLOCKS (blocks_needed size)
 
 -- how many numbers a slot has for so many bytes
 abbrev pub slot_count : ℕ → ℕ
@@ -17,7 +18,7 @@ slot_count size = if is_large size then 1 else blocks_needed size
 
 -- an index block: the numbers in order, two bytes each with the lowest first, and zeros
 abbrev pub index_bytes : List ℕ → List ℕ
-index_bytes ns = padded 4096 (flat_map (little_bytes 2) ns)
+index_bytes ns = padded BLOCK_LEN (flat_map (little_bytes 2) ns)
 
 -- the number at a place of a block, counted by numbers
 abbrev pub number_at : List ℕ → ℕ → ℕ
@@ -52,4 +53,4 @@ IsIndexed base slot size at =
 
 -- what is read of a block with this number; zeros where it is none of the image's
 abbrev pub block_within : ℕ → ℕ → (ℕ → List ℕ) → ℕ → List ℕ
-block_within base blocks at n = if nat_lt (base + n) blocks then at (base + n) else replicate 4096 0
+block_within base blocks at n = if nat_lt (base + n) blocks then at (base + n) else replicate BLOCK_LEN 0

@@ -1,6 +1,7 @@
 -- How a placing of a file's bytes ends.
 use Rattle.std.specs.Prelude.{◌≡◌, ℕ, ◌+◌, ◌*◌, ◌<◌, ◌≤◌, Bool, true, false, if◌then◌else◌, List, ◌++◌, length, take, drop, map, IsTrue, Result, Ok, Err}
 use Rattle.std.specs.List.{range_with_len}
+use Rattle.lis_limits.specs.declared.TheConstants.{BLOCK_LEN}
 use Rattle.lis_ports.specs.Meaning.{Meaning}
 use Rattle.lis_ports.specs.Runs.{Leaves}
 use Rattle.lis_ports.specs.Calls.{Rose, OnlyReads}
@@ -104,12 +105,12 @@ pub record RowTorn (base : ℕ) (taken now_taken : List Bool) (before now : Held
 -- whole blocks of these bytes are placed, one or more
 pub record RowOf (base : ℕ) (bytes : List ℕ) (taken now_taken : List Bool) (before now : Held) (old new : Meaning) (n count : ℕ) : Type 0 where
   pub any : 0 < count
-  pub few : 4096 * count ≤ length bytes
-  pub placed : RowPlaced base taken now_taken before now old new n count (with_run (base + n) count (take (4096 * count) bytes))
+  pub few : BLOCK_LEN * count ≤ length bytes
+  pub placed : RowPlaced base taken now_taken before now old new n count (with_run (base + n) count (take (BLOCK_LEN * count) bytes))
 
 -- a block is placed that has these bytes and zeros behind them
 abbrev pub OnePlaced : ℕ → List ℕ → List Bool → List Bool → Held → Held → Meaning → Meaning → ℕ → Type 0
-OnePlaced base bytes taken now_taken before now old new n = RowPlaced base taken now_taken before now old new n 1 (with_kept (base + n) (padded 4096 bytes))
+OnePlaced base bytes taken now_taken before now old new n = RowPlaced base taken now_taken before now old new n 1 (with_kept (base + n) (padded BLOCK_LEN bytes))
 
 -- The bytes stand in these blocks in order.
 pub record IsLaid (base : ℕ) (bytes : List ℕ) (taken now_taken : List Bool) (before now : Held) (old new : Meaning) (blocks : List ℕ) : Type 0 where

@@ -7,7 +7,8 @@ ghost use Rattle.lis_journal.specs.Staging.{with_entry, has_entry};
 ghost use Rattle.lis_words.specs.Bytes.{padded};
 ghost use Rattle.lis_journal.specs.Record.{homes_start};
 
-use lis_journal::{BLOCK_LEN, Journal};
+use lis_journal::Journal;
+use lis_limits::BLOCK_LEN;
 use lis_ports::{Disk, Failed};
 
 /// The home of a data block, in an image of so many blocks.
@@ -27,12 +28,12 @@ pub fn read_front<D: Disk>(
 ) -> Result<(), Failed>
     requires home { homes_start journal.now.layout ≤ n }
     requires within { n < journal.now.layout.blocks }
-    requires few { length buf.old ≤ 4096 }
+    requires few { length buf.old ≤ BLOCK_LEN }
     requires usable { JournalIsUsable journal.now (D.meaning disk.old) }
     ensures front { OnOk result ((kept : ℕ → List ℕ) → Fits journal.now (D.meaning disk.old) kept
         → buf.new ≡ take (length buf.old) (look journal.now.staged n (kept n))) }
     ensures whole { OnOk result ((kept : ℕ → List ℕ) → Fits journal.now (D.meaning disk.old) kept
-        → length (look journal.now.staged n (kept n)) ≡ 4096) }
+        → length (look journal.now.staged n (kept n)) ≡ BLOCK_LEN) }
     ensures disk { ReadsDisk (D.meaning disk.old) (D.meaning disk.new) result }
     ensures fits { (kept : ℕ → List ℕ) → Fits journal.now (D.meaning disk.old) kept
         → Fits journal.now (D.meaning disk.new) kept }
@@ -48,9 +49,9 @@ pub fn read_front<D: Disk>(
 
 /// Writes the bytes into a block, and zeros behind them.
 pub fn fill(block: &mut [u8], bytes: &[u8])
-    requires whole { length block.old ≡ 4096 }
-    requires few { length bytes.now ≤ 4096 }
-    ensures { block.new ≡ padded 4096 bytes.now }
+    requires whole { length block.old ≡ BLOCK_LEN }
+    requires few { length bytes.now ≤ BLOCK_LEN }
+    ensures { block.new ≡ padded BLOCK_LEN bytes.now }
 {
     let (front, rest) = block.split_at_mut(bytes.len());
     front.copy_from_slice(bytes);
@@ -61,13 +62,13 @@ pub fn fill(block: &mut [u8], bytes: &[u8])
 pub fn stage_front(journal: &mut Journal, n: u32, bytes: &[u8])
     requires home { homes_start journal.old.layout ≤ n }
     requires within { n < journal.old.layout.blocks }
-    requires few { length bytes.now ≤ 4096 }
+    requires few { length bytes.now ≤ BLOCK_LEN }
     requires unbroken { journal.old.is_broken ≡ false }
     requires unplaced { is_among journal.old.placed n ≡ false }
     requires room { IsTrue (has_entry journal.old.staged n) ⊎ (length journal.old.staged < journal.old.capacity.staged) }
-    ensures staged { journal.new ≡ record journal.old { staged = with_entry journal.old.staged n (padded 4096 bytes.now) } }
+    ensures staged { journal.new ≡ record journal.old { staged = with_entry journal.old.staged n (padded BLOCK_LEN bytes.now) } }
     ensures looks { (m : ℕ) (old : List ℕ) → look journal.new.staged m old
-        ≡ (if m == n then padded 4096 bytes.now else look journal.old.staged m old) }
+        ≡ (if m == n then padded BLOCK_LEN bytes.now else look journal.old.staged m old) }
 {
     if bytes.len() == BLOCK_LEN {
         journal.stage(n, bytes);

@@ -11,13 +11,11 @@ ghost use Rattle.lis_journal.specs.Record.{homes_start};
 
 use crate::large::read_content;
 use lis_journal::Journal;
+use lis_limits::MAX_LARGE_FILE;
 use lis_ports::{Disk, Failed};
 use lis_region::{Frame, Region};
 use std::alloc::{AllocError, Global};
 use std::marker::Model;
-
-/// The most bytes that a file has.
-const MOST_BYTES: u32 = 1_048_576;
 
 /// The bytes of a file, in memory that is taken once.
 #[derive(Drop)]
@@ -48,7 +46,7 @@ fn read_front<D: Disk>(
     size: u32,
 ) -> Result<(), Failed>
     requires short { size ≤ length items.old }
-    requires few { size ≤ 1048576 }
+    requires few { size ≤ MAX_LARGE_FILE }
     requires count { length blocks.now ≡ slot_count size }
     requires home { homes_start journal.now.layout ≤ base }
     requires within { IsTrue (are_within base journal.now.layout.blocks blocks.now) }
@@ -102,7 +100,7 @@ impl Buffer {
     pub fn new(alloc: Global) -> Result<Buffer, AllocError>
         ensures { IfOk result (λ buffer. buffer ≡ []) }
     {
-        let mut region = Region::new(alloc, 1, MOST_BYTES, 0)?;
+        let mut region = Region::new(alloc, 1, MAX_LARGE_FILE, 0)?;
         let Some(frame) = region.take() else {
             unreachable!()
         };
@@ -116,7 +114,7 @@ impl Buffer {
     /// The bytes that were read last.
     pub fn bytes(&self) -> &[u8]
         ensures bytes { result.now ≡ self.now }
-        ensures few { length result.now ≤ 1048576 }
+        ensures few { length result.now ≤ MAX_LARGE_FILE }
     {
         &self.region.items(&self.frame)[..self.size as usize]
     }
@@ -130,7 +128,7 @@ impl Buffer {
         blocks: &[u16],
         size: u32,
     ) -> Result<(), Failed>
-        requires short { size ≤ 1048576 }
+        requires short { size ≤ MAX_LARGE_FILE }
         requires count { length blocks.now ≡ slot_count size }
         requires home { homes_start journal.now.layout ≤ base }
         requires within { IsTrue (are_within base journal.now.layout.blocks blocks.now) }

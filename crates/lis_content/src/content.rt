@@ -15,7 +15,8 @@ use crate::blocks::{home, read_front, stage_front};
 use crate::fault::PutFault;
 use arrayvec::ArrayVec;
 use lis_blockmap::BlockMap;
-use lis_journal::{BLOCK_LEN, Journal};
+use lis_journal::Journal;
+use lis_limits::{BLOCK_LEN, MAX_FILE, SLOT_BLOCKS};
 use lis_ports::{Disk, Failed};
 
 /// Gives the old blocks back, and stages the bytes in blocks that it takes. Whole blocks are staged, so the disk is not
@@ -28,14 +29,14 @@ pub fn put<D: Disk>(
     old: &[u16],
     bytes: &[u8],
 ) -> Result<ArrayVec<u16, 16>, PutFault>
-    requires few { length bytes.now ≤ 65536 }
+    requires few { length bytes.now ≤ MAX_FILE }
     requires distinct { IsTrue (are_distinct old.now) }
     requires taken { IsTrue (are_taken map.old old.now) }
     requires home { homes_start journal.old.layout ≤ base }
     requires within { base + length map.old ≤ journal.old.layout.blocks }
     requires usable { JournalIsUsable journal.old (D.meaning disk.old) }
     requires unplaced { journal.old.placed ≡ [] }
-    requires room { length journal.old.staged + 16 ≤ journal.old.capacity.staged }
+    requires room { length journal.old.staged + SLOT_BLOCKS ≤ journal.old.capacity.staged }
     ensures ended { MatchResult result
         (λ blocks. IsPut base old.now bytes.now map.old map.new journal.old journal.new blocks.items)
         (λ fault. IsRefused old.now bytes.now map.old map.new journal.old journal.new fault) }
@@ -56,13 +57,13 @@ fn stage_bytes(
     base: u32,
     bytes: &[u8],
 ) -> ArrayVec<u16, 16>
-    requires few { length bytes.now ≤ 65536 }
+    requires few { length bytes.now ≤ MAX_FILE }
     requires enough { blocks_needed (length bytes.now) ≤ free_count map.old }
     requires home { homes_start journal.old.layout ≤ base }
     requires within { base + length map.old ≤ journal.old.layout.blocks }
     requires unbroken { journal.old.is_broken ≡ false }
     requires unplaced { journal.old.placed ≡ [] }
-    requires room { length journal.old.staged + 16 ≤ journal.old.capacity.staged }
+    requires room { length journal.old.staged + SLOT_BLOCKS ≤ journal.old.capacity.staged }
     ensures { IsPut base [] bytes.now map.old map.new journal.old journal.new result.items }
 {
     let mut taken = ArrayVec::new();

@@ -15,14 +15,9 @@ use crate::content::read;
 use arrayvec::ArrayVec;
 use byteorder::{ByteOrder, LittleEndian};
 use lis_blockmap::BlockMap;
-use lis_journal::{BLOCK_LEN, Journal};
+use lis_journal::Journal;
+use lis_limits::{BLOCK_LEN, MAX_FILE_BLOCKS, MAX_LARGE_FILE, SLOT_BLOCKS};
 use lis_ports::{Disk, Failed};
-
-/// The most blocks that the content of a file has.
-const MOST_BLOCKS: usize = 256;
-
-/// How many numbers of blocks a slot has.
-const SLOT_BLOCKS: u32 = 16;
 
 /// Where the content of a file lies: the first data block of the image, the numbers in the file's slot, and how many bytes it has.
 #[derive(Clone, Copy)]
@@ -34,7 +29,7 @@ pub struct Laid<'a> {
 
 /// Whether so many bytes take more blocks than a slot numbers.
 pub fn is_large(size: u32) -> bool
-    requires { size ≤ 1048576 }
+    requires { size ≤ MAX_LARGE_FILE }
     ensures { result ≡ is_large size }
 {
     size.div_ceil(BLOCK_LEN as u32) > SLOT_BLOCKS
@@ -42,7 +37,7 @@ pub fn is_large(size: u32) -> bool
 
 /// How many blocks so many bytes take, the index block among them.
 pub fn blocks_taken(size: u32) -> u32
-    requires { size ≤ 1048576 }
+    requires { size ≤ MAX_LARGE_FILE }
     ensures { result ≡ blocks_taken 2 size }
 {
     let needed = size.div_ceil(BLOCK_LEN as u32);
@@ -53,7 +48,7 @@ pub fn blocks_taken(size: u32) -> u32
 fn read_home<D: Disk>(journal: &Journal, disk: &mut D, n: u32, buf: &mut [u8]) -> Result<(), Failed>
     requires home { homes_start journal.now.layout ≤ n }
     requires within { n < journal.now.layout.blocks }
-    requires whole { length buf.old ≡ 4096 }
+    requires whole { length buf.old ≡ BLOCK_LEN }
     requires usable { JournalIsUsable journal.now (D.meaning disk.old) }
     ensures read { OnOk result ((kept : ℕ → List ℕ) → Fits journal.now (D.meaning disk.old) kept
         → buf.new ≡ look journal.now.staged n (kept n)) }
@@ -73,11 +68,11 @@ pub fn read_index_block<D: Disk>(
     laid: Laid,
     buf: &mut [u8],
 ) -> Result<(), Failed>
-    requires few { laid.size ≤ 1048576 }
+    requires few { laid.size ≤ MAX_LARGE_FILE }
     requires count { length laid.blocks.now ≡ slot_count laid.size }
     requires home { homes_start journal.now.layout ≤ laid.base }
     requires within { IsTrue (are_within laid.base journal.now.layout.blocks laid.blocks.now) }
-    requires whole { length buf.old ≡ 4096 }
+    requires whole { length buf.old ≡ BLOCK_LEN }
     requires usable { JournalIsUsable journal.now (D.meaning disk.old) }
     ensures held { OnOk result (IsTrue (D.meaning disk.old).is_honest → is_large laid.entry.size ≡ true
         → buf.new ≡ held_in journal.now (D.meaning disk.old).bytes (index_home laid.entry.base laid.entry.blocks.now)) }
@@ -94,8 +89,8 @@ pub fn read_index_block<D: Disk>(
 
 // The number at a place of a block, counted by numbers.
 fn number_at(block: &[u8], k: usize) -> u16
-    requires whole { length block.now ≡ 4096 }
-    requires place { k < 256 }
+    requires whole { length block.now ≡ BLOCK_LEN }
+    requires place { k < MAX_FILE_BLOCKS }
     ensures { result ≡ number_at block.now k }
 {
     LittleEndian::read_u16(&block[2 * k..])
@@ -103,9 +98,9 @@ fn number_at(block: &[u8], k: usize) -> u16
 
 // The number of the n-th block of the content, by the index block where there is one.
 fn number_of(blocks: &[u16], size: u32, index: &[u8], n: u32) -> u16
-    requires few { size ≤ 1048576 }
+    requires few { size ≤ MAX_LARGE_FILE }
     requires count { length blocks.now ≡ slot_count size }
-    requires whole { length index.now ≡ 4096 }
+    requires whole { length index.now ≡ BLOCK_LEN }
     requires inside { n < blocks_needed size }
     ensures number { (base : ℕ) (at : ℕ → List ℕ) → (is_large size ≡ true → index.now ≡ at (index_home base blocks.now))
         → result ≡ slice_index (content_blocks base blocks.now size at) n }
@@ -124,7 +119,7 @@ fn read_within<D: Disk>(
     number: u16,
     buf: &mut [u8],
 ) -> Result<(), Failed>
-    requires whole { length buf.old ≡ 4096 }
+    requires whole { length buf.old ≡ BLOCK_LEN }
     requires home { homes_start journal.now.layout ≤ base }
     requires within { base ≤ journal.now.layout.blocks }
     requires usable { JournalIsUsable journal.now (D.meaning disk.old) }
@@ -151,13 +146,13 @@ pub fn read_block_by<D: Disk>(
     n: u32,
     buf: &mut [u8],
 ) -> Result<(), Failed>
-    requires few { laid.size ≤ 1048576 }
+    requires few { laid.size ≤ MAX_LARGE_FILE }
     requires count { length laid.blocks.now ≡ slot_count laid.size }
     requires home { homes_start journal.now.layout ≤ laid.base }
     requires within { IsTrue (are_within laid.base journal.now.layout.blocks laid.blocks.now) }
     requires inside { n < blocks_needed laid.size }
-    requires index { length index.now ≡ 4096 }
-    requires whole { length buf.old ≡ 4096 }
+    requires index { length index.now ≡ BLOCK_LEN }
+    requires whole { length buf.old ≡ BLOCK_LEN }
     requires usable { JournalIsUsable journal.now (D.meaning disk.old) }
     ensures read { OnOk result ((kept : ℕ → List ℕ) → Fits journal.now (D.meaning disk.old) kept
         → (is_large laid.entry.size ≡ true → index.now ≡ looked journal.now.staged kept (index_home laid.entry.base laid.entry.blocks.now))
@@ -180,12 +175,12 @@ pub fn read_block<D: Disk>(
     n: u32,
     buf: &mut [u8],
 ) -> Result<(), Failed>
-    requires few { laid.size ≤ 1048576 }
+    requires few { laid.size ≤ MAX_LARGE_FILE }
     requires count { length laid.blocks.now ≡ slot_count laid.size }
     requires home { homes_start journal.now.layout ≤ laid.base }
     requires within { IsTrue (are_within laid.base journal.now.layout.blocks laid.blocks.now) }
     requires inside { n < blocks_needed laid.size }
-    requires whole { length buf.old ≡ 4096 }
+    requires whole { length buf.old ≡ BLOCK_LEN }
     requires usable { JournalIsUsable journal.now (D.meaning disk.old) }
     ensures read { OnOk result ((kept : ℕ → List ℕ) → Fits journal.now (D.meaning disk.old) kept
         → buf.new ≡ block_within laid.entry.base journal.now.layout.blocks (looked journal.now.staged kept)
@@ -218,12 +213,12 @@ fn give_all(map: &mut BlockMap, blocks: &[u16])
 }
 
 // So many numbers from the front of a block.
-fn numbers_in(block: &[u8], count: usize) -> ArrayVec<u16, 256>
-    requires whole { length block.now ≡ 4096 }
-    requires few { count ≤ 256 }
+fn numbers_in(block: &[u8], count: usize) -> ArrayVec<u16, MAX_FILE_BLOCKS>
+    requires whole { length block.now ≡ BLOCK_LEN }
+    requires few { count ≤ MAX_FILE_BLOCKS }
     ensures { result.items ≡ numbers_in count block.now }
 {
-    let mut held = [0; MOST_BLOCKS];
+    let mut held = [0; MAX_FILE_BLOCKS];
     let (used, _) = held.split_at_mut(count);
     LittleEndian::read_u16_into(&block[..2 * count], used);
     let mut numbers = ArrayVec::new();
@@ -237,10 +232,10 @@ fn read_index<D: Disk>(
     disk: &mut D,
     n: u32,
     count: usize,
-) -> Result<ArrayVec<u16, 256>, Failed>
+) -> Result<ArrayVec<u16, MAX_FILE_BLOCKS>, Failed>
     requires home { homes_start journal.now.layout ≤ n }
     requires within { n < journal.now.layout.blocks }
-    requires few { count ≤ 256 }
+    requires few { count ≤ MAX_FILE_BLOCKS }
     requires usable { JournalIsUsable journal.now (D.meaning disk.old) }
     ensures numbers { IfOk result (λ numbers. (kept : ℕ → List ℕ) → Fits journal.now (D.meaning disk.old) kept
         → numbers.items ≡ numbers_in count (look journal.now.staged n (kept n))) }
@@ -263,9 +258,9 @@ pub fn are_zeros(bytes: &[u8]) -> bool
 
 /// The numbers that an index block has, for a content of so many bytes. None comes exactly where the block is out of form: where something
 /// else than zeros stands behind them.
-pub fn index_numbers(block: &[u8], size: u32) -> Option<ArrayVec<u16, 256>>
-    requires whole { length block.now ≡ 4096 }
-    requires few { size ≤ 1048576 }
+pub fn index_numbers(block: &[u8], size: u32) -> Option<ArrayVec<u16, MAX_FILE_BLOCKS>>
+    requires whole { length block.now ≡ BLOCK_LEN }
+    requires few { size ≤ MAX_LARGE_FILE }
     ensures form { IfSome result (λ numbers. (numbers.items ≡ numbers_in (blocks_needed size) block.now) × (block.now ≡ index_bytes numbers.items)) }
     ensures none { result ≡ None → block.now ≡ index_bytes (numbers_in (blocks_needed size) block.now) → ⊥ }
 {
@@ -295,7 +290,7 @@ pub fn read_content<D: Disk>(
     size: u32,
     buf: &mut [u8],
 ) -> Result<(), Failed>
-    requires few { size ≤ 1048576 }
+    requires few { size ≤ MAX_LARGE_FILE }
     requires whole { length buf.old ≡ size }
     requires count { length slot.now ≡ slot_count size }
     requires home { homes_start journal.now.layout ≤ base }
@@ -330,7 +325,7 @@ pub fn drop_large<D: Disk>(
     blocks: &[u16],
     size: u32,
 ) -> Result<(), Failed>
-    requires few { size ≤ 1048576 }
+    requires few { size ≤ MAX_LARGE_FILE }
     requires count { length blocks.now ≡ slot_count size }
     requires home { homes_start journal.now.layout ≤ base }
     requires within { IsTrue (are_within base journal.now.layout.blocks blocks.now) }

@@ -19,7 +19,8 @@ use crate::large::{blocks_taken, is_large};
 use arrayvec::ArrayVec;
 use byteorder::{ByteOrder, LittleEndian};
 use lis_blockmap::BlockMap;
-use lis_journal::{BLOCK_LEN, Journal};
+use lis_journal::Journal;
+use lis_limits::{BLOCK_BITS, BLOCK_LEN, MAX_FILE_BLOCKS, MAX_LARGE_FILE, NUMBERS, SLOT_BLOCKS};
 use lis_ports::{Disk, Failed};
 
 // Blocks that stand in a row.
@@ -31,7 +32,7 @@ struct Row {
 
 // Takes this block, if there is one and it is free.
 fn take_next(map: &mut BlockMap, n: u32) -> bool
-    ensures within { IsTrue result → (n < length map.old) × (n < 32768) }
+    ensures within { IsTrue result → (n < length map.old) × (n < BLOCK_BITS) }
     ensures was_free { IsTrue result → is_taken map.old n ≡ false }
     ensures taken { IsTrue result → map.new ≡ slice_set map.old n true }
     ensures fewer { IsTrue result → free_count map.new + 1 ≡ free_count map.old }
@@ -50,10 +51,10 @@ fn take_next(map: &mut BlockMap, n: u32) -> bool
 // Takes free blocks that stand in a row, at least one and at most so many.
 fn take_row(map: &mut BlockMap, most: u32) -> Row
     requires some { 0 < free_count map.old }
-    requires most { (0 < most) × (most ≤ 256) }
+    requires most { (0 < most) × (most ≤ MAX_FILE_BLOCKS) }
     ensures row { TakesRow map.old map.new result.first result.count }
     ensures count { (0 < result.count) × (result.count ≤ most) }
-    ensures narrow { result.first + result.count ≤ 65536 }
+    ensures narrow { result.first + result.count ≤ NUMBERS }
 {
     let Some(first) = map.take() else {
         unreachable!()
@@ -76,18 +77,18 @@ fn place_row<D: Disk>(
     base: u32,
     bytes: &[u8],
 ) -> Result<Row, Failed>
-    requires whole { 4096 ≤ length bytes.now }
-    requires few { length bytes.now ≤ 1048576 }
+    requires whole { BLOCK_LEN ≤ length bytes.now }
+    requires few { length bytes.now ≤ MAX_LARGE_FILE }
     requires some { 0 < free_count map.old }
     requires home { homes_start journal.old.layout ≤ base }
     requires within { base + length map.old ≤ journal.old.layout.blocks }
     requires usable { JournalIsUsable journal.old (D.meaning disk.old) }
     requires unstaged { AreUnstaged base map.old journal.old.staged }
-    requires room { length journal.old.placed + length bytes.now / 4096 ≤ journal.old.capacity.placed }
+    requires room { length journal.old.placed + length bytes.now / BLOCK_LEN ≤ journal.old.capacity.placed }
     ensures ended { MatchResult result
         (λ row. RowOf base bytes.now map.old map.new journal.old journal.new (D.meaning disk.old) (D.meaning disk.new) row.first row.count)
         (λ _. RowTorn base map.old map.new journal.old journal.new (D.meaning disk.old) (D.meaning disk.new)) }
-    ensures narrow { IfOk result (λ row. row.first + row.count ≤ 65536) }
+    ensures narrow { IfOk result (λ row. row.first + row.count ≤ NUMBERS) }
     ensures disk { UsesDisk (D.meaning disk.old) (D.meaning disk.new) result }
 {
     let row = take_row(map, (bytes.len() / BLOCK_LEN) as u32);
@@ -105,7 +106,7 @@ fn place_block<D: Disk>(
     base: u32,
     bytes: &[u8],
 ) -> Result<u16, Failed>
-    requires few { length bytes.now ≤ 4096 }
+    requires few { length bytes.now ≤ BLOCK_LEN }
     requires some { 0 < free_count map.old }
     requires home { homes_start journal.old.layout ≤ base }
     requires within { base + length map.old ≤ journal.old.layout.blocks }
@@ -124,9 +125,9 @@ fn place_block<D: Disk>(
 }
 
 // Puts the numbers of a row behind those that are there.
-fn push_row(taken: &mut ArrayVec<u16, 256>, row: Row)
-    requires room { length taken.old.items + row.count ≤ 256 }
-    requires narrow { row.first + row.count ≤ 65536 }
+fn push_row(taken: &mut ArrayVec<u16, MAX_FILE_BLOCKS>, row: Row)
+    requires room { length taken.old.items + row.count ≤ MAX_FILE_BLOCKS }
+    requires narrow { row.first + row.count ≤ NUMBERS }
     ensures { taken.new.items ≡ taken.old.items ++ range_with_len row.first row.count }
 {
     for k in 0..row.count {
@@ -141,8 +142,8 @@ fn place_bytes<D: Disk>(
     disk: &mut D,
     base: u32,
     bytes: &[u8],
-) -> Result<ArrayVec<u16, 256>, Failed>
-    requires few { length bytes.now ≤ 1048576 }
+) -> Result<ArrayVec<u16, MAX_FILE_BLOCKS>, Failed>
+    requires few { length bytes.now ≤ MAX_LARGE_FILE }
     requires enough { blocks_needed (length bytes.now) ≤ free_count map.old }
     requires home { homes_start journal.old.layout ≤ base }
     requires within { base + length map.old ≤ journal.old.layout.blocks }
@@ -179,7 +180,7 @@ fn place_index<D: Disk>(
     base: u32,
     numbers: &[u16],
 ) -> Result<u16, Failed>
-    requires count { length numbers.now ≤ 256 }
+    requires count { length numbers.now ≤ MAX_FILE_BLOCKS }
     requires some { 0 < free_count map.old }
     requires home { homes_start journal.old.layout ≤ base }
     requires within { base + length map.old ≤ journal.old.layout.blocks }
@@ -201,7 +202,7 @@ fn place_index<D: Disk>(
 
 // The numbers, as a slot has them.
 fn slot_of(numbers: &[u16]) -> ArrayVec<u16, 16>
-    requires { length numbers.now ≤ 16 }
+    requires { length numbers.now ≤ SLOT_BLOCKS }
     ensures { result.items ≡ numbers.now }
 {
     let mut slot = ArrayVec::new();
@@ -217,7 +218,7 @@ fn place_all<D: Disk>(
     base: u32,
     bytes: &[u8],
 ) -> Result<ArrayVec<u16, 16>, Failed>
-    requires few { length bytes.now ≤ 1048576 }
+    requires few { length bytes.now ≤ MAX_LARGE_FILE }
     requires enough { blocks_taken 2 (length bytes.now) ≤ free_count map.old }
     requires home { homes_start journal.old.layout ≤ base }
     requires within { base + length map.old ≤ journal.old.layout.blocks }
@@ -247,7 +248,7 @@ pub fn place_file<D: Disk>(
     base: u32,
     bytes: &[u8],
 ) -> Result<ArrayVec<u16, 16>, PutFault>
-    requires few { length bytes.now ≤ 1048576 }
+    requires few { length bytes.now ≤ MAX_LARGE_FILE }
     requires home { homes_start journal.old.layout ≤ base }
     requires within { base + length map.old ≤ journal.old.layout.blocks }
     requires usable { JournalIsUsable journal.old (D.meaning disk.old) }

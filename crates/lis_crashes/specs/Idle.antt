@@ -1,13 +1,14 @@
 -- What the tests know of a journal between two calls, and of its disk.
 use Rattle.std.specs.Prelude.{◌≡◌, ◌≤◌, ℕ, false, [], length}
+use Rattle.lis_limits.specs.declared.TheConstants.{MAX_PLACED, MAX_STAGED, RECORD_BLOCKS}
 use Rattle.lis_ports.specs.Meaning.{Meaning}
 use Rattle.lis_journal.specs.declared.layout.Layout.{Layout}
 use Rattle.lis_journal.specs.declared.layout.Capacity.{Capacity}
 use Rattle.lis_journal.specs.Journal.{Held, Shape, shape_of}
 
--- a journal of so many blocks, 576 of them for records
+-- a journal of so many blocks, with records and room as those of an image
 abbrev pub shape_with : ℕ → Shape
-shape_with blocks = record { layout = record { records = 576; blocks = blocks }; capacity = record { staged = 575; placed = 257 } }
+shape_with blocks = record { layout = record { records = RECORD_BLOCKS; blocks = blocks }; capacity = record { staged = MAX_STAGED; placed = MAX_PLACED } }
 
 -- a journal of so many blocks, with nothing staged and nothing placed
 pub record IsAtRest (blocks : ℕ) (journal : Held) : Type 0 where

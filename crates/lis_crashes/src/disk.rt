@@ -4,38 +4,43 @@ ghost use Rattle.std.specs.Prelude.{◌≡◌, ◌+◌, ◌<◌, ◌≤◌, leng
 ghost use Rattle.lis_memdisk.specs.MemStation.{meaning_of};
 ghost use Rattle.lis_crashes.specs.Idle.{IsAtRest, HasStaged, IsSameDisk};
 
-use lis_journal::{BLOCK_LEN, Capacity, Journal, Layout};
+use lis_journal::{Capacity, Journal, Layout};
+use lis_limits::{BLOCK_LEN, MAX_PLACED, MAX_STAGED, PROPERTIES_START, RECORD_BLOCKS};
 use lis_memdisk::MemStation;
 use std::alloc::{AllocError, Global};
 use std::test::Fail;
 
 pub const LAYOUT: Layout = Layout {
-    records: 576,
-    blocks: 594,
+    records: RECORD_BLOCKS,
+    blocks: DISK_BLOCKS,
 };
 
 pub const CAPACITY: Capacity = Capacity {
-    staged: 575,
-    placed: 257,
+    staged: MAX_STAGED,
+    placed: MAX_PLACED,
 };
 
+/// Blocks of the disk.
+pub const DISK_BLOCKS: u32 = 594;
+
+/// Bytes of the disk.
 pub const DISK_LEN: usize = 2_433_024;
 
-const FIRST: u32 = 578;
+const FIRST: u32 = PROPERTIES_START;
 
 const LAST: u32 = 593;
 
 const ROOM: u64 = 1 << 20;
 
 pub fn zeros(alloc: Global) -> Result<Vec<u8>, AllocError>
-    ensures { IfOk result (λ zeros. length zeros.items ≡ 2433024) }
+    ensures { IfOk result (λ zeros. length zeros.items ≡ DISK_LEN) }
 {
     vec![in alloc; 0; DISK_LEN]
 }
 
 fn opened(alloc: Global, disk: &mut MemStation) -> Result<Journal, Fail>
-    requires long { 2433024 ≤ (meaning_of disk.old).len }
-    ensures idle { IfOk result (λ journal. IsAtRest 594 journal) }
+    requires long { DISK_LEN ≤ (meaning_of disk.old).len }
+    ensures idle { IfOk result (λ journal. IsAtRest DISK_BLOCKS journal) }
     ensures same { IsSameDisk (meaning_of disk.old) (meaning_of disk.new) }
 {
     Ok(Journal::mount(alloc, disk, LAYOUT, CAPACITY)?)
@@ -43,9 +48,9 @@ fn opened(alloc: Global, disk: &mut MemStation) -> Result<Journal, Fail>
 
 /// The journal of a disk of these bytes.
 pub fn mounted(alloc: Global, image: &[u8]) -> Result<(MemStation, Journal), Fail>
-    requires { length image.now ≡ 2433024 }
-    ensures idle { IfOk result (λ made. IsAtRest 594 made.1) }
-    ensures long { IfOk result (λ made. (meaning_of made.0).len ≡ 2433024) }
+    requires { length image.now ≡ DISK_LEN }
+    ensures idle { IfOk result (λ made. IsAtRest DISK_BLOCKS made.1) }
+    ensures long { IfOk result (λ made. (meaning_of made.0).len ≡ DISK_LEN) }
     ensures recorded { IfOk result (λ made. IsTrue (meaning_of made.0).is_recorded) }
 {
     let mut disk = MemStation::new(alloc, image, ROOM)?;
@@ -55,10 +60,10 @@ pub fn mounted(alloc: Global, image: &[u8]) -> Result<(MemStation, Journal), Fai
 
 // Stages a block that is filled with a byte.
 fn stage(alloc: Global, journal: &mut Journal, n: u32, fill: Option<u8>) -> Result<(), AllocError>
-    requires home { 578 ≤ n }
-    requires within { n < 594 }
-    requires ready { HasStaged 594 1 journal.old }
-    ensures ready { HasStaged 594 (length journal.old.staged + 1) journal.new }
+    requires home { PROPERTIES_START ≤ n }
+    requires within { n < DISK_BLOCKS }
+    requires ready { HasStaged DISK_BLOCKS 1 journal.old }
+    ensures ready { HasStaged DISK_BLOCKS (length journal.old.staged + 1) journal.new }
 {
     if let Some(fill) = fill {
         journal.stage(n, &vec![in alloc; fill; BLOCK_LEN]?);
@@ -73,9 +78,9 @@ pub fn commit(
     journal: &mut Journal,
     fills: [Option<u8>; 2],
 ) -> Result<bool, AllocError>
-    requires idle { IsAtRest 594 journal.old }
-    requires long { 2433024 ≤ (meaning_of disk.old).len }
-    ensures idle { IfOk result (λ has_failed. has_failed ≡ false → IsAtRest 594 journal.new) }
+    requires idle { IsAtRest DISK_BLOCKS journal.old }
+    requires long { DISK_LEN ≤ (meaning_of disk.old).len }
+    ensures idle { IfOk result (λ has_failed. has_failed ≡ false → IsAtRest DISK_BLOCKS journal.new) }
     ensures same { IsSameDisk (meaning_of disk.old) (meaning_of disk.new) }
 {
     stage(alloc, journal, FIRST, fills[0])?;
@@ -90,9 +95,9 @@ pub fn keep(
     journal: &mut Journal,
     fills: [Option<u8>; 2],
 ) -> Result<(), Fail>
-    requires idle { IsAtRest 594 journal.old }
-    requires long { 2433024 ≤ (meaning_of disk.old).len }
-    ensures idle { OnOk result (IsAtRest 594 journal.new) }
+    requires idle { IsAtRest DISK_BLOCKS journal.old }
+    requires long { DISK_LEN ≤ (meaning_of disk.old).len }
+    ensures idle { OnOk result (IsAtRest DISK_BLOCKS journal.new) }
     ensures same { IsSameDisk (meaning_of disk.old) (meaning_of disk.new) }
 {
     if commit(alloc, disk, journal, fills)? {
@@ -103,8 +108,8 @@ pub fn keep(
 
 /// Places a block of nines over the first home block.
 pub fn place_nines(alloc: Global, disk: &mut MemStation, journal: &mut Journal) -> Result<(), Fail>
-    requires idle { IsAtRest 594 journal.old }
-    requires long { 2433024 ≤ (meaning_of disk.old).len }
+    requires idle { IsAtRest DISK_BLOCKS journal.old }
+    requires long { DISK_LEN ≤ (meaning_of disk.old).len }
     ensures same { IsSameDisk (meaning_of disk.old) (meaning_of disk.new) }
 {
     journal.place(disk, FIRST, &vec![in alloc; 9; BLOCK_LEN]?)?;
@@ -113,10 +118,10 @@ pub fn place_nines(alloc: Global, disk: &mut MemStation, journal: &mut Journal) 
 
 // The byte that fills a block.
 fn fill_of(alloc: Global, disk: &mut MemStation, journal: &Journal, n: u32) -> Result<u8, Fail>
-    requires home { 578 ≤ n }
-    requires within { n < 594 }
-    requires idle { IsAtRest 594 journal.now }
-    requires long { 2433024 ≤ (meaning_of disk.old).len }
+    requires home { PROPERTIES_START ≤ n }
+    requires within { n < DISK_BLOCKS }
+    requires idle { IsAtRest DISK_BLOCKS journal.now }
+    requires long { DISK_LEN ≤ (meaning_of disk.old).len }
     ensures same { IsSameDisk (meaning_of disk.old) (meaning_of disk.new) }
 {
     let mut block = vec![in alloc; 1; BLOCK_LEN]?;
@@ -131,8 +136,8 @@ fn fill_of(alloc: Global, disk: &mut MemStation, journal: &Journal, n: u32) -> R
 
 /// The bytes that fill the first and the last home block.
 pub fn fills_of(alloc: Global, disk: &mut MemStation, journal: &Journal) -> Result<[u8; 2], Fail>
-    requires idle { IsAtRest 594 journal.now }
-    requires long { 2433024 ≤ (meaning_of disk.old).len }
+    requires idle { IsAtRest DISK_BLOCKS journal.now }
+    requires long { DISK_LEN ≤ (meaning_of disk.old).len }
     ensures same { IsSameDisk (meaning_of disk.old) (meaning_of disk.new) }
 {
     let first = fill_of(alloc, disk, journal, FIRST)?;
@@ -143,7 +148,7 @@ pub fn fills_of(alloc: Global, disk: &mut MemStation, journal: &Journal) -> Resu
 /// The image that a crash just after a call leaves.
 pub fn image_after(alloc: Global, disk: &MemStation, call: u64, pick: u8) -> Result<Vec<u8>, Fail>
     requires { IsTrue (meaning_of disk.now).is_recorded }
-    ensures { IfOk result (λ image. length image.items ≡ 2433024) }
+    ensures { IfOk result (λ image. length image.items ≡ DISK_LEN) }
 {
     if call > disk.calls() {
         return Err("there was no such call".into());

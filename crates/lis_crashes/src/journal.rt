@@ -4,7 +4,9 @@ ghost use Rattle.std.specs.Prelude.{◌≤◌, OnOk, IsTrue};
 ghost use Rattle.lis_memdisk.specs.MemStation.{meaning_of};
 ghost use Rattle.lis_crashes.specs.Idle.{IsAtRest, IsSameDisk};
 
-use crate::disk::{commit, fills_after, fills_left, keep, mounted, place_nines, zeros};
+use crate::disk::{
+    DISK_BLOCKS, DISK_LEN, commit, fills_after, fills_left, keep, mounted, place_nines, zeros,
+};
 use lis_journal::Journal;
 use lis_memdisk::MemStation;
 use std::alloc::Global;
@@ -52,10 +54,10 @@ fn keep_all(
     journal: &mut Journal,
     count: u8,
 ) -> Result<(), Fail>
-    requires idle { IsAtRest 594 journal.old }
-    requires long { 2433024 ≤ (meaning_of disk.old).len }
+    requires idle { IsAtRest DISK_BLOCKS journal.old }
+    requires long { DISK_LEN ≤ (meaning_of disk.old).len }
     requires recorded { IsTrue (meaning_of disk.old).is_recorded }
-    ensures idle { OnOk result (IsAtRest 594 journal.new) }
+    ensures idle { OnOk result (IsAtRest DISK_BLOCKS journal.new) }
     ensures same { IsSameDisk (meaning_of disk.old) (meaning_of disk.new) }
 {
     for number in 0..count {
@@ -104,8 +106,8 @@ fn a_stop_before_a_block_is_placed_changes_nothing(rt: HostRuntime) -> Result<()
 
 // The commit of both home blocks fails, and breaks the journal.
 fn break_commit(alloc: Global, disk: &mut MemStation, journal: &mut Journal) -> Result<(), Fail>
-    requires idle { IsAtRest 594 journal.old }
-    requires long { 2433024 ≤ (meaning_of disk.old).len }
+    requires idle { IsAtRest DISK_BLOCKS journal.old }
+    requires long { DISK_LEN ≤ (meaning_of disk.old).len }
     ensures same { IsSameDisk (meaning_of disk.old) (meaning_of disk.new) }
 {
     if !commit(alloc, disk, journal, [Some(7), Some(7)])? {

@@ -1,16 +1,17 @@
 //! Mounts on images that no journal left: gates and records of any bytes.
 
-ghost use Rattle.std.specs.Prelude.{◌≡◌, ◌<◌, length, IfOk};
+ghost use Rattle.std.specs.Prelude.{◌-◌, ◌≡◌, ◌<◌, length, IfOk};
 
-use crate::disk::{CAPACITY, LAYOUT, zeros};
+use crate::disk::{CAPACITY, DISK_LEN, LAYOUT, zeros};
 use lis_journal::{Journal, JournalFault};
+use lis_limits::BLOCK_LEN;
 use lis_memdisk::MemStation;
 use std::alloc::{AllocError, Global};
 use std::test::Fail;
 
 // The block of the first record that is not in form, or 0 where all are.
 fn bad_record(alloc: Global, image: &[u8]) -> Result<u32, Fail>
-    requires { length image.now ≡ 2433024 }
+    requires { length image.now ≡ DISK_LEN }
 {
     let mut disk = MemStation::new(alloc, image, 0)?;
     match Journal::mount(alloc, &mut disk, LAYOUT, CAPACITY) {
@@ -27,8 +28,8 @@ fn open_record(
     at: usize,
     with: [u8; 2],
 ) -> Result<Vec<u8>, AllocError>
-    requires { at < 4000 }
-    ensures { IfOk result (λ image. length image.items ≡ 2433024) }
+    requires { at < BLOCK_LEN - 96 }
+    ensures { IfOk result (λ image. length image.items ≡ DISK_LEN) }
 {
     let mut image = zeros(alloc)?;
     image[4_096] = 1;

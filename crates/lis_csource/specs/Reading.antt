@@ -1,5 +1,6 @@
 -- A source that is read up to some place: what has been noted, and what the entries behind the place still give.
 use Rattle.std.specs.Prelude.{◌≡◌, ℕ, ◌==◌, ◌<◌, Bool, false, ◌&&◌, if◌then◌else◌, Option, Some, None, List, [], ◌∷◌, ◌++◌, filter, codes}
+use Rattle.lis_words.specs.Bytes.{opening_brace}
 use Rattle.lis_words.specs.Words.{is_word}
 use Rattle.lis_model.specs.Noted.{noted_all}
 use Rattle.lis_transducers.specs.Source.{is_byte, begins_with_byte, behind_call, is_defined}
@@ -15,8 +16,8 @@ noted_words out words = noted_all out (filter is_word words)
 abbrev pub comes_true : Stage → ℕ → List Kind → Bool
 comes_true Nothing parens kinds = false
 comes_true Named parens kinds = is_defined kinds
-comes_true Open parens kinds = begins_with_byte 123 (behind_call parens kinds)
-comes_true Closed parens kinds = begins_with_byte 123 kinds
+comes_true Open parens kinds = begins_with_byte opening_brace (behind_call parens kinds)
+comes_true Closed parens kinds = begins_with_byte opening_brace kinds
 
 -- the stage behind a token, by the depth of parentheses behind it
 abbrev pub stage_after : Stage → ℕ → Kind → Stage

@@ -6,6 +6,7 @@ ghost use Rattle.lis_transducers.specs.Joined.{joined};
 
 use crate::joined::next_byte;
 use arrayvec::ArrayVec;
+use lis_limits::MAX_WORD;
 
 /// A kind of bytes that stand together.
 #[derive(Clone, Copy, Debug, PartialEq, Eq)]
@@ -63,7 +64,7 @@ impl Run {
 
     /// The head and the run's bytes. None comes exactly where they are more than 60 bytes.
     pub fn text(self, head: &[u8], bytes: &[u8]) -> Option<ArrayVec<u8, 60>>
-        ensures { MatchOption result (60 < length (head.now ++ run_text self bytes.now))
+        ensures { MatchOption result (MAX_WORD < length (head.now ++ run_text self bytes.now))
             (λ text. text.items ≡ head.now ++ run_text self bytes.now) }
     {
         let mut text = ArrayVec::new();

@@ -9,7 +9,7 @@ use Rattle.lis_transducers.specs.Bytes.{but_first}
 use Rattle.lis_model.specs.Replies.{line}
 use Rattle.lis_model.specs.Step.{Payload}
 use Rattle.lis_model.specs.Script.{payload_limit, payload_of}
-use Rattle.lis_line.specs.Parts.{with_bytes}
+use Rattle.lis_line.specs.Segments.{with_bytes}
 use Rattle.lis_views.specs.Lines.{lines_of, joined_lines}
 use Rattle.lis_views.specs.Truth.{line_holds}
 use Rattle.lis_views.specs.Views.{Piece, pieces, texts_in, runs_of, mark_of, piece_lines}

@@ -3,7 +3,7 @@
 ghost use Rattle.std.specs.Prelude.{◌≡◌, ◌+◌, ◌<◌, ◌≤◌, ◌^◌, true, false, List, [], ◌∷◌, ◌++◌, ◌&&◌, length, codes, MatchOption};
 ghost use Rattle.std.specs.Bool.{OnTrue};
 ghost use Rattle.std.specs.List.{list_all};
-ghost use Rattle.lis_line.specs.Parts.{with_bytes};
+ghost use Rattle.lis_line.specs.Segments.{with_bytes};
 ghost use Rattle.lis_views.specs.Lines.{lines_of, joined_lines, ends_in_some};
 ghost use Rattle.lis_views.specs.Edits.{is_edited, has_end, before_end, run_at, new_texts, has_marks, is_in_form, view_marks, back_of};
 ghost use Rattle.lis_cuts.specs.Returns.{Returns, Holds, feed_unless, are_none};

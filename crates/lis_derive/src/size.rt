@@ -5,6 +5,7 @@ ghost use Rattle.lis_words.specs.Words.{is_word};
 ghost use Rattle.lis_model.specs.Noted.{noted_all};
 ghost use Rattle.lis_model.specs.Derived.{size_word};
 
+use lis_limits::{MEDIUM_FILE, SMALL_FILE};
 use lis_model::derived::Derived;
 use lis_words::{Word, read_formula_word};
 
@@ -21,10 +22,10 @@ fn size_word(size: usize) -> Word
     if size == 0 {
         return word_of(b"size:empty");
     }
-    if size < 1_024 {
+    if size < SMALL_FILE {
         return word_of(b"size:small");
     }
-    if size < 16_384 {
+    if size < MEDIUM_FILE {
         return word_of(b"size:medium");
     }
     word_of(b"size:large")

@@ -4,17 +4,17 @@ use Rattle.std.specs.List.{find, flat_map}
 use Rattle.lis_fields.specs.declared.slots.AxiomSlot.TheVariants.{Free as FreeAxiom, Pair}
 use Rattle.lis_model.specs.declared.limits.Limits.{Limits}
 use Rattle.lis_kept.specs.Behind.{rights_of, is_behind}
-use Rattle.lis_kept.specs.Kept.{Kept}
+use Rattle.lis_kept.specs.Metadata.{Metadata}
 use Rattle.lis_kept.specs.Telling.{axioms_of}
-use Rattle.lis_store.specs.Stored.{empty_parts}
+use Rattle.lis_store.specs.Stored.{empty_metadata}
 use Rattle.lis_dump.specs.Showing.{declaring_line, entry_axioms}
 
 abbrev small : Limits
 small = record { files = 64; props = 64; blocks = 8; version = 2 }
 
 -- five words, the valued one not declared, and three axioms in the slots as they came
-abbrev kept : Kept
-kept = record (empty_parts small 0) {
+abbrev kept : Metadata
+kept = record (empty_metadata small 0) {
   dict = record { props = 64; entries = (codes "band", 4) ∷ (codes "music", 2) ∷ (codes "rock", 0) ∷ (codes "year:", 1) ∷ (codes "year:1971", 3) ∷ [] };
   declared = true ∷ true ∷ true ∷ false ∷ true ∷ [];
   axioms = Pair 3 0 ∷ FreeAxiom ∷ Pair 0 2 ∷ Pair 0 4 ∷ [];

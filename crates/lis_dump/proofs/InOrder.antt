@@ -21,7 +21,7 @@ use Rattle.lis_laws.proofs.Counts.{all_among, all_from, rising_filter, rising_fr
 use Rattle.lis_laws.proofs.Members.{word_order, pair_order, same_word_decides}
 use Rattle.lis_laws.proofs.Routes.{find_among}
 use Rattle.lis_kept.specs.Behind.{rights_of, is_behind}
-use Rattle.lis_kept.specs.Kept.{Kept}
+use Rattle.lis_kept.specs.Metadata.{Metadata}
 use Rattle.lis_kept.specs.Sound.{AreSound}
 use Rattle.lis_kept.specs.Telling.{pairs_told, axioms_of}
 use Rattle.lis_kept.proofs.Known.{among_axiom, word_known}
@@ -117,7 +117,7 @@ rights_rise left axioms rising = sides_rise left (filter (is_from left) axioms) 
 lines_from : (left : List ℕ) (axioms : List (List ℕ × List ℕ)) → axiom_lines axioms left ≡ flat_map axiom_line (filter (is_from left) axioms)
 lines_from left axioms = sides_lines left (filter (is_from left) axioms) (from_left left axioms)
 
-axioms_rise : (k : Kept) → is_rising pair_cmp (axioms_of k) ≡ true
+axioms_rise : (k : Metadata) → is_rising pair_cmp (axioms_of k) ≡ true
 axioms_rise k = rising_from_sorted pair_cmp pair_order (axioms_of k) (sorted_with_more pair_cmp pair_order [] (pairs_told k.dict k.axioms) (sorted_nil pair_cmp pair_order))
 
 -- ---- the axioms of a word that are left
@@ -128,7 +128,7 @@ lines_behind axioms left last = flat_map (λ (right : List ℕ). axiom_line (lef
 abbrev pub count_behind : List (List ℕ × List ℕ) → List ℕ → Option (List ℕ) → ℕ
 count_behind axioms left last = length (filter (is_behind last) (rights_of axioms left))
 
-module _ (k : Kept) (left : List ℕ) where
+module _ (k : Metadata) (left : List ℕ) where
   pub all_behind : axiom_lines (axioms_of k) left ≡ lines_behind (axioms_of k) left None
   all_behind = ap (flat_map (λ (right : List ℕ). axiom_line (left, right))) (each (rights_of (axioms_of k) left))
     where
@@ -244,11 +244,11 @@ by_words (word ∷ words) axioms words_rise rising named =
         by (inr m) other = m
 
 -- ---- what is kept
-axioms_by_words : (k : Kept) → AreSound k → flat_map (entry_axioms k) k.dict.entries ≡ flat_map axiom_line (axioms_of k)
+axioms_by_words : (k : Metadata) → AreSound k → flat_map (entry_axioms k) k.dict.entries ≡ flat_map axiom_line (axioms_of k)
 axioms_by_words k sound =
     sym (flat_map-map (axiom_lines (axioms_of k)) (λ (e : List ℕ × ℕ). e.0) k.dict.entries)
     ∙ by_words (words k.dict) (axioms_of k) sound.dict.rising (axioms_rise k) (λ pair m. let at = among_axiom k sound pair m in word_known k sound at.1 pair.0 at.4)
 
 -- the axioms of the words are those of the state
-pub axioms_told : {k : Stored} {m : Meaning} → IsSound k → (state : State) → FitsAt (StoreFits k m) m state → flat_map (entry_axioms k.parts) k.parts.dict.entries ≡ flat_map axiom_line state.axioms
-axioms_told {k} sound state fitting = axioms_by_words k.parts sound.parts ∙ ap (λ (s : State). flat_map axiom_line s.axioms) fitting.own.tells.state
+pub axioms_told : {k : Stored} {m : Meaning} → IsSound k → (state : State) → FitsAt (StoreFits k m) m state → flat_map (entry_axioms k.metadata) k.metadata.dict.entries ≡ flat_map axiom_line state.axioms
+axioms_told {k} sound state fitting = axioms_by_words k.metadata sound.metadata ∙ ap (λ (s : State). flat_map axiom_line s.axioms) fitting.own.tells.state

@@ -3,7 +3,7 @@ use Rattle.std.proofs.Common.{◌≡◌, ℕ, ◌≤◌, if◌then◌else◌, Bo
 use Rattle.std.specs.List.{flat_map}
 use Rattle.lis_ports.specs.Meaning.{Meaning}
 use Rattle.lis_model.specs.State.{State}
-use Rattle.lis_kept.specs.Kept.{Kept}
+use Rattle.lis_kept.specs.Metadata.{Metadata}
 use Rattle.lis_kept.specs.Telling.{is_declared}
 use Rattle.lis_replay.specs.Dump.{mkdir_line}
 use Rattle.lis_store.specs.Stored.{Stored, IsSound, StoreFits}
@@ -11,10 +11,10 @@ use Rattle.lis_session.specs.Item.{FitsAt}
 use Rattle.lis_dump.specs.Showing.{declaring_line}
 
 -- there are no more words than the limit
-pub few_words : (k : Stored) → IsSound k → length k.parts.dict.entries ≤ k.parts.limits.props
-few_words k sound = omega (arith, sound.parts.dict.few, sound.parts.numbers)
+pub few_words : (k : Stored) → IsSound k → length k.metadata.dict.entries ≤ k.metadata.limits.props
+few_words k sound = omega (arith, sound.metadata.dict.few, sound.metadata.numbers)
 
-declaring_lines : (k : Kept) (entries : List (List ℕ × ℕ)) → flat_map (declaring_line k) entries ≡ flat_map mkdir_line (filter (is_declared k) (map (λ e. e.0) entries))
+declaring_lines : (k : Metadata) (entries : List (List ℕ × ℕ)) → flat_map (declaring_line k) entries ≡ flat_map mkdir_line (filter (is_declared k) (map (λ e. e.0) entries))
 declaring_lines k [] = refl
 declaring_lines k (entry ∷ entries) = by (is_declared k entry.0) (declaring_lines k entries)
   where
@@ -27,5 +27,5 @@ declaring_lines k (entry ∷ entries) = by (is_declared k entry.0) (declaring_li
     by false rest = rest
 
 -- the lines of the words are those of the state's declared ones
-pub words_told : {k : Stored} {m : Meaning} (state : State) → FitsAt (StoreFits k m) m state → flat_map (declaring_line k.parts) k.parts.dict.entries ≡ flat_map mkdir_line state.declared
-words_told {k} state fitting = declaring_lines k.parts k.parts.dict.entries ∙ ap (λ (s : State). flat_map mkdir_line s.declared) fitting.own.tells.state
+pub words_told : {k : Stored} {m : Meaning} (state : State) → FitsAt (StoreFits k m) m state → flat_map (declaring_line k.metadata) k.metadata.dict.entries ≡ flat_map mkdir_line state.declared
+words_told {k} state fitting = declaring_lines k.metadata k.metadata.dict.entries ∙ ap (λ (s : State). flat_map mkdir_line s.declared) fitting.own.tells.state

@@ -19,7 +19,7 @@ use lis_words::Word;
 // Shows the axioms of a word, in the order of their right sides.
 fn show_axioms_of<T: Station>(store: &Store, left: &Word, station: &mut T) -> Result<(), End>
     requires { IsSound store.now }
-    ensures { Shows store.now (λ state. axiom_lines (axioms_of store.now.parts) left.now) (T.meaning station.old) (T.meaning station.new) result }
+    ensures { Shows store.now (λ state. axiom_lines (axioms_of store.now.metadata) left.now) (T.meaning station.old) (T.meaning station.new) result }
 {
     let mut last: Option<Word> = None;
     while let Some(right) = store.axiom_behind(left, last.as_ref()) {
@@ -32,7 +32,7 @@ fn show_axioms_of<T: Station>(store: &Store, left: &Word, station: &mut T) -> Re
 // Shows the axioms of the k-th word, if there is one.
 fn show_axioms_at<T: Station>(store: &Store, k: u32, station: &mut T) -> Result<(), End>
     requires { IsSound store.now }
-    ensures { Shows store.now (λ state. flat_map (entry_axioms store.now.parts) (option_to_list (slice_get store.now.parts.dict.entries k)))
+    ensures { Shows store.now (λ state. flat_map (entry_axioms store.now.metadata) (option_to_list (slice_get store.now.metadata.dict.entries k)))
         (T.meaning station.old) (T.meaning station.new) result }
 {
     let Some((word, _)) = store.word_at(k) else {

@@ -23,7 +23,7 @@ const MAX_ADDED: usize = 8;
 // Shows the file in the slot, which has this name.
 fn show_file<T: Station>(store: &Store, name: &Name, slot: u16, station: &mut T) -> Result<(), End>
     requires sound { IsSound store.now }
-    requires slot { slot_of store.now.parts.catalog name.now ≡ Some slot }
+    requires slot { slot_of store.now.metadata.catalog name.now ≡ Some slot }
     requires usable { IsUsable store.now (T.meaning station.old) }
     ensures { Shows store.now (λ state. file_lines (file_of state.files name.now)) (T.meaning station.old) (T.meaning station.new) result }
 {

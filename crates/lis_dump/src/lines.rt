@@ -6,10 +6,11 @@ ghost use Rattle.lis_replay.specs.Dump.{words_line, mkdir_line, mv_lines, axiom_
 
 use arrayvec::ArrayVec;
 use itoa::Buffer;
+use lis_limits::{MAX_LINE, MAX_WORD};
 use lis_words::{Name, Word};
 
 /// Room for any line that a session takes, with its line feed. A line of a dump has at most 560 bytes.
-pub type Line = ArrayVec<u8, 1025>;
+pub type Line = ArrayVec<u8, { MAX_LINE + 1 }>;
 
 // A line so far: its first bytes.
 fn begin(bytes: &[u8]) -> Line
@@ -23,7 +24,7 @@ fn begin(bytes: &[u8]) -> Line
 
 // Adds a byte, and a word behind it.
 fn add_word(line: &mut Line, byte: u8, word: &[u8])
-    requires { length line.old.items + length word.now < 1025 }
+    requires { length line.old.items + length word.now < MAX_LINE + 1 }
     ensures { line.new.items ≡ line.old.items ++ byte ∷ word.now }
 {
     line.push(byte);
@@ -32,9 +33,9 @@ fn add_word(line: &mut Line, byte: u8, word: &[u8])
 
 // Adds the byte, and a word behind it, for each of the words.
 fn add_words(line: &mut Line, byte: u8, words: &[Word])
-    requires { length line.old.items + 61 * length words.now ≤ 1025 }
+    requires { length line.old.items + (MAX_WORD + 1) * length words.now ≤ MAX_LINE + 1 }
     ensures added { line.new.items ≡ line.old.items ++ flat_map (λ word. byte ∷ word) words.now }
-    ensures short { length line.new.items ≤ length line.old.items + 61 * length words.now }
+    ensures short { length line.new.items ≤ length line.old.items + (MAX_WORD + 1) * length words.now }
 {
     for word in words {
         add_word(line, byte, word.bytes());

@@ -18,7 +18,7 @@ use lis_store::Store;
 // Shows the line of the k-th word, if there is one and it is declared.
 fn show_word<T: Station>(store: &Store, k: u32, station: &mut T) -> Result<(), End>
     ensures { Answers (T.meaning station.old) (T.meaning station.new)
-        (flat_map (declaring_line store.now.parts) (option_to_list (slice_get store.now.parts.dict.entries k))) result }
+        (flat_map (declaring_line store.now.metadata) (option_to_list (slice_get store.now.metadata.dict.entries k))) result }
 {
     let Some((word, _)) = store.word_at(k) else {
         return Ok(());

@@ -15,6 +15,7 @@ use crate::sizes::fill_sizes;
 use crate::view::View;
 use lis_bits::Rows;
 use lis_ext::Ext;
+use lis_limits::MAX_NODES;
 use lis_place::{Node, Place};
 use lis_words::Word;
 
@@ -42,7 +43,7 @@ fn put_node<V: View>(
 ) -> u32
     requires room { CanMark (V.seen view.now) rows.old files }
     requires told { TellsFiles (V.seen view.now) ext.now }
-    requires depth { depth < 64 }
+    requires depth { depth < MAX_NODES }
     ensures { PutsNode (V.seen view.now) rows.old rows.new files depth result node.now }
 {
     match node {
@@ -88,7 +89,7 @@ fn put_steps<V: View>(view: &V, ext: &Ext, rows: &mut Rows, files: u32, place: &
     requires room { CanMark (V.seen view.now) rows.old files }
     requires told { TellsFiles (V.seen view.now) ext.now }
     ensures stack { IsStack (V.seen view.now) rows.new result (reverse place.now) }
-    ensures deep { result ≤ 64 }
+    ensures deep { result ≤ MAX_NODES }
     ensures shape { HasShape rows.new 65 files }
     ensures first { (bit : ℕ) → get rows.new 0 bit ≡ get rows.old 0 bit }
 {
@@ -102,7 +103,7 @@ fn put_steps<V: View>(view: &V, ext: &Ext, rows: &mut Rows, files: u32, place: &
 // Keeps in row 0 the files that are in all rows of the stack.
 fn and_all(rows: &mut Rows, files: u32, depth: u32)
     requires shape { HasShape rows.old 65 files }
-    requires depth { depth ≤ 64 }
+    requires depth { depth ≤ MAX_NODES }
     ensures shape { HasShape rows.new 65 files }
     ensures first { (bit : ℕ) → bit < files → get rows.new 0 bit ≡ (in_all rows.old depth bit && get rows.old 0 bit) }
 {

@@ -1,6 +1,7 @@
 -- The rows of an `Ext`, and what the functions over them do. No public clause cites this module.
 use Rattle.std.specs.Prelude.{◌≡◌, ℕ, ◌+◌, ◌<◌, ◌≤◌, Bool, not, ◌&&◌, ◌||◌, ◌==◌, if◌then◌else◌, List, length, map}
 use Rattle.std.specs.List.{range_with_len}
+use Rattle.lis_limits.specs.declared.TheConstants.{MAX_FILES, MAX_PROPS}
 use Rattle.lis_bits.specs.Rows.{Rows, HasShape, get}
 use Rattle.lis_ext.specs.Numbers.{has_number, numbers_where}
 use Rattle.lis_ext.specs.Ext.{Ext}
@@ -42,8 +43,8 @@ seen rows marks props files = record { props = props; sets = sets_of rows props 
 
 -- what the rows keep
 pub record IsSoundExt (rows sets marks : Rows) (props files : ℕ) : Type 0 where
-  pub few_props : props ≤ 8192
-  pub few_files : files ≤ 4096
+  pub few_props : props ≤ MAX_PROPS
+  pub few_files : files ≤ MAX_FILES
   pub rows_shape : HasShape rows props files
   pub marks_shape : HasShape marks 1 props
   pub in_step : HasSets sets props files (λ i p. get rows p i)

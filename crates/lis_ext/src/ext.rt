@@ -6,6 +6,7 @@ ghost use Rattle.lis_ext.specs.Numbers.{differs, numbers_where};
 
 use crate::tables;
 use lis_bits::{Rows, copy_row};
+use lis_limits::{MAX_FILES, MAX_PROPS};
 use std::alloc::{AllocError, Global};
 use std::marker::Model;
 
@@ -42,8 +43,8 @@ impl Ext {
     pub fn new(alloc: Global, props: u32, files: u32) -> Result<Ext, AllocError>
         requires whole_words { files % 64 ≡ 0 }
         requires whole_marks { props % 64 ≡ 0 }
-        requires few_props { props ≤ 8192 }
-        requires few_files { files ≤ 4096 }
+        requires few_props { props ≤ MAX_PROPS }
+        requires few_files { files ≤ MAX_FILES }
         ensures { IfOk result (λ made. made ≡ empty_ext props files) }
     {
         Ok(Ext {
@@ -130,8 +131,8 @@ impl Ext {
         ensures edits { result.now.edits ≡ self.now.edits }
         ensures rise { (i : ℕ) → i < length self.now.sets → IsStrictlyIncreasing (set_of self.now i) }
         ensures in_range { (i : ℕ) → i < length self.now.sets → All (λ p. p < self.now.props) (set_of self.now i) }
-        ensures few_props { self.now.props ≤ 8192 }
-        ensures few_files { length self.now.sets ≤ 4096 }
+        ensures few_props { self.now.props ≤ MAX_PROPS }
+        ensures few_files { length self.now.sets ≤ MAX_FILES }
     {
         &self.rows
     }
@@ -143,7 +144,7 @@ impl Ext {
             → get result.now i p ≡ has self.now p i }
         ensures tells { (i : ℕ) → i < length self.now.sets
             → set_of self.now i ≡ numbers_where self.now.props (get result.now i) }
-        ensures few_props { self.now.props ≤ 8192 }
+        ensures few_props { self.now.props ≤ MAX_PROPS }
     {
         &self.sets
     }

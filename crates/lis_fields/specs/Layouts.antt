@@ -1,7 +1,8 @@
 -- The parts of an image as they are spelled, each whole, and which values they may have. The lowest byte of a number comes first.
-use Rattle.std.specs.Prelude.{◌≡◌, ℕ, ◌+◌, ◌-◌, ◌^◌, ◌==◌, nat_lt, nat_le, Bool, true, not, ◌&&◌, ◌||◌, if◌then◌else◌, List, [], ◌∷◌, ◌++◌, length, replicate, codes}
+use Rattle.std.specs.Prelude.{◌*◌, ◌≡◌, ℕ, ◌+◌, ◌-◌, ◌^◌, ◌==◌, nat_lt, nat_le, Bool, true, not, ◌&&◌, ◌||◌, if◌then◌else◌, List, [], ◌∷◌, ◌++◌, length, replicate, codes}
 use Rattle.std.specs.List.{flat_map}
 use Rattle.std.specs.Ordering.{nat_cmp}
+use Rattle.lis_limits.specs.declared.TheConstants.{BLOCK_LEN, FILE_LEN, MAX_ASSIGNED, MAX_WORD, PROP_LEN, SLOT_BLOCKS}
 use Rattle.byteorder.specs.Endian.{little_bytes}
 use Rattle.lis_graph.specs.Graph.{is_rising}
 use Rattle.lis_words.specs.Bytes.{padded}
@@ -23,7 +24,7 @@ zeros n = replicate n 0
 
 -- a text of at most 60 bytes behind its length
 abbrev pub text_bytes : List ℕ → List ℕ
-text_bytes text = length text ∷ padded 60 text
+text_bytes text = length text ∷ padded MAX_WORD text
 
 -- how a super block begins: its name, and a 1 in both versions
 abbrev pub super_start : List ℕ
@@ -43,7 +44,7 @@ version_gate version = if version == 2 then 2 else 0
 
 -- a super block with that gate: how it begins, its limits, the gate of its version, and zeros
 unfoldable pub super_with : ℕ → Limits → List ℕ
-super_with gate limits = super_start ++ (super_numbers limits ++ gate ∷ zeros 4071)
+super_with gate limits = super_start ++ (super_numbers limits ++ gate ∷ zeros (BLOCK_LEN - 25))
 
 -- the super block that is written
 abbrev pub super_bytes : Limits → List ℕ
@@ -62,7 +63,7 @@ named kind word = kind ∷ text_bytes word ++ zeros 2
 
 -- a property slot: kind 1 is a word that is known and not declared, kind 2 a declared one
 unfoldable pub prop_bytes : PropSlot → List ℕ
-prop_bytes FreeProp = zeros 64
+prop_bytes FreeProp = zeros PROP_LEN
 prop_bytes (Known word) = named 1 word
 prop_bytes (Declared word) = named 2 word
 
@@ -97,21 +98,21 @@ file_start name count = 1 ∷ text_bytes name ++ count ∷ 0 ∷ []
 -- a file slot that is used: the name, how many words, the size, the words' slots, the block numbers, and zeros
 abbrev pub record_bytes : FileRecord → List ℕ
 record_bytes rec =
-    file_start rec.name (length rec.tags) ++ (little_bytes 4 rec.size ++ (numbers rec.tags ++ (numbers rec.blocks ++ zeros 124)))
+    file_start rec.name (length rec.tags) ++ (little_bytes 4 rec.size ++ (numbers rec.tags ++ (numbers rec.blocks ++ zeros (FILE_LEN - (64 + 4 + 2 * 32)))))
 
 -- a file slot
 unfoldable pub file_bytes : FileSlot → List ℕ
-file_bytes FreeFile = zeros 256
+file_bytes FreeFile = zeros FILE_LEN
 file_bytes (Used rec) = record_bytes rec
 
 -- at most 16 slot numbers, strictly rising
 abbrev pub are_tags : List ℕ → Bool
-are_tags tags = nat_le (length tags) 16 && are_short tags && is_rising nat_cmp tags
+are_tags tags = nat_le (length tags) MAX_ASSIGNED && are_short tags && is_rising nat_cmp tags
 
 -- How many block numbers the slot of a file of that version and size has: as many as the content has blocks. Where these are more than 16,
 -- which version 2 alone has, it is one, that of the block that numbers them.
 abbrev pub slot_blocks : ℕ → ℕ → ℕ
-slot_blocks version size = if (version == 2) && nat_lt 16 (blocks_needed size) then 1 else blocks_needed size
+slot_blocks version size = if (version == 2) && nat_lt SLOT_BLOCKS (blocks_needed size) then 1 else blocks_needed size
 
 -- as many block numbers as a slot has, none of them twice
 abbrev pub are_blocks : ℕ → ℕ → List ℕ → Bool

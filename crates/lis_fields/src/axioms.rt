@@ -6,9 +6,7 @@ ghost use Rattle.lis_fields.specs.declared.slots.AxiomSlot.{AxiomSlot};
 
 use crate::fields::{read_number, write_number, write_zeros};
 use crate::slots::AxiomSlot;
-
-/// How many bytes an axiom slot has.
-pub const AXIOM_LEN: usize = 8;
+use lis_limits::AXIOM_LEN;
 
 /// Reads an axiom slot. None comes exactly where the bytes are no spelling of one.
 #[tactic(auto, unfolding(crate::specs::Layouts::axiom_bytes))]

@@ -8,12 +8,13 @@ ghost use Rattle.lis_model.specs.Sets.{are_short};
 
 use arrayvec::ArrayVec;
 use byteorder::{ByteOrder, LittleEndian};
+use lis_limits::MAX_WORD;
 
 /// The most bytes of a text.
 const MAX_TEXT: u8 = 60;
 
 /// How many bytes the field of a text has: the length, and room for the text.
-pub const TEXT_FIELD: usize = 61;
+pub const TEXT_FIELD: usize = MAX_WORD + 1;
 
 /// The most numbers of a field of numbers.
 const MAX_NUMBERS: usize = 16;
@@ -53,9 +54,9 @@ pub fn write_number(number: u32, field: &mut [u8])
 
 /// The text of a field of 61 bytes. None comes exactly where the field spells no text.
 pub fn read_text(field: &[u8]) -> Option<&[u8]>
-    requires { length field.now ≡ 61 }
-    ensures spelled { IfSome result (λ text. (length text.now ≤ 60) × (field.now ≡ text_bytes text.now)) }
-    ensures same { (text : List ℕ) → length text ≤ 60 → field.now ≡ text_bytes text → IsSomeAnd result (λ found. found.now ≡ text) }
+    requires { length field.now ≡ MAX_WORD + 1 }
+    ensures spelled { IfSome result (λ text. (length text.now ≤ MAX_WORD) × (field.now ≡ text_bytes text.now)) }
+    ensures same { (text : List ℕ) → length text ≤ MAX_WORD → field.now ≡ text_bytes text → IsSomeAnd result (λ found. found.now ≡ text) }
 {
     let (len, rest) = field.split_first()?;
     if *len > MAX_TEXT {
@@ -71,8 +72,8 @@ pub fn read_text(field: &[u8]) -> Option<&[u8]>
 /// Writes a text into a field of 61 bytes.
 #[tactic(auto, unfolding(crate::specs::Layouts::zeros))]
 pub fn write_text(text: &[u8], field: &mut [u8])
-    requires len { length field.old ≡ 61 }
-    requires short { length text.now ≤ 60 }
+    requires len { length field.old ≡ MAX_WORD + 1 }
+    requires short { length text.now ≤ MAX_WORD }
     ensures { field.new ≡ text_bytes text.now }
 {
     let (len, rest) = field.split_at_mut(1);
@@ -83,7 +84,7 @@ pub fn write_text(text: &[u8], field: &mut [u8])
 }
 
 fn read_shorts(bytes: &[u8], count: usize) -> ArrayVec<u16, 16>
-    requires count { count ≤ 16 }
+    requires count { count ≤ MAX_NUMBERS }
     requires len { length bytes.now ≡ 2 * count }
     ensures len { length result.items ≡ count }
     ensures short { IsTrue (are_short result.items) }
@@ -101,8 +102,8 @@ fn read_shorts(bytes: &[u8], count: usize) -> ArrayVec<u16, 16>
 pub fn read_numbers(field: &[u8], count: usize) -> Option<ArrayVec<u16, 16>>
     requires { length field.now ≡ 32 }
     ensures spelled { IfSome result (λ found.
-        (length found.items ≡ count) × (count ≤ 16) × IsTrue (are_short found.items) × (field.now ≡ numbers found.items)) }
-    ensures same { (ns : List ℕ) → length ns ≡ count → count ≤ 16 → IsTrue (are_short ns) → field.now ≡ numbers ns
+        (length found.items ≡ count) × (count ≤ MAX_NUMBERS) × IsTrue (are_short found.items) × (field.now ≡ numbers found.items)) }
+    ensures same { (ns : List ℕ) → length ns ≡ count → count ≤ MAX_NUMBERS → IsTrue (are_short ns) → field.now ≡ numbers ns
         → IsSomeAnd result (λ found. found.items ≡ ns) }
 {
     if count > MAX_NUMBERS {
@@ -119,7 +120,7 @@ pub fn read_numbers(field: &[u8], count: usize) -> Option<ArrayVec<u16, 16>>
 #[tactic(auto, unfolding(crate::specs::Layouts::zeros))]
 pub fn write_numbers(list: &[u16], field: &mut [u8])
     requires len { length field.old ≡ 32 }
-    requires few { length list.now ≤ 16 }
+    requires few { length list.now ≤ MAX_NUMBERS }
     ensures { field.new ≡ numbers list.now }
 {
     let (start, padding) = field.split_at_mut(2 * list.len());

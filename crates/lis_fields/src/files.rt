@@ -1,6 +1,6 @@
 //! File slots.
 
-ghost use Rattle.std.specs.Prelude.{◌≡◌, ◌==◌, ◌++◌, ℕ, ◌≤◌, List, length, Option, Some, IfSome, IsSomeAnd, IsTrue};
+ghost use Rattle.std.specs.Prelude.{◌-◌, ◌*◌, ◌+◌, ◌≡◌, ◌==◌, ◌++◌, ℕ, ◌≤◌, List, length, Option, Some, IfSome, IsSomeAnd, IsTrue};
 ghost use Rattle.std.specs.List.{list_any};
 ghost use Rattle.std.specs.Ordering.{nat_cmp};
 ghost use Rattle.lis_graph.specs.Graph.{is_rising};
@@ -17,33 +17,29 @@ use crate::fields::{
 };
 use crate::slots::{FileRec, FileSlot};
 use arrayvec::ArrayVec;
+use lis_limits::{BLOCK_LEN, FILE_LEN, MAX_FILE, MAX_LARGE_FILE, SLOT_BLOCKS};
 use lis_words::{Name, read_name};
-
-/// How many bytes a file slot has.
-pub const FILE_LEN: usize = 256;
 
 /// How many bytes stand before the size.
 const START_LEN: usize = 64;
-
-/// How many bytes a data block has.
-const BLOCK_LEN: u32 = 4_096;
-
-/// The most block numbers of a slot.
-const MAX_BLOCKS: u32 = 16;
 
 /// How many bytes a file of the version may have.
 fn file_limit(version: u32) -> u32
     ensures { result ≡ file_limit version }
 {
-    if version == 2 { 1_048_576 } else { 65_536 }
+    if version == 2 {
+        MAX_LARGE_FILE
+    } else {
+        MAX_FILE
+    }
 }
 
 /// How many block numbers the slot of a file has.
 fn slot_blocks(version: u32, size: u32) -> u32
     ensures { result ≡ slot_blocks version size }
 {
-    let needed = size.div_ceil(BLOCK_LEN);
-    if version == 2 && needed > MAX_BLOCKS {
+    let needed = size.div_ceil(BLOCK_LEN as u32);
+    if version == 2 && needed > SLOT_BLOCKS {
         return 1;
     }
     needed
@@ -82,7 +78,7 @@ fn are_distinct(numbers: &[u16]) -> bool
 
 /// The name, and how many words the file was given.
 fn read_start(bytes: &[u8]) -> Option<(Name, u8)>
-    requires { length bytes.now ≡ 64 }
+    requires { length bytes.now ≡ START_LEN }
     ensures spelled { IfSome result (λ found. IsTrue (is_file_name found.0) × (bytes.now ≡ file_start found.0 found.1)) }
     ensures same { (name : List ℕ) (count : ℕ) → IsTrue (is_file_name name) → bytes.now ≡ file_start name count
         → result ≡ Some (name, count) }
@@ -141,14 +137,14 @@ struct FileFields<'a> {
 }
 
 fn cut(bytes: &[u8]) -> FileFields<'_>
-    requires { length bytes.now ≡ 256 }
+    requires { length bytes.now ≡ FILE_LEN }
     ensures whole { bytes.now
         ≡ result.start.now ++ (result.size.now ++ (result.tags.now ++ (result.block_numbers.now ++ result.end.now))) }
-    ensures start_len { length result.start.now ≡ 64 }
+    ensures start_len { length result.start.now ≡ START_LEN }
     ensures size_len { length result.size.now ≡ 4 }
     ensures tags_len { length result.tags.now ≡ 32 }
     ensures blocks_len { length result.block_numbers.now ≡ 32 }
-    ensures end_len { length result.end.now ≡ 124 }
+    ensures end_len { length result.end.now ≡ FILE_LEN - (START_LEN + 4 + 2 * 32) }
 {
     let (start, rest) = bytes.split_at(START_LEN);
     let (size, rest) = rest.split_at(4);
@@ -164,7 +160,7 @@ fn cut(bytes: &[u8]) -> FileFields<'_>
 }
 
 fn read_record(bytes: &[u8], version: u32) -> Option<FileRec>
-    requires { length bytes.now ≡ 256 }
+    requires { length bytes.now ≡ FILE_LEN }
     ensures spelled { IfSome result (λ rec. IsTrue (is_record version rec) × (bytes.now ≡ record_bytes rec)) }
     ensures same { (rec : FileRecord) → IsTrue (is_record version rec) → bytes.now ≡ record_bytes rec → result ≡ Some rec }
 {
@@ -205,7 +201,7 @@ pub fn read_file(bytes: &[u8], version: u32) -> Option<FileSlot>
 }
 
 fn write_start(name: &Name, count: u8, bytes: &mut [u8])
-    requires { length bytes.old ≡ 64 }
+    requires { length bytes.old ≡ START_LEN }
     ensures { bytes.new ≡ file_start name.now count }
 {
     let (kind, rest) = bytes.split_at_mut(1);
@@ -216,7 +212,7 @@ fn write_start(name: &Name, count: u8, bytes: &mut [u8])
 }
 
 fn write_record(rec: &FileRec, bytes: &mut [u8])
-    requires { length bytes.old ≡ 256 }
+    requires { length bytes.old ≡ FILE_LEN }
     ensures { bytes.new ≡ record_bytes rec.now }
 {
     let (start, rest) = bytes.split_at_mut(START_LEN);
@@ -233,7 +229,7 @@ fn write_record(rec: &FileRec, bytes: &mut [u8])
 /// Writes a file slot of an image of that version.
 #[tactic(auto, unfolding(crate::specs::Layouts::file_bytes))]
 pub fn write_file(slot: &FileSlot, bytes: &mut [u8], version: u32)
-    requires len { length bytes.old ≡ 256 }
+    requires len { length bytes.old ≡ FILE_LEN }
     requires range { IsTrue (is_file version slot.now) }
     ensures { bytes.new ≡ file_bytes slot.now }
 {

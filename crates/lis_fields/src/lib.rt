@@ -9,8 +9,8 @@ mod props;
 mod slots;
 mod super_block;
 
-pub use axioms::{AXIOM_LEN, read_axiom, write_axiom};
-pub use files::{FILE_LEN, read_file, write_file};
-pub use props::{PROP_LEN, read_prop, write_prop};
+pub use axioms::{read_axiom, write_axiom};
+pub use files::{read_file, write_file};
+pub use props::{read_prop, write_prop};
 pub use slots::{AxiomSlot, FileRec, FileSlot, PropSlot};
-pub use super_block::{SUPER_LEN, read_super, write_super};
+pub use super_block::{read_super, write_super};

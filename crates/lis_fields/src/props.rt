@@ -9,10 +9,8 @@ ghost use Rattle.lis_fields.specs.declared.slots.PropSlot.TheVariants.{Known, De
 
 use crate::fields::{TEXT_FIELD, are_zeros, read_text, write_text, write_zeros};
 use crate::slots::PropSlot;
+use lis_limits::PROP_LEN;
 use lis_words::{Word, is_builtin, is_head, is_plain_word, is_valued, read_word, test_of};
-
-/// How many bytes a property slot has.
-pub const PROP_LEN: usize = 64;
 
 /// Whether the word may be known without being declared.
 fn is_undeclared(word: &Word) -> bool
@@ -45,7 +43,7 @@ fn is_declarable(word: &Word) -> bool
 
 /// The kind and the word of a slot that has one.
 fn read_named(bytes: &[u8]) -> Option<(u8, Word)>
-    requires { length bytes.now ≡ 64 }
+    requires { length bytes.now ≡ PROP_LEN }
     ensures spelled { IfSome result (λ found. bytes.now ≡ named found.0 found.1) }
     ensures same { (kind : ℕ) (word : List ℕ) → IsTrue (is_property word) → bytes.now ≡ named kind word → result ≡ Some (kind, word) }
 {
@@ -99,7 +97,7 @@ pub fn read_prop(bytes: &[u8]) -> Option<PropSlot>
 }
 
 fn write_named(kind: u8, word: &Word, bytes: &mut [u8])
-    requires { length bytes.old ≡ 64 }
+    requires { length bytes.old ≡ PROP_LEN }
     ensures { bytes.new ≡ named kind word.now }
 {
     let (start, rest) = bytes.split_at_mut(1);
@@ -112,7 +110,7 @@ fn write_named(kind: u8, word: &Word, bytes: &mut [u8])
 /// Writes a property slot.
 #[tactic(auto, unfolding(crate::specs::Layouts::prop_bytes))]
 pub fn write_prop(slot: &PropSlot, bytes: &mut [u8])
-    requires len { length bytes.old ≡ 64 }
+    requires len { length bytes.old ≡ PROP_LEN }
     requires range { IsTrue (is_prop slot.now) }
     ensures { bytes.new ≡ prop_bytes slot.now }
 {

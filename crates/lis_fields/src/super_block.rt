@@ -6,10 +6,8 @@ ghost use Rattle.lis_model.specs.Ranges.{are_in_range};
 ghost use Rattle.lis_fields.specs.Layouts.{SpellsSuper, gate_version, super_bytes, super_numbers, version_gate};
 
 use crate::fields::{are_zeros, read_number, write_number, write_zeros};
+use lis_limits::BLOCK_LEN;
 use lis_model::limits::{Limits, is_blocks_limit, is_files_limit, is_props_limit, is_version};
-
-/// How many bytes the super block has.
-pub const SUPER_LEN: usize = 4_096;
 
 /// How a super block begins, in both versions.
 const START: [u8; 12] = *b"LISFS-IM\x01\0\0\0";
@@ -71,7 +69,7 @@ pub fn read_super(bytes: &[u8]) -> Option<Limits>
     ensures spelled { IfSome result (λ limits. IsTrue (are_in_range limits) × SpellsSuper limits bytes.now) }
     ensures same { (limits : Limits) → IsTrue (are_in_range limits) → SpellsSuper limits bytes.now → result ≡ Some limits }
 {
-    if bytes.len() != SUPER_LEN {
+    if bytes.len() != BLOCK_LEN {
         return None;
     }
     let (start, rest) = bytes.split_at(START_LEN);
@@ -104,7 +102,7 @@ fn write_limits(limits: &Limits, bytes: &mut [u8])
 /// Writes a super block: of its spellings the one whose gate is 2 or 0.
 #[tactic(auto, unfolding(crate::specs::Layouts::super_with))]
 pub fn write_super(limits: &Limits, bytes: &mut [u8])
-    requires len { length bytes.old ≡ 4096 }
+    requires len { length bytes.old ≡ BLOCK_LEN }
     requires range { IsTrue (are_in_range limits.now) }
     ensures { bytes.new ≡ super_bytes limits.now }
 {

@@ -16,7 +16,7 @@ use Rattle.lis_place.specs.Nodes.{tree_node_list, nodes_of}
 use Rattle.lis_place.proofs.Trees.{nodes_of-append}
 use Rattle.lis_formula.specs.declared.signs.Sign.{Sign}
 use Rattle.lis_formula.specs.declared.signs.Sign.TheVariants.{Mark, Paren, Bar, Slash}
-use Rattle.lis_formula.specs.declared.reader.Kept.{Kept}
+use Rattle.lis_formula.specs.declared.reader.Nodes.{Nodes}
 use Rattle.lis_formula.specs.declared.reader.Held.{Held}
 use Rattle.lis_formula.specs.Operands.{counted_number, test_node, operand_node}
 use Rattle.lis_formula.specs.Walk.{first_64, noted, noted_in, with_sign, marked_on, marked, closed_bar, closed_slash, slashed, unwrapped, Walk, walk_joint, settled_in, walk_settled, walk_within, walk_step, all_kept, walk_end}
@@ -54,14 +54,14 @@ abs (Complete d) = Ended (abs_done d)
 
 -- one more node
 
-kept_of : List Node → Bool → Kept
-kept_of items over = record { nodes = record { items = items }; over = over }
+nodes_from : List Node → Bool → Nodes
+nodes_from items over = record { nodes = record { items = items }; over = over }
 
-same_kept : (xs ys : List Node) (s t : Bool) → xs ≡ ys → s ≡ t → kept_of xs s ≡ kept_of ys t
+same_kept : (xs ys : List Node) (s t : Bool) → xs ≡ ys → s ≡ t → nodes_from xs s ≡ nodes_from ys t
 same_kept xs ys s t e f = cc
 
 noted_full : (nodes : List Node) (node : Node) → 64 ≤ length nodes → noted (first_64 nodes) node ≡ first_64 (nodes ++ node ∷ [])
-unfolding kept_of
+unfolding nodes_from
 noted_full nodes node full =
     let longer = length-append nodes (node ∷ []) in
     rw (eq-eqb (length (take 64 nodes)) 64 (length-take-le 64 nodes full))
@@ -69,7 +69,7 @@ noted_full nodes node full =
     (sym (take-append-le 64 nodes (node ∷ []) full)) (sym (lt-ltb 64 (length (nodes ++ node ∷ [])) (omega (arith, longer)))))
 
 noted_room : (nodes : List Node) (node : Node) → length nodes < 64 → noted (first_64 nodes) node ≡ first_64 (nodes ++ node ∷ [])
-unfolding kept_of
+unfolding nodes_from
 noted_room nodes node room =
     let all : take 64 nodes ≡ nodes = take_all 64 nodes (omega arith) in
     let longer = length-append nodes (node ∷ []) in
@@ -102,7 +102,7 @@ joint_noted ops steps f g node =
     noted_first ((nodes_of steps ++ (waiting ops ++ tree_node_list g)) ++ tree_node_list f) node
     ∙ ap first_64 (regroup (nodes_of steps) (waiting ops) (tree_node_list g) (tree_node_list f) node)
 
-held_of : List Sign → Kept → Held
+held_of : List Sign → Nodes → Held
 held_of signs kept = record { signs = signs; kept = kept }
 
 bar_closes : (d : Done) → closed_bar (abs_done d) ≡ abs_done (close_bar d)
@@ -257,7 +257,7 @@ abs_step (Complete d) b = abs_joint b d
 
 -- the end
 
-abbrev pub kept_steps : Option (List Formula) → Option Kept
+abbrev pub kept_steps : Option (List Formula) → Option Nodes
 kept_steps found = option_map (λ steps. first_64 (nodes_of steps)) found
 
 abs_ended : (d : Done) → all_kept (abs_done d) ≡ kept_steps (ended d)

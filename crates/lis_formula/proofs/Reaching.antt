@@ -6,7 +6,7 @@ use Rattle.lis_grammar.specs.Formula.{Formula}
 use Rattle.lis_grammar.specs.Machine.{Machine, and_then, step, run, closed, ended, path_steps, lived, lived_on}
 use Rattle.lis_grammar.specs.Machine.Machine.{Wants}
 use Rattle.lis_grammar.proofs.Forth.{run-append}
-use Rattle.lis_formula.specs.declared.reader.Kept.{Kept}
+use Rattle.lis_formula.specs.declared.reader.Nodes.{Nodes}
 use Rattle.lis_formula.specs.Walk.{no_nodes, Walk, walk_step, walk_end}
 use Rattle.lis_formula.specs.Walk.Walk.{Begins}
 use Rattle.lis_formula.specs.Paths.{IsPath, IsNoPath}
@@ -89,7 +89,7 @@ lived_all text s h =
 pub reach_all : (text : List ℕ) (i : ℕ) (w : Walk) → length text ≤ i → Reaches (take i text) w → Reaches text w
 reach_all text i w all r = subst (λ xs. Reaches xs w) (take_all i text all) r
 
-pub reach_end : (text : List ℕ) (w : Walk) (kept : Kept) → Reaches text w → walk_end w ≡ Some kept → IsPath text kept
+pub reach_end : (text : List ℕ) (w : Walk) (kept : Nodes) → Reaches text w → walk_end w ≡ Some kept → IsPath text kept
 reach_end text w kept r h = by (and_then (closed r.s) ended) refl (sym (abs_end r.s) ∙ (ap walk_end (sym r.stands) ∙ h))
   where
     by : (o : Option (List Formula)) → and_then (closed r.s) ended ≡ o → kept_steps o ≡ Some kept → IsPath text kept

@@ -18,7 +18,7 @@ use Rattle.lis_place.proofs.Trees.{same_steps}
 use Rattle.lis_place.proofs.Tallies.{node_count}
 use Rattle.lis_formula.specs.declared.fault.FormulaFault.{FormulaFault}
 use Rattle.lis_formula.specs.declared.fault.FormulaFault.TheVariants.{TooLarge, Syntax}
-use Rattle.lis_formula.specs.declared.reader.Kept.{Kept}
+use Rattle.lis_formula.specs.declared.reader.Nodes.{Nodes}
 use Rattle.lis_formula.specs.Walk.{first_64}
 use Rattle.lis_formula.specs.Paths.{IsPath, IsNoPath, IsWhole, begins_here}
 use Rattle.lis_formula.specs.Answers.{ReadsTo, Computes}
@@ -28,23 +28,23 @@ use Rattle.lis_formula.specs.Answers.{ReadsTo, Computes}
 few_nodes : (steps : List Formula) → IsPlace steps → length (nodes_of steps) ≤ 64
 few_nodes steps p = let count = node_count steps in omega (arith, count, p.nodes)
 
-pub over_place : (kept : Kept) → kept.over ≡ true → (steps : List Formula) → kept ≡ first_64 (nodes_of steps) → IsPlace steps → ⊥
+pub over_place : (kept : Nodes) → kept.over ≡ true → (steps : List Formula) → kept ≡ first_64 (nodes_of steps) → IsPlace steps → ⊥
 over_place kept over steps e p =
-    let many = ltb-true 64 (length (nodes_of steps)) (sym (ap (λ (k : Kept). k.over) e) ∙ over) in
+    let many = ltb-true 64 (length (nodes_of steps)) (sym (ap (λ (k : Nodes). k.over) e) ∙ over) in
     omega (arith, few_nodes steps p)
 
-pub no_place_kept : (kept : Kept) → ((steps : List Formula) → IsPlace steps → kept.nodes.items ≡ nodes_of steps → ⊥)
+pub no_place_kept : (kept : Nodes) → ((steps : List Formula) → IsPlace steps → kept.nodes.items ≡ nodes_of steps → ⊥)
     → (steps : List Formula) → kept ≡ first_64 (nodes_of steps) → IsPlace steps → ⊥
-no_place_kept kept none steps e p = none steps p (ap (λ (k : Kept). k.nodes.items) e ∙ take_all 64 (nodes_of steps) (few_nodes steps p))
+no_place_kept kept none steps e p = none steps p (ap (λ (k : Nodes). k.nodes.items) e ∙ take_all 64 (nodes_of steps) (few_nodes steps p))
 
-pub whole_kept : (kept : Kept) (place : List Formula) → kept.over ≡ false → kept.nodes.items ≡ nodes_of place → (steps : List Formula) → kept ≡ first_64 (nodes_of steps) → place ≡ steps
+pub whole_kept : (kept : Nodes) (place : List Formula) → kept.over ≡ false → kept.nodes.items ≡ nodes_of place → (steps : List Formula) → kept ≡ first_64 (nodes_of steps) → place ≡ steps
 whole_kept kept place over same steps e =
-    let few = ltb-false 64 (length (nodes_of steps)) (sym (ap (λ (k : Kept). k.over) e) ∙ over) in
-    same_steps place steps (sym same ∙ (ap (λ (k : Kept). k.nodes.items) e ∙ take_all 64 (nodes_of steps) few))
+    let few = ltb-false 64 (length (nodes_of steps)) (sym (ap (λ (k : Nodes). k.over) e) ∙ over) in
+    same_steps place steps (sym same ∙ (ap (λ (k : Nodes). k.nodes.items) e ∙ take_all 64 (nodes_of steps) few))
 
 -- a path within a text
 
-computes_whole : (text : List ℕ) (rooted : Bool) (steps : List Formula) (kept : Kept) (result : Result Path FormulaFault)
+computes_whole : (text : List ℕ) (rooted : Bool) (steps : List Formula) (kept : Nodes) (result : Result Path FormulaFault)
     → text_steps text ≡ with_root rooted (Some steps) → kept ≡ first_64 (nodes_of steps) → IsWhole rooted kept result → Computes text result
 computes_whole text rooted steps kept (Ok path) h e w = h ∙ same path rooted steps w.0 (w.2 steps e)
   where
@@ -70,7 +70,7 @@ unfolding broken_at
 here_broken [] h = absurd (false≢true h)
 here_broken (b ∷ text) h = rw (not_slash b text h) refl
 
-pub here_reads : (text : List ℕ) (kept : Kept) (result : Result Path FormulaFault) → begins_here text ≡ true → IsPath text kept → IsWhole false kept result → Computes text result
+pub here_reads : (text : List ℕ) (kept : Nodes) (result : Result Path FormulaFault) → begins_here text ≡ true → IsPath text kept → IsWhole false kept result → Computes text result
 here_reads text kept result here p w = computes_whole text false p.0 kept result (here_steps text here ∙ ap (with_root false) p.1) p.2 w
 
 pub here_breaks : (text : List ℕ) (k : ℕ) → begins_here text ≡ true → IsNoPath text k → Computes text (Err (Syntax k))
@@ -85,7 +85,7 @@ rooted_broken : (path : List ℕ) → broken_at (47 ∷ path) ≡ suc (lived (Wa
 unfolding broken_at
 rooted_broken path = refl
 
-pub root_reads : (path : List ℕ) (kept : Kept) (result : Result Path FormulaFault) → 0 < length path → IsPath path kept → IsWhole true kept result → Computes (47 ∷ path) result
+pub root_reads : (path : List ℕ) (kept : Nodes) (result : Result Path FormulaFault) → 0 < length path → IsPath path kept → IsWhole true kept result → Computes (47 ∷ path) result
 root_reads path kept result some p w = computes_whole (47 ∷ path) true p.0 kept result (rooted_steps path some ∙ ap (with_root true) p.1) p.2 w
 
 pub root_breaks : (path : List ℕ) (k : ℕ) → 0 < length path → IsNoPath path k → Computes (47 ∷ path) (Err (Syntax (k + 1)))

@@ -1,5 +1,6 @@
 -- What a formula text is answered.
 use Rattle.std.specs.Prelude.{◌≡◌, ℕ, ◌<◌, ◌≤◌, ◌⊎◌, Bool, false, Some, None, Result, Ok, Err, List, length}
+use Rattle.lis_limits.specs.declared.TheConstants.{MAX_FORMULA}
 use Rattle.lis_grammar.specs.Formula.{Formula}
 use Rattle.lis_grammar.specs.Grammar.{Reads, IsBrokenAt}
 use Rattle.lis_grammar.specs.Machine.{text_steps, broken_at}
@@ -22,14 +23,14 @@ pub record ReadsBeyond (text : List ℕ) : Type 0 where
 
 -- by the grammar. Each text has one answer: it reads to one path at most.
 abbrev pub ReadsTo : List ℕ → Result Path FormulaFault → Type 0
-ReadsTo text (Ok path) = (length text ≤ 1024) × Reads text path.rooted path.place × IsPlace path.place
-ReadsTo text (Err TooLarge) = (1024 < length text) ⊎ ReadsBeyond text
-ReadsTo text (Err (Syntax k)) = (length text ≤ 1024) × IsNoFormula text × IsBrokenAt text k
+ReadsTo text (Ok path) = (length text ≤ MAX_FORMULA) × Reads text path.rooted path.place × IsPlace path.place
+ReadsTo text (Err TooLarge) = (MAX_FORMULA < length text) ⊎ ReadsBeyond text
+ReadsTo text (Err (Syntax k)) = (length text ≤ MAX_FORMULA) × IsNoFormula text × IsBrokenAt text k
 
 -- the same by what computes it
 abbrev pub Computes : List ℕ → Result Path FormulaFault → Type 0
 Computes text (Ok path) = text_steps text ≡ Some (path.rooted, path.place)
-Computes text (Err TooLarge) = (1024 < length text) ⊎ ((path : Bool × List Formula) × (text_steps text ≡ Some path) × (is_place path.1 ≡ false))
+Computes text (Err TooLarge) = (MAX_FORMULA < length text) ⊎ ((path : Bool × List Formula) × (text_steps text ≡ Some path) × (is_place path.1 ≡ false))
 Computes text (Err (Syntax k)) = (text_steps text ≡ None) × (k ≡ broken_at text)
 
 -- the answer to a text at a place

@@ -8,11 +8,11 @@ use Rattle.lis_place.specs.declared.place.Path.{Path}
 use Rattle.lis_place.specs.Nodes.{nodes_of}
 use Rattle.lis_formula.specs.declared.fault.FormulaFault.{FormulaFault}
 use Rattle.lis_formula.specs.declared.fault.FormulaFault.TheVariants.{TooLarge, Syntax}
-use Rattle.lis_formula.specs.declared.reader.Kept.{Kept}
+use Rattle.lis_formula.specs.declared.reader.Nodes.{Nodes}
 use Rattle.lis_formula.specs.Walk.{first_64}
 
 -- the text is a path, and this is kept of its nodes
-abbrev pub IsPath : List ℕ → Kept → Type 0
+abbrev pub IsPath : List ℕ → Nodes → Type 0
 IsPath text kept = (steps : List Formula) × (path_steps text ≡ Some steps) × (kept ≡ first_64 (nodes_of steps))
 
 -- the text is no path, and the machine takes so many of its bytes
@@ -25,7 +25,7 @@ begins_here [] = false
 begins_here (b ∷ text) = not (b == 47)
 
 -- what is kept of the nodes comes to this path, or is that of no place
-abbrev pub IsWhole : Bool → Kept → Result Path FormulaFault → Type 0
+abbrev pub IsWhole : Bool → Nodes → Result Path FormulaFault → Type 0
 IsWhole rooted kept (Ok path) =
     (path.rooted ≡ rooted) × IsPlace path.place × ((steps : List Formula) → kept ≡ first_64 (nodes_of steps) → path.place ≡ steps)
 IsWhole rooted kept (Err TooLarge) = (steps : List Formula) → kept ≡ first_64 (nodes_of steps) → IsPlace steps → ⊥

@@ -1,6 +1,7 @@
 -- A place's text as the printer puts it together: a text for each tree so far, the last first.
 use Rattle.std.specs.Prelude.{ℕ, ◌+◌, List, [], ◌∷◌, ◌++◌, length, codes, sum_by}
 use Rattle.std.specs.Fmt.{decimal}
+use Rattle.lis_words.specs.Bytes.{bar_byte}
 use Rattle.lis_place.specs.declared.node.Node.{Node}
 use Rattle.lis_place.specs.declared.node.Node.TheVariants.{Word, AtLeast, Below, Not, And, Or}
 use Rattle.lis_formula.specs.Pieces.{with_front, with_end, with_joint}
@@ -27,7 +28,7 @@ with_text stack (AtLeast n) = (codes "size>=" ++ decimal n) ∷ stack
 with_text stack (Below n) = (codes "size<" ++ decimal n) ∷ stack
 with_text stack Not = with_front 33 stack
 with_text stack And = wrapped 47 stack
-with_text stack Or = wrapped 124 stack
+with_text stack Or = wrapped bar_byte stack
 
 -- the last text, behind all others with a slash behind each
 abbrev pub chained : List (List ℕ) → List ℕ → List ℕ

@@ -1,23 +1,25 @@
 -- The machine of the grammar with signs and nodes in place of trees: what the reader keeps.
 use Rattle.std.specs.Prelude.{ℕ, ◌==◌, nat_lt, Bool, true, false, if◌then◌else◌, Option, Some, None, option_map, option_and_then, List, [], ◌∷◌, ◌++◌, length, take}
+use Rattle.lis_limits.specs.declared.TheConstants.{MAX_NODES}
+use Rattle.lis_words.specs.Bytes.{bar_byte}
 use Rattle.lis_grammar.specs.Machine.{is_joint, is_operand_front}
 use Rattle.lis_place.specs.declared.node.Node.{Node}
 use Rattle.lis_place.specs.declared.node.Node.TheVariants.{Not, And, Or}
 use Rattle.lis_formula.specs.declared.signs.Sign.{Sign}
 use Rattle.lis_formula.specs.declared.signs.Sign.TheVariants.{Mark, Paren, Bar, Slash}
-use Rattle.lis_formula.specs.declared.reader.Kept.{Kept}
+use Rattle.lis_formula.specs.declared.reader.Nodes.{Nodes}
 use Rattle.lis_formula.specs.declared.reader.Held.{Held}
 use Rattle.lis_formula.specs.Signs.{is_top, without_top, is_none_left}
 use Rattle.lis_formula.specs.Operands.{operand_node}
 
 -- what is kept of so many nodes
-abbrev pub first_64 : List Node → Kept
-first_64 nodes = record { nodes = record { items = take 64 nodes }; over = nat_lt 64 (length nodes) }
+abbrev pub first_64 : List Node → Nodes
+first_64 nodes = record { nodes = record { items = take MAX_NODES nodes }; over = nat_lt MAX_NODES (length nodes) }
 
-abbrev pub no_nodes : Kept
+abbrev pub no_nodes : Nodes
 no_nodes = record { nodes = record { items = [] }; over = false }
 
-abbrev pub noted : Kept → Node → Kept
+abbrev pub noted : Nodes → Node → Nodes
 noted kept node =
     if length kept.nodes.items == 64 then record { nodes = kept.nodes; over = true }
     else record { nodes = record { items = kept.nodes.items ++ node ∷ [] }; over = kept.over }
@@ -28,7 +30,7 @@ noted_in held node = record { signs = held.signs; kept = noted held.kept node }
 abbrev pub with_sign : Sign → Held → Held
 with_sign sign held = record { signs = sign ∷ held.signs; kept = held.kept }
 
-abbrev pub marked_on : List Sign → Kept → Held
+abbrev pub marked_on : List Sign → Nodes → Held
 marked_on [] kept = record { signs = []; kept = kept }
 marked_on (Mark ∷ signs) kept = marked_on signs (noted kept Not)
 marked_on (Paren ∷ signs) kept = record { signs = Paren ∷ signs; kept = kept }
@@ -64,7 +66,7 @@ unwrapped held = if is_top Paren held.signs then Some (Ended (marked (popped hel
 
 abbrev pub walk_joint : ℕ → Held → Option Walk
 walk_joint b held =
-    if b == 124 then Some (Begins (with_sign Bar (closed_bar held)))
+    if b == bar_byte then Some (Begins (with_sign Bar (closed_bar held)))
     else if b == 47 then Some (Begins (slashed (closed_slash (closed_bar held))))
     else if b == 41 then unwrapped (closed_slash (closed_bar held))
     else None
@@ -89,8 +91,8 @@ walk_step (Inside held text) b =
     if is_joint b then option_and_then (walk_joint b) (settled_in held text) else walk_within held (text ++ b ∷ [])
 walk_step (Ended held) b = walk_joint b held
 
-abbrev pub all_kept : Held → Option Kept
+abbrev pub all_kept : Held → Option Nodes
 all_kept held = if is_outermost held then Some held.kept else None
 
-abbrev pub walk_end : Walk → Option Kept
+abbrev pub walk_end : Walk → Option Nodes
 walk_end walk = option_and_then (λ held. all_kept (closed_slash (closed_bar held))) (walk_settled walk)

@@ -4,13 +4,14 @@ ghost use Rattle.std.specs.Prelude.{◌≡◌, ◌+◌, ◌<◌, ◌≤◌, [], 
 ghost use Rattle.lis_formula.specs.Pieces.{stacked_text, with_front, with_end, with_joint};
 
 use arrayvec::ArrayVec;
+use lis_limits::{MAX_FORMULA, MAX_NODES};
 use lis_place::Text;
 use std::marker::Model;
 
 /// Texts one behind another in one array, seen as a stack of them, the last first.
 #[derive(Drop)]
 pub struct Pieces {
-    text: ArrayVec<u8, 1024>,
+    text: ArrayVec<u8, MAX_FORMULA>,
     starts: ArrayVec<usize, 64>,
 }
 
@@ -44,8 +45,8 @@ impl Pieces {
 
     /// Puts a text on the stack.
     pub fn push(&mut self, bytes: &[u8])
-        requires room { length (stacked_text self.old) + length bytes.now ≤ 1024 }
-        requires place { length self.old < 64 }
+        requires room { length (stacked_text self.old) + length bytes.now ≤ MAX_FORMULA }
+        requires place { length self.old < MAX_NODES }
         ensures text { self.new ≡ bytes.now ∷ self.old }
         ensures bytes { length (stacked_text self.new) ≡ length (stacked_text self.old) + length bytes.now }
     {
@@ -55,7 +56,7 @@ impl Pieces {
 
     /// Puts a byte in front of the last text.
     pub fn put_front(&mut self, byte: u8)
-        requires { length (stacked_text self.old) < 1024 }
+        requires { length (stacked_text self.old) < MAX_FORMULA }
         ensures text { self.new ≡ with_front byte self.old }
         ensures bytes { length (stacked_text self.new) ≤ length (stacked_text self.old) + 1 }
         ensures count { length self.new ≡ length self.old }
@@ -67,7 +68,7 @@ impl Pieces {
 
     /// Puts bytes at the end of the last text.
     pub fn put_end(&mut self, bytes: &[u8])
-        requires { length (stacked_text self.old) + length bytes.now ≤ 1024 }
+        requires { length (stacked_text self.old) + length bytes.now ≤ MAX_FORMULA }
         ensures text { self.new ≡ with_end bytes.now self.old }
         ensures bytes { length (stacked_text self.new) ≤ length (stacked_text self.old) + length bytes.now }
         ensures count { length self.new ≡ length self.old }
@@ -79,7 +80,7 @@ impl Pieces {
 
     /// Makes one text of the last two, with a byte between them.
     pub fn join(&mut self, byte: u8)
-        requires { length (stacked_text self.old) < 1024 }
+        requires { length (stacked_text self.old) < MAX_FORMULA }
         ensures text { self.new ≡ with_joint byte self.old }
         ensures bytes { length (stacked_text self.new) ≤ length (stacked_text self.old) + 1 }
         ensures count { length self.new ≤ length self.old }

@@ -8,12 +8,13 @@ ghost use Rattle.lis_formula.specs.Printer.{node_bytes, all_bytes, wrapped, with
 
 use crate::pieces::Pieces;
 use itoa::Buffer;
+use lis_limits::{MAX_FORMULA, MAX_NODES};
 use lis_place::{Node, Place, Text};
 
 fn put_test(pieces: &mut Pieces, sign: &[u8], number: u64)
     requires room { length (stacked_text pieces.old) + length sign.now + length (decimal number)
-        ≤ 1024 }
-    requires place { length pieces.old < 64 }
+        ≤ MAX_FORMULA }
+    requires place { length pieces.old < MAX_NODES }
     ensures text { pieces.new ≡ (sign.now ++ decimal number) ∷ pieces.old }
     ensures bytes { length (stacked_text pieces.new)
         ≤ length (stacked_text pieces.old) + length sign.now + length (decimal number) }
@@ -26,7 +27,7 @@ fn put_test(pieces: &mut Pieces, sign: &[u8], number: u64)
 
 /// Puts the last two texts in parentheses, with a sign between them.
 fn wrap(pieces: &mut Pieces, sign: u8)
-    requires { length (stacked_text pieces.old) + 3 ≤ 1024 }
+    requires { length (stacked_text pieces.old) + 3 ≤ MAX_FORMULA }
     ensures text { pieces.new ≡ wrapped sign pieces.old }
     ensures bytes { length (stacked_text pieces.new) ≤ length (stacked_text pieces.old) + 3 }
     ensures count { length pieces.new ≤ length pieces.old }
@@ -37,8 +38,8 @@ fn wrap(pieces: &mut Pieces, sign: u8)
 }
 
 fn put(pieces: &mut Pieces, node: &Node)
-    requires room { length (stacked_text pieces.old) + node_bytes node.now ≤ 1024 }
-    requires place { length pieces.old < 64 }
+    requires room { length (stacked_text pieces.old) + node_bytes node.now ≤ MAX_FORMULA }
+    requires place { length pieces.old < MAX_NODES }
     ensures text { pieces.new ≡ with_text pieces.old node.now }
     ensures bytes { length (stacked_text pieces.new) ≤ length (stacked_text pieces.old) + node_bytes node.now }
     ensures count { length pieces.new ≤ length pieces.old + 1 }
@@ -55,8 +56,8 @@ fn put(pieces: &mut Pieces, node: &Node)
 
 /// A text for each tree of the nodes.
 fn put_all(nodes: &[Node]) -> Pieces
-    requires few { length nodes.now ≤ 64 }
-    requires bytes { all_bytes nodes.now ≤ 1024 }
+    requires few { length nodes.now ≤ MAX_NODES }
+    requires bytes { all_bytes nodes.now ≤ MAX_FORMULA }
     ensures { result ≡ fold with_text [] nodes.now }
 {
     let mut pieces = Pieces::new();
@@ -68,7 +69,7 @@ fn put_all(nodes: &[Node]) -> Pieces
 
 /// Joins all texts by slashes.
 fn join_all(pieces: &mut Pieces)
-    requires { length (stacked_text pieces.old) + (length pieces.old - 1) ≤ 1024 }
+    requires { length (stacked_text pieces.old) + (length pieces.old - 1) ≤ MAX_FORMULA }
     ensures { pieces.new ≡ slashed pieces.old }
 {
     while pieces.len() > 1 {

@@ -6,14 +6,12 @@ ghost use Rattle.lis_formula.specs.Paths.{IsPath, IsNoPath, IsWhole, begins_here
 ghost use Rattle.lis_formula.specs.Answers.{ReadsTo, Computes};
 
 use crate::fault::FormulaFault;
-use crate::reader::{Held, Kept, Reader};
+use crate::reader::{Held, Nodes, Reader};
+use lis_limits::MAX_FORMULA;
 use lis_place::{Path, Place};
 
-/// The most bytes of a formula text.
-pub const MAX_TEXT: usize = 1024;
-
-fn read_path(text: &[u8]) -> Result<Kept, u32>
-    requires { length text.now ≤ 1024 }
+fn read_path(text: &[u8]) -> Result<Nodes, u32>
+    requires { length text.now ≤ MAX_FORMULA }
     ensures path { MatchResult result
         (λ kept. IsPath text.now kept)
         (λ at. IsNoPath text.now at) }
@@ -39,7 +37,7 @@ fn read_path(text: &[u8]) -> Result<Kept, u32>
 }
 
 /// The path of what was kept.
-fn whole(rooted: bool, kept: &Kept) -> Result<Path, FormulaFault>
+fn whole(rooted: bool, kept: &Nodes) -> Result<Path, FormulaFault>
     ensures { IsWhole rooted kept.now result }
 {
     if kept.over {
@@ -53,7 +51,7 @@ fn whole(rooted: bool, kept: &Kept) -> Result<Path, FormulaFault>
 
 /// Reads what stands behind the slash in front of a text.
 fn from_root(path: &[u8]) -> Result<Path, FormulaFault>
-    requires { length path.now < 1024 }
+    requires { length path.now < MAX_FORMULA }
     ensures computes { Computes (47 ∷ path.now) result }
     ensures place { IfOk result (λ read. IsPlace read.place) }
 {
@@ -71,7 +69,7 @@ fn from_root(path: &[u8]) -> Result<Path, FormulaFault>
 
 /// Reads a text that does not begin with a slash.
 fn from_here(text: &[u8]) -> Result<Path, FormulaFault>
-    requires short { length text.now ≤ 1024 }
+    requires short { length text.now ≤ MAX_FORMULA }
     requires here { IsTrue (begins_here text.now) }
     ensures computes { Computes text.now result }
     ensures place { IfOk result (λ read. IsPlace read.place) }
@@ -83,7 +81,7 @@ fn from_here(text: &[u8]) -> Result<Path, FormulaFault>
 }
 
 fn read_short(text: &[u8]) -> Result<Path, FormulaFault>
-    requires { length text.now ≤ 1024 }
+    requires { length text.now ≤ MAX_FORMULA }
     ensures computes { Computes text.now result }
     ensures place { IfOk result (λ path. IsPlace path.place) }
 {
@@ -106,7 +104,7 @@ pub fn read_formula(text: &[u8]) -> Result<Path, FormulaFault>
     ensures answers { ReadsTo text.now result }
     ensures computes { Computes text.now result }
 {
-    if text.len() > MAX_TEXT {
+    if text.len() > MAX_FORMULA {
         return Err(FormulaFault::TooLarge);
     }
     read_short(text)

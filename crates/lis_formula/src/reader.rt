@@ -9,16 +9,17 @@ ghost use Rattle.lis_formula.specs.Reader.{walk_of};
 use crate::operand::{is_operand_front, operand};
 use crate::signs::{Sign, Signs};
 use arrayvec::ArrayVec;
+use lis_limits::MAX_FORMULA;
 use lis_place::Node;
 
 /// The first 64 nodes that were read, and whether there were more: a formula is judged to its end before it is too large.
 #[derive(Drop)]
-pub struct Kept {
+pub struct Nodes {
     pub nodes: ArrayVec<Node, 64>,
     pub over: bool,
 }
 
-impl Kept {
+impl Nodes {
     fn note(&mut self, node: Node)
         ensures { self.new ≡ noted self.old node }
     {
@@ -34,7 +35,7 @@ impl Kept {
 #[derive(Drop)]
 pub struct Held {
     pub signs: Signs,
-    pub kept: Kept,
+    pub kept: Nodes,
 }
 
 impl Held {
@@ -44,7 +45,7 @@ impl Held {
     {
         Held {
             signs: Signs::new(),
-            kept: Kept {
+            kept: Nodes {
                 nodes: ArrayVec::new(),
                 over: false,
             },
@@ -58,7 +59,7 @@ impl Held {
     }
 
     fn push(&mut self, sign: Sign)
-        requires { length self.old.signs < 1024 }
+        requires { length self.old.signs < MAX_FORMULA }
         ensures { self.new ≡ with_sign sign self.old }
     {
         self.signs.push(sign);
@@ -94,7 +95,7 @@ impl Held {
 
     /// A slash behind an operand: outside of parentheses it ends a step.
     fn slash(&mut self)
-        requires { length self.old.signs < 1024 }
+        requires { length self.old.signs < MAX_FORMULA }
         ensures held { self.new ≡ slashed self.old }
         ensures signs { length self.new.signs ≤ length self.old.signs + 1 }
     {
@@ -155,7 +156,7 @@ impl Reader {
 
     /// The first byte of an operand, or a sign before one.
     fn begin(&mut self, byte: u8) -> bool
-        requires { length self.old.held.signs < 1024 }
+        requires { length self.old.held.signs < MAX_FORMULA }
         ensures walk { MatchBool result
             (walk_step (Begins self.old.held) byte ≡ Some (walk_of self.new))
             (walk_step (Begins self.old.held) byte ≡ None) }
@@ -190,7 +191,7 @@ impl Reader {
 
     /// A byte behind an operand that has ended.
     fn join(&mut self, byte: u8) -> bool
-        requires { length self.old.held.signs < 1024 }
+        requires { length self.old.held.signs < MAX_FORMULA }
         ensures walk { MatchBool result
             (walk_joint byte self.old.held ≡ Some (walk_of self.new))
             (walk_joint byte self.old.held ≡ None) }
@@ -231,7 +232,7 @@ impl Reader {
 
     /// The next byte inside a word or a test.
     fn go_on(&mut self, byte: u8) -> bool
-        requires { length self.old.held.signs < 1024 }
+        requires { length self.old.held.signs < MAX_FORMULA }
         ensures walk { MatchBool result
             (walk_step (Inside self.old.held self.old.inside.items) byte ≡ Some (walk_of self.new))
             (walk_step (Inside self.old.held self.old.inside.items) byte ≡ None) }
@@ -248,7 +249,7 @@ impl Reader {
 
     /// Takes one byte. False comes exactly where no path begins with what was read and this byte.
     pub fn take(&mut self, byte: u8) -> bool
-        requires { length self.old.held.signs < 1024 }
+        requires { length self.old.held.signs < MAX_FORMULA }
         ensures walk { MatchBool result
             (walk_step (walk_of self.old) byte ≡ Some (walk_of self.new))
             (walk_step (walk_of self.old) byte ≡ None) }

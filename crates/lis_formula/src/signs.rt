@@ -4,6 +4,7 @@ ghost use Rattle.std.specs.Prelude.{◌≡◌, ◌<◌, if◌then◌else◌, [],
 ghost use Rattle.lis_formula.specs.Signs.{same_sign, is_top, without_top, is_none_left};
 
 use arrayvec::ArrayVec;
+use lis_limits::MAX_FORMULA;
 use std::marker::Model;
 
 /// A sign that waits for an operand behind it.
@@ -39,7 +40,7 @@ fn same_sign(first: Sign, second: Sign) -> bool
 /// A stack of signs, seen as the list of them, the last first.
 #[derive(Drop)]
 pub struct Signs {
-    held: ArrayVec<Sign, 1024>,
+    held: ArrayVec<Sign, MAX_FORMULA>,
 }
 
 impl Model for Signs {
@@ -67,7 +68,7 @@ impl Signs {
     }
 
     pub fn push(&mut self, sign: Sign)
-        requires { length self.old < 1024 }
+        requires { length self.old < MAX_FORMULA }
         ensures { self.new ≡ sign ∷ self.old }
     {
         self.held.push(sign);

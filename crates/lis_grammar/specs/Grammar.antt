@@ -8,6 +8,7 @@
 -- "|" and "/" group to the left. No blanks stand in a formula.
 use Rattle.std.specs.Prelude.{ℕ, ◌≤◌, Bool, true, false, List, [], ◌∷◌, ◌++◌, length, take, codes, IsTrue}
 use Rattle.std.specs.List.{fold}
+use Rattle.lis_words.specs.Bytes.{bar_byte}
 use Rattle.lis_words.specs.Words.{is_word, is_count, count_of}
 use Rattle.lis_grammar.specs.Formula.{Formula}
 use Rattle.lis_grammar.specs.Formula.Formula.{Has, SizeAtLeast, SizeBelow, Negation, Both, Either}
@@ -25,7 +26,7 @@ mutual
 
   pub data Alt : List ℕ → Formula → Type 0 where
     neg : (text : List ℕ) (f : Formula) → Neg text f → Alt text f
-    bar : (text more : List ℕ) (f g : Formula) → Alt text f → Neg more g → Alt (text ++ 124 ∷ more) (Either f g)
+    bar : (text more : List ℕ) (f g : Formula) → Alt text f → Neg more g → Alt (text ++ bar_byte ∷ more) (Either f g)
 
   pub data Neg : List ℕ → Formula → Type 0 where
     bang : (text : List ℕ) (f : Formula) → Neg text f → Neg (33 ∷ text) (Negation f)

@@ -3,6 +3,7 @@ use Rattle.std.specs.Prelude.{ℕ, ◌==◌, nat_le, Bool, true, false, ◌&&◌
 use Rattle.std.specs.Char.{is_ascii_digit}
 use Rattle.std.specs.List.{list_all}
 use Rattle.std.specs.Option.{option_or}
+use Rattle.lis_words.specs.Bytes.{bar_byte}
 use Rattle.lis_words.specs.Words.{is_word, is_count, count_of}
 use Rattle.lis_grammar.specs.Formula.{Formula}
 use Rattle.lis_grammar.specs.Formula.Formula.{Has, SizeAtLeast, SizeBelow, Negation, Both, Either}
@@ -106,13 +107,13 @@ after_paren (done (SlashAfter g ∷ ops) steps f) = None
 -- a bar, a slash or a closing parenthesis behind an operand
 abbrev pub joint : ℕ → Done → Option Machine
 joint b d =
-    if b == 124 then Some (after_bar (close_bar d))
+    if b == bar_byte then Some (after_bar (close_bar d))
     else if b == 47 then Some (after_slash (close_slash (close_bar d)))
     else if b == 41 then after_paren (close_slash (close_bar d))
     else None
 
 abbrev pub is_joint : ℕ → Bool
-is_joint b = (b == 124) || (b == 47) || (b == 41)
+is_joint b = (b == bar_byte) || (b == 47) || (b == 41)
 
 abbrev pub within : List Pending → List Formula → List ℕ → Option Machine
 within ops steps text = if is_operand_front text then Some (Within ops steps text) else None

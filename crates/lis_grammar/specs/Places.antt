@@ -1,6 +1,7 @@
 -- Places, which are lists of steps within limits, and what a text makes of a place.
 use Rattle.std.specs.Prelude.{ℕ, ◌+◌, ◌-◌, ◌^◌, ◌<◌, ◌≤◌, nat_lt, nat_le, Bool, ◌&&◌, if◌then◌else◌, Option, Some, None, List, [], ◌∷◌, ◌++◌, length, sum_by, codes, IsTrue}
 use Rattle.std.specs.List.{list_all}
+use Rattle.lis_limits.specs.declared.TheConstants.{MAX_FORMULA, MAX_NODES}
 use Rattle.lis_words.specs.Words.{is_word, same_word}
 use Rattle.lis_grammar.specs.Formula.{Formula, steps_words}
 use Rattle.lis_grammar.specs.Formula.Formula.{Has, SizeAtLeast, SizeBelow, Negation, Both, Either}
@@ -35,8 +36,8 @@ AreFit (step ∷ steps) = IsFit step × AreFit steps
 
 -- the steps are a place
 pub record IsPlace (steps : List Formula) : Type 0 where
-  pub nodes : place_nodes steps ≤ 64
-  pub bytes : length (printed steps) ≤ 1024
+  pub nodes : place_nodes steps ≤ MAX_NODES
+  pub bytes : length (printed steps) ≤ MAX_FORMULA
   pub fit : AreFit steps
 
 -- the same as a test
@@ -51,7 +52,7 @@ is_fit (Either f g) = is_fit f && is_fit g
 
 unfoldable pub is_place : List Formula → Bool
 is_place steps =
-    nat_le (place_nodes steps) 64 && nat_le (length (printed steps)) 1024 && list_all is_fit steps
+    nat_le (place_nodes steps) MAX_NODES && nat_le (length (printed steps)) MAX_FORMULA && list_all is_fit steps
 
 -- what a text makes of a place
 pub data Resolution : Type 0 where
@@ -81,7 +82,7 @@ resolved_path place (Some path) =
 unfoldable pub resolved : List Formula → List ℕ → Resolution
 resolved place text =
     if same_word text (codes "..") then NewPlace (without_last place)
-    else if nat_lt 1024 (length text) then BeyondLimits
+    else if nat_lt MAX_FORMULA (length text) then BeyondLimits
     else resolved_path place (text_steps text)
 
 abbrev pub path_words : Option (Bool × List Formula) → List (List ℕ)

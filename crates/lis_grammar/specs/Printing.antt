@@ -1,6 +1,7 @@
 -- How formulas and places are printed.
 use Rattle.std.specs.Prelude.{ℕ, List, [], ◌∷◌, ◌++◌, codes}
 use Rattle.std.specs.Fmt.{decimal}
+use Rattle.lis_words.specs.Bytes.{bar_byte}
 use Rattle.lis_grammar.specs.Formula.{Formula}
 use Rattle.lis_grammar.specs.Formula.Formula.{Has, SizeAtLeast, SizeBelow, Negation, Both, Either}
 
@@ -11,7 +12,7 @@ printed_tree (SizeAtLeast n) = codes "size>=" ++ decimal n
 printed_tree (SizeBelow n) = codes "size<" ++ decimal n
 printed_tree (Negation f) = 33 ∷ printed_tree f
 printed_tree (Both f g) = 40 ∷ ((printed_tree f ++ 47 ∷ printed_tree g) ++ 41 ∷ [])
-printed_tree (Either f g) = 40 ∷ ((printed_tree f ++ 124 ∷ printed_tree g) ++ 41 ∷ [])
+printed_tree (Either f g) = 40 ∷ ((printed_tree f ++ bar_byte ∷ printed_tree g) ++ 41 ∷ [])
 
 -- each step behind the slash that joins it
 abbrev pub printed_behind : List Formula → List ℕ

@@ -122,7 +122,7 @@ sums_none start m sum unbroken sound none = record {
 
 -- what a call of the session keeps, and what it does to the disk
 pub record Called {T : Type 0} (now next : Situated) (mid m : Meaning) (result : Result T Failed) : Type 0 where
-  pub limits : next.store.parts.limits ≡ now.store.parts.limits
+  pub limits : next.store.metadata.limits ≡ now.store.metadata.limits
   pub image : shape_of next.store.journal ≡ shape_of now.store.journal
   pub sound : IsSound next.store
   pub disk : UsesDisk mid m result

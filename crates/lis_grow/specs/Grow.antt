@@ -1,17 +1,32 @@
 -- A large session that is made of a number.
-use Rattle.std.specs.Prelude.{ℕ, zero, suc, ◌+◌, ◌-◌, ◌*◌, ◌/◌, ◌%◌, ◌==◌, if◌then◌else◌, List, [], ◌++◌, codes}
+use Rattle.std.specs.Prelude.{ℕ, zero, suc, ◌+◌, ◌-◌, ◌*◌, ◌/◌, ◌%◌, ◌^◌, ◌==◌, if◌then◌else◌, List, [], ◌++◌, codes}
 use Rattle.std.specs.List.{flat_map, range_with_len}
 use Rattle.lis_model.specs.Replies.{line, two_digits}
 
 abbrev pub four_digits : ℕ → List ℕ
-four_digits n = two_digits (n / 100) ++ two_digits (n % 100)
+four_digits n = two_digits (n / 10 ^ 2) ++ two_digits (n % 10 ^ 2)
+
+-- the generator of the draws
+abbrev pub multiplier : ℕ
+multiplier = 1103515245
+
+abbrev pub increment : ℕ
+increment = 12345
+
+-- the files of a session are made in years from this one on
+abbrev pub first_year : ℕ
+first_year = 2000
+
+-- how many files a session makes
+abbrev pub file_count : ℕ
+file_count = 1000
 
 -- Where the generator stands after a draw. The draw gives a part of it, without the lowest bits.
 abbrev pub drawn : ℕ → ℕ
-drawn x = (1103515245 * x + 12345) % 2147483648
+drawn x = (multiplier * x + increment) % 2 ^ 31
 
 abbrev pub draw_of : ℕ → ℕ
-draw_of x = x / 65536
+draw_of x = x / 2 ^ 16
 
 abbrev pub group : ℕ → List ℕ
 group i = codes "g" ++ two_digits i
@@ -24,7 +39,7 @@ axiom_line i = line (codes "axiom " ++ group i ++ codes " " ++ group ((i - 1) / 
 
 -- the words of a file, by a draw
 abbrev pub file_words : ℕ → List ℕ
-file_words v = group (v % 16) ++ codes " year:" ++ four_digits (2000 + (v / 16) % 20)
+file_words v = group (v % 16) ++ codes " year:" ++ four_digits (first_year + (v / 16) % 20)
 
 abbrev pub create_line : ℕ → ℕ → List ℕ
 create_line i v = line (codes "create f" ++ four_digits i ++ codes ".txt " ++ file_words v)
@@ -60,6 +75,6 @@ unfoldable pub grow_bytes : ℕ → List ℕ
 grow_bytes n =
     flat_map mkdir_line (range_with_len 0 16) ++ line (codes "mkdir year:")
     ++ flat_map axiom_line (range_with_len 1 15)
-    ++ files_from 1000 0 n
-    ++ flat_map rm_lines (range_with_len 0 1000)
+    ++ files_from file_count 0 n
+    ++ flat_map rm_lines (range_with_len 0 file_count)
     ++ last_lines

@@ -1,6 +1,7 @@
 -- A session that is carried out with nothing shown: what it has come to since a start, and the sum of its replies.
 -- No public clause cites this module.
 use Rattle.std.specs.Prelude.{◌≡◌, ℕ, ◌+◌, ◌*◌, ◌^◌, ◌<◌, List, [], ◌∷◌, ◌++◌, Result, Ok, Err, IfOk, false}
+use Rattle.lis_limits.specs.declared.TheConstants.{MAX_FILES, MAX_PROPS}
 use Rattle.lis_ports.specs.Meaning.{Meaning}
 use Rattle.lis_ports.specs.Calls.{UsesDisk}
 use Rattle.lis_ports.specs.declared.disk.Failed.{Failed}
@@ -20,11 +21,11 @@ pub record CanSum (session : Situated) (sum : Sum) (m : Meaning) (more : ℕ) : 
   pub usable : IsUsable session.store m
   pub replies : sum.replies + more < 2 ^ 32
   pub refused : sum.refused + more < 2 ^ 32
-  pub listed : sum.listed + 12288 * more < 2 ^ 64
+  pub listed : sum.listed + (MAX_FILES + MAX_PROPS) * more < 2 ^ 64
 
 -- Since the start these items were carried out, from any state that fitted then; or all but the last one, where a call of the disk failed.
 pub record SumsTo (start : Situated) (entry : Meaning) (items : List Item) (now : Situated) (m : Meaning) (result : Result Sum Failed) : Type 0 where
-  pub limits : now.store.parts.limits ≡ start.store.parts.limits
+  pub limits : now.store.metadata.limits ≡ start.store.metadata.limits
   pub image : shape_of now.store.journal ≡ shape_of start.store.journal
   pub unbroken : IfOk result (λ sum. now.store.is_broken ≡ false)
   pub sound : IsSound now.store

@@ -2,7 +2,7 @@
 #![tactic(auto)]
 
 mod lines;
-mod part;
+mod phase;
 mod piece;
 pub mod session;
 mod source;

@@ -2,7 +2,7 @@
 
 ghost use Rattle.std.specs.Prelude.{◌≡◌, ◌+◌, ◌<◌, ◌≤◌, ◌++◌, length, codes};
 ghost use Rattle.lis_model.specs.Replies.{line};
-ghost use Rattle.lis_grow.specs.Grow.{mkdir_line, axiom_line, file_words, create_line, add_lines, file_lines, rm_lines, last_lines};
+ghost use Rattle.lis_grow.specs.Grow.{mkdir_line, axiom_line, file_words, create_line, add_lines, file_lines, rm_lines, last_lines, file_count};
 
 use crate::piece::Piece;
 
@@ -51,7 +51,7 @@ fn put_words(piece: &mut Piece, draw: u32)
 }
 
 fn create_line(i: u32, draw: u32) -> Piece
-    requires { i < 1000 }
+    requires { i < file_count }
     ensures { result ≡ create_line i draw }
 {
     let mut piece = Piece::new();
@@ -64,7 +64,7 @@ fn create_line(i: u32, draw: u32) -> Piece
 }
 
 fn add_lines(i: u32, draw: u32) -> Piece
-    requires { i < 1000 }
+    requires { i < file_count }
     ensures { result ≡ add_lines i draw }
 {
     let mut piece = Piece::new();
@@ -80,7 +80,7 @@ fn add_lines(i: u32, draw: u32) -> Piece
 
 /// The lines of a file, by a draw: every tenth file is a source.
 pub fn file_lines(i: u32, draw: u32) -> Piece
-    requires { i < 1000 }
+    requires { i < file_count }
     ensures { result ≡ file_lines i draw }
 {
     if i % 10 == 0 {
@@ -91,7 +91,7 @@ pub fn file_lines(i: u32, draw: u32) -> Piece
 
 /// Of five files one is removed; for the others there is no line.
 pub fn rm_lines(i: u32) -> Piece
-    requires { i < 1000 }
+    requires { i < file_count }
     ensures { result ≡ rm_lines i }
 {
     let mut piece = Piece::new();

@@ -1,6 +1,6 @@
 //! The bytes of a line or two, put together in place.
 
-ghost use Rattle.std.specs.Prelude.{◌≡◌, ℕ, ◌+◌, ◌<◌, ◌≤◌, List, [], ◌++◌, length};
+ghost use Rattle.std.specs.Prelude.{◌≡◌, ℕ, ◌+◌, ◌<◌, ◌≤◌, List, [], ◌++◌, length, ◌^◌};
 ghost use Rattle.lis_model.specs.Replies.{two_digits};
 ghost use Rattle.lis_grow.specs.Grow.{four_digits};
 
@@ -42,7 +42,7 @@ impl Piece {
 
     /// Puts a number of two digits.
     pub fn put_two(&mut self, n: u32)
-        requires below { n < 100 }
+        requires below { n < 10 ^ 2 }
         requires room { length self.old + 2 ≤ 80 }
         ensures bytes { self.new ≡ self.old ++ two_digits n }
         ensures longer { length self.new ≡ length self.old + 2 }
@@ -54,7 +54,7 @@ impl Piece {
 
     /// Puts a number of four digits.
     pub fn put_four(&mut self, n: u32)
-        requires below { n < 10000 }
+        requires below { n < 10 ^ 4 }
         requires room { length self.old + 4 ≤ 80 }
         ensures bytes { self.new ≡ self.old ++ four_digits n }
         ensures longer { length self.new ≡ length self.old + 4 }

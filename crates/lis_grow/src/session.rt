@@ -35,7 +35,7 @@ fn carry_out<T: Station>(
     ensures run { IsDiskRun (T.meaning station.old) (T.meaning station.new) }
     ensures cause { HasCause (T.meaning station.old).disk_faults (T.meaning station.new).disk_faults result }
     ensures first_fault { DiskFaultEnds (T.meaning station.old) (T.meaning station.new) }
-    ensures limits { session.new.store.parts.limits ≡ session.old.store.parts.limits }
+    ensures limits { session.new.store.metadata.limits ≡ session.old.store.metadata.limits }
     ensures image { shape_of session.new.store.journal ≡ shape_of session.old.store.journal }
     ensures unbroken { IfOk result (λ _. session.new.store.is_broken ≡ false) }
     ensures sound { IsSound session.new.store }

@@ -3,7 +3,7 @@
 ghost use Rattle.std.specs.Prelude.{◌≡◌, ℕ, ◌+◌, ◌-◌, ◌≤◌, List, ◌++◌, Some, length, take, drop, min};
 ghost use Rattle.lis_grow.specs.Coming.{coming};
 
-use crate::part::{Part, Step, some_step};
+use crate::phase::{Phase, Step, some_step};
 use crate::piece::Piece;
 use lis_ports::{Failed, Source};
 use std::marker::Model;
@@ -34,7 +34,7 @@ impl Model for GrowSource {
 
     ghost Value = { List ℕ };
 
-    ghost view = { λ s. drop s.place s.step.piece ++ coming s.step.x s.step.part };
+    ghost view = { λ s. drop s.place s.step.piece ++ coming s.step.x s.step.phase };
 
     ghost invariant = { λ s. s.place ≤ length s.step.piece };
 }
@@ -49,7 +49,7 @@ impl GrowSource {
         GrowSource {
             step: Step {
                 piece: Piece::new(),
-                part: Part::Groups(0),
+                phase: Phase::Groups(0),
                 x: n,
             },
             place: 0,
@@ -66,7 +66,7 @@ impl Source for GrowSource {
 
     fn take(&mut self, buf: &mut [u8]) -> Result<usize, Failed> {
         if self.place == self.step.piece.bytes().len() {
-            self.step = some_step(self.step.part, self.step.x);
+            self.step = some_step(self.step.phase, self.step.x);
             self.place = give(&self.step.piece, 0, buf);
             return Ok(self.place);
         }

@@ -1,6 +1,7 @@
 -- What an image stands for, outside the gates and the records.
 use Rattle.std.specs.Prelude.{◌≡◌, ◌⊎◌, ℕ, zero, suc, ◌+◌, ◌*◌, ◌<◌, ◌≤◌, ◌==◌, nat_lt, Bool, false, if◌then◌else◌, List, [], ◌∷◌, ◌++◌, length, take, drop, None, IsTrue, IsSomeAnd}
 use Rattle.std.specs.List.{list_any}
+use Rattle.lis_limits.specs.declared.TheConstants.{BLOCK_LEN, GATES}
 use Rattle.lis_ports.specs.Meaning.{Meaning}
 use Rattle.lis_journal.specs.declared.layout.Layout.{Layout}
 use Rattle.lis_journal.specs.Record.{homes_start, block, is_open, HomeBlock, behind, first_bad, all_recorded, replayed}
@@ -12,7 +13,7 @@ IsOutside layout n = (n ≡ 0) ⊎ (homes_start layout ≤ n)
 
 -- The image is long enough, and each block outside the gates and the records is that of `kept`.
 pub record Keeps (layout : Layout) (kept : ℕ → List ℕ) (image : List ℕ) : Type 0 where
-  pub long : 4096 * layout.blocks ≤ length image
+  pub long : BLOCK_LEN * layout.blocks ≤ length image
   pub same : (n : ℕ) → IsOutside layout n → block n image ≡ kept n
 
 abbrev pub is_among : List ℕ → ℕ → Bool
@@ -20,21 +21,21 @@ is_among placed n = list_any (λ m. m == n) placed
 
 -- the same, but for the placed blocks, which may hold any bytes
 pub record KeepsBut (layout : Layout) (placed : List ℕ) (kept : ℕ → List ℕ) (image : List ℕ) : Type 0 where
-  pub long : 4096 * layout.blocks ≤ length image
+  pub long : BLOCK_LEN * layout.blocks ≤ length image
   pub same : (n : ℕ) → IsOutside layout n → is_among placed n ≡ false → block n image ≡ kept n
 
 -- A journal may be used on this disk: it is not broken, and the disk has all its blocks.
 pub record JournalIsUsable (journal : Held) (m : Meaning) : Type 0 where
   pub unbroken : journal.is_broken ≡ false
-  pub long : 4096 * journal.layout.blocks ≤ m.len
+  pub long : BLOCK_LEN * journal.layout.blocks ≤ m.len
 
 -- It is long enough itself, and has a replayed image, which keeps these blocks.
 unfoldable pub StandsFor : Layout → (ℕ → List ℕ) → List ℕ → Type 0
-StandsFor layout kept image = (4096 * layout.blocks ≤ length image) × IsSomeAnd (replayed layout image) (Keeps layout kept)
+StandsFor layout kept image = (BLOCK_LEN * layout.blocks ≤ length image) × IsSomeAnd (replayed layout image) (Keeps layout kept)
 
 unfoldable pub StandsBut : Layout → List ℕ → (ℕ → List ℕ) → List ℕ → Type 0
 StandsBut layout placed kept image =
-    (4096 * layout.blocks ≤ length image) × IsSomeAnd (replayed layout image) (KeepsBut layout placed kept)
+    (BLOCK_LEN * layout.blocks ≤ length image) × IsSomeAnd (replayed layout image) (KeepsBut layout placed kept)
 
 -- what a block holds when these entries are in their homes, if `old` was there
 abbrev pub look : List HomeBlock → ℕ → List ℕ → List ℕ
@@ -50,7 +51,7 @@ StandsForAllOrNone layout placed kept entries image =
 -- blocks of `kept`, but for the placed ones.
 pub record Holds (layout : Layout) (records : OpenRecords) (placed : List ℕ) (kept : ℕ → List ℕ) (image : List ℕ) : Type 0 where
   pub enough : homes_start layout < layout.blocks
-  pub long : 4096 * layout.blocks ≤ length image
+  pub long : BLOCK_LEN * layout.blocks ≤ length image
   pub form : first_bad layout 2 records.count image ≡ None
   pub ends : behind 2 records.count image ≡ records.next
   pub latest : (n : ℕ) (old : List ℕ) → look (all_recorded 2 records.count image) n old ≡ look records.latest n old
@@ -58,9 +59,9 @@ pub record Holds (layout : Layout) (records : OpenRecords) (placed : List ℕ) (
 
 -- It holds these records, their gates are open, and all other gates are closed.
 pub record IsAtRest (layout : Layout) (records : OpenRecords) (placed : List ℕ) (kept : ℕ → List ℕ) (image : List ℕ) : Type 0 where
-  pub few : records.count ≤ 64
+  pub few : records.count ≤ GATES
   pub holds : Holds layout records placed kept image
-  pub gates : (k : ℕ) → k < 64 → is_open k image ≡ nat_lt k records.count
+  pub gates : (k : ℕ) → k < GATES → is_open k image ≡ nat_lt k records.count
 
 -- A disk keeps these blocks under these records: it is honest, and it is at rest as it reads, and in each image but for the placed
 -- blocks.
@@ -89,7 +90,7 @@ with_kept n bytes kept k = if k == n then bytes else kept k
 -- the blocks that are kept, with these bytes in so many blocks from this one on
 abbrev pub with_run : ℕ → ℕ → List ℕ → (ℕ → List ℕ) → ℕ → List ℕ
 with_run n zero bytes kept = kept
-with_run n (suc count) bytes kept = with_run (n + 1) count (drop 4096 bytes) (with_kept n (take 4096 bytes) kept)
+with_run n (suc count) bytes kept = with_run (n + 1) count (drop BLOCK_LEN bytes) (with_kept n (take BLOCK_LEN bytes) kept)
 
 -- The blocks from this number on read as before.
 abbrev pub KeepsPast : ℕ → Meaning → Meaning → Type 0

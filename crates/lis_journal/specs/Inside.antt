@@ -1,6 +1,7 @@
 -- How frames make the entries that a contract sees. No public clause cites this module.
 use Rattle.std.specs.Prelude.{◌≡◌, ◌≢◌, ℕ, zero, suc, ◌+◌, ◌*◌, ◌≤◌, ◌<◌, nat_lt, List, [], ◌∷◌, length, map, unwrap_or, IsTrue}
 use Rattle.std.specs.List.{list_all}
+use Rattle.lis_limits.specs.declared.TheConstants.{BLOCK_LEN, GATES}
 use Rattle.lis_region.specs.Region as region
 use Rattle.lis_journal.specs.declared.stage.Staged.{Staged}
 use Rattle.lis_journal.specs.declared.layout.Layout.{Layout}
@@ -33,7 +34,7 @@ AreApart (s ∷ ss) = IsFresh s.frame ss × AreApart ss
 
 pub record IsStage (r : region.Region ℕ) (staged : List Staged) (room : ℕ) (layout : Layout) (capacity : ℕ) : Type 0 where
   pub staging : IsStaging (staging_of r staged layout capacity)
-  pub wide : r.width ≡ 4096
+  pub wide : r.width ≡ BLOCK_LEN
   pub apart : AreApart staged
   pub counted : region.free_frames r + length staged ≡ capacity
   pub has_room : capacity ≤ room
@@ -62,7 +63,7 @@ pub record Log : Type 0 where
 -- Each record takes a block more than it has contents, or more. So many blocks as all records can have contents can be in memory.
 pub record IsLog (log : Log) (capacity : ℕ) : Type 0 where
   pub enough : homes_start log.layout < log.layout.blocks
-  pub few : log.records.count ≤ 64
+  pub few : log.records.count ≤ GATES
   pub fits : log.records.next ≤ homes_start log.layout
   pub room : length log.records.latest + log.records.count + 2 ≤ log.records.next
   pub none : log.records.count ≡ 0 → log.records.next ≤ 2
@@ -73,7 +74,7 @@ pub record IsJournal (layout : Layout) (capacity : Capacity) (log : Log) (header
   pub enough : homes_start layout < layout.blocks
   pub same : log.layout ≡ layout
   pub fits : record_len capacity.staged ≤ layout.records
-  pub header_len : length header ≡ 4096 * header_blocks layout.records
+  pub header_len : length header ≡ BLOCK_LEN * header_blocks layout.records
   pub few : length placed ≤ capacity.placed
   pub has_room : capacity.placed ≤ room
   pub within : IsTrue (list_all (λ n. nat_lt n layout.blocks) placed)

@@ -1,5 +1,6 @@
 -- The phases of a commit, of a checkpoint and of a recovery, each as a fact about one image.
 use Rattle.std.specs.Prelude.{◌≡◌, ◌≢◌, ℕ, ◌+◌, ◌*◌, ◌<◌, ◌≤◌, nat_lt, true, false, List, [], ◌∷◌, length, None, Result, OnOk, IsTrue}
+use Rattle.lis_limits.specs.declared.TheConstants.{BLOCK_LEN, GATES}
 use Rattle.lis_ports.specs.Meaning.{Meaning}
 use Rattle.lis_ports.specs.Runs.{Leaves, IsSettled}
 use Rattle.lis_journal.specs.declared.layout.Layout.{Layout}
@@ -19,10 +20,10 @@ pub record Spelled (layout : Layout) (b : ℕ) (es : List HomeBlock) (image : Li
 
 -- A record more is whole behind the open ones, and its gate may be anything.
 pub record Unsure (layout : Layout) (records : OpenRecords) (kept : ℕ → List ℕ) (es : List HomeBlock) (image : List ℕ) : Type 0 where
-  pub few : records.count < 64
+  pub few : records.count < GATES
   pub holds : Holds layout records [] kept image
   pub spelled : Spelled layout records.next es image
-  pub gates : (k : ℕ) → k < 64 → k ≢ records.count → is_open k image ≡ nat_lt k records.count
+  pub gates : (k : ℕ) → k < GATES → k ≢ records.count → is_open k image ≡ nat_lt k records.count
 
 -- These records are the open ones. Gates behind the first closed one may be anything.
 pub record Opened (layout : Layout) (records : OpenRecords) (placed : List ℕ) (kept : ℕ → List ℕ) (image : List ℕ) : Type 0 where
@@ -53,7 +54,7 @@ pub record IsLoaded (layout : Layout) (count : ℕ) (latest : List HomeBlock) (m
   pub opened : has_open m.bytes ≡ true
   pub settled : IsSettled m m.bytes
   pub enough : homes_start layout < layout.blocks
-  pub long : 4096 * layout.blocks ≤ length m.bytes
+  pub long : BLOCK_LEN * layout.blocks ≤ length m.bytes
   pub counted : open_count m.bytes ≡ count
   pub form : first_bad layout 2 count m.bytes ≡ None
   pub latest_is : (n : ℕ) (old : List ℕ) → look (all_recorded 2 count m.bytes) n old ≡ look latest n old

@@ -1,7 +1,8 @@
 -- The journal on a disk: blocks, gates, records, and the image that stands when the open records are done.
-use Rattle.std.specs.Prelude.{ℕ, ◌+◌, ◌*◌, ◌/◌, ◌==◌, zero, suc, nat_lt, nat_le, Bool, true, ◌&&◌, if◌then◌else◌, List, [], ◌∷◌, ◌++◌, drop, map, replicate, slice_index, Option, Some, None, is_some}
+use Rattle.std.specs.Prelude.{◌-◌, ℕ, ◌+◌, ◌*◌, ◌/◌, ◌==◌, zero, suc, nat_lt, nat_le, Bool, true, ◌&&◌, if◌then◌else◌, List, [], ◌∷◌, ◌++◌, drop, map, replicate, slice_index, Option, Some, None, is_some}
 use Rattle.std.specs.Int.{w32, from_le_bytes}
 use Rattle.std.specs.List.{list_all, list_any, prefix_len}
+use Rattle.lis_limits.specs.declared.TheConstants.{BLOCK_LEN, GATES}
 use Rattle.lis_ports.specs.Bytes.{part, put}
 use Rattle.lis_journal.specs.declared.layout.Layout.{Layout}
 
@@ -9,16 +10,12 @@ use Rattle.lis_journal.specs.declared.layout.Layout.{Layout}
 abbrev pub homes_start : Layout → ℕ
 homes_start layout = layout.records + 2
 
--- how many records are open at most
-abbrev pub max_open : ℕ
-max_open = 64
-
 abbrev pub block : ℕ → List ℕ → List ℕ
-block n image = part (4096 * n) 4096 image
+block n image = part (BLOCK_LEN * n) BLOCK_LEN image
 
 -- The gates are the first 64 bytes of block 1. A gate is open where its byte is 1, and closed where it has any other value.
 abbrev pub gates : List ℕ → List ℕ
-gates image = part 4096 64 image
+gates image = part BLOCK_LEN GATES image
 
 abbrev pub is_open : ℕ → List ℕ → Bool
 is_open k image = slice_index (gates image) k == 1
@@ -32,7 +29,7 @@ open_count image = prefix_len (λ gate. gate == 1) (gates image)
 
 -- all of the journal's bytes but the gates: the rest of block 1, and the records
 abbrev pub behind_gates : Layout → List ℕ → List ℕ
-behind_gates layout image = part 4160 (4096 * layout.records + 4032) image
+behind_gates layout image = part (BLOCK_LEN + GATES) (BLOCK_LEN * layout.records + (BLOCK_LEN - GATES)) image
 
 -- a block and what it is to hold
 pub record HomeBlock : Type 0 where
@@ -69,7 +66,7 @@ is_header layout header =
 
 -- how many blocks the header of a record of so many homes has: a number takes 4 bytes, and the count stands before the homes
 abbrev pub header_blocks : ℕ → ℕ
-header_blocks count = count / 1024 + 1
+header_blocks count = count / (BLOCK_LEN / 4) + 1
 
 -- how many blocks such a record has: its header, and a content for each home
 abbrev pub record_len : ℕ → ℕ
@@ -77,10 +74,10 @@ record_len count = header_blocks count + count
 
 -- the count and the header of the record that begins at block b
 abbrev pub count_at : ℕ → List ℕ → ℕ
-count_at b image = from_le_bytes w32 (part (4096 * b) 4 image)
+count_at b image = from_le_bytes w32 (part (BLOCK_LEN * b) 4 image)
 
 abbrev pub header_at : ℕ → List ℕ → List ℕ
-header_at b image = part (4096 * b) (4096 * header_blocks (count_at b image)) image
+header_at b image = part (BLOCK_LEN * b) (BLOCK_LEN * header_blocks (count_at b image)) image
 
 -- the block behind the record that begins at block b
 unfoldable pub record_end : ℕ → List ℕ → ℕ
@@ -118,7 +115,7 @@ all_recorded b (suc n) image = recorded b image ++ all_recorded (record_end b im
 -- an image with each entry in its home, the later ones over the earlier
 abbrev pub apply : List HomeBlock → List ℕ → List ℕ
 apply [] image = image
-apply (e ∷ entries) image = apply entries (put image (4096 * e.home) e.bytes)
+apply (e ∷ entries) image = apply entries (put image (BLOCK_LEN * e.home) e.bytes)
 
 -- the block of the first open record that is not in form
 unfoldable pub bad_record : Layout → List ℕ → Option ℕ
@@ -132,7 +129,7 @@ replayed layout image =
 
 -- An image with its gates closed: gate 0 where it was open, and all others.
 unfoldable pub gates_closed : Bool → List ℕ → List ℕ
-gates_closed first image = put (if first then put image 4096 (0 ∷ []) else image) 4097 (replicate 63 0)
+gates_closed first image = put (if first then put image BLOCK_LEN (0 ∷ []) else image) (BLOCK_LEN + 1) (replicate (GATES - 1) 0)
 
 -- What a recovery makes of an image: where a gate is open and there is a replayed image, that with its gates closed, and else the
 -- image itself.

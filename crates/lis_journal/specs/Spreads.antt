@@ -1,5 +1,6 @@
 -- A run of disk calls by what it makes of each image.
 use Rattle.std.specs.Prelude.{◌≡◌, ◌⊎◌, ℕ, ◌*◌, ◌+◌, ◌≤◌, List, [], ◌∷◌, length}
+use Rattle.lis_limits.specs.declared.TheConstants.{BLOCK_LEN}
 use Rattle.lis_ports.specs.Meaning.{Meaning}
 use Rattle.lis_ports.specs.Bytes.{part}
 use Rattle.lis_ports.specs.Runs.{Leaves}
@@ -21,7 +22,7 @@ pub record IsQuiet (old new : Meaning) : Type 0 where
 -- the range is clear of the blocks of these entries
 abbrev pub IsClear : List HomeBlock → ℕ → ℕ → Type 0
 IsClear [] at n = Unit {0}
-IsClear (e ∷ entries) at n = ((at + n ≤ 4096 * e.home) ⊎ (4096 * e.home + 4096 ≤ at)) × IsClear entries at n
+IsClear (e ∷ entries) at n = ((at + n ≤ BLOCK_LEN * e.home) ⊎ (BLOCK_LEN * e.home + BLOCK_LEN ≤ at)) × IsClear entries at n
 
 -- the same bytes wherever it is clear of the blocks of these entries
 pub record Touched (entries : List HomeBlock) (old new : List ℕ) : Type 0 where

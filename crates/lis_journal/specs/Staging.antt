@@ -1,6 +1,7 @@
 -- Staged blocks as they are seen: a finite map from homes to contents.
 use Rattle.std.specs.Prelude.{◌≡◌, ℕ, ◌+◌, ◌^◌, ◌<◌, ◌≤◌, ◌==◌, nat_lt, Bool, false, if◌then◌else◌, List, [], ◌∷◌, length, IsTrue}
 use Rattle.std.specs.List.{list_all, list_any}
+use Rattle.lis_limits.specs.declared.TheConstants.{BLOCK_LEN}
 use Rattle.lis_journal.specs.declared.layout.Layout.{Layout}
 use Rattle.lis_journal.specs.Record.{HomeBlock, homes, rises}
 
@@ -23,7 +24,7 @@ has_entry es n = list_any (λ e. e.home == n) es
 
 -- each entry has the bytes of a block
 abbrev pub are_whole : List HomeBlock → Bool
-are_whole es = list_all (λ e. length e.bytes == 4096) es
+are_whole es = list_all (λ e. length e.bytes == BLOCK_LEN) es
 
 -- none of so many blocks from this one on is staged
 abbrev pub HasNone : List HomeBlock → ℕ → ℕ → Type 0

@@ -1,6 +1,6 @@
 //! The phases of a commit and of a checkpoint: the record and its gate; the homes, gate 0 and the other gates.
 
-ghost use Rattle.std.specs.Prelude.{[], ◌∷◌, ◌≡◌, ◌+◌, ◌*◌, ◌<◌, ◌≤◌, ℕ, List, length, replicate, true, IsTrue, OnOk, slice_index_or};
+ghost use Rattle.std.specs.Prelude.{◌-◌, [], ◌∷◌, ◌≡◌, ◌+◌, ◌*◌, ◌<◌, ◌≤◌, ℕ, List, length, replicate, true, IsTrue, OnOk, slice_index_or};
 ghost use Rattle.lis_ports.specs.Bytes.{put, Torn};
 ghost use Rattle.lis_ports.specs.Runs.{Leaves, IsSettled};
 ghost use Rattle.lis_ports.specs.Calls.{UsesDisk};
@@ -12,14 +12,12 @@ ghost use Rattle.lis_journal.specs.Staging.{IsStaging};
 ghost use Rattle.lis_journal.specs.Phases.{IsOpened, Absorbs, looked, renumbered, at_target, FitsTarget};
 
 use crate::header::header_blocks;
-use crate::stage::{BLOCK_LEN, Stage};
+use crate::stage::Stage;
+use lis_limits::{BLOCK_LEN, GATES};
 use lis_ports::{Disk, Failed};
 
 /// Where the gates are, a byte each.
-pub const GATES_AT: u64 = 4_096;
-
-/// How many records are open at most.
-pub const MAX_OPEN: u32 = 64;
+pub const GATES_AT: u64 = BLOCK_LEN as u64;
 
 const CLOSED: u8 = 0;
 
@@ -38,8 +36,8 @@ fn address(stage: &Stage, target: Target, k: usize) -> u64
     requires blocks { homes_start stage.now.layout < stage.now.layout.blocks }
     requires staging { IsStaging stage.now }
     requires room { FitsTarget stage.now.layout target (length stage.now.entries) }
-    ensures address { (d : HomeBlock) → result ≡ 4096 * (slice_index_or (at_target target stage.now.entries) k d).home }
-    ensures within { result + 4096 ≤ 4096 * stage.now.layout.blocks }
+    ensures address { (d : HomeBlock) → result ≡ BLOCK_LEN * (slice_index_or (at_target target stage.now.entries) k d).home }
+    ensures within { result + BLOCK_LEN ≤ BLOCK_LEN * stage.now.layout.blocks }
 {
     match target {
         Target::Record(first) => (u64::from(first) + k as u64) * BLOCK_LEN as u64,
@@ -50,7 +48,7 @@ fn address(stage: &Stage, target: Target, k: usize) -> u64
 // Writes all staged blocks, each in a call of its own.
 fn write_blocks<D: Disk>(disk: &mut D, stage: &Stage, target: Target) -> Result<(), Failed>
     requires blocks { homes_start stage.now.layout < stage.now.layout.blocks }
-    requires long { 4096 * stage.now.layout.blocks ≤ (D.meaning disk.old).len }
+    requires long { BLOCK_LEN * stage.now.layout.blocks ≤ (D.meaning disk.old).len }
     requires room { FitsTarget stage.now.layout target (length stage.now.entries) }
     ensures disk { UsesDisk (D.meaning disk.old) (D.meaning disk.new) result }
     ensures staging { IsStaging stage.now }
@@ -68,7 +66,7 @@ fn write_blocks<D: Disk>(disk: &mut D, stage: &Stage, target: Target) -> Result<
 // Writes all staged blocks, and syncs.
 fn write_synced<D: Disk>(disk: &mut D, stage: &Stage, target: Target) -> Result<(), Failed>
     requires blocks { homes_start stage.now.layout < stage.now.layout.blocks }
-    requires long { 4096 * stage.now.layout.blocks ≤ (D.meaning disk.old).len }
+    requires long { BLOCK_LEN * stage.now.layout.blocks ≤ (D.meaning disk.old).len }
     requires room { FitsTarget stage.now.layout target (length stage.now.entries) }
     ensures disk { UsesDisk (D.meaning disk.old) (D.meaning disk.new) result }
     ensures staging { IsStaging stage.now }
@@ -83,13 +81,13 @@ fn write_synced<D: Disk>(disk: &mut D, stage: &Stage, target: Target) -> Result<
 
 // Writes a gate, in a write of its own, and syncs.
 fn write_gate<D: Disk>(disk: &mut D, gate: u32, value: u8) -> Result<(), Failed>
-    requires gate { gate < 64 }
-    requires long { 8192 ≤ (D.meaning disk.old).len }
+    requires gate { gate < GATES }
+    requires long { 2 * BLOCK_LEN ≤ (D.meaning disk.old).len }
     ensures disk { UsesDisk (D.meaning disk.old) (D.meaning disk.new) result }
     ensures spreads { IsTrue (D.meaning disk.old).is_honest
-        → Spreads (D.meaning disk.old) (D.meaning disk.new) (Torn (4096 + gate) 1) }
+        → Spreads (D.meaning disk.old) (D.meaning disk.new) (Torn (BLOCK_LEN + gate) 1) }
     ensures settled { OnOk result (IsTrue (D.meaning disk.old).is_honest
-        → IsSettled (D.meaning disk.new) (put (D.meaning disk.old).bytes (4096 + gate) (value ∷ []))) }
+        → IsSettled (D.meaning disk.new) (put (D.meaning disk.old).bytes (BLOCK_LEN + gate) (value ∷ []))) }
 {
     disk.write_at(GATES_AT + u64::from(gate), &[value])?;
     disk.sync()
@@ -97,12 +95,12 @@ fn write_gate<D: Disk>(disk: &mut D, gate: u32, value: u8) -> Result<(), Failed>
 
 /// Closes the gates 1 to 63 in one write, and syncs. Gate 0 has to be closed on the disk.
 pub fn close_others<D: Disk>(disk: &mut D) -> Result<(), Failed>
-    requires { 8192 ≤ (D.meaning disk.old).len }
+    requires { 2 * BLOCK_LEN ≤ (D.meaning disk.old).len }
     ensures disk { UsesDisk (D.meaning disk.old) (D.meaning disk.new) result }
     ensures spreads { IsTrue (D.meaning disk.old).is_honest
-        → Spreads (D.meaning disk.old) (D.meaning disk.new) (Torn 4097 63) }
+        → Spreads (D.meaning disk.old) (D.meaning disk.new) (Torn (BLOCK_LEN + 1) (GATES - 1)) }
     ensures settled { OnOk result (IsTrue (D.meaning disk.old).is_honest
-        → IsSettled (D.meaning disk.new) (put (D.meaning disk.old).bytes 4097 (replicate 63 0))) }
+        → IsSettled (D.meaning disk.new) (put (D.meaning disk.old).bytes (BLOCK_LEN + 1) (replicate (GATES - 1) 0))) }
 {
     disk.write_at(GATES_AT + 1, &[CLOSED; 63])?;
     disk.sync()
@@ -116,14 +114,14 @@ fn write_record<D: Disk>(
     first: u32,
 ) -> Result<(), Failed>
     requires blocks { homes_start stage.now.layout < stage.now.layout.blocks }
-    requires long { 4096 * stage.now.layout.blocks ≤ (D.meaning disk.old).len }
-    requires header { length header.now ≡ 4096 * header_blocks (length stage.now.entries) }
+    requires long { BLOCK_LEN * stage.now.layout.blocks ≤ (D.meaning disk.old).len }
+    requires header { length header.now ≡ BLOCK_LEN * header_blocks (length stage.now.entries) }
     requires room { first + record_len (length stage.now.entries) ≤ homes_start stage.now.layout }
     ensures disk { UsesDisk (D.meaning disk.old) (D.meaning disk.new) result }
     ensures spreads { IsTrue (D.meaning disk.old).is_honest
-        → Spreads (D.meaning disk.old) (D.meaning disk.new) (Torn (4096 * first) (4096 * record_len (length stage.now.entries))) }
+        → Spreads (D.meaning disk.old) (D.meaning disk.new) (Torn (BLOCK_LEN * first) (BLOCK_LEN * record_len (length stage.now.entries))) }
     ensures settled { OnOk result (IsTrue (D.meaning disk.old).is_honest → IsSettled (D.meaning disk.new)
-        (apply (renumbered (first + header_blocks (length stage.now.entries)) stage.now.entries) (put (D.meaning disk.old).bytes (4096 * first) header.now))) }
+        (apply (renumbered (first + header_blocks (length stage.now.entries)) stage.now.entries) (put (D.meaning disk.old).bytes (BLOCK_LEN * first) header.now))) }
 {
     disk.write_at(u64::from(first) * BLOCK_LEN as u64, header)?;
     let contents = Target::Record(first + header_blocks(stage.len() as u32));
@@ -139,12 +137,12 @@ pub fn append<D: Disk>(
     next: u32,
 ) -> Result<(), Failed>
     requires blocks { homes_start stage.now.layout < stage.now.layout.blocks }
-    requires long { 4096 * stage.now.layout.blocks ≤ (D.meaning disk.old).len }
+    requires long { BLOCK_LEN * stage.now.layout.blocks ≤ (D.meaning disk.old).len }
     requires staging { IsStaging stage.now }
-    requires header { length header.now ≡ 4096 * header_blocks (length stage.now.entries) }
+    requires header { length header.now ≡ BLOCK_LEN * header_blocks (length stage.now.entries) }
     requires form { IsTrue (is_header stage.now.layout header.now) }
     requires homes { homes_of header.now ≡ homes stage.now.entries }
-    requires few { count < 64 }
+    requires few { count < GATES }
     requires room { next + record_len (length stage.now.entries) ≤ homes_start stage.now.layout }
     ensures disk { UsesDisk (D.meaning disk.old) (D.meaning disk.new) result }
     ensures any_moment { (latest : List HomeBlock) (placed : List ℕ) (kept : ℕ → List ℕ)
@@ -166,7 +164,7 @@ pub fn append<D: Disk>(
 /// Writes the latest contents of all open records home, and then closes the gates: gate 0 first, and then all others.
 pub fn checkpoint<D: Disk>(disk: &mut D, latest: &Stage) -> Result<(), Failed>
     requires blocks { homes_start latest.now.layout < latest.now.layout.blocks }
-    requires long { 4096 * latest.now.layout.blocks ≤ (D.meaning disk.old).len }
+    requires long { BLOCK_LEN * latest.now.layout.blocks ≤ (D.meaning disk.old).len }
     ensures disk { UsesDisk (D.meaning disk.old) (D.meaning disk.new) result }
     ensures staging { IsStaging latest.now }
     ensures any_moment { (count next : ℕ) (placed : List ℕ) (kept : ℕ → List ℕ)

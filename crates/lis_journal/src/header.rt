@@ -7,18 +7,19 @@ ghost use Rattle.lis_ports.specs.Bytes.{put};
 ghost use Rattle.lis_journal.specs.Record.{word, words, rises, is_header, homes_of, homes, count_of, header_blocks, record_len, homes_start};
 
 use crate::layout::Layout;
-use crate::stage::{BLOCK_LEN, Stage};
+use crate::stage::Stage;
+use lis_limits::BLOCK_LEN;
 
 /// How many blocks the header of a record of so many homes has.
 pub fn header_blocks(count: u32) -> u32
     ensures { result ≡ header_blocks count }
 {
-    count / 1_024 + 1
+    count / (BLOCK_LEN as u32 / 4) + 1
 }
 
 /// How many bytes it has.
 pub fn header_len(count: u32) -> usize
-    ensures { result ≡ 4096 * header_blocks count }
+    ensures { result ≡ BLOCK_LEN * header_blocks count }
 {
     header_blocks(count) as usize * BLOCK_LEN
 }
@@ -63,7 +64,7 @@ fn put_word(header: &mut [u8], k: usize, value: u32)
 
 /// Writes the header of a record of all staged blocks.
 pub fn write_header(header: &mut [u8], stage: &Stage)
-    requires { length header.old ≡ 4096 * header_blocks (length stage.now.entries) }
+    requires { length header.old ≡ BLOCK_LEN * header_blocks (length stage.now.entries) }
     ensures form { 0 < length stage.now.entries → IsTrue (is_header stage.now.layout header.new) }
     ensures homes { homes_of header.new ≡ homes stage.now.entries }
 {
@@ -77,10 +78,10 @@ pub fn write_header(header: &mut [u8], stage: &Stage)
 
 /// Writes it into the front of this.
 pub fn write_front(front: &mut [u8], stage: &Stage)
-    requires { 4096 * header_blocks (length stage.now.entries) ≤ length front.old }
+    requires { BLOCK_LEN * header_blocks (length stage.now.entries) ≤ length front.old }
     ensures form { 0 < length stage.now.entries
-        → IsTrue (is_header stage.now.layout (take (4096 * header_blocks (length stage.now.entries)) front.new)) }
-    ensures homes { homes_of (take (4096 * header_blocks (length stage.now.entries)) front.new) ≡ homes stage.now.entries }
+        → IsTrue (is_header stage.now.layout (take (BLOCK_LEN * header_blocks (length stage.now.entries)) front.new)) }
+    ensures homes { homes_of (take (BLOCK_LEN * header_blocks (length stage.now.entries)) front.new) ≡ homes stage.now.entries }
 {
     let len = header_len(stage.len() as u32);
     write_header(&mut front[..len], stage);
@@ -88,7 +89,7 @@ pub fn write_front(front: &mut [u8], stage: &Stage)
 
 /// Whether a header has this count and is in form.
 pub fn is_header(header: &[u8], layout: Layout, count: u32) -> bool
-    requires len { length header.now ≡ 4096 * header_blocks count }
+    requires len { length header.now ≡ BLOCK_LEN * header_blocks count }
     requires records { layout.records + 1 < 2 ^ 32 }
     ensures count { IsTrue result → count_of header.now ≡ count }
     ensures form { count_of header.now ≡ count → result ≡ is_header layout header.now }

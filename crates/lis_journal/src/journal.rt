@@ -13,7 +13,8 @@ use crate::header::{header_len, write_front};
 use crate::layout::{Capacity, Layout};
 use crate::mount::recover;
 use crate::records::Records;
-use crate::stage::{BLOCK_LEN, Stage};
+use crate::stage::Stage;
+use lis_limits::BLOCK_LEN;
 use lis_ports::{Disk, Failed};
 use std::alloc::{AllocError, Global};
 use std::marker::Model;
@@ -77,7 +78,7 @@ fn zeros(alloc: Global, len: usize) -> Result<Vec<u8>, AllocError>
 
 // What a mounted journal keeps of memory, and a block to read into.
 #[derive(Drop)]
-struct Room {
+struct Buffers {
     placed: Vec<u32>,
     most_placed: u32,
     header: Vec<u8>,
@@ -86,21 +87,21 @@ struct Room {
     latest: Stage,
 }
 
-// Takes the room, what has most parts last: whatever was taken before is given back where a later part can't be had, and each such
+// Takes the buffers, what has most parts last: whatever was taken before is given back where a later part can't be had, and each such
 // end is checked with all that it gives back. So `mount` has one end for all of them.
-fn take_room(alloc: Global, layout: Layout, capacity: Capacity) -> Result<Room, AllocError>
+fn take_buffers(alloc: Global, layout: Layout, capacity: Capacity) -> Result<Buffers, AllocError>
     requires some { 1 ≤ layout.records }
     requires few { layout.records ≤ 2 ^ 16 }
     requires staged { capacity.staged ≤ 2 ^ 16 }
     requires placed { capacity.placed ≤ 2 ^ 16 }
-    ensures stage { IfOk result (λ room. room.stage ≡ record { layout = layout; capacity = capacity.staged; entries = [] }) }
-    ensures latest { IfOk result (λ room. room.latest ≡ record { layout = layout; capacity = layout.records - 1; entries = [] }) }
-    ensures placed { IfOk result (λ room. room.placed.items ≡ []) }
-    ensures many { IfOk result (λ room. (room.most_placed ≡ capacity.placed) × (capacity.placed ≤ vec_capacity room.placed)) }
-    ensures header { IfOk result (λ room. length room.header.items ≡ 4096 * header_blocks layout.records) }
-    ensures block { IfOk result (λ room. length room.block.items ≡ 4096) }
+    ensures stage { IfOk result (λ buffers. buffers.stage ≡ record { layout = layout; capacity = capacity.staged; entries = [] }) }
+    ensures latest { IfOk result (λ buffers. buffers.latest ≡ record { layout = layout; capacity = layout.records - 1; entries = [] }) }
+    ensures placed { IfOk result (λ buffers. buffers.placed.items ≡ []) }
+    ensures many { IfOk result (λ buffers. (buffers.most_placed ≡ capacity.placed) × (capacity.placed ≤ vec_capacity buffers.placed)) }
+    ensures header { IfOk result (λ buffers. length buffers.header.items ≡ BLOCK_LEN * header_blocks layout.records) }
+    ensures block { IfOk result (λ buffers. length buffers.block.items ≡ BLOCK_LEN) }
 {
-    Ok(Room {
+    Ok(Buffers {
         placed: Vec::with_capacity(alloc, capacity.placed as usize)?,
         most_placed: capacity.placed,
         header: zeros(alloc, header_len(layout.records))?,
@@ -110,26 +111,26 @@ fn take_room(alloc: Global, layout: Layout, capacity: Capacity) -> Result<Room, 
     })
 }
 
-// A journal in this room, with nothing staged and no open record.
-fn mounted(room: Room) -> Journal
-    requires blocks { homes_start room.stage.layout < room.stage.layout.blocks }
-    requires same { room.latest.layout ≡ room.stage.layout }
-    requires frames { room.latest.layout.records ≤ room.latest.capacity + 1 }
-    requires fits { record_len room.stage.capacity ≤ room.stage.layout.records }
-    requires empty { room.stage.entries ≡ [] }
-    requires placed { room.placed.items ≡ [] }
-    requires many { room.most_placed ≤ vec_capacity room.placed }
-    requires header { length room.header.items ≡ 4096 * header_blocks room.stage.layout.records }
-    ensures { result ≡ record { layout = room.stage.layout; capacity = record { staged = room.stage.capacity; placed = room.most_placed }; staged = []; records = no_records; placed = []; is_broken = false } }
+// A journal in these buffers, with nothing staged and no open record.
+fn mounted(buffers: Buffers) -> Journal
+    requires blocks { homes_start buffers.stage.layout < buffers.stage.layout.blocks }
+    requires same { buffers.latest.layout ≡ buffers.stage.layout }
+    requires frames { buffers.latest.layout.records ≤ buffers.latest.capacity + 1 }
+    requires fits { record_len buffers.stage.capacity ≤ buffers.stage.layout.records }
+    requires empty { buffers.stage.entries ≡ [] }
+    requires placed { buffers.placed.items ≡ [] }
+    requires many { buffers.most_placed ≤ vec_capacity buffers.placed }
+    requires header { length buffers.header.items ≡ BLOCK_LEN * header_blocks buffers.stage.layout.records }
+    ensures { result ≡ record { layout = buffers.stage.layout; capacity = record { staged = buffers.stage.capacity; placed = buffers.most_placed }; staged = []; records = no_records; placed = []; is_broken = false } }
 {
-    let mut latest = room.latest;
+    let mut latest = buffers.latest;
     latest.clear();
     Journal {
-        stage: room.stage,
+        stage: buffers.stage,
         records: Records::new(latest),
-        placed: room.placed,
-        most_placed: room.most_placed,
-        header: room.header,
+        placed: buffers.placed,
+        most_placed: buffers.most_placed,
+        header: buffers.header,
         is_broken: false,
     }
 }
@@ -165,7 +166,7 @@ impl Journal {
         requires few { layout.records ≤ 2 ^ 16 }
         requires fits { record_len capacity.staged ≤ layout.records }
         requires placed { capacity.placed ≤ 2 ^ 16 }
-        requires long { 4096 * layout.blocks ≤ (D.meaning disk.old).len }
+        requires long { BLOCK_LEN * layout.blocks ≤ (D.meaning disk.old).len }
         ensures held { IfOk result (λ journal. journal
             ≡ record { layout = layout; capacity = capacity; staged = []; records = no_records; placed = []; is_broken = false }) }
         ensures run { IsDiskRun (D.meaning disk.old) (D.meaning disk.new) }
@@ -194,9 +195,14 @@ impl Journal {
         ensures past { IsTrue (D.meaning disk.old).is_honest → (result ≡ Err DiskFault → IsSettledPast layout.blocks (D.meaning disk.old))
             → KeepsPast layout.blocks (D.meaning disk.old) (D.meaning disk.new) }
     {
-        let mut room = take_room(alloc, layout, capacity)?;
-        match recover(disk, &mut room.latest, &mut room.header, &mut room.block) {
-            Ok(None) => Ok(mounted(room)),
+        let mut buffers = take_buffers(alloc, layout, capacity)?;
+        match recover(
+            disk,
+            &mut buffers.latest,
+            &mut buffers.header,
+            &mut buffers.block,
+        ) {
+            Ok(None) => Ok(mounted(buffers)),
             Ok(Some(first)) => Err(JournalFault::BadRecord(first)),
             Err(Failed) => Err(JournalFault::DiskFault),
         }
@@ -236,7 +242,7 @@ impl Journal {
         ensures none { IfNone result ((has_entry self.now.staged n ≡ false) × (has_entry self.now.records.latest n ≡ false)) }
         ensures some { IfSome result (λ bytes. (old : List ℕ)
             → look self.now.staged n (look self.now.records.latest n old) ≡ bytes.now) }
-        ensures whole { IfSome result (λ bytes. length bytes.now ≡ 4096) }
+        ensures whole { IfSome result (λ bytes. length bytes.now ≡ BLOCK_LEN) }
     {
         match self.stage.get(n) {
             Some(bytes) => Some(bytes),
@@ -248,7 +254,7 @@ impl Journal {
     pub fn read<D: Disk>(&self, disk: &mut D, n: u32, buf: &mut [u8]) -> Result<(), Failed>
         requires home { homes_start self.now.layout ≤ n }
         requires within { n < self.now.layout.blocks }
-        requires whole { length buf.old ≡ 4096 }
+        requires whole { length buf.old ≡ BLOCK_LEN }
         requires usable { JournalIsUsable self.now (D.meaning disk.old) }
         ensures read { OnOk result ((kept : ℕ → List ℕ) → Fits self.now (D.meaning disk.old) kept
             → buf.new ≡ look self.now.staged n (kept n)) }
@@ -271,7 +277,7 @@ impl Journal {
     pub fn stage(&mut self, n: u32, bytes: &[u8])
         requires home { homes_start self.old.layout ≤ n }
         requires within { n < self.old.layout.blocks }
-        requires whole { length bytes.now ≡ 4096 }
+        requires whole { length bytes.now ≡ BLOCK_LEN }
         requires unbroken { self.old.is_broken ≡ false }
         requires unplaced { is_among self.old.placed n ≡ false }
         requires room { IsTrue (has_entry self.old.staged n) ⊎ (length self.old.staged < self.old.capacity.staged) }
@@ -346,7 +352,7 @@ impl Journal {
     pub fn place<D: Disk>(&mut self, disk: &mut D, n: u32, bytes: &[u8]) -> Result<(), Failed>
         requires home { homes_start self.old.layout ≤ n }
         requires within { n < self.old.layout.blocks }
-        requires whole { length bytes.now ≡ 4096 }
+        requires whole { length bytes.now ≡ BLOCK_LEN }
         requires usable { JournalIsUsable self.old (D.meaning disk.old) }
         requires unstaged { has_entry self.old.staged n ≡ false }
         requires room { IsTrue (is_among self.old.placed n) ⊎ (length self.old.placed < self.old.capacity.placed) }
@@ -387,7 +393,7 @@ impl Journal {
         requires home { homes_start self.old.layout ≤ first }
         requires within { first + count ≤ self.old.layout.blocks }
         requires wide { first + count ≤ 2 ^ 32 }
-        requires whole { length bytes.now ≡ 4096 * count }
+        requires whole { length bytes.now ≡ BLOCK_LEN * count }
         requires usable { JournalIsUsable self.old (D.meaning disk.old) }
         requires unstaged { HasNone self.old.staged first count }
         requires room { length self.old.placed + count ≤ self.old.capacity.placed }

@@ -11,4 +11,3 @@ mod stage;
 
 pub use journal::{Journal, JournalFault};
 pub use layout::{Capacity, Layout};
-pub use stage::BLOCK_LEN;

@@ -12,17 +12,18 @@ ghost use Rattle.lis_journal.specs.Recovery.{Recovers};
 use crate::commit::{GATES_AT, checkpoint, close_others};
 use crate::header::{has_end, header_blocks, header_len, is_header, record_len, word};
 use crate::records::FIRST_RECORD;
-use crate::stage::{BLOCK_LEN, Stage};
+use crate::stage::Stage;
+use lis_limits::{BLOCK_LEN, GATES};
 use lis_ports::{Disk, Failed};
 
 // Reads all gates.
-fn read_gates<D: Disk>(disk: &mut D) -> Result<[u8; 64], Failed>
-    requires { 8192 ≤ (D.meaning disk.old).len }
+fn read_gates<D: Disk>(disk: &mut D) -> Result<[u8; GATES as usize], Failed>
+    requires { 2 * BLOCK_LEN ≤ (D.meaning disk.old).len }
     ensures disk { UsesDisk (D.meaning disk.old) (D.meaning disk.new) result }
     ensures quiet { IsTrue (D.meaning disk.old).is_honest → IsQuiet (D.meaning disk.old) (D.meaning disk.new) }
     ensures gates { IfOk result (λ found. IsTrue (D.meaning disk.old).is_honest → found ≡ gates (D.meaning disk.old).bytes) }
 {
-    let mut gates = [0; 64];
+    let mut gates = [0; GATES as usize];
     disk.read_at(GATES_AT, &mut gates)?;
     Ok(gates)
 }
@@ -36,9 +37,9 @@ fn is_any_open(gates: &[u8]) -> bool
 
 // How many gates are open before the first closed one.
 fn count_open(gates: &[u8]) -> u32
-    requires { length gates.now ≡ 64 }
+    requires { length gates.now ≡ GATES }
     ensures count { result ≡ prefix_len (λ gate. gate == 1) gates.now }
-    ensures few { result ≤ 64 }
+    ensures few { result ≤ GATES }
 {
     let mut count = 0;
     for gate in gates {
@@ -60,12 +61,12 @@ fn load<D: Disk>(
 ) -> Result<(), Failed>
     requires blocks { homes_start latest.old.layout < latest.old.layout.blocks }
     requires frames { latest.old.layout.records ≤ latest.old.capacity + 1 }
-    requires long { 4096 * latest.old.layout.blocks ≤ (D.meaning disk.old).len }
-    requires header { length header.now ≡ 4096 * header_blocks (count_of header.now) }
+    requires long { BLOCK_LEN * latest.old.layout.blocks ≤ (D.meaning disk.old).len }
+    requires header { length header.now ≡ BLOCK_LEN * header_blocks (count_of header.now) }
     requires form { IsTrue (is_header latest.old.layout header.now) }
     requires fits { contents + count_of header.now ≤ homes_start latest.old.layout }
     requires room { length latest.old.entries + 3 ≤ contents }
-    requires whole { length block.old ≡ 4096 }
+    requires whole { length block.old ≡ BLOCK_LEN }
     ensures disk { UsesDisk (D.meaning disk.old) (D.meaning disk.new) result }
     ensures quiet { IsTrue (D.meaning disk.old).is_honest → IsQuiet (D.meaning disk.old) (D.meaning disk.new) }
     ensures layout { latest.new.layout ≡ latest.old.layout }
@@ -87,7 +88,7 @@ fn load<D: Disk>(
 
 // Reads the count of the record that begins at this block.
 fn read_count<D: Disk>(disk: &mut D, first: u32) -> Result<u32, Failed>
-    requires { 4096 * first + 4 ≤ (D.meaning disk.old).len }
+    requires { BLOCK_LEN * first + 4 ≤ (D.meaning disk.old).len }
     ensures disk { UsesDisk (D.meaning disk.old) (D.meaning disk.new) result }
     ensures quiet { IsTrue (D.meaning disk.old).is_honest → IsQuiet (D.meaning disk.old) (D.meaning disk.new) }
     ensures count { IfOk result (λ count. IsTrue (D.meaning disk.old).is_honest → count ≡ count_at first (D.meaning disk.old).bytes) }
@@ -108,11 +109,11 @@ fn read_record<D: Disk>(
 ) -> Result<Option<u32>, Failed>
     requires blocks { homes_start latest.old.layout < latest.old.layout.blocks }
     requires frames { latest.old.layout.records ≤ latest.old.capacity + 1 }
-    requires long { 4096 * latest.old.layout.blocks ≤ (D.meaning disk.old).len }
+    requires long { BLOCK_LEN * latest.old.layout.blocks ≤ (D.meaning disk.old).len }
     requires room { length latest.old.entries + 2 ≤ first }
     requires within { first ≤ homes_start latest.old.layout }
-    requires header { length header.old ≡ 4096 * header_blocks latest.old.layout.records }
-    requires whole { length block.old ≡ 4096 }
+    requires header { length header.old ≡ BLOCK_LEN * header_blocks latest.old.layout.records }
+    requires whole { length block.old ≡ BLOCK_LEN }
     ensures disk { UsesDisk (D.meaning disk.old) (D.meaning disk.new) result }
     ensures quiet { IsTrue (D.meaning disk.old).is_honest → IsQuiet (D.meaning disk.old) (D.meaning disk.new) }
     ensures layout { latest.new.layout ≡ latest.old.layout }
@@ -150,9 +151,9 @@ fn load_records<D: Disk>(
     requires empty { latest.old.entries ≡ [] }
     requires blocks { homes_start latest.old.layout < latest.old.layout.blocks }
     requires frames { latest.old.layout.records ≤ latest.old.capacity + 1 }
-    requires long { 4096 * latest.old.layout.blocks ≤ (D.meaning disk.old).len }
-    requires header { length header.old ≡ 4096 * header_blocks latest.old.layout.records }
-    requires whole { length block.old ≡ 4096 }
+    requires long { BLOCK_LEN * latest.old.layout.blocks ≤ (D.meaning disk.old).len }
+    requires header { length header.old ≡ BLOCK_LEN * header_blocks latest.old.layout.records }
+    requires whole { length block.old ≡ BLOCK_LEN }
     ensures disk { UsesDisk (D.meaning disk.old) (D.meaning disk.new) result }
     ensures quiet { IsTrue (D.meaning disk.old).is_honest → IsQuiet (D.meaning disk.old) (D.meaning disk.new) }
     ensures layout { latest.new.layout ≡ latest.old.layout }
@@ -175,7 +176,7 @@ fn load_records<D: Disk>(
 // Brings the open records home, if there are any, and closes all gates.
 fn close_gates<D: Disk>(disk: &mut D, count: u32, latest: &Stage) -> Result<(), Failed>
     requires blocks { homes_start latest.now.layout < latest.now.layout.blocks }
-    requires long { 4096 * latest.now.layout.blocks ≤ (D.meaning disk.old).len }
+    requires long { BLOCK_LEN * latest.now.layout.blocks ≤ (D.meaning disk.old).len }
     ensures disk { UsesDisk (D.meaning disk.old) (D.meaning disk.new) result }
     ensures closes { IsLoaded latest.now.layout count latest.now.entries (D.meaning disk.old)
         → Closes latest.now.layout count (D.meaning disk.old) (D.meaning disk.new) result }
@@ -197,9 +198,9 @@ pub fn recover<D: Disk>(
     requires empty { latest.old.entries ≡ [] }
     requires blocks { homes_start latest.old.layout < latest.old.layout.blocks }
     requires frames { latest.old.layout.records ≤ latest.old.capacity + 1 }
-    requires long { 4096 * latest.old.layout.blocks ≤ (D.meaning disk.old).len }
-    requires header { length header.old ≡ 4096 * header_blocks latest.old.layout.records }
-    requires whole { length block.old ≡ 4096 }
+    requires long { BLOCK_LEN * latest.old.layout.blocks ≤ (D.meaning disk.old).len }
+    requires header { length header.old ≡ BLOCK_LEN * header_blocks latest.old.layout.records }
+    requires whole { length block.old ≡ BLOCK_LEN }
     ensures disk { UsesDisk (D.meaning disk.old) (D.meaning disk.new) result }
     ensures layout { latest.new.layout ≡ latest.old.layout }
     ensures capacity { latest.new.capacity ≡ latest.old.capacity }

@@ -10,9 +10,10 @@ ghost use Rattle.lis_journal.specs.Spreads.{Spreads, SamePast};
 ghost use Rattle.lis_journal.specs.Staging.{IsStaging, has_entry, HasNone};
 ghost use Rattle.lis_journal.specs.Phases.{Absorbs, looked};
 
-use crate::commit::{MAX_OPEN, append, checkpoint};
+use crate::commit::{append, checkpoint};
 use crate::header::{has_end, record_len};
-use crate::stage::{BLOCK_LEN, Stage};
+use crate::stage::Stage;
+use lis_limits::{BLOCK_LEN, GATES};
 use lis_ports::{Disk, Failed};
 use std::marker::Model;
 
@@ -88,7 +89,7 @@ impl Records {
     pub fn get(&self, n: u32) -> Option<&[u8]>
         ensures none { IfNone result (has_entry self.now.records.latest n ≡ false) }
         ensures some { IfSome result (λ bytes. (old : List ℕ) → look self.now.records.latest n old ≡ bytes.now) }
-        ensures whole { IfSome result (λ bytes. length bytes.now ≡ 4096) }
+        ensures whole { IfSome result (λ bytes. length bytes.now ≡ BLOCK_LEN) }
     {
         self.latest.get(n)
     }
@@ -96,10 +97,10 @@ impl Records {
     // Whether there is room for a record more of so many blocks. There always is where no record is open.
     fn has_room(&self, blocks: usize) -> bool
         requires { record_len blocks ≤ self.now.layout.records }
-        ensures room { IsTrue result → (self.now.records.count < 64) × (self.now.records.next + record_len blocks ≤ homes_start self.now.layout) }
+        ensures room { IsTrue result → (self.now.records.count < GATES) × (self.now.records.next + record_len blocks ≤ homes_start self.now.layout) }
         ensures full { result ≡ false → 0 < self.now.records.count }
     {
-        if self.count == MAX_OPEN {
+        if self.count == GATES {
             return false;
         }
         let layout = self.latest.layout();
@@ -108,7 +109,7 @@ impl Records {
 
     // Makes a checkpoint, after which no record is open.
     fn clear<D: Disk>(&mut self, disk: &mut D) -> Result<(), Failed>
-        requires long { 4096 * self.old.layout.blocks ≤ (D.meaning disk.old).len }
+        requires long { BLOCK_LEN * self.old.layout.blocks ≤ (D.meaning disk.old).len }
         requires some { 0 < self.old.records.count }
         ensures disk { UsesDisk (D.meaning disk.old) (D.meaning disk.new) result }
         ensures any_moment { (placed : List ℕ) (kept : ℕ → List ℕ)
@@ -131,7 +132,7 @@ impl Records {
 
     // Makes a checkpoint where there is no room for a record more of so many blocks.
     fn make_room<D: Disk>(&mut self, disk: &mut D, blocks: usize) -> Result<(), Failed>
-        requires long { 4096 * self.old.layout.blocks ≤ (D.meaning disk.old).len }
+        requires long { BLOCK_LEN * self.old.layout.blocks ≤ (D.meaning disk.old).len }
         requires few { record_len blocks ≤ self.old.layout.records }
         ensures disk { UsesDisk (D.meaning disk.old) (D.meaning disk.new) result }
         ensures any_moment { (placed : List ℕ) (kept : ℕ → List ℕ)
@@ -142,7 +143,7 @@ impl Records {
             → FitsAt self.new.layout self.new.records placed (D.meaning disk.new) kept) }
         ensures past { IsTrue (D.meaning disk.old).is_honest
             → Spreads (D.meaning disk.old) (D.meaning disk.new) (SamePast self.old.layout.blocks) }
-        ensures room { OnOk result ((self.new.records.count < 64) × (self.new.records.next + record_len blocks ≤ homes_start self.new.layout)) }
+        ensures room { OnOk result ((self.new.records.count < GATES) × (self.new.records.next + record_len blocks ≤ homes_start self.new.layout)) }
         ensures layout { self.new.layout ≡ self.old.layout }
     {
         if self.has_room(blocks) {
@@ -153,13 +154,13 @@ impl Records {
 
     // Makes the staged blocks kept by one record more, for which there is room.
     fn append<D: Disk>(&mut self, disk: &mut D, header: &[u8], stage: &Stage) -> Result<(), Failed>
-        requires long { 4096 * self.old.layout.blocks ≤ (D.meaning disk.old).len }
+        requires long { BLOCK_LEN * self.old.layout.blocks ≤ (D.meaning disk.old).len }
         requires same { stage.now.layout ≡ self.old.layout }
         requires staging { IsStaging stage.now }
-        requires header { length header.now ≡ 4096 * header_blocks (length stage.now.entries) }
+        requires header { length header.now ≡ BLOCK_LEN * header_blocks (length stage.now.entries) }
         requires form { IsTrue (is_header stage.now.layout header.now) }
         requires homes { homes_of header.now ≡ homes stage.now.entries }
-        requires few { self.old.records.count < 64 }
+        requires few { self.old.records.count < GATES }
         requires room { self.old.records.next + record_len (length stage.now.entries) ≤ homes_start self.old.layout }
         ensures disk { UsesDisk (D.meaning disk.old) (D.meaning disk.new) result }
         ensures any_moment { (placed : List ℕ) (kept : ℕ → List ℕ)
@@ -187,11 +188,11 @@ impl Records {
         header: &[u8],
         stage: &Stage,
     ) -> Result<(), Failed>
-        requires long { 4096 * self.old.layout.blocks ≤ (D.meaning disk.old).len }
+        requires long { BLOCK_LEN * self.old.layout.blocks ≤ (D.meaning disk.old).len }
         requires same { stage.now.layout ≡ self.old.layout }
         requires staging { IsStaging stage.now }
         requires fits { record_len (length stage.now.entries) ≤ self.old.layout.records }
-        requires header { length header.now ≡ 4096 * header_blocks (length stage.now.entries) }
+        requires header { length header.now ≡ BLOCK_LEN * header_blocks (length stage.now.entries) }
         requires form { IsTrue (is_header stage.now.layout header.now) }
         requires homes { homes_of header.now ≡ homes stage.now.entries }
         ensures disk { UsesDisk (D.meaning disk.old) (D.meaning disk.new) result }
@@ -213,7 +214,7 @@ impl Records {
     // Makes a checkpoint where one of so many blocks from this one on is in an open record.
     fn free_homes<D: Disk>(&mut self, disk: &mut D, first: u32, count: u32) -> Result<(), Failed>
         requires within { first + count ≤ 2 ^ 32 }
-        requires long { 4096 * self.old.layout.blocks ≤ (D.meaning disk.old).len }
+        requires long { BLOCK_LEN * self.old.layout.blocks ≤ (D.meaning disk.old).len }
         ensures disk { UsesDisk (D.meaning disk.old) (D.meaning disk.new) result }
         ensures any_moment { (placed : List ℕ) (kept : ℕ → List ℕ)
             → FitsAt self.old.layout self.old.records placed (D.meaning disk.old) kept
@@ -241,11 +242,11 @@ impl Records {
         count: u32,
         bytes: &[u8],
     ) -> Result<(), Failed>
-        requires long { 4096 * self.old.layout.blocks ≤ (D.meaning disk.old).len }
+        requires long { BLOCK_LEN * self.old.layout.blocks ≤ (D.meaning disk.old).len }
         requires home { homes_start self.old.layout ≤ first }
         requires within { first + count ≤ self.old.layout.blocks }
         requires wide { first + count ≤ 2 ^ 32 }
-        requires whole { length bytes.now ≡ 4096 * count }
+        requires whole { length bytes.now ≡ BLOCK_LEN * count }
         ensures disk { UsesDisk (D.meaning disk.old) (D.meaning disk.new) result }
         ensures any_moment { (placed : List ℕ) (kept : ℕ → List ℕ)
             → FitsAt self.old.layout self.old.records placed (D.meaning disk.old) kept

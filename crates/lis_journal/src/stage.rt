@@ -5,12 +5,10 @@ ghost use Rattle.lis_journal.specs.Record.{rises};
 ghost use Rattle.lis_journal.specs.Inside.{home_list, FoundAt, PlaceFor};
 
 use crate::layout::Layout;
+use lis_limits::BLOCK_LEN;
 use lis_region::{Frame, Pool};
 use std::alloc::{AllocError, Global};
 use std::marker::Model;
-
-/// How many bytes a block has.
-pub const BLOCK_LEN: usize = 4_096;
 
 // A block, and the frame that holds what it is to hold.
 #[derive(Drop)]
@@ -115,7 +113,7 @@ impl Stage {
     pub fn bytes(&self, k: usize) -> &[u8]
         requires { k < length self.now.entries }
         ensures bytes { (d : HomeBlock) → result.now ≡ (slice_index_or self.now.entries k d).bytes }
-        ensures whole { length result.now ≡ 4096 }
+        ensures whole { length result.now ≡ BLOCK_LEN }
     {
         self.pool.items(&self.staged[k].frame)
     }
@@ -125,7 +123,7 @@ impl Stage {
         ensures none { IfNone result (has_entry self.now.entries n ≡ false) }
         ensures has { OnSome result (has_entry self.now.entries n ≡ true) }
         ensures some { IfSome result (λ bytes. (old : List ℕ) → look self.now.entries n old ≡ bytes.now) }
-        ensures whole { IfSome result (λ bytes. length bytes.now ≡ 4096) }
+        ensures whole { IfSome result (λ bytes. length bytes.now ≡ BLOCK_LEN) }
     {
         match find(&self.staged, n) {
             Ok(place) => Some(self.bytes(place)),
@@ -144,7 +142,7 @@ impl Stage {
     pub fn put(&mut self, n: u32, bytes: &[u8])
         requires home { homes_start self.old.layout ≤ n }
         requires within { n < self.old.layout.blocks }
-        requires whole { length bytes.now ≡ 4096 }
+        requires whole { length bytes.now ≡ BLOCK_LEN }
         requires room { IsTrue (has_entry self.old.entries n) ⊎ (length self.old.entries < self.old.capacity) }
         ensures put { self.new ≡ record self.old { entries = with_entry self.old.entries n bytes.now } }
         ensures looks { (m : ℕ) (old : List ℕ) → look self.new.entries m old

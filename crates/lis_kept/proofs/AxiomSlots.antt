@@ -6,7 +6,7 @@ use Rattle.std.proofs.lemmas.List.Sums.{fails_before_first}
 use Rattle.std.proofs.lemmas.Option.{slice_get-get_or}
 use Rattle.std.proofs.lemmas.List.Quantifiers.{position-Some}
 use Rattle.lis_catalog.proofs.Slots.{swapped}
-use Rattle.lis_kept.specs.Kept.{Kept}
+use Rattle.lis_kept.specs.Metadata.{Metadata}
 use Rattle.lis_kept.specs.Areas.{axiom_slots}
 use Rattle.lis_kept.specs.Sound.{AreSound}
 use Rattle.lis_kept.specs.Links.{is_pair, has_pair}
@@ -106,5 +106,5 @@ abbrev pub InSlot : List AxiomSlot → ℕ → ℕ → Type 0
 InSlot axioms left right = (slot : ℕ) × (slice_get axioms slot ≡ Some (Pair left right))
 
 -- how many slots there are
-pub few_slots : (k : Kept) → AreSound k → length k.axioms ≤ 8192
+pub few_slots : (k : Metadata) → AreSound k → length k.axioms ≤ 8192
 few_slots k sound = search (rules, few_properties)

@@ -5,7 +5,7 @@ use Rattle.lis_graph.proofs.Sets.{sorted_nil, sorted_with_more}
 use Rattle.lis_taxonomy.specs.Taxonomy.{Entails as Leads}
 use Rattle.lis_model.specs.State.{pair_cmp}
 use Rattle.lis_catalog.proofs.Slots.{swapped as or_swapped}
-use Rattle.lis_kept.specs.Kept.{Kept}
+use Rattle.lis_kept.specs.Metadata.{Metadata}
 use Rattle.lis_kept.specs.Areas.{Area, slots_of, block_of, spelled}
 use Rattle.lis_kept.specs.Areas.Area.{Axioms}
 use Rattle.lis_kept.specs.Telling.{declared_of, pairs_told, axioms_of, state_of, is_head_by, is_used}
@@ -24,7 +24,7 @@ use Rattle.std.specs.List.{filter}
 use Rattle.lis_model.specs.Changes.{has_axiom}
 use Rattle.lis_kept.proofs.AxiomsTold.{axiom_told}
 
-pub sorted_axioms : (k : Kept) → IsStrictlySortedBy pair_cmp (axioms_of k)
+pub sorted_axioms : (k : Metadata) → IsStrictlySortedBy pair_cmp (axioms_of k)
 sorted_axioms k = sorted_with_more pair_cmp pair_order [] (pairs_told k.dict k.axioms) (sorted_nil pair_cmp pair_order)
 
 pub swapped : (x y : ℕ) → (x == y) ≡ (y == x)
@@ -35,7 +35,7 @@ used_more d h a b x y = grind arith
 
 -- ---- another slot's content
 -- One slot has another axiom, or none, and its block is marked.
-pub record OneAxiom (p : Kept) (slot : ℕ) (now : AxiomSlot) (axioms : List AxiomSlot) (marks : List Bool) : Type 0 where
+pub record OneAxiom (p : Metadata) (slot : ℕ) (now : AxiomSlot) (axioms : List AxiomSlot) (marks : List Bool) : Type 0 where
   pub was : AxiomSlot
   pub there : slice_get p.axioms slot ≡ Some was
   pub below : slot < p.limits.props
@@ -43,8 +43,8 @@ pub record OneAxiom (p : Kept) (slot : ℕ) (now : AxiomSlot) (axioms : List Axi
   pub axioms_are : axioms ≡ set p.axioms slot now
   pub marked : marks ≡ set p.marks (block_of p.limits Axioms slot) true
 
-module _ (p : Kept) (sound : AreSound p) {slot : ℕ} {now : AxiomSlot} {axioms : List AxiomSlot} {marks : List Bool} (one : OneAxiom p slot now axioms marks) where
-  abbrev pub after : Kept
+module _ (p : Metadata) (sound : AreSound p) {slot : ℕ} {now : AxiomSlot} {axioms : List AxiomSlot} {marks : List Bool} (one : OneAxiom p slot now axioms marks) where
+  abbrev pub after : Metadata
   after = record p { axioms = axioms; marks = marks }
 
   -- what stands in each slot then
@@ -81,8 +81,8 @@ pub record IsFilled (before after : List AxiomSlot) (slot left right : ℕ) : Ty
   pub free : slice_get before slot ≡ Some FreeAxiom
   pub filled : after ≡ set before slot (Pair left right)
 
-module _ (few : Kept) (sound : AreSound few) (marks : List Bool) {axioms : List AxiomSlot} {slot left right : ℕ} (is : IsFilled few.axioms axioms slot left right) where
-  abbrev many : Kept
+module _ (few : Metadata) (sound : AreSound few) (marks : List Bool) {axioms : List AxiomSlot} {slot left right : ℕ} (is : IsFilled few.axioms axioms slot left right) where
+  abbrev many : Metadata
   many = record few { axioms = axioms; marks = marks }
 
   any_filled : (f : AxiomSlot → Bool) → f FreeAxiom ≡ false → list_any f axioms ≡ (f (Pair left right) || list_any f few.axioms)
@@ -134,10 +134,10 @@ module _ (few : Kept) (sound : AreSound few) (marks : List Bool) {axioms : List 
               cc
 
 -- ---- the axiom comes, over what memory kept
-module _ (k p : Kept) (t u : Taxonomy) (left right slot : ℕ) (axioms : List AxiomSlot) (marks : List Bool) (is : p ≡ k) (held : AreHeld p t) (may : MayLink left right p) (below : slot < p.limits.props)
+module _ (k p : Metadata) (t u : Taxonomy) (left right slot : ℕ) (axioms : List AxiomSlot) (marks : List Bool) (is : p ≡ k) (held : AreHeld p t) (may : MayLink left right p) (below : slot < p.limits.props)
     (free : slice_get p.axioms slot ≡ Some FreeAxiom) (filled : axioms ≡ set p.axioms slot (Pair left right)) (linked_is : u ≡ with_edge t left right)
     (marked : marks ≡ set p.marks (block_of p.limits Axioms slot) true) where
-  abbrev linked : Kept
+  abbrev linked : Metadata
   linked = record p { axioms = axioms; marks = marks }
 
   into : IsFilled p.axioms axioms slot left right
@@ -152,11 +152,11 @@ module _ (k p : Kept) (t u : Taxonomy) (left right slot : ℕ) (axioms : List Ax
   pub links : AreHeld linked u × Links left right k linked
   links = (
     record { sound = sound_then p held.sound one; links = record { props = ap (λ (v : Taxonomy). v.props) linked_is ∙ held.links.props; edges = edges_then } },
-    subst (λ (x : Kept). Links left right x linked) is (record {
+    subst (λ (x : Metadata). Links left right x linked) is (record {
       slot = slot;
       below = below;
       free = free;
-      parts = cc (filled, marked);
+      metadata = cc (filled, marked);
       marks = marks_then p held.sound one;
       pairs = pairs_more p held.sound marks into;
       linked = links_more p held.sound marks into;
@@ -166,7 +166,7 @@ module _ (k p : Kept) (t u : Taxonomy) (left right slot : ℕ) (axioms : List Ax
   )
 
 -- ---- why its edge is not refused
-pub link_refused : {T : Type 0} (p : Kept) (t : Taxonomy) → AreHeld p t → (left right : ℕ) → MayLink left right p → (x y : ℕ) (fault : EdgeFault) (r : Result T EdgeFault) → r ≡ Err fault
+pub link_refused : {T : Type 0} (p : Metadata) (t : Taxonomy) → AreHeld p t → (left right : ℕ) → MayLink left right p → (x y : ℕ) (fault : EdgeFault) (r : Result T EdgeFault) → r ≡ Err fault
     → ((r ≡ Err Present) ↔ (has_edge t x y ≡ true)) → ((r ≡ Err Cycle) ↔ Leads t y x) → (r ≡ Err Absent → ⊥) → x ≡ left → y ≡ right → ⊥
 link_refused p t held left right may x y fault r is present cycle absent lefts rights = by fault is
   where
@@ -210,10 +210,10 @@ axiom_gone axioms pair sorted none =
     from e differ (inr m) = m
 
 -- ---- over what memory kept
-module _ (k p : Kept) (t u : Taxonomy) (left right slot : ℕ) (axioms : List AxiomSlot) (marks : List Bool) (is : p ≡ k) (held : AreHeld p t) (may : MayUnlink left right p)
+module _ (k p : Metadata) (t u : Taxonomy) (left right slot : ℕ) (axioms : List AxiomSlot) (marks : List Bool) (is : p ≡ k) (held : AreHeld p t) (may : MayUnlink left right p)
     (there : slice_get p.axioms slot ≡ Some (Pair left right)) (emptied : axioms ≡ set p.axioms slot FreeAxiom) (unlinked_is : u ≡ without_edge t left right)
     (marked : marks ≡ set p.marks (block_of p.limits Axioms slot) true) where
-  abbrev unlinked : Kept
+  abbrev unlinked : Metadata
   unlinked = record p { axioms = axioms; marks = marks }
 
   one_gone : OneAxiom p slot FreeAxiom axioms marks
@@ -264,11 +264,11 @@ module _ (k p : Kept) (t u : Taxonomy) (left right slot : ℕ) (axioms : List Ax
   pub unlinks : AreHeld unlinked u × Unlinks left right k unlinked
   unlinks = (
     record { sound = sound_gone; links = record { props = ap (λ (v : Taxonomy). v.props) unlinked_is ∙ held.links.props; edges = edges_gone } },
-    subst (λ (x : Kept). Unlinks left right x unlinked) is (record {
+    subst (λ (x : Metadata). Unlinks left right x unlinked) is (record {
       slot = slot;
       below = one_gone.below;
       there = there;
-      parts = cc (emptied, marked);
+      metadata = cc (emptied, marked);
       marks = marks_then p held.sound one_gone;
       pairs = pairs_then;
       linked = links_then;
@@ -278,7 +278,7 @@ module _ (k p : Kept) (t u : Taxonomy) (left right slot : ℕ) (axioms : List Ax
   )
 
 -- ---- why its edge is not missing
-pub unlink_missed : {T : Type 0} (p : Kept) (t : Taxonomy) → AreHeld p t → (left right : ℕ) → MayUnlink left right p → (x y : ℕ) (fault : EdgeFault) (r : Result T EdgeFault) → r ≡ Err fault
+pub unlink_missed : {T : Type 0} (p : Metadata) (t : Taxonomy) → AreHeld p t → (left right : ℕ) → MayUnlink left right p → (x y : ℕ) (fault : EdgeFault) (r : Result T EdgeFault) → r ≡ Err fault
     → ((r ≡ Err Absent) ↔ (has_edge t x y ≡ false)) → r ≡ Err Absent → x ≡ left → y ≡ right → ⊥
 unlink_missed p t held left right may x y fault r is absent only lefts rights =
     both_ways (has_edge t left right) (subst (λ n. has_edge t left n ≡ false) rights (subst (λ n. has_edge t n y ≡ false) lefts (absent.0 only)))

@@ -3,7 +3,7 @@ use Rattle.std.proofs.Common.{arith, eq-eqb}
 use Rattle.lis_kept.proofs.Common.{rules, ◌≡◌, ◌⊎◌, ℕ, zero, suc, ◌+◌, ◌<◌, ◌≤◌, ◌==◌, ◌&&◌, Bool, true, false, cond, Some, List, [], ◌∷◌, ◌++◌, length, slice_get, count_by, IsSome, refl, sym, ap, ap₂, ◌∙◌, subst, inl, inr, Ordering, Less, Equal, Greater, match_ordering, insert_key, fold, list_any, eqb-true, same_Some, sum_by-cons, Among, among_right, among_from_any, among_flat_map, among_insert_key, Dict, word_of, AxiomSlot, FreeAxiom, Pair, same_word, same_pair, pair_exact, same_word_decides, both_ways, any_from_among, same_tests}
 use Rattle.lis_model.specs.State.{pair_cmp}
 use Rattle.lis_model.specs.Changes.{has_axiom}
-use Rattle.lis_kept.specs.Kept.{Kept}
+use Rattle.lis_kept.specs.Metadata.{Metadata}
 use Rattle.lis_kept.specs.Sound.{AreSound}
 use Rattle.lis_kept.specs.Links.{is_pair, has_pair}
 use Rattle.lis_kept.specs.Linking.{is_filled}
@@ -13,7 +13,7 @@ use Rattle.lis_kept.proofs.OwnLinks.{slot_at, among_slot}
 use Rattle.lis_kept.proofs.Known.{only_pair, one_number, axiom_among, among_axiom}
 
 -- ---- by words and by numbers
-module _ (k : Kept) (sound : AreSound k) where
+module _ (k : Metadata) (sound : AreSound k) where
   -- numbers are the same where their words are
   pub same_number : (x n : ℕ) (v w : List ℕ) → word_of k.dict x ≡ Some v → word_of k.dict n ≡ Some w → (x == n) ≡ same_word v w
   same_number x n v w is_v is_w =
@@ -44,7 +44,7 @@ module _ (k : Kept) (sound : AreSound k) where
           any_from_among test k.axioms (Pair at.1 at.2) (among_slot k.axioms at.0 (Pair at.1 at.2) at.3) (same at.1 at.2 e.0 e.1 at.4 at.5 ∙ is)
 
 -- an axiom between two words is one between their numbers
-pub axiom_told : (k : Kept) (sound : AreSound k) (left right : ℕ) (l r : List ℕ) → word_of k.dict left ≡ Some l → word_of k.dict right ≡ Some r → has_axiom (axioms_of k) (l, r) ≡ has_pair k.axioms left right
+pub axiom_told : (k : Metadata) (sound : AreSound k) (left right : ℕ) (l r : List ℕ) → word_of k.dict left ≡ Some l → word_of k.dict right ≡ Some r → has_axiom (axioms_of k) (l, r) ≡ has_pair k.axioms left right
 axiom_told k sound left right l r is_l is_r =
     by_axioms k sound (is_pair left right) (λ e. same_pair e (l, r)) refl (λ x y v w is_v is_w. ap₂ (λ a b. a && b) (same_number k sound x left v l is_v is_l) (same_number k sound y right w r is_w is_r))
 
@@ -114,7 +114,7 @@ module _ (d : Dict) (one : (m n : ℕ) (w : List ℕ) → word_of d m ≡ Some w
       ap (λ es. length (fold (insert_key pair_cmp) acc es)) told ∙ (rest ∙ sum)
 
 -- as many as slots that have one, where no two have the same
-pub axioms_counted : (k : Kept) → AreSound k → ((slot other left right : ℕ) → slice_get k.axioms slot ≡ Some (Pair left right) → slice_get k.axioms other ≡ Some (Pair left right) → slot ≡ other)
+pub axioms_counted : (k : Metadata) → AreSound k → ((slot other left right : ℕ) → slice_get k.axioms slot ≡ Some (Pair left right) → slice_get k.axioms other ≡ Some (Pair left right) → slot ≡ other)
     → length (axioms_of k) ≡ count_by is_filled k.axioms
 axioms_counted k sound apart =
     let are : AreApart k.dict k.axioms = record {

@@ -22,7 +22,7 @@ use Rattle.lis_content.proofs.Laying.{among_homes}
 use Rattle.lis_fields.specs.Layouts.{are_blocks}
 use Rattle.lis_model.specs.Image.{image_blocks}
 use Rattle.lis_model.specs.State.{file_limit, blocks_needed, blocks_taken}
-use Rattle.lis_kept.specs.Kept.{Kept}
+use Rattle.lis_kept.specs.Metadata.{Metadata}
 use Rattle.lis_kept.specs.Areas.{Area, slots_of, block_of, spelled}
 use Rattle.lis_kept.specs.Sound.{is_sound_record}
 use Rattle.lis_kept.specs.Links.{AreHeld}
@@ -35,8 +35,8 @@ use Rattle.lis_model.specs.Sets.{has_number, are_short}
 use Rattle.lis_journal.specs.Journal.{shape_of}
 
 -- ---- other blocks are taken, over what memory kept
-module _ (k p : Kept) (t : Taxonomy) (taken marks : List Bool) (is : p ≡ k) (held : AreHeld p t) (len : length taken ≡ length p.taken) (marked_is : marks ≡ set p.marks (bitmap_start p.limits) true) where
-  abbrev retaken : Kept
+module _ (k p : Metadata) (t : Taxonomy) (taken marks : List Bool) (is : p ≡ k) (held : AreHeld p t) (len : length taken ≡ length p.taken) (marked_is : marks ≡ set p.marks (bitmap_start p.limits) true) where
+  abbrev retaken : Metadata
   retaken = record p { taken = taken; marks = marks }
 
   spelled_before : (area : Area) (n : ℕ) → n < (slots_of p.limits area).count → (block_of p.limits area n ≡ bitmap_start p.limits → ⊥) → spelled retaken area n ≡ spelled p area n
@@ -45,8 +45,8 @@ module _ (k p : Kept) (t : Taxonomy) (taken marks : List Bool) (is : p ≡ k) (h
   pub takes : AreHeld retaken t × Takes taken k retaken
   takes = (
     held_files p t p.catalog taken p.ext marks held (assumption (ap length marked_is ∙ length-set p.marks (bitmap_start p.limits) true)),
-    subst (λ (x : Kept). Takes taken x retaken) is (record {
-      parts = cc (marked_is);
+    subst (λ (x : Metadata). Takes taken x retaken) is (record {
+      metadata = cc (marked_is);
       len = len;
       marks = block_marked p retaken (bitmap_start p.limits) refl marked_is (omega (arith, held.sound.marks)) spelled_before;
     }),
@@ -60,7 +60,7 @@ distinct_behind [] (suc k) apart = refl
 distinct_behind (n ∷ ns) (suc k) apart = distinct_behind ns k (and_parts (not (has_number ns n)) (are_distinct ns) apart).1
 
 -- free blocks are numbers below the number of blocks, of two bytes each
-module _ (p : Kept) (t : Taxonomy) (held : AreHeld p t) (numbers : List ℕ) (free : are_free p.taken numbers ≡ true) where
+module _ (p : Metadata) (t : Taxonomy) (held : AreHeld p t) (numbers : List ℕ) (free : are_free p.taken numbers ≡ true) where
   free_below : list_all (λ n. nat_lt n p.limits.blocks) numbers ≡ true
   free_below = ap (λ m. are_below m numbers) (sym held.sound.blocks) ∙ below_from_free p.taken numbers free
 
@@ -71,10 +71,10 @@ module _ (p : Kept) (t : Taxonomy) (held : AreHeld p t) (numbers : List ℕ) (fr
   free_in_form size few counted apart = search (rules, slot_blocks_counted, and_from, eq-eqb, free_short)
 
 -- ---- a content that is placed
-placed_fills : (p : Kept) (taken : List Bool) (old : Held) (before after : Meaning) (blocks : List ℕ) → Places (data_start p.limits) p.taken taken old before after blocks → Fills blocks p old before after
+placed_fills : (p : Metadata) (taken : List Bool) (old : Held) (before after : Meaning) (blocks : List ℕ) → Places (data_start p.limits) p.taken taken old before after blocks → Fills blocks p old before after
 placed_fills p taken old before after blocks places = assumption
 
-module _ (p : Kept) (t : Taxonomy) (held : AreHeld p t) (bytes numbers : List ℕ) (taken : List Bool) (old new : Held) (before after : Meaning) (few : length bytes ≤ file_limit p.limits.version)
+module _ (p : Metadata) (t : Taxonomy) (held : AreHeld p t) (bytes numbers : List ℕ) (taken : List Bool) (old new : Held) (before after : Meaning) (few : length bytes ≤ file_limit p.limits.version)
     (unstaged : old.staged ≡ []) (large : is_large (length bytes) ≡ true) (placed : IsPlaced (data_start p.limits) bytes p.taken taken old new before after numbers) where
   slot_apart : are_distinct numbers ≡ true
   slot_apart = search (rules, cond-true, distinct_behind)
@@ -93,7 +93,7 @@ module _ (p : Kept) (t : Taxonomy) (held : AreHeld p t) (bytes numbers : List �
         holds = subst H (sym (staged_same ∙ unstaged)) end.3;
       }
 
-  placed_puts : (q : Kept) → Takes taken p q → Puts bytes numbers p q old new before after
+  placed_puts : (q : Metadata) → Takes taken p q → Puts bytes numbers p q old new before after
   placed_puts q takes = record {
     blocks = placed.blocks;
     fills = placed_fills p taken old before after placed.blocks placed.lays.places;
@@ -117,7 +117,7 @@ module _ (p : Kept) (t : Taxonomy) (held : AreHeld p t) (bytes numbers : List �
       free = slot_were_free (data_start p.limits) bytes p.taken taken old new numbers placed
 
 -- ---- a content that is staged
-module _ (p : Kept) (t : Taxonomy) (held : AreHeld p t) (bytes numbers : List ℕ) (taken : List Bool) (old new : Held) (m : Meaning) (few : length bytes ≤ file_limit p.limits.version)
+module _ (p : Metadata) (t : Taxonomy) (held : AreHeld p t) (bytes numbers : List ℕ) (taken : List Bool) (old new : Held) (m : Meaning) (few : length bytes ≤ file_limit p.limits.version)
     (small : is_large (length bytes) ≡ false) (unplaced : old.placed ≡ []) (put : IsPut (data_start p.limits) [] bytes p.taken taken old new numbers) where
   not_large : is_large (length bytes) ≡ true → ⊥
   not_large large = let e : true ≡ false = sym large ∙ small in cc
@@ -140,7 +140,7 @@ module _ (p : Kept) (t : Taxonomy) (held : AreHeld p t) (bytes numbers : List �
     };
   }
 
-  staged_puts : (q : Kept) → Takes taken p q → Puts bytes numbers p q old new m m
+  staged_puts : (q : Metadata) → Takes taken p q → Puts bytes numbers p q old new m m
   staged_puts q takes = record {
     blocks = numbers;
     fills = record {
@@ -166,7 +166,7 @@ module _ (p : Kept) (t : Taxonomy) (held : AreHeld p t) (bytes numbers : List �
 
 -- ---- how a put ends
 -- memory is as it must be, and what the answer says holds of it
-pub record PutEnds {T : Type 0} (items : T → List ℕ) (bytes : List ℕ) (k q : Kept) (t : Taxonomy) (old new : Held) (before after : Meaning) (put : Result T PutFault) : Type 0 where
+pub record PutEnds {T : Type 0} (items : T → List ℕ) (bytes : List ℕ) (k q : Metadata) (t : Taxonomy) (old new : Held) (before after : Meaning) (put : Result T PutFault) : Type 0 where
   pub held : AreHeld q t
   pub ended : MatchResult put (λ numbers. Puts bytes (items numbers) k q old new before after) (λ fault. PutTorn k q old new before after)
 
@@ -175,19 +175,19 @@ taken_counted : (version size : ℕ) → size ≤ file_limit version → blocks_
 taken_counted version size few = search (rules, cond-false, small_size)
 
 -- what is asked of a put
-pub record MayPut (k : Kept) (bytes : List ℕ) (old : Held) : Type 0 where
+pub record MayPut (k : Metadata) (bytes : List ℕ) (old : Held) : Type 0 where
   pub short : length bytes ≤ file_limit k.limits.version
   pub enough : blocks_taken k.limits.version (length bytes) ≤ free_count k.taken
   pub unplaced : old.placed ≡ []
   pub unstaged : is_large (length bytes) ≡ true → old.staged ≡ []
 
-module _ {T : Type 0} (items : T → List ℕ) (k p : Kept) (t : Taxonomy) (is : p ≡ k) (held : AreHeld p t) (bytes : List ℕ) (old new : Held) (asked : MayPut k bytes old) (taken marks : List Bool)
+module _ {T : Type 0} (items : T → List ℕ) (k p : Metadata) (t : Taxonomy) (is : p ≡ k) (held : AreHeld p t) (bytes : List ℕ) (old new : Held) (asked : MayPut k bytes old) (taken marks : List Bool)
     (are_marks : marks ≡ set p.marks (bitmap_start p.limits) true) where
-  abbrev after_put : Kept
+  abbrev after_put : Metadata
   after_put = record p { taken = taken; marks = marks }
 
   may : MayPut p bytes old
-  may = subst (λ (q : Kept). MayPut q bytes old) (sym is) asked
+  may = subst (λ (q : Metadata). MayPut q bytes old) (sym is) asked
 
   held_put : length taken ≡ length p.taken → AreHeld after_put t
   held_put len = (takes p p t taken marks refl held len are_marks).0
@@ -201,11 +201,11 @@ module _ {T : Type 0} (items : T → List ℕ) (k p : Kept) (t : Taxonomy) (is :
   module _ (before after : Meaning) (large : is_large (length bytes) ≡ true) where
     torn_off : IsTornOff (data_start p.limits) p.taken taken old new before after → PutTorn k after_put old new before after
     torn_off torn =
-        let P : Kept → Type 0 = λ q. PutTorn q after_put old new before after in
+        let P : Metadata → Type 0 = λ q. PutTorn q after_put old new before after in
         subst P is (record {
           blocks = torn.blocks;
           fills = placed_fills p taken old before after torn.blocks torn.places;
-          parts = refl;
+          metadata = refl;
           image = ap shape_of torn.journal;
         })
 
@@ -213,7 +213,7 @@ module _ {T : Type 0} (items : T → List ℕ) (k p : Kept) (t : Taxonomy) (is :
         → MatchResult put (λ s. IsPlaced (data_start p.limits) bytes p.taken taken old new before after (items s)) (λ fault. IsUnplaced (data_start p.limits) bytes p.taken taken old new before after fault)
         → PutEnds items bytes k after_put t old new before after put
     placed_ends (Ok s) placed =
-        let P : Kept → Type 0 = λ q. Puts bytes (items s) q after_put old new before after in
+        let P : Metadata → Type 0 = λ q. Puts bytes (items s) q after_put old new before after in
         record {
           held = held_put placed.lays.places.len;
           ended = subst P is (placed_puts p t held bytes (items s) taken old new before after may.short (may.unstaged large) large placed after_put (takes_put placed.lays.places.len));
@@ -229,7 +229,7 @@ module _ {T : Type 0} (items : T → List ℕ) (k p : Kept) (t : Taxonomy) (is :
         → MatchResult put (λ s. IsPut (data_start p.limits) [] bytes p.taken taken old new (items s)) (λ fault. IsRefused [] bytes p.taken taken old new fault)
         → PutEnds items bytes k after_put t old new m m put
     staged_ends (Ok s) is_put =
-        let P : Kept → Type 0 = λ q. Puts bytes (items s) q after_put old new m m in
+        let P : Metadata → Type 0 = λ q. Puts bytes (items s) q after_put old new m m in
         record {
           held = held_put is_put.len;
           ended = subst P is (staged_puts p t held bytes (items s) taken old new m may.short small may.unplaced is_put after_put (takes_put is_put.len));
@@ -246,17 +246,17 @@ ended_err P Q put fault is ended = subst (λ r. MatchResult r P Q) is ended
 
 -- ---- blocks that are given back
 -- the homes of the blocks that a slot numbers are blocks of the image
-pub slot_within : (k : Kept) (rec : FileRecord) (base blocks : ℕ) (numbers : List ℕ) → is_sound_record k.limits.version k.dict k.limits.blocks rec ≡ true → base ≡ data_start k.limits
+pub slot_within : (k : Metadata) (rec : FileRecord) (base blocks : ℕ) (numbers : List ℕ) → is_sound_record k.limits.version k.dict k.limits.blocks rec ≡ true → base ≡ data_start k.limits
     → blocks ≡ image_blocks k.limits → numbers ≡ rec.blocks → are_within base blocks numbers ≡ true
 slot_within k rec base blocks numbers sound from image are = search (rules, within_if_below, are_below, record_parts)
 
-pub gives : (k p : Kept) (t : Taxonomy) (rec : FileRecord) (journal : Held) (m : Meaning) (base size : ℕ) (numbers : List ℕ) (taken marks : List Bool) → p ≡ k → AreHeld p t → length taken ≡ length p.taken
+pub gives : (k p : Metadata) (t : Taxonomy) (rec : FileRecord) (journal : Held) (m : Meaning) (base size : ℕ) (numbers : List ℕ) (taken marks : List Bool) → p ≡ k → AreHeld p t → length taken ≡ length p.taken
     → marks ≡ set p.marks (bitmap_start p.limits) true → base ≡ data_start p.limits → numbers ≡ rec.blocks → size ≡ rec.size
     → ((kept : ℕ → List ℕ) → Fits journal m kept → taken ≡ given p.taken (file_blocks base numbers size (looked journal.staged kept)))
     → (is_large size ≡ false → taken ≡ given p.taken numbers)
     → GivesBack rec k (record p { taken = taken; marks = marks }) journal m
 gives k p t rec journal m base size numbers taken marks is held len are_marks from are sized given_back small_back =
-    let P : Kept → Type 0 = λ q. GivesBack rec q (record p { taken = taken; marks = marks }) journal m in
+    let P : Metadata → Type 0 = λ q. GivesBack rec q (record p { taken = taken; marks = marks }) journal m in
     subst P is (record {
       takes = (takes p p t taken marks refl held len are_marks).1;
       small = λ small. small_back (ap is_large sized ∙ small) ∙ ap (given p.taken) are;

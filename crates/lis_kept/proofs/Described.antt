@@ -5,7 +5,7 @@ use Rattle.std.specs.List.{All, range_with_len}
 use Rattle.std.proofs.lemmas.List.FromFn.{length-range_with_len}
 use Rattle.lis_ext.specs.Ext.{set_of, with_marks}
 use Rattle.lis_ext.specs.Numbers.{has_number, differs, numbers_where}
-use Rattle.lis_kept.specs.Kept.{Kept}
+use Rattle.lis_kept.specs.Metadata.{Metadata}
 use Rattle.lis_kept.specs.Areas.{block_of}
 use Rattle.lis_kept.specs.Areas.Area.{Rows}
 use Rattle.lis_kept.specs.Sound.{AreSound}
@@ -32,12 +32,12 @@ few_where props test ns is = omega (arith, ap length is, where_le props test)
 pub where_below : (props limit : ℕ) (test : ℕ → Bool) (ns : List ℕ) → ns ≡ numbers_where props test → props ≡ limit → list_all (λ n. nat_lt n limit) ns ≡ true
 where_below props limit test ns is same = search (rules, all_from, lt-ltb, among_where)
 
-module _ (p : Kept) (t : Taxonomy) (held : AreHeld p t) (slot : ℕ) (old new : List ℕ) (e : Ext) (marks : List Bool)
+module _ (p : Metadata) (t : Taxonomy) (held : AreHeld p t) (slot : ℕ) (old new : List ℕ) (e : Ext) (marks : List Bool)
     (within : AreWithin p.ext) (below : slot < p.limits.files) (is_old : set_of p.ext slot ≡ old) (named : list_all (λ n. is_some (word_of p.dict n)) new ≡ true)
     (props : e.props ≡ p.ext.props) (sets : e.sets ≡ set p.ext.sets slot new) (settled : e.marks ≡ [])
     (edits : e.edits ≤ p.ext.edits + length (numbers_where p.ext.props (differs old new))) (no_fewer : p.ext.edits ≤ e.edits)
     (are_marks : marks ≡ marked p.marks (map (block_of p.limits Rows) (numbers_where p.ext.props (differs old new)))) where
-  abbrev described : Kept
+  abbrev described : Metadata
   described = record p { ext = e; marks = marks }
 
   -- the numbers of each file
@@ -84,7 +84,7 @@ module _ (p : Kept) (t : Taxonomy) (held : AreHeld p t) (slot : ℕ) (old new : 
   described_made = (
     held_described,
     record {
-      parts = refl;
+      metadata = refl;
       props = props;
       sets = sets;
       settled = settled;
@@ -96,16 +96,16 @@ module _ (p : Kept) (t : Taxonomy) (held : AreHeld p t) (slot : ℕ) (old new : 
   )
 
 -- numbers of words are below the limit
-pub numbers_below : (k p : Kept) (ns : List ℕ) → p ≡ k → AreSound p → list_all (λ n. is_some (word_of k.dict n)) ns ≡ true → All (λ n. n < p.ext.props) ns
+pub numbers_below : (k p : Metadata) (ns : List ℕ) → p ≡ k → AreSound p → list_all (λ n. is_some (word_of k.dict n)) ns ≡ true → All (λ n. n < p.ext.props) ns
 numbers_below k p ns is sound named i d lt = grind (arith, common_steps, among_from_contains, named_below, all_among)
 
 -- the same, over what memory kept
-pub describes : (k p : Kept) (t : Taxonomy) (slot : ℕ) (old new : List ℕ) (e : Ext) (marks : List Bool) → p ≡ k → AreHeld p t → AreWithin p.ext
+pub describes : (k p : Metadata) (t : Taxonomy) (slot : ℕ) (old new : List ℕ) (e : Ext) (marks : List Bool) → p ≡ k → AreHeld p t → AreWithin p.ext
     → slot < k.limits.files → set_of k.ext slot ≡ old → list_all (λ n. is_some (word_of k.dict n)) new ≡ true
     → e.props ≡ p.ext.props → e.sets ≡ set p.ext.sets slot new → e.marks ≡ [] → e.edits ≤ p.ext.edits + length (numbers_where p.ext.props (differs old new)) → p.ext.edits ≤ e.edits
     → marks ≡ marked p.marks (map (block_of p.limits Rows) (numbers_where p.ext.props (differs old new)))
     → AreHeld (record p { ext = e; marks = marks }) t × Describes slot new k (record p { ext = e; marks = marks })
 describes k p t slot old new e marks is held within below is_old named props sets settled edits no_fewer are_marks =
-    let P : Kept → Type 0 = λ q. slot < q.limits.files → set_of q.ext slot ≡ old → list_all (λ n. is_some (word_of q.dict n)) new ≡ true
+    let P : Metadata → Type 0 = λ q. slot < q.limits.files → set_of q.ext slot ≡ old → list_all (λ n. is_some (word_of q.dict n)) new ≡ true
     → AreHeld (record p { ext = e; marks = marks }) t × Describes slot new q (record p { ext = e; marks = marks }) in
     subst P is (λ b o n. described_made p t held slot old new e marks within b o n props sets settled edits no_fewer are_marks) below is_old named

@@ -7,7 +7,7 @@ use Rattle.lis_model.specs.Sets.{are_short}
 use Rattle.lis_fields.proofs.Parts.{IsFileRecord, record_tests}
 use Rattle.lis_model.specs.Changes.{file_removed}
 use Rattle.lis_laws.proofs.Locals.{filter_same}
-use Rattle.lis_kept.specs.Kept.{Kept}
+use Rattle.lis_kept.specs.Metadata.{Metadata}
 use Rattle.lis_kept.specs.Areas.{Area, slots_of, block_of, spelled}
 use Rattle.lis_kept.specs.Areas.Area.{Files}
 use Rattle.lis_kept.specs.Telling.{state_of}
@@ -25,17 +25,17 @@ record_in_form version dict blocks rec sound =
     record_tests version rec (record_parts version dict blocks rec sound).0
 
 -- the blocks of a file are different ones
-pub blocks_apart : (k : Kept) → AreSound k → (slot : ℕ) (rec : FileRecord) → rec_at k.catalog slot ≡ Some rec → are_distinct rec.blocks ≡ true
+pub blocks_apart : (k : Metadata) → AreSound k → (slot : ℕ) (rec : FileRecord) → rec_at k.catalog slot ≡ Some rec → are_distinct rec.blocks ≡ true
 blocks_apart k sound slot rec there =
     let form = record_in_form k.limits.version k.dict k.limits.blocks rec (sound.records slot rec there) in
     (and_parts ((length rec.blocks == slot_blocks k.limits.version rec.size) && are_short rec.blocks) (are_distinct rec.blocks) form.blocks).1
 
-pub file_slot_below : (k : Kept) → AreSound k → (slot : ℕ) (rec : FileRecord) → rec_at k.catalog slot ≡ Some rec → slot < k.limits.files
+pub file_slot_below : (k : Metadata) → AreSound k → (slot : ℕ) (rec : FileRecord) → rec_at k.catalog slot ≡ Some rec → slot < k.limits.files
 file_slot_below k sound slot rec there = omega (arith, slot_is_below k.catalog slot sound.catalog (ap is_some there), sound.slots)
 
 -- ---- one slot of the catalog
 -- The records of all other slots stay, and this one's is sound. The block of the slot is marked.
-pub record OneFile (p : Kept) (slot : ℕ) (c : Catalog) (marks : List Bool) : Type 0 where
+pub record OneFile (p : Metadata) (slot : ℕ) (c : Catalog) (marks : List Bool) : Type 0 where
   pub below : slot < p.limits.files
   pub files : c.files ≡ p.catalog.files
   pub catalog : IsCatalog c
@@ -44,8 +44,8 @@ pub record OneFile (p : Kept) (slot : ℕ) (c : Catalog) (marks : List Bool) : T
   pub named : IsSome (rec_at c slot) → (n : ℕ) → has p.ext n slot ≡ true → IsSome (word_of p.dict n)
   pub marked : marks ≡ set p.marks (block_of p.limits Files slot) true
 
-module _ (p : Kept) (t : Taxonomy) (held : AreHeld p t) {slot : ℕ} {c : Catalog} {marks : List Bool} (one : OneFile p slot c marks) where
-  abbrev pub refiled : Kept
+module _ (p : Metadata) (t : Taxonomy) (held : AreHeld p t) {slot : ℕ} {c : Catalog} {marks : List Bool} (one : OneFile p slot c marks) where
+  abbrev pub refiled : Metadata
   refiled = record p { catalog = c; marks = marks }
 
   pub held_then : AreHeld refiled t
@@ -78,9 +78,9 @@ module _ (p : Kept) (t : Taxonomy) (held : AreHeld p t) {slot : ℕ} {c : Catalo
       (omega (arith, (among_slots p.limits held.sound.range Files slot one.below).1, held.sound.marks)) spelled_before
 
 -- ---- a file that goes, over what memory kept
-module _ (k p : Kept) (t : Taxonomy) (slot : ℕ) (rec : FileRecord) (c : Catalog) (marks : List Bool) (is : p ≡ k) (held : AreHeld p t) (there : rec_at p.catalog slot ≡ Some rec)
+module _ (k p : Metadata) (t : Taxonomy) (slot : ℕ) (rec : FileRecord) (c : Catalog) (marks : List Bool) (is : p ≡ k) (held : AreHeld p t) (there : rec_at p.catalog slot ≡ Some rec)
     (gone : c ≡ without_slot p.catalog slot) (marked : marks ≡ set p.marks (block_of p.limits Files slot) true) where
-  abbrev left : Kept
+  abbrev left : Metadata
   left = record p { catalog = c; marks = marks }
 
   rec_then : (n : ℕ) → rec_at c n ≡ (if n == slot then None else rec_at p.catalog n)
@@ -123,9 +123,9 @@ module _ (k p : Kept) (t : Taxonomy) (slot : ℕ) (rec : FileRecord) (c : Catalo
   pub drops : AreHeld left t × Drops slot rec k left
   drops = (
     held_then p t held one,
-    subst (λ (x : Kept). Drops slot rec x left) is (record {
+    subst (λ (x : Metadata). Drops slot rec x left) is (record {
       there = there;
-      parts = cc (gone, marked);
+      metadata = cc (gone, marked);
       marks = marks_then p t held one;
       state = state_dropped;
     }),

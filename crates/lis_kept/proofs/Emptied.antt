@@ -1,13 +1,13 @@
 -- The numbers of a file that is gone: of their words those may go that are not in use.
 use Rattle.lis_kept.proofs.Common.{rules, ◌≡◌, ap, ◌∙◌, ℕ, ◌<◌, true, false, List, [], length, set, get_or, Some, word_of, Ext, has, is_valued, declarable_not_valued, both_ways}
 use Rattle.lis_blockmap.specs.Bitmap.{is_taken}
-use Rattle.lis_kept.specs.Kept.{Kept}
+use Rattle.lis_kept.specs.Metadata.{Metadata}
 use Rattle.lis_kept.specs.Sound.{AreSound}
 use Rattle.lis_kept.proofs.Without.{left_out, none_here, same_elsewhere}
 use Rattle.lis_model.specs.Sets.{has_number}
 
 -- the word of a number that is declared is not valued
-pub flagged_not_valued : (k : Kept) → AreSound k → (n : ℕ) (w : List ℕ) → word_of k.dict n ≡ Some w → is_taken k.declared n ≡ true → is_valued w ≡ false
+pub flagged_not_valued : (k : Metadata) → AreSound k → (n : ℕ) (w : List ℕ) → word_of k.dict n ≡ Some w → is_taken k.declared n ≡ true → is_valued w ≡ false
 flagged_not_valued k sound n w is bit = search (rules, declarable_not_valued)
 
 -- ---- a slot whose set was emptied

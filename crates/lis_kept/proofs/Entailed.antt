@@ -8,7 +8,7 @@ use Rattle.lis_taxonomy.proofs.Laws.{entails_decides}
 use Rattle.lis_taxonomy.proofs.Seen.{pair_decides}
 use Rattle.lis_model.specs.State.{links}
 use Rattle.lis_laws.proofs.Chains.{up_from_entails, entails_from_up}
-use Rattle.lis_kept.specs.Kept.{Kept}
+use Rattle.lis_kept.specs.Metadata.{Metadata}
 use Rattle.lis_kept.specs.Sound.{AreSound}
 use Rattle.lis_kept.specs.Telling.{declared_of, axioms_of}
 use Rattle.lis_kept.specs.Links.{is_pair, has_pair, is_own_link, is_linked, TellsLinks}
@@ -31,12 +31,12 @@ edge_of t p q h1 = search (rules, among_from_contains, among_edge)
 
 -- ---- links between words, and links between their numbers
 -- a number whose word the number before it links to
-pub record NumberedLink (k : Kept) (n : ℕ) (r : List ℕ) : Type 0 where
+pub record NumberedLink (k : Metadata) (n : ℕ) (r : List ℕ) : Type 0 where
   pub number : ℕ
   pub named : word_of k.dict number ≡ Some r
   pub linked : is_linked k n number ≡ true
 
-module _ (k : Kept) (sound : AreSound k) where
+module _ (k : Metadata) (sound : AreSound k) where
   -- a link between words, by its definition
   abbrev WordLink : List ℕ → List ℕ → Type 0
   WordLink p r = Linked (links (declared_of k)) (axioms_of k) p r

@@ -9,7 +9,7 @@ use Rattle.lis_catalog.specs.Catalog.{filed_cmp, slots, with_filed}
 use Rattle.lis_catalog.proofs.Laws.{rec_at-with_filed}
 use Rattle.lis_words.specs.Words.{is_file_name}
 use Rattle.lis_model.specs.State.{file_cmp}
-use Rattle.lis_kept.specs.Kept.{Kept}
+use Rattle.lis_kept.specs.Metadata.{Metadata}
 use Rattle.lis_kept.specs.Areas.{block_of}
 use Rattle.lis_kept.specs.Areas.Area.{Files as FileArea}
 use Rattle.lis_kept.specs.Telling.{state_of, file_told}
@@ -52,7 +52,7 @@ room_for_file c is slot rec absent below free =
 
 -- ---- the record in its slot
 -- what a record needs that comes into a free slot
-pub record MayFile (p : Kept) (slot : ℕ) (rec : FileRecord) : Type 0 where
+pub record MayFile (p : Metadata) (slot : ℕ) (rec : FileRecord) : Type 0 where
   pub below : slot < p.limits.files
   pub free : rec_at p.catalog slot ≡ None
   pub absent : slot_of p.catalog rec.name ≡ None
@@ -60,13 +60,13 @@ pub record MayFile (p : Kept) (slot : ℕ) (rec : FileRecord) : Type 0 where
   pub described : (n : ℕ) → has p.ext n slot ≡ true → IsSome (word_of p.dict n)
 
 -- over what memory kept
-module _ (k p : Kept) (t : Taxonomy) (slot : ℕ) (rec : FileRecord) (c : Catalog) (marks : List Bool) (is : p ≡ k) (held : AreHeld p t) (may_kept : MayFile k slot rec)
+module _ (k p : Metadata) (t : Taxonomy) (slot : ℕ) (rec : FileRecord) (c : Catalog) (marks : List Bool) (is : p ≡ k) (held : AreHeld p t) (may_kept : MayFile k slot rec)
     (put : c ≡ with_filed p.catalog slot rec) (marked : marks ≡ set p.marks (block_of p.limits FileArea slot) true) where
-  abbrev filed : Kept
+  abbrev filed : Metadata
   filed = record p { catalog = c; marks = marks }
 
   may : MayFile p slot rec
-  may = subst (λ (x : Kept). MayFile x slot rec) (sym is) may_kept
+  may = subst (λ (x : Metadata). MayFile x slot rec) (sym is) may_kept
 
   below_files : slot < p.catalog.files
   below_files = omega (arith, may.below, held.sound.slots)
@@ -93,10 +93,10 @@ module _ (k p : Kept) (t : Taxonomy) (slot : ℕ) (rec : FileRecord) (c : Catalo
   pub files : AreHeld filed t × Files slot rec k filed
   files = (
     held_then p t held one,
-    subst (λ (x : Kept). Files slot rec x filed) is (record {
+    subst (λ (x : Metadata). Files slot rec x filed) is (record {
       below = may.below;
       free = may.free;
-      parts = cc (put, marked);
+      metadata = cc (put, marked);
       marks = marks_then p t held one;
       state = λ at.
           ap (λ (x : Catalog). state_of (record p { catalog = x; marks = marks }) at) put

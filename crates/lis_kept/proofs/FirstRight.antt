@@ -18,7 +18,7 @@ use Rattle.lis_model.specs.State.{pair_cmp}
 use Rattle.lis_laws.proofs.Members.{word_exact, among_set_of, set_of_among, sorted_set_of}
 use Rattle.lis_kept.specs.Behind.{rights_of, is_behind, is_before, right_by}
 use Rattle.lis_kept.specs.Inside.{IsShort}
-use Rattle.lis_kept.specs.Kept.{Kept}
+use Rattle.lis_kept.specs.Metadata.{Metadata}
 use Rattle.lis_kept.specs.Sound.{AreSound}
 use Rattle.lis_kept.specs.Telling.{pair_by, pair_told, pairs_told, axioms_of}
 use Rattle.lis_kept.proofs.Known.{only_word, only_pair, among_axiom}
@@ -180,7 +180,7 @@ none_right left [] apart = refl
 none_right left (pair ∷ axioms) apart = rw (apart pair (inl refl)) (none_right left axioms (λ p m. apart p (inr m)))
 
 -- leads nowhere
-pub no_rights : (k : Kept) → AreSound k → (left : List ℕ) → number_of k.dict left ≡ None → rights_of (axioms_of k) left ≡ []
+pub no_rights : (k : Metadata) → AreSound k → (left : List ℕ) → number_of k.dict left ≡ None → rights_of (axioms_of k) left ≡ []
 no_rights k sound left none = none_right left (axioms_of k) (λ pair m. false_from_ne_true (same_word pair.0 left) (λ same.
     let at = among_axiom k sound pair m in
     let named = at.4 ∙ ap Some ((same_word_decides pair.0 left).0 same) in

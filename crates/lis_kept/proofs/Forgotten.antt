@@ -5,7 +5,7 @@ use Rattle.std.proofs.lemmas.Bool.{true_from_ne_false}
 use Rattle.std.proofs.lemmas.List.Folds.{list_any_more}
 use Rattle.std.proofs.lemmas.List.Sums.{count_by_more_yes, count_by_more_no}
 use Rattle.lis_blockmap.specs.Bitmap.{is_taken}
-use Rattle.lis_kept.specs.Kept.{Kept}
+use Rattle.lis_kept.specs.Metadata.{Metadata}
 use Rattle.lis_kept.specs.Telling.{is_head_by, is_named_left, is_used}
 use Rattle.lis_kept.specs.Changes.{Forgets}
 use Rattle.lis_kept.specs.Forgetting.{MayGo, MayForget, ForgetsWithout}
@@ -29,7 +29,7 @@ is_first : (x n : ℕ) (x_is : x ≡ n) (P : ℕ → Bool) → P x ≡ true → 
 is_first x n x_is P is = ap P (sym x_is) ∙ is
 
 -- ---- what is left after words went
-module _ {test : ℕ → Bool} {most : ℕ} {p q : Kept} (went : ForgetsWhere test most p q) where
+module _ {test : ℕ → Bool} {most : ℕ} {p q : Metadata} (went : ForgetsWhere test most p q) where
   left_alone : (n : ℕ) → test n ≡ false → word_of q.dict n ≡ word_of p.dict n
   left_alone n e = went.words n ∙ ap (λ t. if t then None else word_of p.dict n) e
 
@@ -50,50 +50,50 @@ module _ {test : ℕ → Bool} {most : ℕ} {p q : Kept} (went : ForgetsWhere te
   same_due but valued n some = ap₂ (λ o u. is_of_pass valued o && not u) (same_word_then n some) (used_then but n some)
 
 -- a word that is due is known, and nothing else uses it
-due_parts : (but : Option ℕ) (k : Kept) (valued : Bool) (n : ℕ) → is_due but k valued n ≡ true
+due_parts : (but : Option ℕ) (k : Metadata) (valued : Bool) (n : ℕ) → is_due but k valued n ≡ true
     → (is_of_pass valued (word_of k.dict n) ≡ true) × (is_used (beside but k) n ≡ false) × (is_some (word_of k.dict n) ≡ true)
 due_parts but k valued n is = search (rules, and_parts, not-true, both_ways)
 
-pub due_before : (test : ℕ → Bool) (most : ℕ) (p q : Kept) → ForgetsWhere test most p q → (but : Option ℕ) (valued : Bool) (n : ℕ) → is_due but q valued n ≡ true → is_due but p valued n ≡ true
+pub due_before : (test : ℕ → Bool) (most : ℕ) (p q : Metadata) → ForgetsWhere test most p q → (but : Option ℕ) (valued : Bool) (n : ℕ) → is_due but q valued n ≡ true → is_due but p valued n ≡ true
 due_before test most p q went but valued n is = sym (same_due went but valued n (due_parts but q valued n is).2) ∙ is
 
 -- ---- what nothing uses but a slot without a file
 -- the slot has none
-abbrev pub HasNoFile : Option ℕ → Kept → Type 0
+abbrev pub HasNoFile : Option ℕ → Metadata → Type 0
 HasNoFile but k = IfSome but (λ slot. rec_at k.catalog slot ≡ None)
 
 -- all that is asked of a number that may go, but that no word has its word as head
-record IsLone (k : Kept) (n : ℕ) : Type 0 where
+record IsLone (k : Metadata) (n : ℕ) : Type 0 where
   pub flagged : is_taken k.declared n ≡ false
   pub had : (slot : ℕ) → IsSome (rec_at k.catalog slot) → has k.ext n slot ≡ false
   pub lefts : is_named_left k n ≡ false
   pub tags : (slot : ℕ) (rec : FileRecord) → rec_at k.catalog slot ≡ Some rec → has_number rec.tags n ≡ false
   pub rights : (slot left right : ℕ) → slice_get k.axioms slot ≡ Some (Pair left right) → right ≡ n → ⊥
 
-may_go : (k : Kept) (n : ℕ) → IsLone k n → ((m : ℕ) → is_head_by (word_of k.dict m) (word_of k.dict n) ≡ false) → MayGo n k
+may_go : (k : Metadata) (n : ℕ) → IsLone k n → ((m : ℕ) → is_head_by (word_of k.dict m) (word_of k.dict n) ≡ false) → MayGo n k
 may_go k n lone heads = record { flagged = lone.flagged; had = lone.had; lefts = lone.lefts; tags = lone.tags; rights = lone.rights; heads = heads }
 
-lone_from : (but : Option ℕ) (numbers : List ℕ) (k : Kept) (n : ℕ) → HasNoFile but k → MayForget numbers (beside but k) → is_used (beside but k) n ≡ false → IsLone k n
+lone_from : (but : Option ℕ) (numbers : List ℕ) (k : Metadata) (n : ℕ) → HasNoFile but k → MayForget numbers (beside but k) → is_used (beside but k) n ≡ false → IsLone k n
 lone_from but numbers k n empty may unused = search (rules, false_from_ne_true, both_ways, is_first, neither, had_from, elsewhere_had)
 
 -- it stays so once others went
-lone_still : {test : ℕ → Bool} {most : ℕ} {p q : Kept} → ForgetsWhere test most p q → (n : ℕ) → is_some (word_of q.dict n) ≡ true → IsLone p n → IsLone q n
+lone_still : {test : ℕ → Bool} {most : ℕ} {p q : Metadata} → ForgetsWhere test most p q → (n : ℕ) → is_some (word_of q.dict n) ≡ true → IsLone p n → IsLone q n
 lone_still {q = q} went n some lone = search (rules)
 
 -- what may go may still go once others went
-pub may_still : (test : ℕ → Bool) (most : ℕ) (p q : Kept) → ForgetsWhere test most p q → (but : Option ℕ) (valued : Bool) (n : ℕ) → is_due but q valued n ≡ true → MayGo n p → MayGo n q
+pub may_still : (test : ℕ → Bool) (most : ℕ) (p q : Metadata) → ForgetsWhere test most p q → (but : Option ℕ) (valued : Bool) (n : ℕ) → is_due but q valued n ≡ true → MayGo n p → MayGo n q
 may_still test most p q went but valued n is go = search (rules, may_go, lone_still, due_parts, none_left, left_alone, same_word_then)
 
 -- ---- one change after another
-both : {f g : ℕ → Bool} {a b : ℕ} {p q r : Kept} → ForgetsWhere f a p q → ForgetsWhere g b q r → ForgetsWhere (λ n. f n || g n) (a + b) p r
+both : {f g : ℕ → Bool} {a b : ℕ} {p q r : Metadata} → ForgetsWhere f a p q → ForgetsWhere g b q r → ForgetsWhere (λ n. f n || g n) (a + b) p r
 both {f = f} {g = g} {p = p} {r = r} first second = search (rules, same_word_then)
 
 -- another test, that answers the same at each known word
-retest : {f : ℕ → Bool} {a : ℕ} {p q : Kept} (g : ℕ → Bool) (b : ℕ) → ForgetsWhere f a p q → ((n : ℕ) → is_some (word_of p.dict n) ≡ true → f n ≡ g n) → a ≤ b → ForgetsWhere g b p q
+retest : {f : ℕ → Bool} {a : ℕ} {p q : Metadata} (g : ℕ → Bool) (b : ℕ) → ForgetsWhere f a p q → ((n : ℕ) → is_some (word_of p.dict n) ≡ true → f n ≡ g n) → a ≤ b → ForgetsWhere g b p q
 retest {f = f} {p = p} g b went same le = search (rules)
 
 -- ---- a pass, number by number
-module _ (but : Option ℕ) (valued : Bool) (numbers : List ℕ) (i : ℕ) (p q : Kept) (lt : i < length numbers) (went : ForgetsDue but valued (take i numbers) p q) where
+module _ (but : Option ℕ) (valued : Bool) (numbers : List ℕ) (i : ℕ) (p q : Metadata) (lt : i < length numbers) (went : ForgetsDue but valued (take i numbers) p q) where
   abbrev number : ℕ
   number = get_or numbers i 0
 
@@ -103,7 +103,7 @@ module _ (but : Option ℕ) (valued : Bool) (numbers : List ℕ) (i : ℕ) (p q 
   abbrev after : ℕ → Bool
   after n = has_number (take (i + 1) numbers) n && due n
 
-  pub due_more : (r : Kept) → is_due but q valued number ≡ true → ForgetsWhere (λ n. number == n) 1 q r → ForgetsDue but valued (take (i + 1) numbers) p r
+  pub due_more : (r : Metadata) → is_due but q valued number ≡ true → ForgetsWhere (λ n. number == n) 1 q r → ForgetsDue but valued (take (i + 1) numbers) p r
   due_more r is one =
       let was = sym (same_due went but valued number (due_parts but q valued number is).2) ∙ is in
       retest after (count_by due (take (i + 1) numbers)) (both went one)
@@ -138,14 +138,14 @@ head_by_parts o w said = search (rules, both_ways, and_parts, same_word_decides,
 of_other_pass : (o : Option (List ℕ)) → is_some o ≡ true → is_of_pass false o ≡ not (is_of_pass true o)
 of_other_pass o some = search (rules, both_ways)
 
-pub first_may : (but : Option ℕ) (numbers : List ℕ) (p : Kept) → HasNoFile but p → MayForget numbers (beside but p) → (n : ℕ) → is_due but p true n ≡ true → MayGo n p
+pub first_may : (but : Option ℕ) (numbers : List ℕ) (p : Metadata) → HasNoFile but p → MayForget numbers (beside but p) → (n : ℕ) → is_due but p true n ≡ true → MayGo n p
 first_may but numbers p empty may n is =
     let parts = due_parts but p true n is in
     may_go p n (lone_from but numbers p n empty may parts.1)
     (λ m. false_from_ne_true (is_head_by (word_of p.dict m) (word_of p.dict n)) (λ said.
     both_ways (is_of_pass true (word_of p.dict n)) (head_by_parts (word_of p.dict m) (word_of p.dict n) said).2 parts.0))
 
-module _ (but : Option ℕ) (numbers : List ℕ) (p q : Kept) (went : ForgetsDue but true numbers p q) where
+module _ (but : Option ℕ) (numbers : List ℕ) (p q : Metadata) (went : ForgetsDue but true numbers p q) where
   abbrev gone : ℕ → Bool
   gone n = has_number numbers n && is_due but p true n
 
@@ -188,7 +188,7 @@ module _ (but : Option ℕ) (numbers : List ℕ) (p q : Kept) (went : ForgetsDue
       at_most : (a b : Bool) → (a ≡ true → b ≡ false) → cond a 1 0 + cond b 1 0 ≤ 1
       at_most a b one = search (rules, both_ways)
 
-  pub both_forget : (r : Kept) → ForgetsDue but false numbers q r → ForgetsWhere (λ n. has_number numbers n && not (is_used (beside but p) n)) (length numbers) p r
+  pub both_forget : (r : Metadata) → ForgetsDue but false numbers q r → ForgetsWhere (λ n. has_number numbers n && not (is_used (beside but p) n)) (length numbers) p r
   both_forget r more =
       retest (λ n. has_number numbers n && not (is_used (beside but p) n)) (length numbers) (both went more)
       (λ n some. in_either (has_number numbers n) (is_of_pass true (word_of p.dict n)) (is_used (beside but p) n) (is_due but q false n)
@@ -197,10 +197,10 @@ module _ (but : Option ℕ) (numbers : List ℕ) (p q : Kept) (went : ForgetsDue
       (counts_apart numbers)
 
 -- where no slot is given
-pub forgets_where : (numbers : List ℕ) (p q : Kept) → ForgetsWhere (λ n. has_number numbers n && not (is_used (beside None p) n)) (length numbers) p q → Forgets numbers p q
+pub forgets_where : (numbers : List ℕ) (p q : Metadata) → ForgetsWhere (λ n. has_number numbers n && not (is_used (beside None p) n)) (length numbers) p q → Forgets numbers p q
 forgets_where numbers p q went = search (rules, used_then)
 
 -- and where one is
-pub forgets_beside : (slot : ℕ) (numbers : List ℕ) (p q : Kept) → ForgetsWhere (λ n. has_number numbers n && not (is_used (beside (Some slot) p) n)) (length numbers) p q
+pub forgets_beside : (slot : ℕ) (numbers : List ℕ) (p q : Metadata) → ForgetsWhere (λ n. has_number numbers n && not (is_used (beside (Some slot) p) n)) (length numbers) p q
     → ForgetsWithout slot numbers p q
 forgets_beside slot numbers p q went = search (rules, used_then)

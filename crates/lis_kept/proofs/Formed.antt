@@ -1,4 +1,4 @@
--- What sound parts spell is in the ranges of its layouts.
+-- What sound metadata spells is in the ranges of its layouts.
 use Rattle.std.proofs.Common.{◌^◌, unwrap_or, arith}
 use Rattle.lis_kept.proofs.Common.{rules, data_start, ◌≡◌, ◌⊎◌, inl, inr, ℕ, ◌-◌, ◌<◌, ◌≤◌, ◌&&◌, nat_lt, Bool, true, false, List, [], length, Option, Some, None, is_some, slice_get, IsSome, refl, sym, ap, ◌∙◌, list_all, and_parts, lt-ltb, cases_lt, get_or_from_slice_get, Dict, word_of, number_from_word, number_below, Catalog, IsCatalog, rec_at, Ext, has, Taxonomy, FileRecord, AxiomSlot, FreeAxiom, Pair, and_from, both_ways, false_from_ne_true, get_or_past}
 use Rattle.std.specs.List.{All}
@@ -6,7 +6,7 @@ use Rattle.std.proofs.lemmas.Option.{unwrap_or-slice_get}
 use Rattle.lis_ext.specs.Ext.{set_of}
 use Rattle.lis_ext.proofs.Seen.{each_below}
 use Rattle.lis_fields.specs.Layouts.{is_axiom, is_file, is_record}
-use Rattle.lis_kept.specs.Kept.{Kept, axiom_at, file_by, record_at}
+use Rattle.lis_kept.specs.Metadata.{Metadata, axiom_at, file_by, record_at}
 use Rattle.lis_kept.specs.Sound.{AreSound, IsSoundAxiom, is_sound_record, FreeSlotsAreEmpty}
 use Rattle.lis_kept.specs.Inside.{IsShort}
 use Rattle.lis_kept.specs.Links.{AreHeld}
@@ -33,7 +33,7 @@ record_stays version d e blocks rec sound named =
     and_from (is_record version rec && list_all (λ n. is_some (word_of e n)) rec.tags) (list_all (λ n. nat_lt n blocks) rec.blocks)
     (and_from (is_record version rec) (list_all (λ n. is_some (word_of e n)) rec.tags) parts.0 named) parts.2
 
-module _ (k : Kept) (sound : AreSound k) where
+module _ (k : Metadata) (sound : AreSound k) where
   -- what has a word is below the limit
   pub named_below : (n : ℕ) → IsSome (word_of k.dict n) → n < k.limits.props
   named_below n some =
@@ -77,8 +77,8 @@ module _ (k : Kept) (sound : AreSound k) where
       by (Some rec) there = sound.named n slot (ap is_some there) has_it
 
 -- the same, over what memory kept
-pub named_in : (k p : Kept) → p ≡ k → AreSound p → (n : ℕ) → IsSome (word_of k.dict n) → n < p.limits.props
-named_in k p is sound n some = named_below p sound n (ap (λ (x : Kept). is_some (word_of x.dict n)) is ∙ some)
+pub named_in : (k p : Metadata) → p ≡ k → AreSound p → (n : ℕ) → IsSome (word_of k.dict n) → n < p.limits.props
+named_in k p is sound n some = named_below p sound n (ap (λ (x : Metadata). is_some (word_of x.dict n)) is ∙ some)
 
 -- ---- rows
 -- what rows tell of each set: its numbers are below the limit
@@ -96,9 +96,9 @@ had_within e within n slot has_it = by (cases_lt slot (length e.sets))
 pub none_past : (e : Ext) → AreWithin e → (n slot : ℕ) → e.props ≤ n → has e n slot ≡ false
 none_past e within n slot past = false_from_ne_true (has e n slot) (λ has_it. let below = had_within e within n slot has_it in omega (arith, below, past))
 
--- ---- parts of which words, axioms and the like stay
+-- ---- metadata of which words, axioms and the like stay
 -- files, blocks, numbers and marks that may stand beside words and axioms
-pub record FilesHold (p : Kept) (catalog : Catalog) (taken : List Bool) (ext : Ext) (marks : List Bool) : Type 0 where
+pub record FilesHold (p : Metadata) (catalog : Catalog) (taken : List Bool) (ext : Ext) (marks : List Bool) : Type 0 where
   pub slots : catalog.files ≡ p.catalog.files
   pub catalog_is : IsCatalog catalog
   pub records : (slot : ℕ) (rec : FileRecord) → rec_at catalog slot ≡ Some rec → is_sound_record p.limits.version p.dict p.limits.blocks rec ≡ true
@@ -109,7 +109,7 @@ pub record FilesHold (p : Kept) (catalog : Catalog) (taken : List Bool) (ext : E
   pub settled : ext.marks ≡ []
   pub as_many : length marks ≡ length p.marks
 
-pub held_files : (p : Kept) (t : Taxonomy) (catalog : Catalog) (taken : List Bool) (ext : Ext) (marks : List Bool) → AreHeld p t → FilesHold p catalog taken ext marks
+pub held_files : (p : Metadata) (t : Taxonomy) (catalog : Catalog) (taken : List Bool) (ext : Ext) (marks : List Bool) → AreHeld p t → FilesHold p catalog taken ext marks
     → AreHeld (record p { catalog = catalog; taken = taken; ext = ext; marks = marks }) t
 held_files p t catalog taken ext marks held hold =
     assumption (axioms, hold.slots ∙ held.sound.slots, hold.blocks ∙ held.sound.blocks, hold.rows ∙ held.sound.rows, hold.files ∙ held.sound.files, long)
@@ -121,5 +121,5 @@ held_files p t catalog taken ext marks held hold =
     long = omega (arith, hold.as_many, held.sound.marks)
 
 -- other marks, as many
-pub held_marks : (k : Kept) (t : Taxonomy) (marks : List Bool) → AreHeld k t → length marks ≡ length k.marks → AreHeld (record k { marks = marks }) t
+pub held_marks : (k : Metadata) (t : Taxonomy) (marks : List Bool) → AreHeld k t → length marks ≡ length k.marks → AreHeld (record k { marks = marks }) t
 held_marks k t marks held same = search (rules, held_files)

@@ -6,7 +6,7 @@ use Rattle.std.proofs.lemmas.Bool.Decides.{nat_tests}
 use Rattle.lis_model.specs.Ranges.{is_files_limit, is_props_limit, is_blocks_limit}
 use Rattle.lis_model.specs.Image.{axioms_start, files_start, rows_start}
 use Rattle.lis_fields.proofs.Supers.{files_small}
-use Rattle.lis_kept.specs.Kept.{Kept}
+use Rattle.lis_kept.specs.Metadata.{Metadata}
 use Rattle.lis_kept.specs.Areas.{Area, slots_of, block_of, spelled, held_in, row_slots}
 use Rattle.lis_kept.specs.Areas.Area.{Properties, Axioms, Files, Rows, Bitmap}
 use Rattle.lis_kept.specs.Inside.{bytes_in, IsBlock}
@@ -91,7 +91,7 @@ same_area : (limits : Limits) (n : ℕ) (a b : Area) → (slots_of limits a).fir
 same_area limits n a b from to from' to' = search (rules)
 
 -- a block that spells the slots of its area
-pub one_area : (k : Kept) → IsTrue (are_in_range k.limits) → (area : Area) (n : ℕ) (block : List ℕ) → (slots_of k.limits area).first ≤ n → n < end_of k.limits area
+pub one_area : (k : Metadata) → IsTrue (are_in_range k.limits) → (area : Area) (n : ℕ) (block : List ℕ) → (slots_of k.limits area).first ≤ n → n < end_of k.limits area
     → ((m : ℕ) → m < (slots_of k.limits area).count → block_of k.limits area m ≡ n → bytes_in k.limits area m block ≡ spelled k area m) → IsBlock k n block
 one_area k range area n block from to is = search (rules, in_area, same_area)
 

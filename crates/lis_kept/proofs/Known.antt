@@ -13,7 +13,7 @@ use Rattle.lis_laws.proofs.Chains.{among_heads, heads_of_valued}
 use Rattle.lis_laws.proofs.Known.{sorted_known}
 use Rattle.lis_laws.proofs.Sources.{Source, source_of, known_from}
 use Rattle.lis_laws.proofs.Sources.Source.{Declared, Left, LeftHead, Described}
-use Rattle.lis_kept.specs.Kept.{Kept}
+use Rattle.lis_kept.specs.Metadata.{Metadata}
 use Rattle.lis_kept.specs.Sound.{AreSound, FreeSlotsAreEmpty}
 use Rattle.lis_kept.specs.Telling.{is_declared, declared_of, words_told, pair_by, pair_told, pairs_told, axioms_of, file_told, state_of, is_head_by, AreUsed}
 use Rattle.lis_kept.proofs.Filing.{among_from_number as among_numbers, number_from_among as has_from_among, filed_at_slot}
@@ -32,7 +32,7 @@ pub only_pair : (p q : Option (List ℕ)) (e : List ℕ × List ℕ) → Among (
 only_pair p q e m = search (rules)
 
 -- ---- numbers and their words
-module _ (k : Kept) (sound : AreSound k) where
+module _ (k : Metadata) (sound : AreSound k) where
   pub one_number : (m n : ℕ) (w : List ℕ) → word_of k.dict m ≡ Some w → word_of k.dict n ≡ Some w → m ≡ n
   one_number m n w is_m is_n = same_Some m n (sym (number_from_word k.dict sound.dict w m is_m) ∙ number_from_word k.dict sound.dict w n is_n)
 
@@ -96,7 +96,7 @@ module _ (k : Kept) (sound : AreSound k) where
       by (inr some) = let found = among_flat_map (pair_told k.dict) k.axioms e some in at found.0 found.1 found.2
 
 -- ---- known by use
-module _ (k : Kept) (sound : AreSound k) (free : FreeSlotsAreEmpty k) (at : ℕ → List ℕ)
+module _ (k : Metadata) (sound : AreSound k) (free : FreeSlotsAreEmpty k) (at : ℕ → List ℕ)
     (described : (f : Filed) → Contains k.catalog.entries f → words_told k.dict (numbers_at k.ext f.slot) ≡ description (state_of k at) (file_told k.limits k.dict at f)) where
   abbrev files : List File
   files = map (file_told k.limits k.dict at) k.catalog.entries
@@ -123,7 +123,7 @@ module _ (k : Kept) (sound : AreSound k) (free : FreeSlotsAreEmpty k) (at : ℕ 
       let found = among_word k sound (numbers_at k.ext (f.0).slot) w (subst (λ ws. Among ws w) (sym told) has_it) in
       (found.0, found.1, (f.0).slot, found.2)
 
-module _ (k : Kept) (sound : AreSound k) (free : FreeSlotsAreEmpty k) (at : ℕ → List ℕ) (used : AreUsed k)
+module _ (k : Metadata) (sound : AreSound k) (free : FreeSlotsAreEmpty k) (at : ℕ → List ℕ) (used : AreUsed k)
     (described : (f : Filed) → Contains k.catalog.entries f → words_told k.dict (numbers_at k.ext f.slot) ≡ description (state_of k at) (file_told k.limits k.dict at f)) where
   used_known : (n : ℕ) (w : List ℕ) → word_of k.dict n ≡ Some w → Among (known (state_of k at)) w
   used_known n w is = known_from (state_of k at) w (by (why_used k n (used n (ap is_some is))))

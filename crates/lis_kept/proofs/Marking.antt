@@ -5,7 +5,7 @@ use Rattle.std.proofs.lemmas.List.{map-append}
 use Rattle.std.proofs.lemmas.List.Sums.{sum_by-set}
 use Rattle.lis_blockmap.specs.Bitmap.{is_taken}
 use Rattle.lis_content.proofs.Numbers.{marked_more}
-use Rattle.lis_kept.specs.Kept.{Kept}
+use Rattle.lis_kept.specs.Metadata.{Metadata}
 use Rattle.lis_kept.specs.Areas.{Area, slots_of, block_of, spelled}
 use Rattle.lis_kept.specs.Areas.Area.{Rows, Properties, Axioms, Files, Bitmap}
 use Rattle.lis_kept.specs.Changes.{Marks}
@@ -42,13 +42,13 @@ unmarked_all (h ∷ homes) bits n below free =
     by rest h2 = search (rules, get_or-set_same, get_or-set_other)
 
 -- The blocks that differ are marked: the others' slots are spelled as before.
-pub blocks_marked : (p q : Kept) (homes : List ℕ) → q.limits ≡ p.limits → q.marks ≡ marked p.marks homes → AreBelow (length p.marks) homes
+pub blocks_marked : (p q : Metadata) (homes : List ℕ) → q.limits ≡ p.limits → q.marks ≡ marked p.marks homes → AreBelow (length p.marks) homes
     → ((area : Area) (n : ℕ) → n < (slots_of p.limits area).count → (Among homes (block_of p.limits area n) → ⊥) → spelled q area n ≡ spelled p area n)
     → Marks (length homes) p q
 blocks_marked p q homes limits marks below same = search (rules, true_marked, unmarked_all)
 
 -- one block
-pub block_marked : (p q : Kept) (home : ℕ) → q.limits ≡ p.limits → q.marks ≡ set p.marks home true → home < length p.marks
+pub block_marked : (p q : Metadata) (home : ℕ) → q.limits ≡ p.limits → q.marks ≡ set p.marks home true → home < length p.marks
     → ((area : Area) (n : ℕ) → n < (slots_of p.limits area).count → (block_of p.limits area n ≡ home → ⊥) → spelled q area n ≡ spelled p area n)
     → Marks 1 p q
 block_marked p q home limits marks below same =
@@ -106,13 +106,13 @@ marked_within bits (m ∷ ns) within = omega (arith, one_fewer bits m, marked_wi
 
 -- ---- marks of the blocks of rows
 -- where the blocks of the rows of some numbers were marked, and the rows of others are as before
-module _ (p : Kept) (sound : AreSound p) (test : ℕ → Bool) (e : Ext) (marks : List Bool) (as_many : length e.sets ≡ length p.ext.sets)
+module _ (p : Metadata) (sound : AreSound p) (test : ℕ → Bool) (e : Ext) (marks : List Bool) (as_many : length e.sets ≡ length p.ext.sets)
     (are_marks : marks ≡ marked p.marks (map (block_of p.limits Rows) (numbers_where p.ext.props test)))
     (same_row : (n : ℕ) → (n < p.ext.props → test n ≡ false) → (s : ℕ) → has e n s ≡ has p.ext n s) where
   abbrev touched : List ℕ
   touched = numbers_where p.ext.props test
 
-  abbrev described : Kept
+  abbrev described : Metadata
   described = record p { ext = e; marks = marks }
 
   homes_below : AreBelow (length p.marks) (map (block_of p.limits Rows) touched)

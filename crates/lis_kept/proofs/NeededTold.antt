@@ -2,7 +2,7 @@
 use Rattle.std.proofs.Common.{arith}
 use Rattle.lis_kept.proofs.Common.{◌≡◌, ℕ, true, false, Some, List, is_some, slice_get, ap, ◌&&◌, ◌||◌, not, Bool, map, refl, sym, ap₂, ◌∙◌, subst, both_ways, false_from_ne_true, and_from, word_of, rec_at, has, FileRecord, Pair, is_valued, list_any, flat_map, Contains, and_parts, Among, among_flat_map, flat_map_among, among_from_any, Filed, numbers_at, same_word, has_word, is_test, head_bytes, File, description, same_word_decides, among_from_has_word, any_from_among, has_word_from_among, same_tests}
 use Rattle.lis_blockmap.specs.Bitmap.{is_taken}
-use Rattle.lis_kept.specs.Kept.{Kept}
+use Rattle.lis_kept.specs.Metadata.{Metadata}
 use Rattle.lis_kept.specs.Sound.{AreSound, FreeSlotsAreEmpty}
 use Rattle.lis_kept.specs.Telling.{is_head_by, is_had, is_named_left, words_told, axioms_of, file_told, state_of, is_left_of, is_left_head_of}
 use Rattle.lis_kept.specs.Forgetting.{KeepsInUse}
@@ -21,7 +21,7 @@ use Rattle.lis_kept.proofs.Known.{one_number, slot_described, described_slot}
 use Rattle.lis_kept.proofs.AxiomsTold.{same_number, by_axioms}
 use Rattle.lis_model.specs.Sets.{has_number}
 
-module _ (k : Kept) (sound : AreSound k) (in_use : KeepsInUse k) (number : ℕ)
+module _ (k : Metadata) (sound : AreSound k) (in_use : KeepsInUse k) (number : ℕ)
     (headed_had : (slot x : ℕ) → has k.ext x slot ≡ true → is_head_by (word_of k.dict x) (word_of k.dict number) ≡ true → has k.ext number slot ≡ true)
     (declared : is_taken k.declared number ≡ true) (had : is_had k.ext number ≡ false) (lefts : is_named_left k number ≡ false)
     (rights : (slot left right : ℕ) → slice_get k.axioms slot ≡ Some (Pair left right) → right ≡ number → ⊥) where
@@ -48,7 +48,7 @@ module _ (k : Kept) (sound : AreSound k) (in_use : KeepsInUse k) (number : ℕ)
 in_order : (l r h d t : Bool) → (t ≡ true → h ≡ false) → ((l || r) || (not t && (h || d))) ≡ ((not t && d) || ((l || h) || r))
 in_order l r h d t none = grind arith
 
-module _ (k : Kept) (sound : AreSound k) (free : FreeSlotsAreEmpty k) (at : ℕ → List ℕ)
+module _ (k : Metadata) (sound : AreSound k) (free : FreeSlotsAreEmpty k) (at : ℕ → List ℕ)
     (described : (f : Filed) → Contains k.catalog.entries f → words_told k.dict (numbers_at k.ext f.slot) ≡ description (state_of k at) (file_told k.limits k.dict at f))
     (n : ℕ) (w : List ℕ) (is : word_of k.dict n ≡ Some w) where
   abbrev lefts : List (List ℕ)

@@ -2,7 +2,7 @@
 use Rattle.lis_kept.proofs.Common.{◌≡◌, ℕ, Bool, true, List, Some, flat_map, IsStrictlySortedBy, Among, Dict, word_of, word_cmp, same_words}
 use Rattle.std.specs.Option.{option_to_list}
 use Rattle.lis_laws.proofs.Members.{sorted_set_of}
-use Rattle.lis_kept.specs.Kept.{Kept}
+use Rattle.lis_kept.specs.Metadata.{Metadata}
 use Rattle.lis_kept.specs.Sound.{AreSound}
 use Rattle.lis_kept.specs.Telling.{words_told}
 use Rattle.lis_kept.proofs.Known.{word_among, among_word}
@@ -13,7 +13,7 @@ pub record Numbers (d : Dict) (test : ℕ → Bool) (ws : List (List ℕ)) : Typ
   pub numbered : (w : List ℕ) → Among ws w → (n : ℕ) × (word_of d n ≡ Some w) × (test n ≡ true)
   pub worded : (n : ℕ) (w : List ℕ) → word_of d n ≡ Some w → test n ≡ true → Among ws w
 
-module _ (k : Kept) (sound : AreSound k) where
+module _ (k : Metadata) (sound : AreSound k) where
   sorted_told : (ns : List ℕ) → IsStrictlySortedBy word_cmp (words_told k.dict ns)
   sorted_told ns = sorted_set_of (flat_map (λ n. option_to_list (word_of k.dict n)) ns)
 

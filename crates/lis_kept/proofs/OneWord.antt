@@ -13,7 +13,7 @@ use Rattle.lis_model.specs.Sets.{set_of, has_number}
 use Rattle.lis_model.specs.State.{pair_cmp}
 use Rattle.lis_laws.proofs.Members.{word_exact}
 use Rattle.lis_laws.proofs.Counts.{all_weaker}
-use Rattle.lis_kept.specs.Kept.{Kept, property_by, property_at}
+use Rattle.lis_kept.specs.Metadata.{Metadata, property_by, property_at}
 use Rattle.lis_kept.specs.Areas.{Area, slots_of, block_of, spelled}
 use Rattle.lis_kept.specs.Areas.Area.{Properties}
 use Rattle.lis_kept.specs.Telling.{declared_of, pair_by, pair_told, axioms_of, file_told, state_of, is_left_of, is_head_by, is_left_head_of, is_named_left, is_had, is_used}
@@ -30,13 +30,13 @@ use Rattle.lis_kept.proofs.TestLinks.{linked_by, none_weaker}
 use Rattle.lis_kept.proofs.WordMore.{flat_all, sorted_declared, declared_at, at_declared}
 
 -- Nothing names the number: no axiom does, no file was given it, and none has it.
-pub record IsUnnamed (k : Kept) (number : ℕ) : Type 0 where
+pub record IsUnnamed (k : Metadata) (number : ℕ) : Type 0 where
   pub sides : IsNoSide k.axioms number
   pub tags : (slot : ℕ) (rec : FileRecord) → rec_at k.catalog slot ≡ Some rec → has_number rec.tags number ≡ false
   pub had : (slot : ℕ) → IsSome (rec_at k.catalog slot) → has k.ext number slot ≡ false
 
 -- nothing names a number without a word
-unnamed : (k : Kept) → AreSound k → (number : ℕ) → word_of k.dict number ≡ None → IsUnnamed k number
+unnamed : (k : Metadata) → AreSound k → (number : ℕ) → word_of k.dict number ≡ None → IsUnnamed k number
 unnamed k sound number free = record {
   sides = no_side k sound number free;
   tags = λ slot rec is. false_from_ne_true (has_number rec.tags number) (λ has_it.
@@ -46,7 +46,7 @@ unnamed k sound number free = record {
 }
 
 -- the number's links are those of its word
-pub linked_unnamed : (k : Kept) → IsDict k.dict → (number : ℕ) → IsNoSide k.axioms number → (x y : ℕ) → (x ≡ number) ⊎ (y ≡ number)
+pub linked_unnamed : (k : Metadata) → IsDict k.dict → (number : ℕ) → IsNoSide k.axioms number → (x y : ℕ) → (x ≡ number) ⊎ (y ≡ number)
     → is_linked k x y ≡ (is_head_by (word_of k.dict x) (word_of k.dict y) || is_test_link k.dict k.declared x y)
 linked_unnamed k dict number none x y which =
     linked_by k dict x y ∙ (ap (λ b. (is_head_by (word_of k.dict x) (word_of k.dict y) || is_test_link k.dict k.declared x y) || b) (no_pair which)
@@ -57,12 +57,12 @@ linked_unnamed k dict number none x y which =
     no_pair (inr same) = ap (has_pair k.axioms x) same ∙ no_pair_to k.axioms number none x
 
 -- a number that is not declared links to its head alone, and is linked to as a head alone
-pub linked_undeclared : (k : Kept) → IsDict k.dict → (number : ℕ) → IsNoSide k.axioms number → is_taken k.declared number ≡ false → (x y : ℕ) → (x ≡ number) ⊎ (y ≡ number)
+pub linked_undeclared : (k : Metadata) → IsDict k.dict → (number : ℕ) → IsNoSide k.axioms number → is_taken k.declared number ≡ false → (x y : ℕ) → (x ≡ number) ⊎ (y ≡ number)
     → is_linked k x y ≡ is_head_by (word_of k.dict x) (word_of k.dict y)
 linked_undeclared k dict number none bit x y which = search (rules, linked_unnamed, or-false, none_weaker)
 
 -- The words and bits of all other numbers stay, and nothing names this one. The block of its slot is marked.
-pub record OneWord (p : Kept) (number : ℕ) (d : Dict) (bits marks : List Bool) : Type 0 where
+pub record OneWord (p : Metadata) (number : ℕ) (d : Dict) (bits marks : List Bool) : Type 0 where
   pub unnamed : IsUnnamed p number
   pub below : number < p.limits.props
   pub dict : IsDict d
@@ -74,8 +74,8 @@ pub record OneWord (p : Kept) (number : ℕ) (d : Dict) (bits marks : List Bool)
   pub fits : is_prop (property_at d bits number) ≡ true
   pub marked : marks ≡ set p.marks (block_of p.limits Properties number) true
 
-module _ (p : Kept) (sound : AreSound p) {number : ℕ} {d : Dict} {bits marks : List Bool} (w : OneWord p number d bits marks) where
-  abbrev pub after : Kept
+module _ (p : Metadata) (sound : AreSound p) {number : ℕ} {d : Dict} {bits marks : List Bool} (w : OneWord p number d bits marks) where
+  abbrev pub after : Metadata
   after = record p { dict = d; declared = bits; marks = marks }
 
   pub same_word_there : (n : ℕ) → (n ≡ number → ⊥) → word_of d n ≡ word_of p.dict n
@@ -250,7 +250,7 @@ module _ (p : Kept) (sound : AreSound p) {number : ℕ} {d : Dict} {bits marks :
 
 -- ---- a word that comes
 -- a word without a number is no known word's head
-pub new_no_head : (k : Kept) → AreSound k → (word : List ℕ) → number_of k.dict word ≡ None → (n : ℕ) → is_head_by (word_of k.dict n) (Some word) ≡ false
+pub new_no_head : (k : Metadata) → AreSound k → (word : List ℕ) → number_of k.dict word ≡ None → (n : ℕ) → is_head_by (word_of k.dict n) (Some word) ≡ false
 new_no_head k sound word new n = by (word_of k.dict n) refl
   where
     by : (o : Option (List ℕ)) → word_of k.dict n ≡ o → is_head_by o (Some word) ≡ false
@@ -261,7 +261,7 @@ new_no_head k sound word new n = by (word_of k.dict n) refl
         (subst (λ u. IsSome (number_of k.dict u)) ((same_word_decides (head_bytes v) word).0 both.1) (sound.heads n v is both.0)))
 
 -- a new word, and a free number that it gets
-pub record Comes (p : Kept) (word : List ℕ) (number : ℕ) (d : Dict) : Type 0 where
+pub record Comes (p : Metadata) (word : List ℕ) (number : ℕ) (d : Dict) : Type 0 where
   pub new : number_of p.dict word ≡ None
   pub room : length p.dict.entries < p.limits.props
   pub below : number < p.dict.props
@@ -269,12 +269,12 @@ pub record Comes (p : Kept) (word : List ℕ) (number : ℕ) (d : Dict) : Type 0
   pub dict_is : d ≡ with_entry p.dict word number
 
 -- what a call of the dictionary says of a new word
-pub added : (p : Kept) (word : List ℕ) (n : ℕ) (d : Dict)
+pub added : (p : Metadata) (word : List ℕ) (n : ℕ) (d : Dict)
     → ((number_of p.dict word ≡ Some n) × (d ≡ p.dict)) ⊎ ((number_of p.dict word ≡ None) × (n < p.dict.props) × (word_of p.dict n ≡ None) × (d ≡ with_entry p.dict word n))
     → number_of p.dict word ≡ None → length p.dict.entries < p.limits.props → Comes p word n d
 added p word n d h1 new room = search (rules)
 
-module _ (p : Kept) (sound : AreSound p) {word : List ℕ} {number : ℕ} {d : Dict} (come : Comes p word number d) where
+module _ (p : Metadata) (sound : AreSound p) {word : List ℕ} {number : ℕ} {d : Dict} (come : Comes p word number d) where
   word_then : (n : ℕ) → word_of d n ≡ (if number == n then Some word else word_of p.dict n)
   word_then n = ap (λ (e : Dict). word_of e n) come.dict_is ∙ word_of-with_entry p.dict word number come.new come.free n
 
@@ -322,13 +322,13 @@ module _ (p : Kept) (sound : AreSound p) {word : List ℕ} {number : ℕ} {d : D
 
 -- ---- a word that goes
 -- nothing names its number, and it is no known word's head
-pub record Goes (p : Kept) (word : List ℕ) (number : ℕ) (d : Dict) : Type 0 where
+pub record Goes (p : Metadata) (word : List ℕ) (number : ℕ) (d : Dict) : Type 0 where
   pub there : word_of p.dict number ≡ Some word
   pub unnamed : IsUnnamed p number
   pub heads : (n : ℕ) → is_head_by (word_of p.dict n) (word_of p.dict number) ≡ false
   pub dict_is : d ≡ without_word p.dict word
 
-module _ (p : Kept) (sound : AreSound p) {word : List ℕ} {number : ℕ} {d : Dict} (go : Goes p word number d) where
+module _ (p : Metadata) (sound : AreSound p) {word : List ℕ} {number : ℕ} {d : Dict} (go : Goes p word number d) where
   at : number_of p.dict word ≡ Some number
   at = number_from_word p.dict sound.dict word number go.there
 

@@ -5,7 +5,7 @@ use Rattle.std.proofs.lemmas.Option.{slice_get-get_or}
 use Rattle.lis_words.proofs.Tests.{plain_not_test, head_not_test, valued_not_test}
 use Rattle.lis_model.specs.State.{links}
 use Rattle.lis_laws.proofs.Chains.{IsWeakerIn, weaker_tests_are, links_head}
-use Rattle.lis_kept.specs.Kept.{Kept}
+use Rattle.lis_kept.specs.Metadata.{Metadata}
 use Rattle.lis_kept.specs.Telling.{declared_of, is_head_by}
 use Rattle.lis_kept.specs.Sound.{AreSound}
 use Rattle.lis_kept.specs.Links.{AreHeld, is_own_link, is_linked, has_pair}
@@ -79,7 +79,7 @@ pub no_pair_from : (axioms : List AxiomSlot) (number : ℕ) → IsNoSide axioms 
 no_pair_from axioms number none y = false_from_ne_true (has_pair axioms number y) (λ has. let at = pair_slot axioms number y has in none.left at.0 number y at.1 refl)
 
 -- ---- a number that has no word has no link
-module _ (k : Kept) (sound : AreSound k) (number : ℕ) (free : word_of k.dict number ≡ None) where
+module _ (k : Metadata) (sound : AreSound k) (number : ℕ) (free : word_of k.dict number ≡ None) where
   pub no_some : (n : ℕ) → IsSome (word_of k.dict n) → n ≡ number → ⊥
   no_some n some same = both_ways (is_some (word_of k.dict n)) (ap (λ m. is_some (word_of k.dict m)) same ∙ ap is_some free) some
 
@@ -96,8 +96,8 @@ module _ (k : Kept) (sound : AreSound k) (number : ℕ) (free : word_of k.dict n
   unnamed_from y = grind (arith, no_pair_from k.axioms number no_side y)
 
 -- nor an edge
-pub none_to : (p : Kept) (t : Taxonomy) → AreHeld p t → (number : ℕ) → word_of p.dict number ≡ None → (x : ℕ) → has_edge t x number ≡ false
+pub none_to : (p : Metadata) (t : Taxonomy) → AreHeld p t → (number : ℕ) → word_of p.dict number ≡ None → (x : ℕ) → has_edge t x number ≡ false
 none_to p t held number free x = held.links.edges x number ∙ unnamed_to p held.sound number free x
 
-pub none_from : (p : Kept) (t : Taxonomy) → AreHeld p t → (number : ℕ) → word_of p.dict number ≡ None → (x : ℕ) → has_edge t number x ≡ false
+pub none_from : (p : Metadata) (t : Taxonomy) → AreHeld p t → (number : ℕ) → word_of p.dict number ≡ None → (x : ℕ) → has_edge t number x ≡ false
 none_from p t held number free x = held.links.edges number x ∙ unnamed_from p held.sound number free x

@@ -9,7 +9,7 @@ use Rattle.lis_kept.specs.Rows.{row_bytes}
 use Rattle.std.proofs.Math.Nat.{mod-lt}
 use Rattle.lis_blockmap.specs.Bitmap.{bitmap_bytes}
 use Rattle.lis_model.specs.Image.{axioms_start, files_start, rows_start}
-use Rattle.lis_kept.specs.Kept.{Kept, property_at, axiom_at, record_at}
+use Rattle.lis_kept.specs.Metadata.{Metadata, property_at, axiom_at, record_at}
 use Rattle.lis_kept.specs.Areas.Area.{Properties, Axioms, Files, Rows, Bitmap}
 use Rattle.lis_kept.specs.Inside.{IsBlock}
 use Rattle.lis_kept.proofs.InArea.{one_area, slot_placed, some_rows}
@@ -34,7 +34,7 @@ row_bytes_same d e prop count same =
     ap (λ n. bits_bytes (n / 8) (has e prop)) count ∙ bytes_same (length d.sets / 8) (has e prop) (has d prop) (λ file lt. same file)
 
 -- ---- blocks whose slots are spelled by what memory keeps
-module _ (k : Kept) (range : IsTrue (are_in_range k.limits)) (n : ℕ) (block : List ℕ) where
+module _ (k : Metadata) (range : IsTrue (are_in_range k.limits)) (n : ℕ) (block : List ℕ) where
   pub properties_block : 578 ≤ n → n < axioms_start k.limits
       → ((j : ℕ) → j < 64 → part (64 * j) 64 block ≡ prop_bytes (property_at k.dict k.declared (64 * (n - 578) + j))) → IsBlock k n block
   properties_block from to is = one_area k range Properties n block from to (λ m lt here.

@@ -8,14 +8,14 @@ use Rattle.lis_journal.specs.Staging.{with_entry}
 use Rattle.lis_journal.specs.Images.{look}
 use Rattle.lis_journal.specs.Phases.{looked}
 use Rattle.lis_journal.proofs.Entries.{length-with_entry}
-use Rattle.lis_kept.specs.Kept.{Kept}
+use Rattle.lis_kept.specs.Metadata.{Metadata}
 use Rattle.lis_kept.specs.Areas.{Area, slots_of, block_of, spelled, held_in, is_marked, marked_count, IsSaved}
 use Rattle.lis_kept.specs.Staging.{Stages}
 use Rattle.lis_kept.specs.Inside.{bytes_in, IsBlock, StagesBlock, StagedBelow}
 use Rattle.lis_kept.proofs.InArea.{held_by, among_slots}
 use Rattle.lis_journal.specs.Journal.{shape_of}
 
-pub stages_block : (k : Kept) (n : ℕ) (old new : Held) (block : List ℕ) → new ≡ record old { staged = with_entry old.staged n block }
+pub stages_block : (k : Metadata) (n : ℕ) (old new : Held) (block : List ℕ) → new ≡ record old { staged = with_entry old.staged n block }
     → ((m : ℕ) (was : List ℕ) → look new.staged m was ≡ cond (m == n) block (look old.staged m was)) → IsBlock k n block → StagesBlock k n old new
 stages_block k n old new block is looks spells = record {
   image = ap shape_of is;
@@ -35,10 +35,10 @@ staged_some [] n bytes here = absurd (let e : ◌≡◌ {A = List ℕ} [] (0 ∷
 staged_some (e ∷ es) n bytes here = omega arith
 
 -- nothing yet
-pub staged_none : (k : Kept) (old : Held) → IsTrue (are_in_range k.limits) → StagedBelow k 578 old old
+pub staged_none : (k : Metadata) (old : Held) → IsTrue (are_in_range k.limits) → StagedBelow k 578 old old
 staged_none k old range = search (rules, among_slots)
 
-module _ (k : Kept) (n : ℕ) (old now : Held) (within : n < length k.marks) (from : 578 ≤ n) (so_far : StagedBelow k n old now) where
+module _ (k : Metadata) (n : ℕ) (old now : Held) (within : n < length k.marks) (from : 578 ≤ n) (so_far : StagedBelow k n old now) where
   -- a block that is not marked
   pub staged_past : is_marked k n ≡ false → StagedBelow k (n + 1) old now
   staged_past unmarked = search (rules, count_by_more_no, cases_lt)
@@ -81,9 +81,9 @@ count_front : (bits : List Bool) (n : ℕ) → count_by (λ (b : Bool). b) (take
 count_front bits n = sum_by-take-le _ bits n
 
 -- before a marked block there are fewer marks than all
-pub marks_before : (k : Kept) (n : ℕ) → n < length k.marks → is_marked k n ≡ true → count_by (λ (b : Bool). b) (take n k.marks) < marked_count k
+pub marks_before : (k : Metadata) (n : ℕ) → n < length k.marks → is_marked k n ≡ true → count_by (λ (b : Bool). b) (take n k.marks) < marked_count k
 marks_before k n within marked = omega (arith, count_front k.marks (n + 1), count_by_more_yes (λ (b : Bool). b) k.marks n false within marked)
 
 -- all of them
-pub staged_all : (k : Kept) (end : ℕ) (old new : Held) → IsTrue (are_in_range k.limits) → end ≡ data_start k.limits → StagedBelow k end old new → Stages k old new
+pub staged_all : (k : Metadata) (end : ℕ) (old new : Held) → IsTrue (are_in_range k.limits) → end ≡ data_start k.limits → StagedBelow k end old new → Stages k old new
 staged_all k end old new range is all = search (rules, count_front, among_slots)

@@ -6,7 +6,7 @@ use Rattle.lis_model.specs.State.{State, links}
 use Rattle.lis_model.specs.Changes.{declared_under, axiom_added}
 use Rattle.lis_laws.proofs.Chains.{entails_from_up}
 use Rattle.lis_laws.proofs.Leads.{chain_last, right_leads}
-use Rattle.lis_kept.specs.Kept.{Kept}
+use Rattle.lis_kept.specs.Metadata.{Metadata}
 use Rattle.lis_kept.specs.Areas.{IsSaved, marked_count}
 use Rattle.lis_kept.specs.Sound.{AreSound}
 use Rattle.lis_kept.specs.Links.{is_linked, is_pair, has_pair, is_own_link}
@@ -38,20 +38,20 @@ pub under_more : (s : State) (word : List ℕ) (ws : List (List ℕ)) (w : List 
 under_more s word ws w = ap (λ (axioms : List (List ℕ × List ℕ)). record s { declared = with_word s.declared word; axioms = axioms }) (under_step word s.axioms ws w)
 
 -- ---- axioms one after another
-pub each_more : (left : ℕ) (rights : List ℕ) (right : ℕ) (p q r : Kept) → LinksEach left rights p q → Links left right q r → LinksEach left (rights ++ right ∷ []) p r
-each_more left [] right p q r is last = (r, subst (λ (k : Kept). Links left right k r) is last, refl)
+pub each_more : (left : ℕ) (rights : List ℕ) (right : ℕ) (p q r : Metadata) → LinksEach left rights p q → Links left right q r → LinksEach left (rights ++ right ∷ []) p r
+each_more left [] right p q r is last = (r, subst (λ (k : Metadata). Links left right k r) is last, refl)
 each_more left (first ∷ rights) right p q r each last = (each.0, each.1, each_more left rights right each.0 q r each.2 last)
 
 -- all but the axioms and the marks
-pub each_parts : (left : ℕ) (rights : List ℕ) (p q : Kept) → LinksEach left rights p q → q ≡ record p { axioms = q.axioms; marks = q.marks }
-each_parts left [] p q is = subst (λ (k : Kept). k ≡ record p { axioms = k.axioms; marks = k.marks }) (sym is) refl
-each_parts left (right ∷ rights) p q each = each_parts left rights each.0 q each.2 ∙ ap (λ (k : Kept). record k { axioms = q.axioms; marks = q.marks }) each.1.parts
+pub each_metadata : (left : ℕ) (rights : List ℕ) (p q : Metadata) → LinksEach left rights p q → q ≡ record p { axioms = q.axioms; marks = q.marks }
+each_metadata left [] p q is = subst (λ (k : Metadata). k ≡ record p { axioms = k.axioms; marks = k.marks }) (sym is) refl
+each_metadata left (right ∷ rights) p q each = each_metadata left rights each.0 q each.2 ∙ ap (λ (k : Metadata). record k { axioms = q.axioms; marks = q.marks }) each.1.metadata
 
-pub each_dict : (left : ℕ) (rights : List ℕ) (p q : Kept) → LinksEach left rights p q → q.dict ≡ p.dict
-each_dict left rights p q each = ap (λ (k : Kept). k.dict) (each_parts left rights p q each)
+pub each_dict : (left : ℕ) (rights : List ℕ) (p q : Metadata) → LinksEach left rights p q → q.dict ≡ p.dict
+each_dict left rights p q each = ap (λ (k : Metadata). k.dict) (each_metadata left rights p q each)
 
-pub each_marks : (left : ℕ) (rights : List ℕ) (p q : Kept) → LinksEach left rights p q → Marks (length rights) p q
-each_marks left [] p q is = record { saved = λ at saved. subst (λ (k : Kept). IsSaved k at) (sym is) saved; few = omega (arith, ap marked_count is) }
+pub each_marks : (left : ℕ) (rights : List ℕ) (p q : Metadata) → LinksEach left rights p q → Marks (length rights) p q
+each_marks left [] p q is = record { saved = λ at saved. subst (λ (k : Metadata). IsSaved k at) (sym is) saved; few = omega (arith, ap marked_count is) }
 each_marks left (right ∷ rights) p q each =
     let one = each.1.marks in
     let rest = each_marks left rights each.0 q each.2 in
@@ -62,26 +62,26 @@ abbrev pub AreWordsOf : Dict → List ℕ → List (List ℕ) → Type 0
 AreWordsOf d [] ws = ws ≡ []
 AreWordsOf d (n ∷ ns) ws = (w : List ℕ) × (rest : List (List ℕ)) × (word_of d n ≡ Some w) × (ws ≡ w ∷ rest) × AreWordsOf d ns rest
 
-each_state : (left : ℕ) (rights : List ℕ) (p q : Kept) (word : List ℕ) (axioms_before : List (List ℕ)) (ws : List (List ℕ)) (at : ℕ → List ℕ) (s : State)
+each_state : (left : ℕ) (rights : List ℕ) (p q : Metadata) (word : List ℕ) (axioms_before : List (List ℕ)) (ws : List (List ℕ)) (at : ℕ → List ℕ) (s : State)
     → LinksEach left rights p q → word_of p.dict left ≡ Some word → AreWordsOf p.dict rights ws → state_of p at ≡ declared_under s word axioms_before
     → state_of q at ≡ declared_under s word (axioms_before ++ ws)
-each_state left [] p q word before ws at s is named none told = ap (λ (k : Kept). state_of k at) is ∙ (told ∙ ap (declared_under s word) (sym (ap (λ vs. before ++ vs) none ∙ append-nil before)))
+each_state left [] p q word before ws at s is named none told = ap (λ (k : Metadata). state_of k at) is ∙ (told ∙ ap (declared_under s word) (sym (ap (λ vs. before ++ vs) none ∙ append-nil before)))
 each_state left (right ∷ rights) p q word before ws at s each named words told =
     grind (arith, common_steps, under_more, each_state left rights each.0 q word (before ++ words.0 ∷ []) words.1)
 
 -- a word that is declared, and then linked to others, is declared under them
-pub declared_then_linked : (word : List ℕ) (p mid q : Kept) (declares : Declares word p mid) (rights : List ℕ) (ws : List (List ℕ)) → LinksEach declares.number rights mid q
+pub declared_then_linked : (word : List ℕ) (p mid q : Metadata) (declares : Declares word p mid) (rights : List ℕ) (ws : List (List ℕ)) → LinksEach declares.number rights mid q
     → word_of mid.dict declares.number ≡ Some word → AreWordsOf mid.dict rights ws → (at : ℕ → List ℕ) → state_of q at ≡ declared_under (state_of p at) word ws
 declared_then_linked word p mid q declares rights ws each named words at =
     each_state declares.number rights mid q word [] ws at (state_of p at) each named words (declares.state at)
 
-pub declared_then_marked : (word : List ℕ) (p mid q : Kept) (declares : Declares word p mid) (rights : List ℕ) → LinksEach declares.number rights mid q → Marks (1 + length rights) p q
+pub declared_then_marked : (word : List ℕ) (p mid q : Metadata) (declares : Declares word p mid) (rights : List ℕ) → LinksEach declares.number rights mid q → Marks (1 + length rights) p q
 declared_then_marked word p mid q declares rights each =
     let rest = each_marks declares.number rights mid q each in
     record { saved = λ at saved. rest.saved at (declares.marks.saved at saved); few = omega (arith, declares.marks.few, rest.few) }
 
 -- ---- a word to which nothing leads is entailed by itself alone
-module _ (k : Kept) (sound : AreSound k) (number : ℕ) (word : List ℕ) (named : word_of k.dict number ≡ Some word) (nothing : (x : ℕ) → is_linked k x number ≡ false) where
+module _ (k : Metadata) (sound : AreSound k) (number : ℕ) (word : List ℕ) (named : word_of k.dict number ≡ Some word) (nothing : (x : ℕ) → is_linked k x number ≡ false) where
   pub not_entailed : (n : ℕ) (p : List ℕ) → word_of k.dict n ≡ Some p → (n ≡ number → ⊥) → has_word (up (declared_of k) (axioms_of k) p) word ≡ false
   not_entailed n p is differ =
       false_from_ne_true (has_word (up (declared_of k) (axioms_of k) p) word)
@@ -97,7 +97,7 @@ module _ (k : Kept) (sound : AreSound k) (number : ℕ) (word : List ℕ) (named
           both_ways (is_linked k from.0 number) (nothing from.0) (subst (λ m. is_linked k from.0 m ≡ true) same link.linked)
 
 -- a plain word entails no test
-pub plain_no_test : (k : Kept) (sound : AreSound k) (p word : List ℕ) → is_plain_word p ≡ true → is_test word ≡ true → has_word (up (declared_of k) (axioms_of k) p) word ≡ false
+pub plain_no_test : (k : Metadata) (sound : AreSound k) (p word : List ℕ) → is_plain_word p ≡ true → is_test word ≡ true → has_word (up (declared_of k) (axioms_of k) p) word ≡ false
 plain_no_test k sound p word plain test =
     false_from_ne_true (has_word (up (declared_of k) (axioms_of k) p) word)
     (λ has. let chain = entails_from_up (declared_of k) (axioms_of k) p word (among_from_has_word (up (declared_of k) (axioms_of k) p) word has) in
@@ -108,13 +108,13 @@ plain_no_test k sound p word plain test =
 
 -- ---- what stays
 -- what is in use
-pub each_used : (left : ℕ) (rights : List ℕ) (p q : Kept) → LinksEach left rights p q → (n : ℕ) → is_used p n ≡ true → is_used q n ≡ true
-each_used left [] p q is n used = ap (λ (k : Kept). is_used k n) is ∙ used
+pub each_used : (left : ℕ) (rights : List ℕ) (p q : Metadata) → LinksEach left rights p q → (n : ℕ) → is_used p n ≡ true → is_used q n ≡ true
+each_used left [] p q is n used = ap (λ (k : Metadata). is_used k n) is ∙ used
 each_used left (right ∷ rights) p q each n used =
     each_used left rights each.0 q each.2 n (each.1.used n ∙ or_right ((left == n) || is_head_by (word_of p.dict left) (word_of p.dict n)) (is_used p n) used)
 
 -- a word that is declared under others leaves no number unused
-pub under_used : (word : List ℕ) (p mid q : Kept) (declares : Declares word p mid) (rights : List ℕ) → LinksEach declares.number rights mid q → AreUsed p → AreUsed q
+pub under_used : (word : List ℕ) (p mid q : Metadata) (declares : Declares word p mid) (rights : List ℕ) → LinksEach declares.number rights mid q → AreUsed p → AreUsed q
 under_used word p mid q declares rights each used n some = search (rules, each_used, each_dict)
 
 -- ---- a new word comes under others, axiom by axiom
@@ -153,18 +153,18 @@ in_none b = grind arith
 pairs_in_order : (x a b c : Bool) → ((x && b) || ((x && a) || c)) ≡ ((x && (a || b)) || c)
 pairs_in_order x a b c = grind arith
 
-pub each_pairs : (left : ℕ) (rights : List ℕ) (p q : Kept) → LinksEach left rights p q → (x y : ℕ) → has_pair q.axioms x y ≡ (((left == x) && has_number rights y) || has_pair p.axioms x y)
-each_pairs left [] p q is x y = ap (λ (k : Kept). has_pair k.axioms x y) is ∙ none_in (left == x) (has_pair p.axioms x y)
+pub each_pairs : (left : ℕ) (rights : List ℕ) (p q : Metadata) → LinksEach left rights p q → (x y : ℕ) → has_pair q.axioms x y ≡ (((left == x) && has_number rights y) || has_pair p.axioms x y)
+each_pairs left [] p q is x y = ap (λ (k : Metadata). has_pair k.axioms x y) is ∙ none_in (left == x) (has_pair p.axioms x y)
 each_pairs left (right ∷ rights) p q each x y =
     each_pairs left rights each.0 q each.2 x y
     ∙ (ap (λ b. ((left == x) && has_number rights y) || b) (each.1.pairs x y)
     ∙ pairs_in_order (left == x) (right == y) (has_number rights y) (has_pair p.axioms x y))
 
-pub each_count : (left : ℕ) (rights : List ℕ) (p q : Kept) → LinksEach left rights p q → count_by is_filled q.axioms ≡ count_by is_filled p.axioms + length rights
-each_count left [] p q is = omega (arith, ap (λ (k : Kept). count_by is_filled k.axioms) is)
+pub each_count : (left : ℕ) (rights : List ℕ) (p q : Metadata) → LinksEach left rights p q → count_by is_filled q.axioms ≡ count_by is_filled p.axioms + length rights
+each_count left [] p q is = omega (arith, ap (λ (k : Metadata). count_by is_filled k.axioms) is)
 each_count left (right ∷ rights) p q each =
     let rest = each_count left rights each.0 q each.2 in
-    let one = one_more each.1.slot each.1.free (ap (λ (k : Kept). k.axioms) each.1.parts) in
+    let one = one_more each.1.slot each.1.free (ap (λ (k : Metadata). k.axioms) each.1.metadata) in
     omega (arith, rest, one)
   where
     one_more : (slot : ℕ) → slice_get p.axioms slot ≡ Some FreeAxiom → each.0.axioms ≡ set p.axioms slot (Pair left right) → count_by is_filled each.0.axioms ≡ count_by is_filled p.axioms + 1
@@ -178,10 +178,10 @@ each_count left (right ∷ rights) p q each =
 
 -- ---- the next axiom of a new word
 -- the number that the word has then
-pub number_declared : (p mid : Kept) (word : List ℕ) → number_of p.dict word ≡ None → (declares : Declares word p mid) → number_of mid.dict word ≡ Some declares.number
+pub number_declared : (p mid : Metadata) (word : List ℕ) → number_of p.dict word ≡ None → (declares : Declares word p mid) → number_of mid.dict word ≡ Some declares.number
 number_declared p mid word new declares = search (rules, number_of-with_entry, same_word_decides)
 
-module _ (p mid now : Kept) (sound : AreSound p) (after : AreSound now) (word : List ℕ) (form : is_declarable word ≡ true) (new : number_of p.dict word ≡ None) (declares : Declares word p mid)
+module _ (p mid now : Metadata) (sound : AreSound p) (after : AreSound now) (word : List ℕ) (form : is_declarable word ≡ true) (new : number_of p.dict word ≡ None) (declares : Declares word p mid)
     (rights : List ℕ) (may : MayStandUnder rights p) where
   abbrev number : ℕ
   number = declares.number
@@ -195,7 +195,7 @@ module _ (p mid now : Kept) (sound : AreSound p) (after : AreSound now) (word : 
 
     word_now : (n : ℕ) → word_of now.dict n ≡ (if number == n then Some word else word_of p.dict n)
     word_now n =
-        ap (λ (d : Dict). word_of d n) (each_dict number before mid now each ∙ ap (λ (k : Kept). k.dict) declares.parts)
+        ap (λ (d : Dict). word_of d n) (each_dict number before mid now each ∙ ap (λ (k : Metadata). k.dict) declares.metadata)
         ∙ word_of-with_entry p.dict word number new declares.free n
 
     named : word_of now.dict number ≡ Some word
@@ -221,7 +221,7 @@ module _ (p mid now : Kept) (sound : AreSound p) (after : AreSound now) (word : 
     no_pair =
         each_pairs number before mid now each number right
         ∙ (ap₂ (λ a b. ((number == number) && a) || b) (not_before rights i may.apart lt)
-        (ap (λ (k : Kept). has_pair k.axioms number right) declares.parts ∙ (neither _ (has_pair p.axioms number right) (unnamed_from p sound number declares.free right)).1)
+        (ap (λ (k : Metadata). has_pair k.axioms number right) declares.metadata ∙ (neither _ (has_pair p.axioms number right) (unnamed_from p sound number declares.free right)).1)
         ∙ in_none (number == number))
 
     -- ---- nothing leads to the new word
@@ -232,7 +232,7 @@ module _ (p mid now : Kept) (sound : AreSound p) (after : AreSound now) (word : 
     no_pair_to x =
         each_pairs number before mid now each x number
         ∙ (ap₂ (λ a b. ((number == x) && a) || b) not_one
-        (ap (λ (k : Kept). has_pair k.axioms x number) declares.parts ∙ (neither _ (has_pair p.axioms x number) (unnamed_to p sound number declares.free x)).1)
+        (ap (λ (k : Metadata). has_pair k.axioms x number) declares.metadata ∙ (neither _ (has_pair p.axioms x number) (unnamed_to p sound number declares.free x)).1)
         ∙ in_none (number == x))
 
     no_head : (x : ℕ) → is_head_by (word_of now.dict x) (word_of now.dict number) ≡ false
@@ -256,7 +256,7 @@ module _ (p mid now : Kept) (sound : AreSound p) (after : AreSound now) (word : 
 
     -- ---- a slot is free
     enough : count_by is_filled now.axioms < now.limits.props
-    enough = search (rules, each_count, each_parts, length-take-le)
+    enough = search (rules, each_count, each_metadata, length-take-le)
 
     many : now.limits.props ≤ length now.axioms
     many = search (rules)
@@ -281,9 +281,9 @@ module _ (p mid now : Kept) (sound : AreSound p) (after : AreSound now) (word : 
 abbrev pub AreApart : List AxiomSlot → Type 0
 AreApart axioms = (slot other x y : ℕ) → slice_get axioms slot ≡ Some (Pair x y) → slice_get axioms other ≡ Some (Pair x y) → slot ≡ other
 
-pub each_apart : (left : ℕ) (rights : List ℕ) (p q : Kept) → LinksEach left rights p q → are_distinct rights ≡ true → ((y : ℕ) → has_number rights y ≡ true → has_pair p.axioms left y ≡ false)
+pub each_apart : (left : ℕ) (rights : List ℕ) (p q : Metadata) → LinksEach left rights p q → are_distinct rights ≡ true → ((y : ℕ) → has_number rights y ≡ true → has_pair p.axioms left y ≡ false)
     → AreApart p.axioms → AreApart q.axioms
-each_apart left [] p q is distinct none apart = subst (λ (k : Kept). AreApart k.axioms) (sym is) apart
+each_apart left [] p q is distinct none apart = subst (λ (k : Metadata). AreApart k.axioms) (sym is) apart
 each_apart left (right ∷ rights) p q each distinct none apart =
     each_apart left rights each.0 q each.2 parts.1 onward
     (apart_linked left right p each.0 each.1 (λ there. both_ways (has_pair p.axioms left right) (none right (or_left (right == right) (has_number rights right) (eq-eqb right right refl))) (in_slot there)) apart)
@@ -304,9 +304,9 @@ each_apart left (right ∷ rights) p q each distinct none apart =
         (none y (or_right (right == y) (has_number rights y) has))
         ∙ in_none (left == left))
 
-pub under_apart : (p mid q : Kept) → AreSound p → (word : List ℕ) (declares : Declares word p mid) (rights : List ℕ) → are_distinct rights ≡ true → LinksEach declares.number rights mid q
+pub under_apart : (p mid q : Metadata) → AreSound p → (word : List ℕ) (declares : Declares word p mid) (rights : List ℕ) → are_distinct rights ≡ true → LinksEach declares.number rights mid q
     → AreApart p.axioms → AreApart q.axioms
 under_apart p mid q sound word declares rights distinct each apart =
     each_apart declares.number rights mid q each distinct
-    (λ y has. ap (λ (k : Kept). has_pair k.axioms declares.number y) declares.parts ∙ (neither _ (has_pair p.axioms declares.number y) (unnamed_from p sound declares.number declares.free y)).1)
-    (subst (λ (k : Kept). AreApart k.axioms) (sym declares.parts) apart)
+    (λ y has. ap (λ (k : Metadata). has_pair k.axioms declares.number y) declares.metadata ∙ (neither _ (has_pair p.axioms declares.number y) (unnamed_from p sound declares.number declares.free y)).1)
+    (subst (λ (k : Metadata). AreApart k.axioms) (sym declares.metadata) apart)

@@ -5,7 +5,7 @@ use Rattle.lis_words.specs.Words.{test_of}
 use Rattle.lis_words.proofs.Tests.{plain_not_test}
 use Rattle.lis_model.specs.State.{links}
 use Rattle.lis_laws.proofs.Chains.{links_weaker, head_no_test, weaker_apart}
-use Rattle.lis_kept.specs.Kept.{Kept}
+use Rattle.lis_kept.specs.Metadata.{Metadata}
 use Rattle.lis_kept.specs.Telling.{bit_of, is_declared, declared_of, is_head_by}
 use Rattle.lis_kept.specs.Links.{is_own_link, is_linked, has_pair, AreHeld}
 use Rattle.lis_kept.specs.TestEdges.{test_by, declared_test, is_test_link, TestsAreOrdered}
@@ -45,7 +45,7 @@ pub not_itself : (dict : Dict) (declared : List Bool) (n : ℕ) → is_test_link
 not_itself dict declared n = false_from_ne_true (is_test_link dict declared n n) (weaker_apart (declared_test dict declared n))
 
 -- ---- links of words by themselves are those to heads and between tests
-pub own_link_by : (k : Kept) → IsDict k.dict → (p q : ℕ)
+pub own_link_by : (k : Metadata) → IsDict k.dict → (p q : ℕ)
     → is_own_link (declared_of k) (word_of k.dict p) (word_of k.dict q) ≡ (is_head_by (word_of k.dict p) (word_of k.dict q) || is_test_link k.dict k.declared p q)
 own_link_by k dict p q = by (word_of k.dict p) refl (word_of k.dict q) refl
   where
@@ -85,11 +85,11 @@ own_link_by k dict p q = by (word_of k.dict p) refl (word_of k.dict q) refl
                 }))
 
 -- all links, by numbers
-pub linked_by : (k : Kept) → IsDict k.dict → (p q : ℕ) → is_linked k p q ≡ ((is_head_by (word_of k.dict p) (word_of k.dict q) || is_test_link k.dict k.declared p q) || has_pair k.axioms p q)
+pub linked_by : (k : Metadata) → IsDict k.dict → (p q : ℕ) → is_linked k p q ≡ ((is_head_by (word_of k.dict p) (word_of k.dict q) || is_test_link k.dict k.declared p q) || has_pair k.axioms p q)
 linked_by k dict p q = ap (λ b. b || has_pair k.axioms p q) (own_link_by k dict p q)
 
 -- ---- to a test links lead from stronger tests alone
-pub tests_ordered : (k : Kept) (t : Taxonomy) → AreHeld k t → TestsAreOrdered k.dict t
+pub tests_ordered : (k : Metadata) (t : Taxonomy) → AreHeld k t → TestsAreOrdered k.dict t
 tests_ordered k t held p q edge test =
     by (or_cases (is_head_by (word_of k.dict p) (word_of k.dict q) || is_test_link k.dict k.declared p q) (has_pair k.axioms p q) (sym (linked_by k held.sound.dict p q) ∙ (sym (held.links.edges p q) ∙ edge)))
   where

@@ -5,7 +5,7 @@ use Rattle.std.proofs.lemmas.Bool.{eq-eqb}
 use Rattle.std.proofs.lemmas.List.{get_or_default}
 use Rattle.lis_bits.specs.Rows.{Rows, HasShape}
 use Rattle.lis_blockmap.specs.Bitmap.{is_taken}
-use Rattle.lis_kept.specs.Kept.{Kept}
+use Rattle.lis_kept.specs.Metadata.{Metadata}
 use Rattle.lis_kept.specs.Telling.{is_left_of, is_head_by, is_left_head_of, is_had, is_named_left, is_used}
 use Rattle.lis_kept.specs.Edges.{head_number}
 use Rattle.lis_kept.proofs.OwnLinks.{slot_at, among_slot}
@@ -22,7 +22,7 @@ pub had_by_row : (e : Ext) (n : ℕ) (rows : Rows) → HasShape rows e.props (le
 had_by_row e n rows h1 h2 h3 o h4 h5 h6 = search (rules, false_from_ne_true, had_at, both_ways, had_from)
 
 -- ---- why a number is in use
-module _ (k : Kept) where
+module _ (k : Metadata) where
   pub used_flagged : (n : ℕ) → is_taken k.declared n ≡ true → is_used k n ≡ true
   used_flagged n bit = or_left (is_taken k.declared n || is_had k.ext n) (is_named_left k n) (or_left (is_taken k.declared n) (is_had k.ext n) bit)
 
@@ -33,13 +33,13 @@ module _ (k : Kept) where
   used_left n left = or_right (is_taken k.declared n || is_had k.ext n) (is_named_left k n) left
 
 -- which reason it is
-pub data WhyUsed (k : Kept) (n : ℕ) : Type 0 where
+pub data WhyUsed (k : Metadata) (n : ℕ) : Type 0 where
   Flagged : is_taken k.declared n ≡ true → WhyUsed k n
   Had : (slot : ℕ) → has k.ext n slot ≡ true → WhyUsed k n
   OnLeft : (slot right : ℕ) → slice_get k.axioms slot ≡ Some (Pair n right) → WhyUsed k n
   HeadOfLeft : (slot left right : ℕ) → slice_get k.axioms slot ≡ Some (Pair left right) → is_head_by (word_of k.dict left) (word_of k.dict n) ≡ true → WhyUsed k n
 
-module _ (k : Kept) (n : ℕ) where
+module _ (k : Metadata) (n : ℕ) where
   pub named_head : (slot left right : ℕ) → slice_get k.axioms slot ≡ Some (Pair left right) → is_head_by (word_of k.dict left) (word_of k.dict n) ≡ true → is_named_left k n ≡ true
   named_head slot left right is head = search (rules, or_right, any_from_among, among_slot)
 
@@ -91,5 +91,5 @@ pub not_on_left : (d : Dict) → ((n : ℕ) → IsSome (word_of d n) → n < 655
 not_on_left d below left number fits past = search (rules, ne_eqb)
 
 -- ---- what is left
-pub used_on_left : (k : Kept) (n : ℕ) → is_taken k.declared n ≡ false → is_had k.ext n ≡ false → is_named_left k n ≡ is_used k n
+pub used_on_left : (k : Metadata) (n : ℕ) → is_taken k.declared n ≡ false → is_had k.ext n ≡ false → is_named_left k n ≡ is_used k n
 used_on_left k n flag had = sym (ap₂ (λ a b. a || b || is_named_left k n) flag had)

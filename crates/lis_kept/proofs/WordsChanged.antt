@@ -3,7 +3,7 @@ use Rattle.std.proofs.Common.{eq-eqb, arith}
 use Rattle.lis_kept.proofs.Common.{rules, ◌≡◌, ◌⊎◌, refl, sym, ap, ap₂, ◌∙◌, subst, inl, inr, ℕ, ◌==◌, ◌&&◌, ◌||◌, Bool, true, false, List, length, set, Option, Some, None, is_some, length-set, get_or-set_same, get_or-set_other, ◌<◌, if◌then◌else◌, IsSome, IfSome, [], ◌∷◌, cases_eq, eqb-true, ne_eqb, Dict, IsDict, word_of, is_prop, Taxonomy, has_edge, same_word, head_bytes, are_weaker, with_word, is_declarable, declarable_not_valued, same_Some, Among, among_insert_key, insert_key_old, sorted_insert_key, sorted_from_rising, number_of, word_from_number, number_below, is_undeclared, word_cmp, is_valued, word_order, same_word_decides, head_not_valued, without_word, or_left, both_ways, false_from_ne_true, common_steps, map_among, words, same_words}
 use Rattle.lis_blockmap.specs.Bitmap.{is_taken}
 use Rattle.lis_fields.proofs.Parts.{declarable_word, undeclared_word}
-use Rattle.lis_kept.specs.Kept.{Kept, property_by}
+use Rattle.lis_kept.specs.Metadata.{Metadata, property_by}
 use Rattle.lis_kept.specs.Areas.{block_of}
 use Rattle.lis_kept.specs.Areas.Area.{Properties}
 use Rattle.lis_kept.specs.Telling.{declared_of, is_head_by, is_had, is_named_left, is_used, AreUsed}
@@ -32,7 +32,7 @@ either a b l is = grind arith
 neither : (a l h : Bool) → (a ≡ true → l ≡ false) → h ≡ false → ((a && l) || h) ≡ false
 neither a l h none was = grind arith
 
-module _ (p : Kept) (t : Taxonomy) (held : AreHeld p t) {word : List ℕ} {number : ℕ} {d : Dict} {bits : List Bool}
+module _ (p : Metadata) (t : Taxonomy) (held : AreHeld p t) {word : List ℕ} {number : ℕ} {d : Dict} {bits : List Bool}
     (form : is_declarable word ≡ true) (come : Comes p word number d) (bits_are : bits ≡ set p.declared number true) where
   abbrev link : ℕ → ℕ → Bool
   link = is_test_link d bits
@@ -75,7 +75,7 @@ module _ (p : Kept) (t : Taxonomy) (held : AreHeld p t) {word : List ℕ} {numbe
   -- ---- the change
   module _ (mid u : Taxonomy) (weaker : LinksWeaker d bits number t mid) (stronger : LinksStronger d bits number mid u) (marks : List Bool)
       (marked : marks ≡ set p.marks (block_of p.limits Properties number) true) where
-    abbrev q : Kept
+    abbrev q : Metadata
     q = after p held.sound (one_word marks marked)
 
     edges : (x y : ℕ) → has_edge u x y ≡ (((y == number) && link x y) || (((x == number) && link x y) || has_edge t x y))
@@ -110,14 +110,14 @@ module _ (p : Kept) (t : Taxonomy) (held : AreHeld p t) {word : List ℕ} {numbe
         by (inr differ) = used_same p held.sound (one_word marks marked) n differ ∙ used n (ap is_some (sym (same_word_there p held.sound one n differ)) ∙ some)
 
     -- over what memory kept
-    pub declares : (k : Kept) → p ≡ k → AreHeld q u × Declares word k q
+    pub declares : (k : Metadata) → p ≡ k → AreHeld q u × Declares word k q
     declares k is = (
       held_declared,
-      subst (λ (x : Kept). Declares word x q) is (record {
+      subst (λ (x : Metadata). Declares word x q) is (record {
         number = number;
         below = omega (arith, come.below, held.sound.numbers);
         free = come.free;
-        parts = cc (come.dict_is, bits_are, marked);
+        metadata = cc (come.dict_is, bits_are, marked);
         marks = marks_then p held.sound (one_word marks marked);
         state = state_then p held.sound (one_word marks marked) (with_word (declared_of p) word) (declared_more p held.sound (one_word marks marked) word (word_here p held.sound come) (no_bit p held.sound come) bit_here);
         used = used_then;
@@ -129,17 +129,17 @@ module _ (p : Kept) (t : Taxonomy) (held : AreHeld p t) {word : List ℕ} {numbe
 number_is : (d : Dict) (word : List ℕ) (h : ℕ) → head_number d word ≡ Some h → number_of d (head_bytes word) ≡ Some h
 number_is d word h is = grind (arith, common_steps)
 
-pub head_below : (p : Kept) (t : Taxonomy) → AreHeld p t → (word : List ℕ) (o : Option ℕ) → o ≡ head_number p.dict word → IfSome o (λ h. h < t.props)
+pub head_below : (p : Metadata) (t : Taxonomy) → AreHeld p t → (word : List ℕ) (o : Option ℕ) → o ≡ head_number p.dict word → IfSome o (λ h. h < t.props)
 head_below p t held word None is = search rules
 head_below p t held word (Some h) is = omega (arith, number_below p.dict held.sound.dict (head_bytes word) h (number_is p.dict word h (sym is)), held.sound.numbers, held.links.props)
 
-pub head_apart : (p : Kept) → AreSound p → (word : List ℕ) (number : ℕ) (o : Option ℕ) → o ≡ head_number p.dict word → word_of p.dict number ≡ None → o ≡ Some number → ⊥
+pub head_apart : (p : Metadata) → AreSound p → (word : List ℕ) (number : ℕ) (o : Option ℕ) → o ≡ head_number p.dict word → word_of p.dict number ≡ None → o ≡ Some number → ⊥
 head_apart p sound word number o is free same =
     let both : ◌≡◌ {A = Option (List ℕ)} None (Some (head_bytes word)) = sym free ∙ word_from_number p.dict sound.dict (head_bytes word) number (number_is p.dict word number (sym is ∙ same)) in
     cc
 
 -- ---- a new word
-module _ (p : Kept) (t : Taxonomy) (held : AreHeld p t) {word : List ℕ} {number : ℕ} {d : Dict} (come : Comes p word number d) (form : is_undeclared word ≡ true)
+module _ (p : Metadata) (t : Taxonomy) (held : AreHeld p t) {word : List ℕ} {number : ℕ} {d : Dict} (come : Comes p word number d) (form : is_undeclared word ≡ true)
     (headed : is_valued word ≡ true → IsSome (number_of p.dict (head_bytes word))) (marks : List Bool) (marked : marks ≡ set p.marks (block_of p.limits Properties number) true) where
   bit : is_taken p.declared number ≡ false
   bit = no_bit p held.sound come
@@ -148,7 +148,7 @@ module _ (p : Kept) (t : Taxonomy) (held : AreHeld p t) {word : List ℕ} {numbe
   one_learnt =
       comes p held.sound come p.declared marks (undeclared_word word form) headed refl (λ n differ. refl) (ap (λ b. is_prop (property_by (Some word) b)) bit ∙ form) marked
 
-  abbrev learnt : Kept
+  abbrev learnt : Metadata
   learnt = after p held.sound one_learnt
 
   abbrev linked : Taxonomy
@@ -184,12 +184,12 @@ module _ (p : Kept) (t : Taxonomy) (held : AreHeld p t) {word : List ℕ} {numbe
       by (inr differ) = inl (sym (same_word_there p held.sound one_learnt n differ) ∙ is)
 
   -- a new word, over what memory kept
-  pub learns_new : (k : Kept) (u : Taxonomy) → p ≡ k → u ≡ linked → AreHeld learnt u × Learns word number k learnt
+  pub learns_new : (k : Metadata) (u : Taxonomy) → p ≡ k → u ≡ linked → AreHeld learnt u × Learns word number k learnt
   learns_new k u is linked_is = (
     subst (AreHeld learnt) (sym linked_is) held_learnt,
-    subst (λ (x : Kept). Learns word number x learnt) is (record {
+    subst (λ (x : Metadata). Learns word number x learnt) is (record {
       below = omega (arith, come.below, held.sound.numbers);
-      parts = inr (come.new, come.free, cc (come.dict_is, marked));
+      metadata = inr (come.new, come.free, cc (come.dict_is, marked));
       marks = marks_then p held.sound one_learnt;
       words = ap words come.dict_is ∙ map_insert_key (λ (e : List ℕ × ℕ). e.0) entry_cmp word_cmp (λ x y. refl) p.dict.entries (word, number);
       named = word_here p held.sound come;
@@ -200,12 +200,12 @@ module _ (p : Kept) (t : Taxonomy) (held : AreHeld p t) {word : List ℕ} {numbe
   )
 
 -- a word that has a number
-pub learns_there : (k p : Kept) (t : Taxonomy) (word : List ℕ) (number : ℕ) → p ≡ k → AreHeld p t → number_of p.dict word ≡ Some number → Learns word number k k
+pub learns_there : (k p : Metadata) (t : Taxonomy) (word : List ℕ) (number : ℕ) → p ≡ k → AreHeld p t → number_of p.dict word ≡ Some number → Learns word number k k
 learns_there k p t word number is held there =
-    let Q : Kept → Type 0 = λ q. Learns word number q q in
+    let Q : Metadata → Type 0 = λ q. Learns word number q q in
     subst Q is (record {
       below = omega (arith, number_below p.dict held.sound.dict word number there, held.sound.numbers);
-      parts = inl (there, refl);
+      metadata = inl (there, refl);
       marks = record { saved = λ at saved. saved; few = omega arith };
       words = sym again;
       named = word_from_number p.dict held.sound.dict word number there;
@@ -224,7 +224,7 @@ learns_there k p t word number is held there =
         (λ v n. elim (among_insert_key word_cmp (words p.dict) word v n) [ inl same ↦ subst (λ u. Among (words p.dict) u) same m | inr old ↦ old ]) (insert_key_old word_cmp (words p.dict) word)
 
 -- ---- a word that is forgotten: it was not declared
-module _ (p : Kept) (t : Taxonomy) (held : AreHeld p t) {word : List ℕ} {number : ℕ} (there : word_of p.dict number ≡ Some word) (may : MayGo number p) where
+module _ (p : Metadata) (t : Taxonomy) (held : AreHeld p t) {word : List ℕ} {number : ℕ} (there : word_of p.dict number ≡ Some word) (may : MayGo number p) where
   unnamed : IsUnnamed p number
   unnamed = record { sides = record { left = not_left p number may.lefts; right = may.rights }; tags = may.tags; had = may.had }
 
@@ -243,7 +243,7 @@ module _ (p : Kept) (t : Taxonomy) (held : AreHeld p t) {word : List ℕ} {numbe
   none_before x = held.links.edges x number ∙ (linked_before x number (inr refl) ∙ may.heads x)
 
   -- over what memory kept
-  pub forgets : (k : Kept) (u : Taxonomy) (dict : Dict) (marks : List Bool) → p ≡ k → dict ≡ without_word p.dict word → u ≡ without_edge_to t number (head_number p.dict word)
+  pub forgets : (k : Metadata) (u : Taxonomy) (dict : Dict) (marks : List Bool) → p ≡ k → dict ≡ without_word p.dict word → u ≡ without_edge_to t number (head_number p.dict word)
       → marks ≡ set p.marks (block_of p.limits Properties number) true
       → AreHeld (record p { dict = dict; marks = marks }) u × ForgetsWhere (λ n. number == n) 1 k (record p { dict = dict; marks = marks })
   forgets k u dict marks is dict_is unlinked_is marked = (
@@ -252,8 +252,8 @@ module _ (p : Kept) (t : Taxonomy) (held : AreHeld p t) {word : List ℕ} {numbe
         (λ y. last_edge t number head y (edge_is y) ∙ sym (unnamed_from q (sound_then p held.sound one) number none y))
         (λ x differ. other_edges_without t number head x number differ ∙ (none_before x ∙ sym (unnamed_to q (sound_then p held.sound one) number none x)))
         (λ x y differ apart. other_edges_without t number head x y differ)),
-    subst (λ (x : Kept). ForgetsWhere (λ n. number == n) 1 x q) is (record {
-      parts = refl;
+    subst (λ (x : Metadata). ForgetsWhere (λ n. number == n) 1 x q) is (record {
+      metadata = refl;
       props = one.props;
       marks = marks_then p held.sound one;
       marked = λ block taken. ap (λ ms. is_taken ms block) marked ∙ stays_marked p.marks (block_of p.limits Properties number ∷ []) block taken;
@@ -275,9 +275,9 @@ module _ (p : Kept) (t : Taxonomy) (held : AreHeld p t) {word : List ℕ} {numbe
       none : word_of dict number ≡ None
       none = word_gone p held.sound go
 
-      q : Kept
+      q : Metadata
       q = record p { dict = dict; marks = marks }
 
 -- a number without a word
-pub forgets_none : (k : Kept) (number : ℕ) → word_of k.dict number ≡ None → ForgetsWhere (λ n. number == n) 1 k k
+pub forgets_none : (k : Metadata) (number : ℕ) → word_of k.dict number ≡ None → ForgetsWhere (λ n. number == n) 1 k k
 forgets_none k number none = search (rules, eq-eqb, ne_eqb)

@@ -1,12 +1,13 @@
 -- The parts of an image that memory spells, and the blocks that are yet to be written.
-use Rattle.std.specs.Prelude.{◌≡◌, ℕ, ◌+◌, ◌*◌, ◌/◌, ◌<◌, false, Bool, List, count_by}
+use Rattle.std.specs.Prelude.{◌-◌, ◌≡◌, ℕ, ◌+◌, ◌*◌, ◌/◌, ◌<◌, false, Bool, List, count_by}
+use Rattle.lis_limits.specs.declared.TheConstants.{AXIOMS_PER_BLOCK, AXIOM_LEN, BLOCK_BITS, BLOCK_LEN, FILE_LEN, PROP_LEN}
 use Rattle.lis_slots.specs.Slots.{Slots, slot, home}
 use Rattle.lis_blockmap.specs.Bitmap.{is_taken, bitmap_bytes}
 use Rattle.lis_kept.specs.Rows.{row_bytes}
 use Rattle.lis_fields.specs.Layouts.{prop_bytes, axiom_bytes, file_bytes}
 use Rattle.lis_model.specs.declared.limits.Limits.{Limits}
 use Rattle.lis_model.specs.Image.{properties_start, axioms_start, files_start, rows_start, bitmap_start}
-use Rattle.lis_kept.specs.Kept.{Kept, property_at, axiom_at, record_at}
+use Rattle.lis_kept.specs.Metadata.{Metadata, property_at, axiom_at, record_at}
 
 pub data Area : Type 0 where
   Properties : Area
@@ -16,21 +17,21 @@ pub data Area : Type 0 where
   Bitmap : Area
 
 abbrev pub property_slots : Limits → Slots
-property_slots limits = record { first = properties_start; count = limits.props; width = 64 }
+property_slots limits = record { first = properties_start; count = limits.props; width = PROP_LEN }
 
 -- slots of whole blocks: those past the last number stay free
 abbrev pub axiom_slots : Limits → Slots
-axiom_slots limits = record { first = axioms_start limits; count = 512 * ((limits.props + 511) / 512); width = 8 }
+axiom_slots limits = record { first = axioms_start limits; count = AXIOMS_PER_BLOCK * ((limits.props + (AXIOMS_PER_BLOCK - 1)) / AXIOMS_PER_BLOCK); width = AXIOM_LEN }
 
 abbrev pub file_slots : Limits → Slots
-file_slots limits = record { first = files_start limits; count = limits.files; width = 256 }
+file_slots limits = record { first = files_start limits; count = limits.files; width = FILE_LEN }
 
 -- rows of whole blocks: those past the last number have no bit
 abbrev pub row_slots : Limits → Slots
-row_slots limits = record { first = rows_start limits; count = (4096 / (limits.files / 8)) * ((limits.props * limits.files + 32767) / 32768); width = limits.files / 8 }
+row_slots limits = record { first = rows_start limits; count = (BLOCK_LEN / (limits.files / 8)) * ((limits.props * limits.files + (BLOCK_BITS - 1)) / BLOCK_BITS); width = limits.files / 8 }
 
 abbrev pub bitmap_slots : Limits → Slots
-bitmap_slots limits = record { first = bitmap_start limits; count = 1; width = 4096 }
+bitmap_slots limits = record { first = bitmap_start limits; count = 1; width = BLOCK_LEN }
 
 abbrev pub slots_of : Limits → Area → Slots
 slots_of limits Properties = property_slots limits
@@ -44,7 +45,7 @@ abbrev pub block_of : Limits → Area → ℕ → ℕ
 block_of limits area n = home (slots_of limits area) n
 
 -- the bytes that memory gives a slot
-abbrev pub spelled : Kept → Area → ℕ → List ℕ
+abbrev pub spelled : Metadata → Area → ℕ → List ℕ
 spelled k Properties n = prop_bytes (property_at k.dict k.declared n)
 spelled k Axioms n = axiom_bytes (axiom_at k.axioms n)
 spelled k Files n = file_bytes (record_at k.catalog n)
@@ -60,18 +61,18 @@ held_in limits Rows at n = slot (row_slots limits) at n
 held_in limits Bitmap at n = at (bitmap_start limits)
 
 -- every slot is spelled by what memory keeps
-abbrev pub IsWritten : Kept → (ℕ → List ℕ) → Type 0
+abbrev pub IsWritten : Metadata → (ℕ → List ℕ) → Type 0
 IsWritten k at = (area : Area) (n : ℕ) → n < (slots_of k.limits area).count → held_in k.limits area at n ≡ spelled k area n
 
-abbrev pub is_marked : Kept → ℕ → Bool
+abbrev pub is_marked : Metadata → ℕ → Bool
 is_marked k block = is_taken k.marks block
 
 -- every slot is, but in blocks that are yet to be written
-abbrev pub IsSaved : Kept → (ℕ → List ℕ) → Type 0
+abbrev pub IsSaved : Metadata → (ℕ → List ℕ) → Type 0
 IsSaved k at =
     (area : Area) (n : ℕ) → n < (slots_of k.limits area).count → is_marked k (block_of k.limits area n) ≡ false
     → held_in k.limits area at n ≡ spelled k area n
 
 -- how many blocks are yet to be written
-abbrev pub marked_count : Kept → ℕ
+abbrev pub marked_count : Metadata → ℕ
 marked_count k = count_by (λ (b : Bool). b) k.marks

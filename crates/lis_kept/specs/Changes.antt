@@ -6,6 +6,7 @@ use Rattle.lis_ports.specs.Runs.{Leaves}
 use Rattle.lis_journal.specs.Images.{StandsBut, Fits, KeepsPast, is_among, look}
 use Rattle.lis_journal.specs.Phases.{looked}
 use Rattle.std.specs.List.{list_all}
+use Rattle.lis_limits.specs.declared.TheConstants.{SLOT_BLOCKS}
 use Rattle.lis_content.specs.Content.{given, marked, are_free, has_home}
 use Rattle.lis_content.specs.Large.{is_large}
 use Rattle.lis_content.specs.Placing.{homes_of, HasFile}
@@ -19,23 +20,23 @@ use Rattle.lis_model.specs.declared.limits.Limits.{Limits}
 use Rattle.lis_model.specs.Image.{bitmap_start, data_start}
 use Rattle.lis_model.specs.Sets.{with_word, are_distinct, has_number}
 use Rattle.lis_model.specs.Changes.{declared_under, new_file, file_added, file_removed}
-use Rattle.lis_kept.specs.Kept.{Kept}
+use Rattle.lis_kept.specs.Metadata.{Metadata}
 use Rattle.lis_kept.specs.Areas.{IsSaved, block_of, marked_count}
 use Rattle.lis_kept.specs.Areas.Area.{Properties, Files as FileArea, Rows}
 use Rattle.lis_kept.specs.Telling.{state_of, words_told, bytes_told, blocks_told, is_used, AreUsed}
 
 -- what every change owes: slots in blocks that are not marked are spelled as before, and few blocks more are marked
-pub record Marks (most : ℕ) (p q : Kept) : Type 0 where
+pub record Marks (most : ℕ) (p q : Metadata) : Type 0 where
   pub saved : (at : ℕ → List ℕ) → IsSaved p at → IsSaved q at
   pub few : marked_count q ≤ marked_count p + most
 
 -- ---- words
 -- a new word, declared
-pub record Declares (word : List ℕ) (p q : Kept) : Type 0 where
+pub record Declares (word : List ℕ) (p q : Metadata) : Type 0 where
   pub number : ℕ
   pub below : number < p.limits.props
   pub free : word_of p.dict number ≡ None
-  pub parts : q ≡ record p {
+  pub metadata : q ≡ record p {
     dict = with_entry p.dict word number;
     declared = slice_set p.declared number true;
     marks = slice_set p.marks (block_of p.limits Properties number) true;
@@ -45,9 +46,9 @@ pub record Declares (word : List ℕ) (p q : Kept) : Type 0 where
   pub used : AreUsed p → AreUsed q
 
 -- A word that is known and not declared, with its number: the one that it had, or a free one.
-pub record Learns (word : List ℕ) (number : ℕ) (p q : Kept) : Type 0 where
+pub record Learns (word : List ℕ) (number : ℕ) (p q : Metadata) : Type 0 where
   pub below : number < p.limits.props
-  pub parts : ((number_of p.dict word ≡ Some number) × (q ≡ p))
+  pub metadata : ((number_of p.dict word ≡ Some number) × (q ≡ p))
       ⊎ ((number_of p.dict word ≡ None) × (word_of p.dict number ≡ None)
       × (q ≡ record p { dict = with_entry p.dict word number; marks = slice_set p.marks (block_of p.limits Properties number) true }))
   pub marks : Marks 1 p q
@@ -58,8 +59,8 @@ pub record Learns (word : List ℕ) (number : ℕ) (p q : Kept) : Type 0 where
   pub state : (at : ℕ → List ℕ) → state_of q at ≡ state_of p at
 
 -- Of these numbers those that are not in use have no word any more.
-pub record Forgets (numbers : List ℕ) (p q : Kept) : Type 0 where
-  pub parts : q ≡ record p { dict = q.dict; marks = q.marks }
+pub record Forgets (numbers : List ℕ) (p q : Metadata) : Type 0 where
+  pub metadata : q ≡ record p { dict = q.dict; marks = q.marks }
   pub props : q.dict.props ≡ p.dict.props
   pub marks : Marks (length numbers) p q
   pub words : (n : ℕ) → word_of q.dict n ≡ (if has_number numbers n && not (is_used p n) then None else word_of p.dict n)
@@ -69,8 +70,8 @@ pub record Forgets (numbers : List ℕ) (p q : Kept) : Type 0 where
 -- ---- descriptions
 -- The file slot has these numbers now. At most as many bits of rows are edited as differ, the count of edits does not fall, and of exactly
 -- these rows the blocks are marked.
-pub record Describes (slot : ℕ) (numbers : List ℕ) (p q : Kept) : Type 0 where
-  pub parts : q ≡ record p { ext = q.ext; marks = q.marks }
+pub record Describes (slot : ℕ) (numbers : List ℕ) (p q : Metadata) : Type 0 where
+  pub metadata : q ≡ record p { ext = q.ext; marks = q.marks }
   pub props : q.ext.props ≡ p.ext.props
   pub sets : q.ext.sets ≡ slice_set p.ext.sets slot numbers
   pub settled : q.ext.marks ≡ []
@@ -81,9 +82,9 @@ pub record Describes (slot : ℕ) (numbers : List ℕ) (p q : Kept) : Type 0 whe
 
 -- ---- files
 -- The file in the slot goes. Its blocks stay taken.
-pub record Drops (slot : ℕ) (rec : FileRecord) (p q : Kept) : Type 0 where
+pub record Drops (slot : ℕ) (rec : FileRecord) (p q : Metadata) : Type 0 where
   pub there : rec_at p.catalog slot ≡ Some rec
-  pub parts : q ≡ record p {
+  pub metadata : q ≡ record p {
     catalog = without_slot p.catalog slot;
     marks = slice_set p.marks (block_of p.limits FileArea slot) true;
   }
@@ -91,10 +92,10 @@ pub record Drops (slot : ℕ) (rec : FileRecord) (p q : Kept) : Type 0 where
   pub state : (at : ℕ → List ℕ) → state_of q at ≡ file_removed (state_of p at) rec.name
 
 -- A record comes into a free slot. Its file has the bytes that its blocks hold.
-pub record Files (slot : ℕ) (rec : FileRecord) (p q : Kept) : Type 0 where
+pub record Files (slot : ℕ) (rec : FileRecord) (p q : Metadata) : Type 0 where
   pub below : slot < p.limits.files
   pub free : rec_at p.catalog slot ≡ None
-  pub parts : q ≡ record p {
+  pub metadata : q ≡ record p {
     catalog = with_filed p.catalog slot rec;
     marks = slice_set p.marks (block_of p.limits FileArea slot) true;
   }
@@ -103,14 +104,14 @@ pub record Files (slot : ℕ) (rec : FileRecord) (p q : Kept) : Type 0 where
 
 -- ---- blocks
 -- Other blocks are taken than before, and the block of the bitmap is marked.
-pub record Takes (taken : List Bool) (p q : Kept) : Type 0 where
-  pub parts : q ≡ record p { taken = taken; marks = slice_set p.marks (bitmap_start p.limits) true }
+pub record Takes (taken : List Bool) (p q : Metadata) : Type 0 where
+  pub metadata : q ≡ record p { taken = taken; marks = slice_set p.marks (bitmap_start p.limits) true }
   pub len : length taken ≡ length p.taken
   pub marks : Marks 1 p q
 
 -- The blocks of a file are given back: those that its slot and its index block number, by what the disk keeps under this journal. Without
 -- an index block they are those of the slot, whatever the disk keeps.
-pub record GivesBack (rec : FileRecord) (p q : Kept) (journal : Held) (m : Meaning) : Type 0 where
+pub record GivesBack (rec : FileRecord) (p q : Metadata) (journal : Held) (m : Meaning) : Type 0 where
   pub takes : Takes q.taken p q
   pub small : is_large rec.size ≡ false → q.taken ≡ given p.taken rec.blocks
   pub given : (kept : ℕ → List ℕ) → Fits journal m kept → q.taken ≡ given p.taken (blocks_told p.limits (looked journal.staged kept) rec)
@@ -123,7 +124,7 @@ pub record Lands (limits : Limits) (bytes numbers blocks : List ℕ) (at : ℕ �
   pub holds : HasFile (data_start limits) bytes numbers blocks (looked new.staged kept)
 
 -- A content is put into free blocks, or was begun to be: at any moment a crash leaves all other blocks as before.
-pub record Fills (blocks : List ℕ) (p : Kept) (old : Held) (before after : Meaning) : Type 0 where
+pub record Fills (blocks : List ℕ) (p : Metadata) (old : Held) (before after : Meaning) : Type 0 where
   pub distinct : IsTrue (are_distinct blocks)
   pub were_free : IsTrue (are_free p.taken blocks)
   pub moments : (kept : ℕ → List ℕ) → Fits old before kept → Leaves before after (StandsBut old.layout (homes_of (data_start p.limits) blocks) kept)
@@ -131,7 +132,7 @@ pub record Fills (blocks : List ℕ) (p : Kept) (old : Held) (before after : Mea
 
 -- A content is put into free blocks, which are taken: staged, or placed with an index block where it is large. `old` and `new` are the
 -- journal before and after. Nothing else is staged or placed.
-pub record Puts (bytes numbers : List ℕ) (p q : Kept) (old new : Held) (before after : Meaning) : Type 0 where
+pub record Puts (bytes numbers : List ℕ) (p q : Metadata) (old new : Held) (before after : Meaning) : Type 0 where
   pub blocks : List ℕ
   pub fills : Fills blocks p old before after
   pub takes : Takes (marked p.taken blocks) p q
@@ -140,7 +141,7 @@ pub record Puts (bytes numbers : List ℕ) (p q : Kept) (old new : Held) (before
   pub image : shape_of new ≡ shape_of old
   pub broken : new.is_broken ≡ old.is_broken
   pub placed : (n : ℕ) → is_among new.placed n ≡ true → has_home (data_start p.limits) blocks n ≡ true
-  pub few_staged : length new.staged ≤ length old.staged + 16
+  pub few_staged : length new.staged ≤ length old.staged + SLOT_BLOCKS
   pub others : (n : ℕ) (was : List ℕ) → has_home (data_start p.limits) blocks n ≡ false → look new.staged n was ≡ look old.staged n was
   pub lands : (kept : ℕ → List ℕ) → Fits old before kept → Lands p.limits bytes numbers blocks (looked old.staged kept) new after
   pub stays : (kept : ℕ → List ℕ) (fits : Fits old before kept) (n : ℕ) → is_among new.placed n ≡ false → (lands kept fits).kept n ≡ kept n
@@ -149,8 +150,8 @@ pub record Puts (bytes numbers : List ℕ) (p q : Kept) (old new : Held) (before
   pub unstaged : is_large (length bytes) ≡ true → new.staged ≡ old.staged
 
 -- The disk failed: some blocks are taken, and only what is on the disk counts.
-pub record PutTorn (p q : Kept) (old new : Held) (before after : Meaning) : Type 0 where
+pub record PutTorn (p q : Metadata) (old new : Held) (before after : Meaning) : Type 0 where
   pub blocks : List ℕ
   pub fills : Fills blocks p old before after
-  pub parts : q ≡ record p { taken = q.taken; marks = q.marks }
+  pub metadata : q ≡ record p { taken = q.taken; marks = q.marks }
   pub image : shape_of new ≡ shape_of old

@@ -1,5 +1,6 @@
 -- How one block is spelled and staged. No public clause cites this module.
 use Rattle.std.specs.Prelude.{◌≡◌, ◌≢◌, ◌⊎◌, ℕ, ◌+◌, ◌<◌, ◌≤◌, Bool, true, false, List, length, take, count_by, IsSome}
+use Rattle.lis_limits.specs.declared.TheConstants.{FILE_LEN, NUMBERS, PROP_LEN}
 use Rattle.lis_ports.specs.Bytes.{part}
 use Rattle.lis_journal.specs.Journal.{Held, shape_of}
 use Rattle.lis_journal.specs.Images.{look}
@@ -8,29 +9,29 @@ use Rattle.lis_slots.specs.Slots.{place}
 use Rattle.lis_dict.specs.Dict.{Dict, IsDict, word_of}
 use Rattle.lis_model.specs.Image.{properties_start}
 use Rattle.lis_model.specs.declared.limits.Limits.{Limits}
-use Rattle.lis_kept.specs.Kept.{Kept}
+use Rattle.lis_kept.specs.Metadata.{Metadata}
 use Rattle.lis_kept.specs.Areas.{Area, slots_of, block_of, spelled, held_in, is_marked, IsSaved, property_slots, axiom_slots, file_slots, row_slots}
 use Rattle.lis_kept.specs.Areas.Area.{Properties, Axioms, Files, Rows, Bitmap}
 
 -- the bytes of a slot in its block; the bitmap is the whole block
 abbrev pub bytes_in : Limits → Area → ℕ → List ℕ → List ℕ
-bytes_in limits Properties m block = part (place (property_slots limits) m) 64 block
+bytes_in limits Properties m block = part (place (property_slots limits) m) PROP_LEN block
 bytes_in limits Axioms m block = part (place (axiom_slots limits) m) 8 block
-bytes_in limits Files m block = part (place (file_slots limits) m) 256 block
+bytes_in limits Files m block = part (place (file_slots limits) m) FILE_LEN block
 bytes_in limits Rows m block = part (place (row_slots limits) m) (row_slots limits).width block
 bytes_in limits Bitmap m block = block
 
 -- these bytes are those of the block with this number, whatever area it is in
-abbrev pub IsBlock : Kept → ℕ → List ℕ → Type 0
+abbrev pub IsBlock : Metadata → ℕ → List ℕ → Type 0
 IsBlock k n block = (area : Area) (m : ℕ) → m < (slots_of k.limits area).count → block_of k.limits area m ≡ n → bytes_in k.limits area m block ≡ spelled k area m
 
 -- a dictionary whose numbers have 16 bits
 pub record IsShort (d : Dict) : Type 0 where
   pub dict : IsDict d
-  pub short : (n : ℕ) → IsSome (word_of d n) → n < 65536
+  pub short : (n : ℕ) → IsSome (word_of d n) → n < NUMBERS
 
 -- one block is staged as memory spells it
-pub record StagesBlock (k : Kept) (n : ℕ) (old new : Held) : Type 0 where
+pub record StagesBlock (k : Metadata) (n : ℕ) (old new : Held) : Type 0 where
   pub image : shape_of new ≡ shape_of old
   pub records : new.records ≡ old.records
   pub placed : new.placed ≡ old.placed
@@ -42,7 +43,7 @@ pub record StagesBlock (k : Kept) (n : ℕ) (old new : Held) : Type 0 where
   pub others : (other : ℕ) (was : List ℕ) → other ≢ n → look new.staged other was ≡ look old.staged other was
 
 -- the marked blocks below a number are staged
-pub record StagedBelow (k : Kept) (end : ℕ) (old new : Held) : Type 0 where
+pub record StagedBelow (k : Metadata) (end : ℕ) (old new : Held) : Type 0 where
   pub image : shape_of new ≡ shape_of old
   pub records : new.records ≡ old.records
   pub placed : new.placed ≡ old.placed

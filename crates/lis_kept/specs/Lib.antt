@@ -1,4 +1,4 @@
-pub mod Kept
+pub mod Metadata
 pub mod Rows
 pub mod Areas
 pub mod Image

@@ -6,7 +6,7 @@ use Rattle.lis_fields.specs.declared.slots.AxiomSlot.TheVariants.{Free as FreeAx
 use Rattle.lis_words.specs.Words.{has_word, is_plain_word}
 use Rattle.lis_model.specs.State.{up}
 use Rattle.lis_model.specs.Changes.{axiom_added, axiom_removed}
-use Rattle.lis_kept.specs.Kept.{Kept}
+use Rattle.lis_kept.specs.Metadata.{Metadata}
 use Rattle.lis_kept.specs.Areas.{block_of}
 use Rattle.lis_kept.specs.Areas.Area.{Axioms}
 use Rattle.lis_kept.specs.Telling.{declared_of, axioms_of, state_of, is_head_by, is_used}
@@ -26,7 +26,7 @@ are_both left right x y = (left == x) && (right == y)
 
 -- An axiom may be added that leads from the word of the one number to that of the other: it is new, no chain of links leads back, and a
 -- slot is free.
-pub record MayLink (left right : ℕ) (k : Kept) : Type 0 where
+pub record MayLink (left right : ℕ) (k : Metadata) : Type 0 where
   pub from : List ℕ
   pub to : List ℕ
   pub is_left : word_of k.dict left ≡ Some from
@@ -40,11 +40,11 @@ pub record MayLink (left right : ℕ) (k : Kept) : Type 0 where
 
 -- The axiom from the word of the one number to that of the other stands in a slot that was free. Its left word and the head of that are in
 -- use from now on.
-pub record Links (left right : ℕ) (p q : Kept) : Type 0 where
+pub record Links (left right : ℕ) (p q : Metadata) : Type 0 where
   pub slot : ℕ
   pub below : slot < p.limits.props
   pub free : slice_get p.axioms slot ≡ Some FreeAxiom
-  pub parts : q ≡ record p {
+  pub metadata : q ≡ record p {
     axioms = slice_set p.axioms slot (Pair left right);
     marks = slice_set p.marks (block_of p.limits Axioms slot) true;
   }
@@ -56,17 +56,17 @@ pub record Links (left right : ℕ) (p q : Kept) : Type 0 where
 
 -- The axiom from the word of the one number to that of the other is in one slot. Its right word is plain, so that it is no head to which a
 -- link leads by itself.
-pub record MayUnlink (left right : ℕ) (k : Kept) : Type 0 where
+pub record MayUnlink (left right : ℕ) (k : Metadata) : Type 0 where
   pub there : has_pair k.axioms left right ≡ true
   pub once : (slot other : ℕ) → slice_get k.axioms slot ≡ Some (Pair left right) → slice_get k.axioms other ≡ Some (Pair left right) → slot ≡ other
   pub plain : (to : List ℕ) → word_of k.dict right ≡ Some to → IsTrue (is_plain_word to)
 
 -- Its slot is free. Only its left word and the head of that may be in use no more.
-pub record Unlinks (left right : ℕ) (p q : Kept) : Type 0 where
+pub record Unlinks (left right : ℕ) (p q : Metadata) : Type 0 where
   pub slot : ℕ
   pub below : slot < p.limits.props
   pub there : slice_get p.axioms slot ≡ Some (Pair left right)
-  pub parts : q ≡ record p {
+  pub metadata : q ≡ record p {
     axioms = slice_set p.axioms slot FreeAxiom;
     marks = slice_set p.marks (block_of p.limits Axioms slot) true;
   }

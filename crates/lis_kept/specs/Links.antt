@@ -7,7 +7,7 @@ use Rattle.lis_fields.specs.declared.slots.AxiomSlot.{AxiomSlot}
 use Rattle.lis_fields.specs.declared.slots.AxiomSlot.TheVariants.{Free as FreeAxiom, Pair}
 use Rattle.lis_words.specs.Words.{has_word}
 use Rattle.lis_model.specs.State.{links}
-use Rattle.lis_kept.specs.Kept.{Kept}
+use Rattle.lis_kept.specs.Metadata.{Metadata}
 use Rattle.lis_kept.specs.Telling.{declared_of}
 use Rattle.lis_kept.specs.Sound.{AreSound}
 
@@ -25,15 +25,15 @@ is_own_link declared (Some p) None = false
 is_own_link declared (Some p) (Some q) = has_word (links declared p) q
 
 -- a link leads from the word of the one number to the word of the other: to its head, to a weaker test, or by an axiom
-abbrev pub is_linked : Kept → ℕ → ℕ → Bool
+abbrev pub is_linked : Metadata → ℕ → ℕ → Bool
 is_linked k p q = is_own_link (declared_of k) (word_of k.dict p) (word_of k.dict q) || has_pair k.axioms p q
 
 -- The edges are the links between the words that have numbers.
-pub record TellsLinks (k : Kept) (t : Taxonomy) : Type 0 where
+pub record TellsLinks (k : Metadata) (t : Taxonomy) : Type 0 where
   pub props : t.props ≡ k.limits.props
   pub edges : (p q : ℕ) → has_edge t p q ≡ is_linked k p q
 
 -- what memory keeps, with the taxonomy that it derives from it
-pub record AreHeld (k : Kept) (t : Taxonomy) : Type 0 where
+pub record AreHeld (k : Metadata) (t : Taxonomy) : Type 0 where
   pub sound : AreSound k
   pub links : TellsLinks k t

@@ -11,7 +11,7 @@ use Rattle.lis_fields.specs.Layouts.{is_prop, is_record}
 use Rattle.lis_words.specs.Words.{is_plain_word, is_valued, head_bytes}
 use Rattle.lis_model.specs.Ranges.{are_in_range}
 use Rattle.lis_model.specs.Image.{data_start}
-use Rattle.lis_kept.specs.Kept.{Kept, property_at}
+use Rattle.lis_kept.specs.Metadata.{Metadata, property_at}
 use Rattle.lis_kept.specs.Areas.{axiom_slots}
 
 -- a record in the ranges of the layout of that version, whose words have numbers and whose blocks there are
@@ -20,13 +20,13 @@ is_sound_record version dict blocks rec =
     is_record version rec && list_all (λ n. is_some (word_of dict n)) rec.tags && list_all (λ n. nat_lt n blocks) rec.blocks
 
 -- the numbers of an axiom slot have words, the right one a plain one; slots past the last number are free
-pub record IsSoundAxiom (k : Kept) (slot p q : ℕ) : Type 0 where
+pub record IsSoundAxiom (k : Metadata) (slot p q : ℕ) : Type 0 where
   pub below : slot < k.limits.props
   pub left : IsSome (word_of k.dict p)
   pub right : IsSome (word_of k.dict q)
   pub plain : (word : List ℕ) → word_of k.dict q ≡ Some word → IsTrue (is_plain_word word)
 
-pub record AreSound (k : Kept) : Type 0 where
+pub record AreSound (k : Metadata) : Type 0 where
   pub range : IsTrue (are_in_range k.limits)
   pub numbers : k.dict.props ≡ k.limits.props
   pub dict : IsDict k.dict
@@ -51,5 +51,5 @@ pub record AreSound (k : Kept) : Type 0 where
   pub marks : data_start k.limits ≤ length k.marks
 
 -- a slot without a file has no numbers
-abbrev pub FreeSlotsAreEmpty : Kept → Type 0
+abbrev pub FreeSlotsAreEmpty : Metadata → Type 0
 FreeSlotsAreEmpty k = (slot : ℕ) → rec_at k.catalog slot ≡ None → (n : ℕ) → has k.ext n slot ≡ false

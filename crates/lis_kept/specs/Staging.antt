@@ -4,11 +4,11 @@ use Rattle.lis_journal.specs.Journal.{Held, shape_of}
 use Rattle.lis_journal.specs.Images.{look}
 use Rattle.lis_journal.specs.Phases.{looked}
 use Rattle.lis_model.specs.Image.{properties_start, data_start}
-use Rattle.lis_kept.specs.Kept.{Kept}
+use Rattle.lis_kept.specs.Metadata.{Metadata}
 use Rattle.lis_kept.specs.Areas.{IsSaved, IsWritten, is_marked, marked_count}
 
 -- Every marked block is staged as memory spells it; blocks before the slots and data blocks look as before.
-pub record Stages (k : Kept) (old new : Held) : Type 0 where
+pub record Stages (k : Metadata) (old new : Held) : Type 0 where
   pub image : shape_of new ≡ shape_of old
   pub records : new.records ≡ old.records
   pub placed : new.placed ≡ old.placed

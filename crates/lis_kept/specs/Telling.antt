@@ -17,7 +17,7 @@ use Rattle.lis_model.specs.declared.limits.Limits.{Limits}
 use Rattle.lis_model.specs.Image.{data_start}
 use Rattle.lis_model.specs.Sets.{set_of, are_distinct, has_number}
 use Rattle.lis_model.specs.State.{State, File, pair_cmp, description, WellFormed}
-use Rattle.lis_kept.specs.Kept.{Kept}
+use Rattle.lis_kept.specs.Metadata.{Metadata}
 
 -- ---- words
 -- the truth value at a word's number
@@ -26,11 +26,11 @@ bit_of bits None = false
 bit_of bits (Some n) = is_taken bits n
 
 -- the word is declared
-abbrev pub is_declared : Kept → List ℕ → Bool
+abbrev pub is_declared : Metadata → List ℕ → Bool
 is_declared k word = bit_of k.declared (number_of k.dict word)
 
 -- the declared words, in byte order
-abbrev pub declared_of : Kept → List (List ℕ)
+abbrev pub declared_of : Metadata → List (List ℕ)
 declared_of k = filter (is_declared k) (words k.dict)
 
 -- the words that have these numbers, a set
@@ -52,7 +52,7 @@ abbrev pub pairs_told : Dict → List AxiomSlot → List (List ℕ × List ℕ)
 pairs_told dict axioms = flat_map (pair_told dict) axioms
 
 -- the axioms, a set
-abbrev pub axioms_of : Kept → List (List ℕ × List ℕ)
+abbrev pub axioms_of : Metadata → List (List ℕ × List ℕ)
 axioms_of k = fold (insert_key pair_cmp) [] (pairs_told k.dict k.axioms)
 
 -- ---- files
@@ -76,7 +76,7 @@ abbrev pub HasIndex : Limits → (ℕ → List ℕ) → FileRecord → Type 0
 HasIndex limits at rec = IsIndexed (data_start limits) rec.blocks rec.size at
 
 -- ---- the state
-abbrev pub state_of : Kept → (ℕ → List ℕ) → State
+abbrev pub state_of : Metadata → (ℕ → List ℕ) → State
 state_of k at = record {
   limits = k.limits;
   declared = declared_of k;
@@ -100,7 +100,7 @@ is_left_head_of dict n FreeAxiom = false
 is_left_head_of dict n (Pair left right) = is_head_by (word_of dict left) (word_of dict n)
 
 -- it is the left side of an axiom, or the head of one
-abbrev pub is_named_left : Kept → ℕ → Bool
+abbrev pub is_named_left : Metadata → ℕ → Bool
 is_named_left k n = list_any (is_left_of n) k.axioms || list_any (is_left_head_of k.dict n) k.axioms
 
 -- some file's description has it
@@ -108,26 +108,26 @@ abbrev pub is_had : Ext → ℕ → Bool
 is_had ext n = list_any (λ ns. has_number ns n) ext.sets
 
 -- a number whose word is known for a reason: it is declared, some description has it, or an axiom names it on its left
-abbrev pub is_used : Kept → ℕ → Bool
+abbrev pub is_used : Metadata → ℕ → Bool
 is_used k n = is_taken k.declared n || is_had k.ext n || is_named_left k n
 
-abbrev pub AreUsed : Kept → Type 0
+abbrev pub AreUsed : Metadata → Type 0
 AreUsed k = (n : ℕ) → is_some (word_of k.dict n) ≡ true → is_used k n ≡ true
 
 -- Some file that is kept uses the data block.
-pub record IsFileBlock (k : Kept) (at : ℕ → List ℕ) (data_block : ℕ) : Type 0 where
+pub record IsFileBlock (k : Metadata) (at : ℕ → List ℕ) (data_block : ℕ) : Type 0 where
   pub file : Filed
   pub kept : Contains k.catalog.entries file
   pub has : has_number (blocks_told k.limits at file.rec) data_block ≡ true
 
 -- the blocks of each file are taken
-abbrev pub AreBlocksTaken : Kept → (ℕ → List ℕ) → Type 0
+abbrev pub AreBlocksTaken : Metadata → (ℕ → List ℕ) → Type 0
 AreBlocksTaken k at =
     (f : Filed) → Contains k.catalog.entries f → (n : ℕ) → has_number (blocks_told k.limits at f.rec) n ≡ true → is_taken k.taken n ≡ true
 
 -- Where blocks hold these bytes, what is kept tells the state: its words, axioms and files are those of the state, the numbers of each
 -- file are those of its description, and the taken blocks are those of the files, none of them used twice, by one file or by two.
-pub record Tells (k : Kept) (at : ℕ → List ℕ) (s : State) : Type 0 where
+pub record Tells (k : Metadata) (at : ℕ → List ℕ) (s : State) : Type 0 where
   pub super : SpellsSuper s.limits (at 0)
   pub state : state_of k at ≡ s
   pub formed : WellFormed s

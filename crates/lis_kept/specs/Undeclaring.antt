@@ -8,7 +8,7 @@ use Rattle.lis_fields.specs.Records.{FileRecord}
 use Rattle.lis_fields.specs.declared.slots.AxiomSlot.{AxiomSlot}
 use Rattle.lis_fields.specs.declared.slots.AxiomSlot.TheVariants.{Free as FreeAxiom, Pair}
 use Rattle.lis_model.specs.Changes.{undeclared}
-use Rattle.lis_kept.specs.Kept.{Kept}
+use Rattle.lis_kept.specs.Metadata.{Metadata}
 use Rattle.lis_kept.specs.Areas.{block_of}
 use Rattle.lis_kept.specs.Areas.Area.{Properties}
 use Rattle.lis_kept.specs.Telling.{state_of, is_left_of, is_head_by, is_left_head_of, is_had, is_named_left, is_used}
@@ -19,7 +19,7 @@ use Rattle.lis_model.specs.Sets.{has_number}
 
 -- It is declared and in use for nothing else: no description has it, no axiom names it, no file was given it, and it is no known word's
 -- head.
-pub record MayUndeclare (number : ℕ) (k : Kept) : Type 0 where
+pub record MayUndeclare (number : ℕ) (k : Metadata) : Type 0 where
   pub declared : is_taken k.declared number ≡ true
   pub had : is_had k.ext number ≡ false
   pub lefts : is_named_left k number ≡ false
@@ -28,10 +28,10 @@ pub record MayUndeclare (number : ℕ) (k : Kept) : Type 0 where
   pub heads : (n : ℕ) → is_head_by (word_of k.dict n) (word_of k.dict number) ≡ false
 
 -- The word of the number is not declared any more, and has no number.
-pub record Undeclares (number : ℕ) (p q : Kept) : Type 0 where
+pub record Undeclares (number : ℕ) (p q : Metadata) : Type 0 where
   pub word : List ℕ
   pub named : word_of p.dict number ≡ Some word
-  pub parts : q ≡ record p {
+  pub metadata : q ≡ record p {
     dict = without_word p.dict word;
     declared = slice_set p.declared number false;
     marks = slice_set p.marks (block_of p.limits Properties number) true;
@@ -53,5 +53,5 @@ abbrev pub is_named_by : Dict → ℕ → AxiomSlot → Bool
 is_named_by dict n slot = is_left_of n slot || is_left_head_of dict n slot || is_right_of n slot
 
 -- Some description has it, or an axiom names it. A test is in descriptions by sizes alone, and goes with its declaration.
-abbrev pub is_needed : Kept → ℕ → Bool
+abbrev pub is_needed : Metadata → ℕ → Bool
 is_needed k n = (not (is_some {T = Bool × ℕ} (test_by (word_of k.dict n))) && is_had k.ext n) || list_any (is_named_by k.dict n) k.axioms

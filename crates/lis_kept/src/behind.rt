@@ -10,7 +10,7 @@ ghost use Rattle.lis_kept.specs.Behind.{rights_of, is_behind, is_before, right_b
 ghost use Rattle.lis_kept.specs.Inside.{IsShort};
 ghost use Rattle.lis_kept.specs.Telling.{pairs_told, axioms_of};
 
-use crate::parts::Parts;
+use crate::metadata::Metadata;
 use lis_dict::Dict;
 use lis_fields::AxiomSlot;
 use lis_words::Word;
@@ -69,7 +69,7 @@ fn first_right(dict: &Dict, axioms: &[AxiomSlot], left: u16, last: Option<&Word>
     first
 }
 
-impl Parts {
+impl Metadata {
     /// Of the words to which axioms lead from a word, the first in byte order that comes behind the last one, where one is given.
     pub fn axiom_behind(&self, left: &Word, last: Option<&Word>) -> Option<Word>
         ensures { result ≡ find (is_behind (option_map (λ w. w.now) last.entry)) (rights_of (axioms_of self.now) left.now) }

@@ -16,13 +16,12 @@ ghost use Rattle.lis_kept.specs.Changes.{Describes, Drops, Files};
 
 mod blocks;
 
-use crate::parts::Parts;
+use crate::metadata::Metadata;
 use crate::places::{files_start, rows_start};
-use crate::spelling::FILES_PER_BLOCK;
 use lis_bits::Flags;
 use lis_ext::Ext;
 use lis_fields::FileRec;
-use lis_journal::BLOCK_LEN;
+use lis_limits::{BLOCK_LEN, FILES_PER_BLOCK};
 use lis_model::limits::Limits;
 
 // Marks the blocks of the rows that changed.
@@ -56,7 +55,7 @@ fn mark_file(marks: &mut Flags, limits: &Limits, slot: u16)
     );
 }
 
-impl Parts {
+impl Metadata {
     /// Gives a file slot other numbers, those of its file's description.
     pub fn describe(&mut self, slot: u16, old: &[u16], new: &[u16])
         requires slot { slot < self.old.limits.files }

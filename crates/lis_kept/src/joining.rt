@@ -1,10 +1,10 @@
-//! What memory keeps, of its parts.
+//! The metadata of an image, of its fields.
 
 ghost use Rattle.std.specs.Prelude.{◌≡◌};
-ghost use Rattle.lis_kept.specs.Kept.{kept_of};
+ghost use Rattle.lis_kept.specs.Metadata.{metadata_of};
 ghost use Rattle.lis_kept.specs.Links.{AreHeld};
 
-use crate::parts::Parts;
+use crate::metadata::Metadata;
 use lis_bits::Flags;
 use lis_blockmap::BlockMap;
 use lis_catalog::Catalog;
@@ -14,7 +14,7 @@ use lis_fields::AxiomSlot;
 use lis_model::limits::Limits;
 use lis_taxonomy::Taxonomy;
 
-/// All that memory keeps, part by part.
+/// All that memory keeps, field by field.
 #[derive(Drop)]
 pub struct Fields {
     pub limits: Limits,
@@ -32,13 +32,13 @@ pub struct Fields {
     pub marks: Flags,
 }
 
-impl Parts {
-    /// What memory keeps, of these parts.
-    pub fn join(fields: Fields) -> Parts
-        requires { AreHeld (kept_of fields.limits fields.dict fields.declared fields.axioms.items fields.catalog fields.map fields.ext fields.marks) fields.taxonomy }
-        ensures { result ≡ kept_of fields.limits fields.dict fields.declared fields.axioms.items fields.catalog fields.map fields.ext fields.marks }
+impl Metadata {
+    /// The metadata of these fields.
+    pub fn join(fields: Fields) -> Metadata
+        requires { AreHeld (metadata_of fields.limits fields.dict fields.declared fields.axioms.items fields.catalog fields.map fields.ext fields.marks) fields.taxonomy }
+        ensures { result ≡ metadata_of fields.limits fields.dict fields.declared fields.axioms.items fields.catalog fields.map fields.ext fields.marks }
     {
-        Parts {
+        Metadata {
             limits: fields.limits,
             dict: fields.dict,
             declared: fields.declared,

@@ -7,7 +7,7 @@ mod behind;
 mod changes;
 mod joining;
 mod linking;
-mod parts;
+mod metadata;
 mod places;
 mod reading;
 mod rows;
@@ -17,9 +17,8 @@ mod under;
 mod words;
 
 pub use joining::Fields;
-pub use parts::Parts;
+pub use metadata::Metadata;
 pub use places::{
-    PROPERTIES_START, axioms_start, bitmap_start, data_start, files_start, image_capacity,
-    image_layout, rows_start,
+    axioms_start, bitmap_start, data_start, files_start, image_capacity, image_layout, rows_start,
 };
 pub use test_edges::{link_nearest, link_weaker};

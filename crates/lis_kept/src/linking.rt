@@ -10,11 +10,11 @@ ghost use Rattle.lis_kept.specs.Links.{is_pair, has_pair};
 ghost use Rattle.lis_kept.specs.Sound.{AreSound};
 ghost use Rattle.lis_kept.specs.Linking.{is_free, is_filled, MayLink, Links, MayUnlink, Unlinks};
 
-use crate::parts::Parts;
+use crate::metadata::Metadata;
 use crate::places::axioms_start;
-use crate::spelling::AXIOMS_PER_BLOCK;
 use lis_bits::Flags;
 use lis_fields::AxiomSlot;
+use lis_limits::{AXIOMS_PER_BLOCK, MAX_PROPS};
 use lis_model::limits::Limits;
 
 // Marks the block of an axiom slot.
@@ -68,7 +68,7 @@ fn has_pair(axioms: &[AxiomSlot], left: u32, right: u32) -> bool
 
 // How many slots an axiom is in.
 fn filled_count(axioms: &[AxiomSlot]) -> u32
-    requires { length axioms.now ≤ 8192 }
+    requires { length axioms.now ≤ MAX_PROPS }
     ensures { result ≡ count_by is_filled axioms.now }
 {
     let mut count = 0;
@@ -80,7 +80,7 @@ fn filled_count(axioms: &[AxiomSlot]) -> u32
     count
 }
 
-impl Parts {
+impl Metadata {
     /// How many axioms there are.
     pub fn axiom_count(&self) -> u32
         ensures { result ≡ count_by is_filled self.now.axioms }

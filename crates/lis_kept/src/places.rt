@@ -6,6 +6,7 @@ ghost use Rattle.lis_model.specs.Ranges.{are_in_range};
 ghost use Rattle.lis_model.specs.Image.{axioms_start, files_start, rows_start, bitmap_start, data_start};
 
 use lis_journal::{Capacity, Layout};
+use lis_limits::{AXIOMS_PER_BLOCK, MAX_IMAGE_BLOCKS, MAX_PLACED, MAX_STAGED, PROPERTIES_START};
 use lis_model::limits::{Limits, image_blocks};
 
 // How many blocks of an image hold records.
@@ -31,13 +32,10 @@ pub fn image_capacity(_limits: &Limits) -> Capacity
     ensures { result ≡ image_capacity _limits.now }
 {
     Capacity {
-        staged: 575,
-        placed: 257,
+        staged: MAX_STAGED,
+        placed: MAX_PLACED,
     }
 }
-
-/// The first block of property slots.
-pub const PROPERTIES_START: u32 = 578;
 
 /// The first block of axiom slots.
 pub fn axioms_start(limits: &Limits) -> u32
@@ -52,7 +50,7 @@ pub fn files_start(limits: &Limits) -> u32
     requires { IsTrue (are_in_range limits.now) }
     ensures { result ≡ files_start limits.now }
 {
-    axioms_start(limits) + limits.props.div_ceil(512)
+    axioms_start(limits) + limits.props.div_ceil(AXIOMS_PER_BLOCK as u32)
 }
 
 /// The first block of extension rows.
@@ -67,7 +65,7 @@ pub fn rows_start(limits: &Limits) -> u32
 pub fn data_start(limits: &Limits) -> u32
     requires { IsTrue (are_in_range limits.now) }
     ensures start { result ≡ data_start limits.now }
-    ensures few { result ≤ 34771 }
+    ensures few { result ≤ MAX_IMAGE_BLOCKS }
 {
     image_blocks(limits) - limits.blocks
 }

@@ -10,10 +10,11 @@ ghost use Rattle.lis_words.specs.Words.{is_file_name, test_of};
 ghost use Rattle.lis_kept.specs.Links.{TellsLinks};
 ghost use Rattle.lis_kept.specs.Telling.{is_declared};
 
-use crate::parts::Parts;
+use crate::metadata::Metadata;
 use lis_blockmap::BlockMap;
 use lis_ext::Ext;
 use lis_fields::FileRec;
+use lis_limits::MAX_ASSIGNED;
 use lis_taxonomy::Taxonomy;
 use lis_words::{Name, Word};
 
@@ -24,7 +25,7 @@ fn count_taken(map: &BlockMap, blocks: &[u16]) -> usize
     blocks.iter().filter(|n| map.is_taken(**n)).count()
 }
 
-impl Parts {
+impl Metadata {
     /// How many words have numbers.
     pub fn word_count(&self) -> u32
         ensures { result ≡ length self.now.dict.entries }
@@ -113,7 +114,7 @@ impl Parts {
     pub fn taken_blocks(&self, slot: u16) -> usize
         requires { IsSome (rec_at self.now.catalog slot) }
         ensures taken { (rec : FileRecord) → rec_at self.now.catalog slot ≡ Some rec → result ≡ length (filter (is_taken self.now.taken) rec.blocks) }
-        ensures few { result ≤ 16 }
+        ensures few { result ≤ MAX_ASSIGNED }
     {
         let Some(rec) = self.catalog.rec(slot) else {
             unreachable!()

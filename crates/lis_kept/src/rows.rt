@@ -5,6 +5,7 @@ ghost use Rattle.lis_ports.specs.Bytes.{part};
 ghost use Rattle.lis_kept.specs.Rows.{row_bytes};
 
 use lis_ext::Ext;
+use lis_limits::BLOCK_LEN;
 
 // Writes the row of a number, which is empty past the last one.
 fn write_row(ext: &Ext, props: u32, number: u32, row: &mut [u8])
@@ -20,13 +21,16 @@ fn write_row(ext: &Ext, props: u32, number: u32, row: &mut [u8])
     row.fill(0);
 }
 
+// More rows than any image has.
+const MAX_ROWS: u32 = 2_000_000;
+
 /// Writes so many rows, from that of a number on.
 pub fn write_rows(ext: &Ext, props: u32, first: u32, width: usize, count: u32, block: &mut [u8])
     requires props { props ≡ ext.now.props }
     requires width { 8 * width ≡ length ext.now.sets }
-    requires whole { width * count ≡ 4096 }
-    requires few { first + count ≤ 2000000 }
-    requires block { length block.old ≡ 4096 }
+    requires whole { width * count ≡ BLOCK_LEN }
+    requires few { first + count ≤ MAX_ROWS }
+    requires block { length block.old ≡ BLOCK_LEN }
     ensures { (k : ℕ) → k < count → part (width * k) width block.new ≡ row_bytes ext.now (first + k) }
 {
     for k in 0..count {

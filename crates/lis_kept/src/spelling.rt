@@ -3,25 +3,17 @@
 ghost use Rattle.std.specs.Prelude.{◌≡◌, ℕ, ◌+◌, ◌*◌, ◌<◌, ◌≤◌, length, IsTrue};
 ghost use Rattle.lis_ports.specs.Bytes.{part};
 ghost use Rattle.lis_fields.specs.Layouts.{prop_bytes, is_prop, axiom_bytes, is_axiom, file_bytes, is_file};
-ghost use Rattle.lis_kept.specs.Kept.{property_at, axiom_at, record_at};
+ghost use Rattle.lis_kept.specs.Metadata.{property_at, axiom_at, record_at};
 
 use arrayvec::ArrayVec;
 use lis_bits::Flags;
 use lis_catalog::Catalog;
 use lis_dict::Dict;
-use lis_fields::{
+use lis_fields::{use lis_limits::{BLOCK_LEN, MAX_FILES, MAX_PROPS};
+use lis_limits::{AXIOMS_PER_BLOCK, AXIOM_LEN, FILES_PER_BLOCK, FILE_LEN, PROPERTIES_PER_BLOCK, PROP_LEN};
     AXIOM_LEN, AxiomSlot, FILE_LEN, FileRec, FileSlot, PROP_LEN, PropSlot, write_axiom, write_file,
     write_prop,
 };
-
-/// How many property slots a block has.
-pub const PROPERTIES_PER_BLOCK: u16 = 64;
-
-/// How many axiom slots a block has.
-pub const AXIOMS_PER_BLOCK: usize = 512;
-
-/// How many file slots a block has.
-pub const FILES_PER_BLOCK: u16 = 16;
 
 // The property slot of a number.
 fn property_slot(dict: &Dict, declared: &Flags, number: u16) -> PropSlot
@@ -40,10 +32,10 @@ fn property_slot(dict: &Dict, declared: &Flags, number: u16) -> PropSlot
 /// Writes the property slots from a number on, as many as a block has.
 pub fn write_properties(dict: &Dict, declared: &Flags, first: u16, block: &mut [u8])
     requires forms { (n : ℕ) → IsTrue (is_prop (property_at dict.now declared.now n)) }
-    requires within { first + 64 ≤ length declared.now }
-    requires few { length declared.now ≤ 8192 }
-    requires whole { length block.old ≡ 4096 }
-    ensures { (k : ℕ) → k < 64 → part (64 * k) 64 block.new ≡ prop_bytes (property_at dict.now declared.now (first + k)) }
+    requires within { first + PROPERTIES_PER_BLOCK ≤ length declared.now }
+    requires few { length declared.now ≤ MAX_PROPS }
+    requires whole { length block.old ≡ BLOCK_LEN }
+    ensures { (k : ℕ) → k < PROPERTIES_PER_BLOCK → part (PROP_LEN * k) PROP_LEN block.new ≡ prop_bytes (property_at dict.now declared.now (first + k)) }
 {
     for k in 0..PROPERTIES_PER_BLOCK {
         let at = PROP_LEN * usize::from(k);
@@ -65,9 +57,9 @@ fn axiom_slot(axioms: &[AxiomSlot], number: usize) -> AxiomSlot
 /// Writes the axiom slots from a number on, as many as a block has.
 pub fn write_axioms(axioms: &[AxiomSlot], first: usize, block: &mut [u8])
     requires forms { (n : ℕ) → IsTrue (is_axiom (axiom_at axioms.now n)) }
-    requires few { first ≤ 8192 }
-    requires whole { length block.old ≡ 4096 }
-    ensures { (k : ℕ) → k < 512 → part (8 * k) 8 block.new ≡ axiom_bytes (axiom_at axioms.now (first + k)) }
+    requires few { first ≤ MAX_PROPS }
+    requires whole { length block.old ≡ BLOCK_LEN }
+    ensures { (k : ℕ) → k < AXIOMS_PER_BLOCK → part (AXIOM_LEN * k) AXIOM_LEN block.new ≡ axiom_bytes (axiom_at axioms.now (first + k)) }
 {
     for k in 0..AXIOMS_PER_BLOCK {
         let at = AXIOM_LEN * k;
@@ -109,9 +101,9 @@ fn file_slot(catalog: &Catalog, number: u16) -> FileSlot
 /// Writes the file slots from a number on, as many as a block has.
 pub fn write_files(catalog: &Catalog, version: u32, first: u16, block: &mut [u8])
     requires records { (n : ℕ) → IsTrue (is_file version (record_at catalog.now n)) }
-    requires few { first ≤ 4096 }
-    requires whole { length block.old ≡ 4096 }
-    ensures { (k : ℕ) → k < 16 → part (256 * k) 256 block.new ≡ file_bytes (record_at catalog.now (first + k)) }
+    requires few { first ≤ MAX_FILES }
+    requires whole { length block.old ≡ BLOCK_LEN }
+    ensures { (k : ℕ) → k < FILES_PER_BLOCK → part (FILE_LEN * k) FILE_LEN block.new ≡ file_bytes (record_at catalog.now (first + k)) }
 {
     for k in 0..FILES_PER_BLOCK {
         let at = FILE_LEN * usize::from(k);

@@ -8,6 +8,7 @@ ghost use Rattle.lis_kept.specs.TestEdges.{declared_test, TestsAreOrdered, Links
 
 use lis_bits::Flags;
 use lis_dict::Dict;
+use lis_limits::{MAX_PROPS, NUMBERS};
 use lis_taxonomy::Taxonomy;
 use lis_words::test_of;
 
@@ -23,7 +24,7 @@ fn is_weaker(q: (bool, u64), p: (bool, u64)) -> bool
 // The test that the word of a number is, where this is declared.
 fn declared_test(dict: &Dict, declared: &Flags, number: u32) -> Option<(bool, u64)>
     requires long { number < length declared.now }
-    requires small { number < 65536 }
+    requires small { number < NUMBERS }
     ensures { result ≡ declared_test dict.now declared.now number }
 {
     if !declared.get(number) {
@@ -36,7 +37,7 @@ fn declared_test(dict: &Dict, declared: &Flags, number: u32) -> Option<(bool, u6
 // Whether a number has a declared test that is weaker than this one.
 fn has_weaker(dict: &Dict, declared: &Flags, number: u32, test: (bool, u64)) -> bool
     requires long { number < length declared.now }
-    requires small { number < 65536 }
+    requires small { number < NUMBERS }
     ensures { result ≡ are_weaker (declared_test dict.now declared.now number) (Some test) }
 {
     match declared_test(dict, declared, number) {
@@ -48,7 +49,7 @@ fn has_weaker(dict: &Dict, declared: &Flags, number: u32, test: (bool, u64)) -> 
 // Whether a number has a declared test that is stronger than this one.
 fn has_stronger(dict: &Dict, declared: &Flags, number: u32, test: (bool, u64)) -> bool
     requires long { number < length declared.now }
-    requires small { number < 65536 }
+    requires small { number < NUMBERS }
     ensures { result ≡ are_weaker (Some test) (declared_test dict.now declared.now number) }
 {
     match declared_test(dict, declared, number) {
@@ -60,7 +61,7 @@ fn has_stronger(dict: &Dict, declared: &Flags, number: u32, test: (bool, u64)) -
 // The test of a number that has a declared test which is weaker than this one.
 fn weaker_test(dict: &Dict, declared: &Flags, number: u32, test: (bool, u64)) -> Option<(bool, u64)>
     requires long { number < length declared.now }
-    requires small { number < 65536 }
+    requires small { number < NUMBERS }
     ensures { IfSome result (λ _. are_weaker (declared_test dict.now declared.now number) (Some test) ≡ true) }
 {
     let other = declared_test(dict, declared, number)?;
@@ -80,7 +81,7 @@ fn is_nearer(nearest: Option<(bool, u64)>, test: (bool, u64)) -> bool {
 
 // A number that has a declared test which is weaker than this one, and it is the nearest.
 fn nearest_weaker(dict: &Dict, declared: &Flags, props: u32, test: (bool, u64)) -> Option<u32>
-    requires few { props ≤ 8192 }
+    requires few { props ≤ MAX_PROPS }
     requires bits { length declared.now ≡ props }
     ensures below { IfSome result (λ number. number < props) }
     ensures weaker { IfSome result (λ number. are_weaker (declared_test dict.now declared.now number) (Some test) ≡ true) }
@@ -102,7 +103,7 @@ fn nearest_weaker(dict: &Dict, declared: &Flags, props: u32, test: (bool, u64)) 
 /// is done for all numbers, each test entails all that are weaker, and their edges come fast.
 pub fn link_nearest(dict: &Dict, declared: &Flags, taxonomy: &mut Taxonomy, props: u32, number: u32)
     requires props { props ≡ taxonomy.old.props }
-    requires few { props ≤ 8192 }
+    requires few { props ≤ MAX_PROPS }
     requires number { number < props }
     requires bits { length declared.now ≡ props }
     ensures { LinksSome dict.now declared.now taxonomy.old taxonomy.new }
@@ -121,7 +122,7 @@ pub fn link_nearest(dict: &Dict, declared: &Flags, taxonomy: &mut Taxonomy, prop
 /// its edges.
 pub fn link_weaker(dict: &Dict, declared: &Flags, taxonomy: &mut Taxonomy, props: u32, number: u32)
     requires props { props ≡ taxonomy.old.props }
-    requires few { props ≤ 8192 }
+    requires few { props ≤ MAX_PROPS }
     requires number { number < props }
     requires dict { IsDict dict.now }
     requires names { dict.now.props ≡ props }
@@ -149,7 +150,7 @@ pub(crate) fn link_stronger(
     number: u32,
 )
     requires props { props ≡ taxonomy.old.props }
-    requires few { props ≤ 8192 }
+    requires few { props ≤ MAX_PROPS }
     requires number { number < props }
     requires dict { IsDict dict.now }
     requires names { dict.now.props ≡ props }

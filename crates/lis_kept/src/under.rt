@@ -6,10 +6,10 @@ ghost use Rattle.lis_model.specs.State.{is_declarable};
 ghost use Rattle.lis_kept.specs.Sound.{AreSound};
 ghost use Rattle.lis_kept.specs.Under.{MayStandUnder, DeclaresUnder};
 
-use crate::parts::Parts;
+use crate::metadata::Metadata;
 use lis_words::Word;
 
-impl Parts {
+impl Metadata {
     /// Gives a new word a free number, declares it, and adds an axiom from it to the word of each of these numbers.
     pub fn declare_under(&mut self, word: &Word, places: &[u16])
         requires form { IsTrue (is_declarable word.now) }

@@ -22,15 +22,14 @@ ghost use Rattle.lis_kept.specs.Telling.{is_left_of, is_head_by, is_left_head_of
 mod undeclaring;
 mod without;
 
-use crate::parts::Parts;
-use crate::places::PROPERTIES_START;
-use crate::spelling::PROPERTIES_PER_BLOCK;
+use crate::metadata::Metadata;
 use crate::test_edges::{link_stronger, link_weaker};
 use crate::words::without::is_had_without;
 use lis_bits::Flags;
 use lis_dict::Dict;
 use lis_ext::Ext;
 use lis_fields::AxiomSlot;
+use lis_limits::{PROPERTIES_PER_BLOCK, PROPERTIES_START};
 use lis_model::limits::Limits;
 use lis_taxonomy::Taxonomy;
 use lis_words::{Word, head_of, is_valued};
@@ -156,7 +155,7 @@ fn is_of_pass(word: &Word, valued: bool) -> bool
     }
 }
 
-impl Parts {
+impl Metadata {
     /// Gives a new word a free number, and declares it.
     pub fn declare(&mut self, word: &Word)
         requires form { IsTrue (is_declarable word.now) }

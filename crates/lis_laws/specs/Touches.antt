@@ -1,6 +1,7 @@
 -- What a change touches: words that gain or lose a file, and words that enter or leave the known ones.
-use Rattle.std.specs.Prelude.{◌≡◌, ℕ, ◌≤◌, not, Bool, if◌then◌else◌, List, [], ◌∷◌, ◌++◌, length, map, filter, IsTrue}
+use Rattle.std.specs.Prelude.{◌*◌, ◌≡◌, ℕ, ◌≤◌, not, Bool, if◌then◌else◌, List, [], ◌∷◌, ◌++◌, length, map, filter, IsTrue}
 use Rattle.std.specs.List.{list_any, Contains}
+use Rattle.lis_limits.specs.declared.TheConstants.{MAX_DESCRIPTION}
 use Rattle.lis_words.specs.Words.{has_word, is_test}
 use Rattle.lis_model.specs.State.{State, File, WellFormed, heads, up, description, known}
 use Rattle.lis_model.specs.Changes.{declared_under, undeclared, axiom_added, axiom_removed, has_name, file_added, file_removed, file_replaced}
@@ -52,8 +53,8 @@ pub record TouchesFew (s t : State) : Type 0 where
   pub changed : List (List ℕ)
   pub learned : List (List ℕ)
   pub touches : Touches s t changed learned
-  pub few_changed : length changed ≤ 256
-  pub few_learned : length learned ≤ 256
+  pub few_changed : length changed ≤ 2 * MAX_DESCRIPTION
+  pub few_learned : length learned ≤ 2 * MAX_DESCRIPTION
 
 abbrev pub StepsTouchFew : Type 0
 StepsTouchFew = (now : Situation) (item : Item) → IsInForm now → IsTrue (is_formed item) → TouchesFew now.state (step now item).next.state

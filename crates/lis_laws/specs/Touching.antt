@@ -1,6 +1,7 @@
 -- Which words a step touches, command by command.
-use Rattle.std.specs.Prelude.{◌≡◌, ℕ, ◌≤◌, not, Bool, if◌then◌else◌, List, [], ◌∷◌, ◌++◌, length, IsTrue}
+use Rattle.std.specs.Prelude.{◌*◌, ◌≡◌, ℕ, ◌≤◌, not, Bool, if◌then◌else◌, List, [], ◌∷◌, ◌++◌, length, IsTrue}
 use Rattle.std.specs.List.{list_any}
+use Rattle.lis_limits.specs.declared.TheConstants.{MAX_DESCRIPTION}
 use Rattle.lis_words.specs.Words.{same_word, test_of}
 use Rattle.lis_model.specs.declared.command.Command.{Command}
 use Rattle.lis_model.specs.declared.command.Command.TheVariants.{Mkdir, Rmdir, Axiom, Unaxiom, Create, Add, Write, Cat, Mv, Rename, Rm, Cd, Pwd, Ls, Props, Way, Stat}
@@ -69,8 +70,8 @@ touched now (Bad refusal) = no_words
 
 pub record StepTouches (now : Situation) (item : Item) : Type 0 where
   pub touches : Touches now.state (step now item).next.state (touched now item).changed (touched now item).learned
-  pub few_changed : length (touched now item).changed ≤ 256
-  pub few_learned : length (touched now item).learned ≤ 256
+  pub few_changed : length (touched now item).changed ≤ 2 * MAX_DESCRIPTION
+  pub few_learned : length (touched now item).learned ≤ 2 * MAX_DESCRIPTION
   -- what is refused, or shows something, leaves state and place as they were
   pub kept : IsTrue (not (says_ok (step now item))) → (step now item).next ≡ now
 

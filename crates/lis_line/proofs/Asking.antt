@@ -1,20 +1,20 @@
--- Parts taken one after another, up to the first that asks for something.
+-- Segments taken one after another, up to the first that asks for something.
 use Rattle.std.proofs.Common.{◌≡◌, ℕ, ◌<◌, true, false, cond, List, [], ◌∷◌, ◌++◌, length, Option, Some, None, Result, Ok, Err, ap, sym, subst, ◌∙◌, refl, arith, append_assoc, append-nil, length-append}
 use Rattle.std.specs.Option.{option_map, option_to_list}
 use Rattle.lis_ports.specs.declared.disk.Failed.{Failed}
 use Rattle.lis_model.specs.Script.{FirstOf, Cut}
 use Rattle.lis_model.proofs.Lines.{CutsBy}
-use Rattle.lis_line.specs.declared.input.Part.{Part}
-use Rattle.lis_line.specs.declared.input.Part.TheVariants.{Whole, Last, PastLimit}
+use Rattle.lis_line.specs.declared.input.Segment.{Segment}
+use Rattle.lis_line.specs.declared.input.Segment.TheVariants.{Whole, Last, PastLimit}
 use Rattle.lis_line.specs.declared.stock.LineEnd.TheVariants.{Feed, Last as LastLine, Spent}
 use Rattle.lis_line.specs.Stock.{Stocked, ReadsLine}
-use Rattle.lis_line.specs.Reading.{IsWhole, Gave, GaveWhole, GaveLast, GaveEnd, Overran, GaveRest, GivesPart}
-use Rattle.lis_line.specs.Parts.{TakesPart}
+use Rattle.lis_line.specs.Reading.{IsWhole, Gave, GaveWhole, GaveLast, GaveEnd, Overran, GaveRest, GivesSegment}
+use Rattle.lis_line.specs.Segments.{TakesSegment}
 use Rattle.lis_line.proofs.Bytes.{gave_then, gave_line}
 use Rattle.lis_line.proofs.Kept.{ByLines}
-use Rattle.lis_line.proofs.Parts.{part_behind}
+use Rattle.lis_line.proofs.Segments.{segment_behind}
 
--- ---- what a part gives, by the first part of its bytes
+-- ---- what a segment gives, by the first segment of its bytes
 module _ {I : Type 0} {cut : Cut I} {first : List ℕ → FirstOf I} (cuts : CutsBy cut first) (lines : ByLines first) where
   whole_some : (bytes : List ℕ) (item : Option I) → ((more : List ℕ) → first (bytes ++ more) ≡ record { item = item; rest = more; is_whole = true })
       → 0 < length bytes
@@ -40,7 +40,7 @@ module _ {I : Type 0} {cut : Cut I} {first : List ℕ → FirstOf I} (cuts : Cut
       cuts.whole (b ∷ bytes) (first (b ∷ bytes)) (omega arith) refl
       ∙ ap (λ whole. cond whole (option_to_list (first (b ∷ bytes)).item ++ cut.whole (first (b ∷ bytes)).rest) []) none
 
-  -- a part that is whole, whatever follows
+  -- a segment that is whole, whatever follows
   pub whole_is : (bytes : List ℕ) (item : Option I) → ((more : List ℕ) → first (bytes ++ more) ≡ record { item = item; rest = more; is_whole = true })
       → IsWhole cut bytes (option_to_list item)
   whole_is bytes item is =
@@ -50,67 +50,67 @@ module _ {I : Type 0} {cut : Cut I} {first : List ℕ → FirstOf I} (cuts : Cut
         whole = λ more. cuts.whole (bytes ++ more) _ (omega (arith, some, length-append bytes more)) (is more);
       }
 
-  pub part_given : {R E : Type 0} (asks : R → I) (old new : Stocked) (left_before left : Option (List ℕ)) (result : Result (Part R) E)
-      → TakesPart first asks old new left_before left result → GivesPart cut asks old new left_before left result
-  part_given asks old new left_before left (Ok (Whole asked)) part = record {
-    bytes = part.bytes;
-    gave = part.gave;
-    some = whole_some part.bytes (option_map asks asked) part.is;
-    within = part.within;
-    is = whole_is part.bytes (option_map asks asked) part.is;
+  pub segment_given : {R E : Type 0} (asks : R → I) (old new : Stocked) (left_before left : Option (List ℕ)) (result : Result (Segment R) E)
+      → TakesSegment first asks old new left_before left result → GivesSegment cut asks old new left_before left result
+  segment_given asks old new left_before left (Ok (Whole asked)) segment = record {
+    bytes = segment.bytes;
+    gave = segment.gave;
+    some = whole_some segment.bytes (option_map asks asked) segment.is;
+    within = segment.within;
+    is = whole_is segment.bytes (option_map asks asked) segment.is;
   }
-  part_given asks old new left_before left (Ok (Last (Some asked))) part = record {
-    bytes = part.bytes;
-    gave = part.gave;
-    some = last_some part.bytes (asks asked) part.is;
-    within = part.within;
+  segment_given asks old new left_before left (Ok (Last (Some asked))) segment = record {
+    bytes = segment.bytes;
+    gave = segment.gave;
+    some = last_some segment.bytes (asks asked) segment.is;
+    within = segment.within;
     is = record {
-      all = last_items part.bytes (Some (asks asked)) part.is;
-      whole = not_whole_items part.bytes (ap (λ (f : FirstOf I). f.is_whole) part.is);
+      all = last_items segment.bytes (Some (asks asked)) segment.is;
+      whole = not_whole_items segment.bytes (ap (λ (f : FirstOf I). f.is_whole) segment.is);
     };
-    nothing_ahead = part.nothing_ahead;
-    at_end = part.at_end;
+    nothing_ahead = segment.nothing_ahead;
+    at_end = segment.at_end;
   }
-  part_given asks old new left_before left (Ok (Last None)) part = record {
-    bytes = part.bytes;
-    gave = part.gave;
-    within = part.within;
-    none_left = last_items part.bytes None part.is;
-    nothing_ahead = part.nothing_ahead;
-    at_end = part.at_end;
+  segment_given asks old new left_before left (Ok (Last None)) segment = record {
+    bytes = segment.bytes;
+    gave = segment.gave;
+    within = segment.within;
+    none_left = last_items segment.bytes None segment.is;
+    nothing_ahead = segment.nothing_ahead;
+    at_end = segment.at_end;
   }
-  part_given asks old new left_before left (Ok PastLimit) part = record {
-    bytes = part.bytes;
-    byte = part.byte;
-    gave = part.gave;
-    spent = part.spent;
-    none_whole = not_whole_items part.bytes part.not_whole;
+  segment_given asks old new left_before left (Ok PastLimit) segment = record {
+    bytes = segment.bytes;
+    byte = segment.byte;
+    gave = segment.gave;
+    spent = segment.spent;
+    none_whole = not_whole_items segment.bytes segment.not_whole;
   }
-  part_given asks old new left_before left (Err failed) part = record {
-    bytes = part.bytes;
-    gave = part.gave;
-    within = part.within;
-    none_whole = not_whole_items part.bytes part.not_whole;
-    nothing_ahead = part.nothing_ahead;
+  segment_given asks old new left_before left (Err failed) segment = record {
+    bytes = segment.bytes;
+    gave = segment.gave;
+    within = segment.within;
+    none_whole = not_whole_items segment.bytes segment.not_whole;
+    nothing_ahead = segment.nothing_ahead;
   }
 
   -- ---- by the line that was read, of which `kept` was kept
-  pub feed_given : {R : Type 0} {old now : Stocked} {left_before left : Option (List ℕ)} {line kept : List ℕ} (asks : R → I) (next : Stocked) (left_after : Option (List ℕ)) (result : Result (Part R) Failed)
+  pub feed_given : {R : Type 0} {old now : Stocked} {left_before left : Option (List ℕ)} {line kept : List ℕ} (asks : R → I) (next : Stocked) (left_after : Option (List ℕ)) (result : Result (Segment R) Failed)
       → ReadsLine {E = Failed} old now left_before left kept (Ok Feed) → line ≡ kept
-      → TakesPart (λ more. first (line ++ 10 ∷ more)) asks now next left left_after result → GivesPart cut asks old next left_before left_after result
+      → TakesSegment (λ more. first (line ++ 10 ∷ more)) asks now next left left_after result → GivesSegment cut asks old next left_before left_after result
   feed_given {R} {old} {now} {left_before} {left} {line} {kept} asks next left_after result reads is takes =
       let text = reads.0 in
-      part_given asks old next left_before left_after result
-      (part_behind first (λ more. first (line ++ 10 ∷ more)) asks old now next left_before left left_after (text ++ 10 ∷ []) result
+      segment_given asks old next left_before left_after result
+      (segment_behind first (λ more. first (line ++ 10 ∷ more)) asks old now next left_before left left_after (text ++ 10 ∷ []) result
       (gave_line old now left_before left kept text (text ++ 10 ∷ []) reads.1)
       (λ more. ap first (append_assoc text (10 ∷ []) more) ∙ lines.kept text more reads.1.one_line ∙ ap (λ xs. first (xs ++ 10 ∷ more)) (sym (is ∙ reads.1.kept))) takes)
 
   -- the last line, without a line feed
   pub last_given : {R : Type 0} {old new : Stocked} {left_before left : Option (List ℕ)} {line kept : List ℕ} (asks : R → I) (asked : Option R)
       → ReadsLine {E = Failed} old new left_before left kept (Ok LastLine) → line ≡ kept → option_map asks asked ≡ (first line).item
-      → GivesPart {E = Failed} cut asks old new left_before left (Ok (Last asked))
+      → GivesSegment {E = Failed} cut asks old new left_before left (Ok (Last asked))
   last_given {R} {old} {new} {left_before} {left} {line} {kept} asks asked reads is tells =
-      part_given {E = Failed} asks old new left_before left (Ok (Last asked)) (record {
+      segment_given {E = Failed} asks old new left_before left (Ok (Last asked)) (record {
         bytes = reads.0;
         gave = gave_line old new left_before left kept reads.0 reads.0 reads.1;
         within = reads.2;
@@ -138,7 +138,7 @@ module _ {I : Type 0} {cut : Cut I} {first : List ℕ → FirstOf I} (cuts : Cut
     nothing_ahead = reads.3;
   }
 
--- ---- behind parts that ask for nothing
+-- ---- behind segments that ask for nothing
 pub whole_then : {I : Type 0} {cut : Cut I} {bytes more : List ℕ} {items others : List I} → IsWhole cut bytes items → IsWhole cut more others
     → IsWhole cut (bytes ++ more) (items ++ others)
 whole_then {cut = cut} {bytes} {more} {items} {others} are then = record {
@@ -157,57 +157,57 @@ module _ {I : Type 0} {cut : Cut I} {old now next : Stocked} {left_before left l
   then_gave bytes gave = gave_then old now next left_before left left_after skipping.bytes bytes skipping.gave gave
 
   pub skip_more : GaveWhole cut now next left left_after [] → Skipping cut old next left_before left_after
-  skip_more part = record {
-    bytes = skipping.bytes ++ part.bytes;
-    gave = then_gave part.bytes part.gave;
-    blank = whole_then skipping.blank part.is;
-    some = part.within;
+  skip_more segment = record {
+    bytes = skipping.bytes ++ segment.bytes;
+    gave = then_gave segment.bytes segment.gave;
+    blank = whole_then skipping.blank segment.is;
+    some = segment.within;
   }
 
   pub skip_whole : (item : I) → GaveWhole cut now next left left_after (item ∷ []) → GaveWhole cut old next left_before left_after (item ∷ [])
-  skip_whole item part = record {
-    bytes = skipping.bytes ++ part.bytes;
-    gave = then_gave part.bytes part.gave;
-    some = omega (arith, part.some, length-append skipping.bytes part.bytes);
-    within = part.within;
-    is = whole_then skipping.blank part.is;
+  skip_whole item segment = record {
+    bytes = skipping.bytes ++ segment.bytes;
+    gave = then_gave segment.bytes segment.gave;
+    some = omega (arith, segment.some, length-append skipping.bytes segment.bytes);
+    within = segment.within;
+    is = whole_then skipping.blank segment.is;
   }
 
   pub skip_last : (item : I) → GaveLast cut now next left left_after item → GaveLast cut old next left_before left_after item
-  skip_last item part = record {
-    bytes = skipping.bytes ++ part.bytes;
-    gave = then_gave part.bytes part.gave;
-    some = omega (arith, part.some, length-append skipping.bytes part.bytes);
-    within = part.within;
-    is = record { all = skipping.blank.all part.bytes ∙ part.is.all; whole = skipping.blank.whole part.bytes ∙ part.is.whole };
-    nothing_ahead = part.nothing_ahead;
-    at_end = part.at_end;
+  skip_last item segment = record {
+    bytes = skipping.bytes ++ segment.bytes;
+    gave = then_gave segment.bytes segment.gave;
+    some = omega (arith, segment.some, length-append skipping.bytes segment.bytes);
+    within = segment.within;
+    is = record { all = skipping.blank.all segment.bytes ∙ segment.is.all; whole = skipping.blank.whole segment.bytes ∙ segment.is.whole };
+    nothing_ahead = segment.nothing_ahead;
+    at_end = segment.at_end;
   }
 
   pub skip_end : GaveEnd cut now next left left_after → GaveEnd cut old next left_before left_after
-  skip_end part = record {
-    bytes = skipping.bytes ++ part.bytes;
-    gave = then_gave part.bytes part.gave;
-    within = part.within;
-    none_left = skipping.blank.all part.bytes ∙ part.none_left;
-    nothing_ahead = part.nothing_ahead;
-    at_end = part.at_end;
+  skip_end segment = record {
+    bytes = skipping.bytes ++ segment.bytes;
+    gave = then_gave segment.bytes segment.gave;
+    within = segment.within;
+    none_left = skipping.blank.all segment.bytes ∙ segment.none_left;
+    nothing_ahead = segment.nothing_ahead;
+    at_end = segment.at_end;
   }
 
   pub skip_past : Overran cut now next left left_after → Overran cut old next left_before left_after
-  skip_past part = record {
-    bytes = skipping.bytes ++ part.bytes;
-    byte = part.byte;
-    gave = subst (λ xs. Gave old next left_before left_after xs) (sym (append_assoc skipping.bytes part.bytes (part.byte ∷ []))) (then_gave (part.bytes ++ part.byte ∷ []) part.gave);
-    spent = part.spent;
-    none_whole = skipping.blank.whole part.bytes ∙ part.none_whole;
+  skip_past segment = record {
+    bytes = skipping.bytes ++ segment.bytes;
+    byte = segment.byte;
+    gave = subst (λ xs. Gave old next left_before left_after xs) (sym (append_assoc skipping.bytes segment.bytes (segment.byte ∷ []))) (then_gave (segment.bytes ++ segment.byte ∷ []) segment.gave);
+    spent = segment.spent;
+    none_whole = skipping.blank.whole segment.bytes ∙ segment.none_whole;
   }
 
   pub skip_rest : GaveRest cut now next left left_after → GaveRest cut old next left_before left_after
-  skip_rest part = record {
-    bytes = skipping.bytes ++ part.bytes;
-    gave = then_gave part.bytes part.gave;
-    within = part.within;
-    none_whole = skipping.blank.whole part.bytes ∙ part.none_whole;
-    nothing_ahead = part.nothing_ahead;
+  skip_rest segment = record {
+    bytes = skipping.bytes ++ segment.bytes;
+    gave = then_gave segment.bytes segment.gave;
+    within = segment.within;
+    none_whole = skipping.blank.whole segment.bytes ∙ segment.none_whole;
+    nothing_ahead = segment.nothing_ahead;
   }

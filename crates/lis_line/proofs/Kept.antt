@@ -10,7 +10,7 @@ use Rattle.lis_model.specs.Script.{FirstOf, is_long, item_of, payload_size, firs
 use Rattle.lis_line.specs.Stock.{Stocked, LineTaken}
 use Rattle.lis_model.proofs.Lines.{IsOneLine, line_alone, last_alone, last_with, with_cut}
 
--- Parts begin with a line: of a long line the first 1,025 bytes tell as much, and an input without a line feed is one part, the last.
+-- Segments begin with a line: of a long line the first 1,025 bytes tell as much, and an input without a line feed is one segment, the last.
 pub record ByLines {I : Type 0} (first : List ℕ → FirstOf I) : Type 0 where
   pub none : first [] ≡ record { item = None; rest = []; is_whole = false }
   pub last : (text : List ℕ) → IsOneLine text → first text ≡ record { item = (first (take 1025 text)).item; rest = []; is_whole = false }
@@ -29,12 +29,12 @@ front_long text long = le-leb 1025 (length (take 1025 text)) (omega (arith, long
 pub kept_one_line : {old new : Stocked} {left_before left : Option (List ℕ)} {line kept text bytes : List ℕ} → line ≡ kept → LineTaken old new left_before left kept text bytes → IsOneLine line
 kept_one_line {text = text} is taken = subst IsOneLine (sym (is ∙ taken.kept)) (one_line_front 1025 text taken.one_line)
 
--- what a last part asks for, by the part itself
+-- what a last segment asks for, by the segment itself
 pub by_itself : {I : Type 0} (first : FirstOf I) (item : Option I) → first ≡ record { item = item; rest = []; is_whole = false }
     → first ≡ record { item = first.item; rest = []; is_whole = false }
 by_itself {I} first item is = is ∙ ap (λ asked. record { item = asked; rest = []; is_whole = false }) (sym (ap (λ (f : FirstOf I). f.item) is))
 
--- parts whose long lines all ask for the same
+-- segments whose long lines all ask for the same
 pub by_lines : {I : Type 0} (first : List ℕ → FirstOf I) (long : Option I)
     → first [] ≡ record { item = None; rest = []; is_whole = false }
     → ((text : List ℕ) → IsOneLine text → first text ≡ record { item = (first text).item; rest = []; is_whole = false })

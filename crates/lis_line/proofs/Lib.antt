@@ -7,7 +7,7 @@ mod Saying
 mod Payloads
 mod Sized
 pub mod Kept
-mod Parts
+mod Segments
 mod Asking
 mod Whole
 mod Held

@@ -7,7 +7,7 @@ use Rattle.lis_model.specs.Step.{Payload}
 use Rattle.lis_model.specs.Script.{payload_limit, payload_of}
 use Rattle.lis_line.specs.Stock.{Stocked, stream_of}
 use Rattle.lis_line.specs.Reading.{Gave}
-use Rattle.lis_line.specs.Parts.{with_bytes}
+use Rattle.lis_line.specs.Segments.{with_bytes}
 use Rattle.lis_line.proofs.Bytes.{gave_then, consumes_then}
 
 -- bytes that were ahead are given

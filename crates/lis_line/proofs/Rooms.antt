@@ -20,7 +20,7 @@ before_feed_all : (text : List ℕ) → IsOneLine text → before_feed text ≡ 
 before_feed_all [] h = refl
 before_feed_all (b ∷ text) h = grind (arith, common_steps, before_feed_all text)
 
--- ---- what a first part leaves is no longer than the input
+-- ---- what a first segment leaves is no longer than the input
 feed_shorter : (bytes : List ℕ) → length (after_feed bytes) ≤ length bytes
 feed_shorter [] = omega arith
 feed_shorter (b ∷ bytes) = grind (arith, common_steps, feed_shorter bytes)
@@ -114,7 +114,7 @@ words_behind line word words some is =
     ∙ two_before_return (after_blanks line) (subst (λ xs. 2 ≤ length xs) (return_kept line) (omega (arith, two, fits))) in
     ap words_of (sym kept) ∙ back
 
--- ---- the first part by its line
+-- ---- the first segment by its line
 one_line_behind : (n : ℕ) (text : List ℕ) → IsOneLine text → IsOneLine (drop n text)
 one_line_behind zero text one = one
 one_line_behind (suc n) [] one = refl

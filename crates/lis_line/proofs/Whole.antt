@@ -67,7 +67,7 @@ feed_at bytes some = elim (cases_lt (line_len bytes) (length bytes)) as (λ _. (
 ]
 
 -- ---- a payload, and what ends it
--- Where there are bytes enough, the part is whole exactly where a line feed stands behind the payload.
+-- Where there are bytes enough, the segment is whole exactly where a line feed stands behind the payload.
 ended_is_whole : (item : Option Item) (bytes : List ℕ) → (first_ended item bytes).is_whole ≡ list_any is_feed bytes
 ended_is_whole item [] = refl
 ended_is_whole item (b ∷ bytes) = by (is_feed b)
@@ -110,10 +110,10 @@ ended_at item (b ∷ text) one = by (is_feed b) one
           ∙ ap (λ whole. record { item = Some (Bad PayloadEnd); rest = more; is_whole = whole }) (has_feed text more),
     )
 
--- ---- the first part
-part_lies : (bytes front rest : List ℕ) (item : Item) → bytes ≡ front ++ rest
+-- ---- the first segment
+segment_lies : (bytes front rest : List ℕ) (item : Item) → bytes ≡ front ++ rest
     → ((more : List ℕ) → first_of (front ++ more) ≡ record { item = Some item; rest = more; is_whole = true }) → LiesWhole session_cut bytes
-part_lies bytes front rest item is whole = record { front = front; rest = rest; is = is; item = item; whole = whole_is session_cuts session_lines front (Some item) whole }
+segment_lies bytes front rest item is whole = record { front = front; rest = rest; is = is; item = item; whole = whole_is session_cuts session_lines front (Some item) whole }
 
 pub sized_lies : (bytes line behind : List ℕ) (size : ℕ) → bytes ≡ line ++ 10 ∷ behind → IsOneLine line → payload_size line ≡ Some size
     → (first_with line size behind).is_whole ≡ true → LiesWhole session_cut bytes
@@ -125,7 +125,7 @@ sized_lies bytes line behind size is one sized whole = elim (cases_lt (length be
       let ends = feed_at (drop size behind) (sym (with_is_whole line behind size enough) ∙ whole) in
       let asks = sized_asks line size (payload_of size payload) sized in
       let ended = ended_at asks.0 ends.0 ends.3 in
-      part_lies bytes (line ++ 10 ∷ (payload ++ (ends.0 ++ 10 ∷ []))) ends.1 ended.0
+      segment_lies bytes (line ++ 10 ∷ (payload ++ (ends.0 ++ 10 ∷ []))) ends.1 ended.0
       (is ∙ ap (λ xs. line ++ 10 ∷ xs) (sym (take-append-drop size behind) ∙ ap (λ xs. payload ++ xs) ends.2
       ∙ sym (append_assoc payload (ends.0 ++ 10 ∷ []) ends.1 ∙ ap (λ xs. payload ++ xs) (append_assoc ends.0 (10 ∷ []) ends.1)))
       ∙ sym (append_assoc line (10 ∷ (payload ++ (ends.0 ++ 10 ∷ []))) ends.1))
@@ -149,7 +149,7 @@ line_lies bytes line behind is one none some = by (item_of line no_payload) refl
   where
     by : (item : Option Item) → item_of line no_payload ≡ item → (item ≡ None → ⊥) → LiesWhole session_cut bytes
     by None asks some = absurd (some refl)
-    by (Some item) asks some = part_lies bytes (line ++ 10 ∷ []) behind item (is ∙ sym (append_assoc line (10 ∷ []) behind)) (alone line (Some item) one none asks)
+    by (Some item) asks some = segment_lies bytes (line ++ 10 ∷ []) behind item (is ∙ sym (append_assoc line (10 ∷ []) behind)) (alone line (Some item) one none asks)
 
 -- ---- lines that ask for nothing, one after another
 pub record Passing (bytes rest : List ℕ) : Type 0 where

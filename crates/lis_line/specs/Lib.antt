@@ -4,6 +4,6 @@ pub mod Inside
 pub mod Reading
 pub mod Taking
 pub mod Endings
-pub mod Parts
+pub mod Segments
 pub mod Tagged
 pub mod Spoken

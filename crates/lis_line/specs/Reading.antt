@@ -8,8 +8,8 @@ use Rattle.lis_model.specs.Script.{Cut}
 use Rattle.lis_line.specs.Stock.{Stocked, stream_of}
 use Rattle.lis_model.specs.declared.command.Command.{Command}
 use Rattle.lis_model.specs.declared.refusal.Refusal.{Refusal}
-use Rattle.lis_line.specs.declared.input.Part.{Part}
-use Rattle.lis_line.specs.declared.input.Part.TheVariants.{Whole as WholePart, Last as LastPart, PastLimit as PartPast}
+use Rattle.lis_line.specs.declared.input.Segment.{Segment}
+use Rattle.lis_line.specs.declared.input.Segment.TheVariants.{Whole as WholeSegment, Last as LastSegment, PastLimit as SegmentPast}
 use Rattle.lis_line.specs.declared.taken.Taken.{Taken}
 use Rattle.lis_line.specs.declared.taken.Taken.TheVariants.{Whole, Last, NoMore, PastLimit}
 use Rattle.lis_line.specs.declared.reader.Next.{Next}
@@ -85,13 +85,13 @@ pub record GaveRest {I : Type 0} (cut : Cut I) (old new : Stocked) (left_before 
   pub none_whole : cut.whole bytes ≡ []
   pub nothing_ahead : new.ahead ≡ []
 
--- what is taken as one part out of a stock, where `asks` tells what it asks for
-abbrev pub GivesPart : {I R E : Type 0} → Cut I → (R → I) → Stocked → Stocked → Option (List ℕ) → Option (List ℕ) → Result (Part R) E → Type 0
-GivesPart cut asks old new left_before left (Ok (WholePart asked)) = GaveWhole cut old new left_before left (option_to_list (option_map asks asked))
-GivesPart cut asks old new left_before left (Ok (LastPart (Some asked))) = GaveLast cut old new left_before left (asks asked)
-GivesPart cut asks old new left_before left (Ok (LastPart None)) = GaveEnd cut old new left_before left
-GivesPart cut asks old new left_before left (Ok PartPast) = Overran cut old new left_before left
-GivesPart cut asks old new left_before left (Err failed) = GaveRest cut old new left_before left
+-- what is taken as one segment out of a stock, where `asks` tells what it asks for
+abbrev pub GivesSegment : {I R E : Type 0} → Cut I → (R → I) → Stocked → Stocked → Option (List ℕ) → Option (List ℕ) → Result (Segment R) E → Type 0
+GivesSegment cut asks old new left_before left (Ok (WholeSegment asked)) = GaveWhole cut old new left_before left (option_to_list (option_map asks asked))
+GivesSegment cut asks old new left_before left (Ok (LastSegment (Some asked))) = GaveLast cut old new left_before left (asks asked)
+GivesSegment cut asks old new left_before left (Ok (LastSegment None)) = GaveEnd cut old new left_before left
+GivesSegment cut asks old new left_before left (Ok SegmentPast) = Overran cut old new left_before left
+GivesSegment cut asks old new left_before left (Err failed) = GaveRest cut old new left_before left
 
 -- what is taken next that asks for something
 abbrev pub GivesAsked : {I R E : Type 0} → Cut I → (R → I) → Stocked → Stocked → Option (List ℕ) → Option (List ℕ) → Result (Taken R) E → Type 0

@@ -2,6 +2,7 @@
 use Rattle.std.specs.Prelude.{◌≡◌, ℕ, ◌+◌, ◌<◌, Bool, true, false, List, [], ◌∷◌, ◌++◌, length, take, Option, Some, None, Result, Ok, Err}
 use Rattle.std.specs.Io.KnownBytes.{prepend_known, Consumes, Keeps, IsAtEnd}
 use Rattle.std.specs.List.{list_any}
+use Rattle.lis_limits.specs.declared.TheConstants.{MAX_LINE}
 use Rattle.lis_line.specs.declared.stock.LineEnd.{LineEnd}
 use Rattle.lis_line.specs.declared.stock.LineEnd.TheVariants.{Feed, Last, Spent}
 use Rattle.lis_words.specs.Bytes.{is_feed}
@@ -45,7 +46,7 @@ pub record LineTaken (old new : Stocked) (left_before left : Option (List ℕ)) 
   pub one_line : list_any is_feed text ≡ false
   pub took : Consumes (stream_of old left_before) (stream_of new left) bytes
   pub rest : length bytes + new.rest ≡ old.rest
-  pub kept : line ≡ take 1025 text
+  pub kept : line ≡ take (MAX_LINE + 1) text
 
 -- a line ends at its line feed, at the end of the input, at the byte past the limit, or at a fault
 abbrev pub ReadsLine : {E : Type 0} → Stocked → Stocked → Option (List ℕ) → Option (List ℕ) → List ℕ → Result LineEnd E → Type 0

@@ -51,7 +51,7 @@ in_room room first = record {
   is_whole = first.is_whole;
 }
 
--- The first part of an input, by the room in which its line is said. What stands behind the two bytes of the tag is read as a line of a
+-- The first segment of an input, by the room in which its line is said. What stands behind the two bytes of the tag is read as a line of a
 -- session, with the payload that follows it. Nothing follows a line that is said in no room.
 abbrev pub first_spoken : Option ℕ → List ℕ → FirstOf Tagged
 first_spoken None bytes = record { item = no_room (before_feed bytes); rest = after_feed bytes; is_whole = list_any is_feed bytes }

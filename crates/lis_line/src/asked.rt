@@ -11,6 +11,7 @@ use crate::forms::{
     pwd_form, rename_form, rm_form, rmdir_form, stat_form, unaxiom_form, way_form, write_form,
 };
 use crate::line::{is_long, next_word, without_return};
+use lis_limits::MAX_LINE;
 use lis_model::command::Command;
 use lis_model::refusal::Refusal;
 use lis_words::read_count;
@@ -27,7 +28,7 @@ fn is_word(first: &[u8], word: &[u8]) -> bool
 
 /// What a line asks for by its first word and what stands behind it.
 fn command_of(first: &[u8], rest: &[u8]) -> Request
-    requires { length rest.now ≤ 1024 }
+    requires { length rest.now ≤ MAX_LINE }
     ensures { (payload : Payload) → asked_of payload result ≡ form_of first.now (words_of rest.now) payload }
 {
     if is_word(first, b"mkdir") {

@@ -9,13 +9,11 @@ ghost use Rattle.lis_model.specs.Script.{words_of, one_word_form, two_words_form
 ghost use Rattle.lis_line.specs.Forms.{asked_of, word_asks, pair_asks};
 
 use crate::line::{next_word, no_words, only_word, two_words};
+use lis_limits::{MAX_ASSIGNED, MAX_LINE};
 use lis_model::command::{Command, Tags};
 use lis_model::refusal::Refusal;
 use lis_place::Text;
 use lis_words::{Name, Word, is_count, read_name, read_word};
-
-/// The most words that one line gives a file.
-const MAX_TAGS: usize = 16;
 
 /// Reads a word of a line that may be a property.
 fn read_property(bytes: &[u8]) -> Option<Word>
@@ -102,7 +100,7 @@ fn tags_form(text: &[u8]) -> Result<Tags, Refusal>
             None => return Err(Refusal::BadLine),
             Some(tag) => tag,
         };
-        if tags.len() < MAX_TAGS {
+        if tags.len() < MAX_ASSIGNED {
             tags.push(&tag);
         } else {
             is_over = true;
@@ -177,7 +175,7 @@ pub fn cat_form(text: &[u8]) -> Result<Command, Refusal>
 }
 
 pub fn mv_form(text: &[u8]) -> Result<Command, Refusal>
-    requires { length text.now ≤ 1024 }
+    requires { length text.now ≤ MAX_LINE }
     ensures { (payload : Payload) → asked_of payload result ≡ two_words_form is_file_name any_word (λ name word. Do (Mv name word) no_payload) (words_of text.now) }
 {
     let Some((first, path)) = two_words(text) else {
@@ -217,7 +215,7 @@ pub fn rm_form(text: &[u8]) -> Result<Command, Refusal>
 }
 
 pub fn cd_form(text: &[u8]) -> Result<Command, Refusal>
-    requires { length text.now ≤ 1024 }
+    requires { length text.now ≤ MAX_LINE }
     ensures { (payload : Payload) → asked_of payload result ≡ one_word_form any_word (λ word. Do (Cd word) no_payload) (words_of text.now) }
 {
     let Some(word) = only_word(text) else {

@@ -1,9 +1,9 @@
-//! Inputs of any kind of items, taken part by part.
+//! Inputs of any kind of items, taken segment by segment.
 
 ghost use Rattle.std.specs.Prelude.{◌≡◌, ◌<◌, ◌≤◌, length, Option, Some, ⊤};
 ghost use Rattle.lis_model.specs.Step.{Payload as Told};
 ghost use Rattle.lis_model.specs.Script.{Cut};
-ghost use Rattle.lis_line.specs.Reading.{GivesPart};
+ghost use Rattle.lis_line.specs.Reading.{GivesSegment};
 ghost use Rattle.lis_line.specs.Taking.{UsesSource};
 
 use crate::payload::Payload;
@@ -11,10 +11,10 @@ use crate::stock::Stock;
 use lis_ports::{Failed, Source};
 
 /// What was taken of the input, and what it asks for; None where it asks for nothing.
-pub enum Part<R> {
-    /// A part with its own line feed.
+pub enum Segment<R> {
+    /// A segment with its own line feed.
     Whole(Option<R>),
-    /// The last part, at the end of the input.
+    /// The last segment, at the end of the input.
     Last(Option<R>),
     /// The byte past the limit.
     PastLimit,
@@ -25,13 +25,13 @@ pub trait InputItem: Drop {
     /// What an item asks for, as clauses have it.
     type Asked;
 
-    /// What a part asks for, without its payload.
+    /// What a segment asks for, without its payload.
     type Request: Drop;
 
     /// How an input is cut into items.
     ghost cut: { Cut Self.Asked };
 
-    /// What a part asks for, with its payload.
+    /// What a segment asks for, with its payload.
     ghost asks: { Told → Self.Request → Self.Asked };
 
     /// What an item asks for, with its payload; the end and the limit ask for nothing.
@@ -41,13 +41,13 @@ pub trait InputItem: Drop {
     ghost is_said: { Self → Type 0 } = { λ _. ⊤ };
 
     /// Takes a line, and what belongs to it.
-    fn take_part<S: Source>(
+    fn take_segment<S: Source>(
         stock: &mut Stock,
         payload: &mut Payload,
         source: &mut S,
-    ) -> Result<Part<Self::Request>, Failed>
+    ) -> Result<Segment<Self::Request>, Failed>
         requires { 0 < stock.old.rest }
-        ensures gives { GivesPart cut (asks payload.new) stock.old stock.new (S.left source.old) (S.left source.new) result }
+        ensures gives { GivesSegment cut (asks payload.new) stock.old stock.new (S.left source.old) (S.left source.new) result }
         ensures few { length stock.new.ahead ≤ stock.new.rest }
         ensures source { UsesSource (S.faults source.old) (S.faults source.new) (S.behind source.old) (S.behind source.new) result };
 

@@ -6,8 +6,7 @@ ghost use Rattle.lis_model.specs.Script.{words_of, is_long};
 ghost use Rattle.lis_line.specs.Tagged.{after_blanks};
 ghost use Rattle.lis_words.specs.Bytes.{is_blank, without_return};
 
-/// The most bytes of a line before its line feed.
-const MAX_LINE: usize = 1_024;
+use lis_limits::MAX_LINE;
 
 /// Whether a line has more bytes than a line may have; a carriage return at its end counts.
 pub fn is_long(line: &[u8]) -> bool

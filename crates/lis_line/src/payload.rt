@@ -5,16 +5,14 @@ ghost use Rattle.lis_model.specs.Step.{no_payload};
 ghost use Rattle.lis_model.specs.Script.{payload_limit};
 ghost use Rattle.lis_line.specs.Inside.{frame_bytes, IsKept};
 ghost use Rattle.lis_line.specs.Taking.{UsesSource};
-ghost use Rattle.lis_line.specs.Parts.{with_bytes, TakesRun, Fills};
+ghost use Rattle.lis_line.specs.Segments.{with_bytes, TakesRun, Fills};
 
 use crate::stock::Stock;
+use lis_limits::MAX_PAYLOAD;
 use lis_ports::{Failed, Source};
 use lis_region::{Frame, Region};
 use std::alloc::{AllocError, Global};
 use std::marker::Model;
-
-/// The most bytes of a payload that are kept.
-const ROOM: u32 = 1_048_576;
 
 /// The payload behind a line: how many bytes it has, and the bytes themselves, where so many are kept.
 #[derive(Drop)]
@@ -50,7 +48,7 @@ impl Payload {
     pub fn new(alloc: Global) -> Result<Payload, AllocError>
         ensures { IfOk result (λ payload. payload ≡ no_payload) }
     {
-        let mut region = Region::new(alloc, 1, ROOM, 0)?;
+        let mut region = Region::new(alloc, 1, MAX_PAYLOAD, 0)?;
         let Some(frame) = region.take() else {
             unreachable!()
         };
@@ -75,7 +73,7 @@ impl Payload {
         ensures all { self.now.size ≤ payload_limit → length result.now ≡ self.now.size }
         ensures none { payload_limit < self.now.size → result.now ≡ [] }
     {
-        if self.size > ROOM as u64 {
+        if self.size > MAX_PAYLOAD as u64 {
             return &[];
         }
         &self.region.items(&self.frame)[..self.size as usize]
@@ -94,7 +92,7 @@ impl Payload {
         ensures { self.new ≡ with_bytes self.old bytes.now }
     {
         let size = self.size + bytes.len() as u64;
-        if size <= ROOM as u64 {
+        if size <= MAX_PAYLOAD as u64 {
             write(&mut self.region, &self.frame, self.size as usize, bytes);
         }
         self.size = size;

@@ -21,7 +21,7 @@ use std::marker::Model;
 pub enum Item {
     /// A command. The payload behind its line stands in the `Payload` that `next` was handed.
     Command(Command),
-    /// A part of the input that can't be done.
+    /// A segment of the input that can't be done.
     Bad(Refusal),
     /// The end of the input.
     End,
@@ -103,7 +103,7 @@ impl LineReader {
         !self.is_closed && lies_whole(self.stock.ahead())
     }
 
-    /// What the next item asks for, of an input of any kind, with its payload. Parts that ask for nothing are skipped.
+    /// What the next item asks for, of an input of any kind, with its payload. Segments that ask for nothing are skipped.
     pub fn read<I: InputItem, S: Source>(
         &mut self,
         source: &mut S,

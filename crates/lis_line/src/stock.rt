@@ -6,6 +6,7 @@ ghost use Rattle.lis_line.specs.Taking.{UsesSource};
 ghost use Rattle.lis_words.specs.Bytes.{is_feed};
 
 use arrayvec::ArrayVec;
+use lis_limits::MAX_LINE;
 use lis_ports::{Failed, Source};
 use std::marker::Model;
 
@@ -13,12 +14,12 @@ use std::marker::Model;
 const PIECE: usize = 65_536;
 
 /// How many bytes of a line are kept: one more than a line may have.
-pub const KEPT: usize = 1_025;
+pub const KEPT: usize = MAX_LINE + 1;
 
 /// Bytes taken and not given yet, and how many may still be given.
 #[derive(Drop)]
 pub struct Stock {
-    buf: [u8; 65536],
+    buf: [u8; PIECE],
     start: usize,
     end: usize,
     rest: u64,
@@ -32,7 +33,7 @@ impl Model for Stock {
 
     ghost view = { λ s. record { ahead = take (s.end - s.start) (drop s.start s.buf); rest = s.rest } };
 
-    ghost invariant = { λ s. (s.start ≤ s.end) × (s.end ≤ 65536) × (s.end - s.start ≤ s.rest) };
+    ghost invariant = { λ s. (s.start ≤ s.end) × (s.end ≤ PIECE) × (s.end - s.start ≤ s.rest) };
 }
 
 /// Where a line ended.
@@ -52,7 +53,7 @@ impl Stock {
         ensures rest { result.rest ≡ rest }
     {
         Stock {
-            buf: [0; 65536],
+            buf: [0; PIECE],
             start: 0,
             end: 0,
             rest,
@@ -154,7 +155,7 @@ pub fn is_feed(byte: u8) -> bool
 /// Reads up to the next line feed, and keeps the first bytes of the line.
 pub fn read_line<S: Source>(
     stock: &mut Stock,
-    line: &mut ArrayVec<u8, 1025>,
+    line: &mut ArrayVec<u8, KEPT>,
     source: &mut S,
 ) -> Result<LineEnd, Failed>
     requires some { 0 < stock.old.rest }

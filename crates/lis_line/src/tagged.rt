@@ -8,18 +8,18 @@ ghost use Rattle.lis_model.specs.Script.{line_words, First};
 ghost use Rattle.lis_line.specs.Stock.{Stocked};
 ghost use Rattle.lis_line.specs.Reading.{item_with};
 ghost use Rattle.lis_line.specs.Taking.{UsesSource};
-ghost use Rattle.lis_line.specs.Parts.{TookPart, TakesPart};
+ghost use Rattle.lis_line.specs.Segments.{TookSegment, TakesSegment};
 ghost use Rattle.lis_line.specs.Tagged.{after_blanks, spoken_in, no_room, in_room, first_tagged, tagged_cut};
 ghost use Rattle.lis_line.specs.Spoken.{tagged_with, tagged_by, IsTagged};
 ghost use Rattle.lis_words.specs.Bytes.{is_feed};
 
 use crate::asked::Request;
-use crate::input::{InputItem, Part};
+use crate::input::{InputItem, Segment};
 use crate::line::{after_blanks, is_long, next_word, no_words, without_return};
-use crate::part::{asked_last, take_behind};
 use crate::payload::Payload;
 use crate::reader::Item;
 use crate::room::{Room, room_of};
+use crate::segment::{asked_last, take_behind};
 use crate::stock::{LineEnd, Stock, read_line};
 use arrayvec::ArrayVec;
 use lis_model::refusal::Refusal;
@@ -50,7 +50,7 @@ impl Model for AskedTagged {
     ghost view = { λ _. record { room = None; item = bad_line } };
 }
 
-/// What a part of an input of rooms asks for.
+/// What a segment of an input of rooms asks for.
 #[derive(Drop)]
 pub enum Spoken {
     /// A line that is said in a room.
@@ -101,16 +101,16 @@ fn inside(room: Room, asked: Option<Request>) -> Spoken
     Spoken::Inside(room, asked.unwrap_or(Err(Refusal::BadLine)))
 }
 
-/// The part of a room.
-fn in_room(room: Room, part: Part<Request>) -> Part<Spoken>
+/// The segment of a room.
+fn in_room(room: Room, segment: Segment<Request>) -> Segment<Spoken>
     ensures { (payload : Told) (first : List ℕ → First) (old new : Stocked) (left_before left : Option (List ℕ))
-        → TookPart first (item_with payload) old new left_before left part
-        → TookPart (λ bytes. in_room room.number (first bytes)) (tagged_with payload) old new left_before left result }
+        → TookSegment first (item_with payload) old new left_before left segment
+        → TookSegment (λ bytes. in_room room.number (first bytes)) (tagged_with payload) old new left_before left result }
 {
-    match part {
-        Part::Whole(asked) => Part::Whole(Some(inside(room, asked))),
-        Part::Last(asked) => Part::Last(Some(inside(room, asked))),
-        Part::PastLimit => Part::PastLimit,
+    match segment {
+        Segment::Whole(asked) => Segment::Whole(Some(inside(room, asked))),
+        Segment::Last(asked) => Segment::Last(Some(inside(room, asked))),
+        Segment::PastLimit => Segment::PastLimit,
     }
 }
 
@@ -120,20 +120,20 @@ fn take_spoken<S: Source>(
     payload: &mut Payload,
     line: &[u8],
     source: &mut S,
-) -> Result<Part<Spoken>, Failed>
+) -> Result<Segment<Spoken>, Failed>
     requires some { 0 < stock.old.rest }
     requires few { length stock.old.ahead ≤ stock.old.rest }
     requires empty { payload.old ≡ no_payload }
     requires one_line { list_any is_feed line.now ≡ false }
-    ensures takes { TakesPart (λ more. first_tagged (line.now ++ 10 ∷ more)) (tagged_with payload.new) stock.old stock.new (S.left source.old) (S.left source.new) result }
+    ensures takes { TakesSegment (λ more. first_tagged (line.now ++ 10 ∷ more)) (tagged_with payload.new) stock.old stock.new (S.left source.old) (S.left source.new) result }
     ensures few { length stock.new.ahead ≤ stock.new.rest }
     ensures source { UsesSource (S.faults source.old) (S.faults source.new) (S.behind source.old) (S.behind source.new) result }
 {
     match spoken_in(line) {
-        None => Ok(Part::Whole(refused(line))),
+        None => Ok(Segment::Whole(refused(line))),
         Some(room) => {
-            let part = take_behind(stock, payload, behind_tag(line), source)?;
-            Ok(in_room(room, part))
+            let segment = take_behind(stock, payload, behind_tag(line), source)?;
+            Ok(in_room(room, segment))
         }
     }
 }
@@ -162,17 +162,17 @@ impl InputItem for Tagged {
 
     ghost is_said = { IsTagged };
 
-    fn take_part<S: Source>(
+    fn take_segment<S: Source>(
         stock: &mut Stock,
         payload: &mut Payload,
         source: &mut S,
-    ) -> Result<Part<Spoken>, Failed> {
+    ) -> Result<Segment<Spoken>, Failed> {
         payload.clear();
         let mut line = ArrayVec::new();
         match read_line(stock, &mut line, source)? {
             LineEnd::Feed => take_spoken(stock, payload, line.as_slice(), source),
-            LineEnd::Last => Ok(Part::Last(spoken_last(line.as_slice()))),
-            LineEnd::Spent => Ok(Part::PastLimit),
+            LineEnd::Last => Ok(Segment::Last(spoken_last(line.as_slice()))),
+            LineEnd::Spent => Ok(Segment::PastLimit),
         }
     }
 

@@ -4,16 +4,16 @@ ghost use Rattle.std.specs.Prelude.{◌<◌, ◌≤◌, length};
 ghost use Rattle.lis_line.specs.Reading.{GivesAsked};
 ghost use Rattle.lis_line.specs.Taking.{UsesSource};
 
-use crate::input::{InputItem, Part};
+use crate::input::{InputItem, Segment};
 use crate::payload::Payload;
 use crate::stock::Stock;
 use lis_ports::{Failed, Source};
 
 /// What was taken of the input.
 pub enum Taken<R> {
-    /// A part with its own line feed, and what it asks for.
+    /// A segment with its own line feed, and what it asks for.
     Whole(R),
-    /// The last part, which has no line feed of its own.
+    /// The last segment, which has no line feed of its own.
     Last(R),
     /// The end of the input.
     NoMore,
@@ -21,7 +21,7 @@ pub enum Taken<R> {
     PastLimit,
 }
 
-/// Takes parts up to the first that asks for something.
+/// Takes segments up to the first that asks for something.
 pub fn take_asked<I: InputItem, S: Source>(
     stock: &mut Stock,
     payload: &mut Payload,
@@ -33,12 +33,12 @@ pub fn take_asked<I: InputItem, S: Source>(
     ensures source { UsesSource (S.faults source.old) (S.faults source.new) (S.behind source.old) (S.behind source.new) result }
 {
     loop {
-        match I::take_part(stock, payload, source)? {
-            Part::Whole(Some(asked)) => return Ok(Taken::Whole(asked)),
-            Part::Whole(None) => {}
-            Part::Last(Some(asked)) => return Ok(Taken::Last(asked)),
-            Part::Last(None) => return Ok(Taken::NoMore),
-            Part::PastLimit => return Ok(Taken::PastLimit),
+        match I::take_segment(stock, payload, source)? {
+            Segment::Whole(Some(asked)) => return Ok(Taken::Whole(asked)),
+            Segment::Whole(None) => {}
+            Segment::Last(Some(asked)) => return Ok(Taken::Last(asked)),
+            Segment::Last(None) => return Ok(Taken::NoMore),
+            Segment::PastLimit => return Ok(Taken::PastLimit),
         }
     }
 }

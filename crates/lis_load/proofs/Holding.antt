@@ -12,8 +12,8 @@ use Rattle.lis_model.specs.State.{State}
 use Rattle.lis_model.specs.Step.{Situation, Outcome, Item, Payload, step, done, replies_by, after_by}
 use Rattle.lis_model.specs.Step.Item.{Do}
 use Rattle.lis_store.specs.Changes.{Holds}
-use Rattle.lis_store.specs.declared.change.Change.{Change}
-use Rattle.lis_store.specs.declared.change.Change.TheVariants.{Refused, Disk}
+use Rattle.lis_store.specs.declared.change_fault.ChangeFault.{ChangeFault}
+use Rattle.lis_store.specs.declared.change_fault.ChangeFault.TheVariants.{Refused, Disk}
 use Rattle.lis_store.specs.Stands.{Stands}
 use Rattle.lis_store.specs.Stored.{StoreHolds}
 use Rattle.lis_session.specs.declared.end.End.TheVariants.{DiskFault}
@@ -67,7 +67,7 @@ module _ (start : Situation) (first : List Item) (item : Item) where
     held_moment image (inl (inr here)) = at_count (length first) image whole_first (omega arith) (subst (λ s. Stands image s) (sym before_item) here)
     held_moment image (inr made) = at_count (length all) image (omega (arith, one_more, whole_first)) (omega (arith, one_more)) (subst (λ s. Stands image s) (sym behind_item) made)
 
-    held_next : (next : Loader) (m : Meaning) {result : Result (Unit {0}) Change} (end : Type 0) → Holds (state_after step start first waits.base) last outcome next.session.store mid m result → end → Next start all before mid m end
+    held_next : (next : Loader) (m : Meaning) {result : Result (Unit {0}) ChangeFault} (end : Type 0) → Holds (state_after step start first waits.base) last outcome next.session.store mid m result → end → Next start all before mid m end
     held_next next m end holds is = record {
       moments = quiet_next start all before waits.whole shown_front held_moment holds.moments;
       past = past_start start first waits.base mid m holds.past;
@@ -113,7 +113,7 @@ module _ (start : Situation) (first : List Item) (item : Item) where
 -- ---- a change
 module _ {start now : Loader} (next : Loader) {entry mid : Meaning} (m : Meaning) {first : List Item} (loaded : HasLoaded start entry first now mid (Ok tt)) (room : length now.held.items < lag)
     (command : Command) (payload : Payload) (changes : is_change command ≡ true) (place : next.session.place ≡ now.session.place) where
-  abbrev Held : Result (Unit {0}) Change → Type 0
+  abbrev Held : Result (Unit {0}) ChangeFault → Type 0
   Held result = MakesHeld (λ at. done at command payload) now.session.place now.session.store next.session.store mid m result
 
   module _ (from : Situation) (waits : Waits from first entry.shown now mid) where
@@ -127,7 +127,7 @@ module _ {start now : Loader} (next : Loader) {entry mid : Meaning} (m : Meaning
     unfolding step
     stays = change_stays before_it command payload changes
 
-    holds_so : (result : Result (Unit {0}) Change) → Held result → Holds base before_it (step before_it (Do command payload)) next.session.store mid m result
+    holds_so : (result : Result (Unit {0}) ChangeFault) → Held result → Holds base before_it (step before_it (Do command payload)) next.session.store mid m result
     unfolding step
     holds_so result makes =
         subst (λ p. Holds base (record { state = before_it.state; place = p }) (done (record { state = before_it.state; place = p }) command payload) next.session.store mid m result) waits.at

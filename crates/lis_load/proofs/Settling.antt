@@ -16,8 +16,8 @@ use Rattle.lis_model.specs.Image.{image_blocks}
 use Rattle.lis_model.specs.State.{State}
 use Rattle.lis_model.specs.Step.{Situation, Item, step, replies_by, after_by}
 use Rattle.lis_store.specs.Changes.{Commits, CommitLeft}
-use Rattle.lis_store.specs.declared.change.Change.{Change}
-use Rattle.lis_store.specs.declared.change.Change.TheVariants.{Refused, Disk}
+use Rattle.lis_store.specs.declared.change_fault.ChangeFault.{ChangeFault}
+use Rattle.lis_store.specs.declared.change_fault.ChangeFault.TheVariants.{Refused, Disk}
 use Rattle.lis_store.specs.Stands.{Stands}
 use Rattle.lis_store.specs.Stored.{IsSound, StoreFits, StoreHolds}
 use Rattle.lis_session.specs.declared.end.End.{End}
@@ -141,7 +141,7 @@ module _ {start : Situation} {items : List Item} {before : Option (List ℕ)} {n
       load_at start items waits.whole (length items) image (omega (arith, waits.behind, waits.within)) (omega (arith, waits.counted, waits.few)) (omega arith)
       (subst (λ s. Stands image s) (sym (state_whole step start items)) all)
 
-  pub committed : (next : Loader) (m : Meaning) {result : Result (Unit {0}) Change} (end : Type 0) → Commits (state_after step start items waits.base) last next.session.store mid m result → end → Next start items before mid m end
+  pub committed : (next : Loader) (m : Meaning) {result : Result (Unit {0}) ChangeFault} (end : Type 0) → Commits (state_after step start items waits.base) last next.session.store mid m result → end → Next start items before mid m end
   committed next m end commits is = record {
     moments = quiet_next start items before waits.whole waits.shown commit_moment commits.moments;
     past = past_start start items waits.base mid m commits.past;
@@ -178,19 +178,19 @@ module _ {start : Situation} {items : List Item} {before : Option (List ℕ)} {n
 
 -- ---- settling
 -- whatever is held back is committed so
-abbrev CommitsAll : Loader → Loader → Meaning → Meaning → Result (Unit {0}) Change → Type 0
+abbrev CommitsAll : Loader → Loader → Meaning → Meaning → Result (Unit {0}) ChangeFault → Type 0
 CommitsAll now next old new result = (base state : State) → StoreHolds now.session.store old base state → Commits base state next.session.store old new result
 
 module _ {start now next : Loader} {entry mid m : Meaning} {first : List Item} (done : HasLoaded start entry first now mid (Ok tt)) (stays : next.session.place ≡ now.session.place) where
   -- the commit failed
-  pub commit_broke : (result : Result (Unit {0}) Change) → is_err result ≡ true → CommitLeft next.session.store result → SessionKeeps now.session mid next.session m (kept_up result) → CommitsAll now next mid m result
+  pub commit_broke : (result : Result (Unit {0}) ChangeFault) → is_err result ≡ true → CommitLeft next.session.store result → SessionKeeps now.session mid next.session m (kept_up result) → CommitsAll now next mid m result
       → HasLoaded start entry first next m (Err DiskFault)
   commit_broke (Ok u) is left keeps commits = absurd (cc is)
   commit_broke (Err (Refused refusal)) is left keeps commits = absurd (cc left)
   commit_broke (Err Disk) is left keeps commits = loaded_then (λ from image shown moment. moment) done keeps (λ from waits. committed waits next m (Unit {0}) (commits _ _ waits.holds) tt)
 
   -- it was made, and what waited is shown
-  pub settled : (result : Result (Unit {0}) Change) (new : Meaning) (ended : Result (Unit {0}) End) → is_err result ≡ false → SessionKeeps now.session mid next.session m (kept_up result) → CommitsAll now next mid m result
+  pub settled : (result : Result (Unit {0}) ChangeFault) (new : Meaning) (ended : Result (Unit {0}) End) → is_err result ≡ false → SessionKeeps now.session mid next.session m (kept_up result) → CommitsAll now next mid m result
       → Answers m new (flat_map answer now.held.items) ended → IfOk ended (λ _. next.held.items ≡ []) → HasLoaded start entry first next new ended
   settled (Err refused) new ended is keeps commits answers none = absurd (cc is)
   settled (Ok u) new ended is keeps commits answers none =

@@ -20,7 +20,7 @@ use lis_session::changes::is_change;
 use lis_session::end::End;
 use lis_session::replies::{answer_ok, answer_refusal};
 use lis_session::session::Session;
-use lis_store::Change;
+use lis_store::ChangeFault;
 
 /// A session whose changes are held back, and of each of them in turn why it was refused, or none where it was made. That is shown once
 /// they are committed.
@@ -97,8 +97,8 @@ impl Loader {
     {
         let refused = match self.session.hold(command, payload, station) {
             Ok(()) => None,
-            Err(Change::Refused(refusal)) => Some(refusal),
-            Err(Change::Disk) => return Err(End::DiskFault),
+            Err(ChangeFault::Refused(refusal)) => Some(refusal),
+            Err(ChangeFault::Disk) => return Err(End::DiskFault),
         };
         self.held.push(refused);
         Ok(())

@@ -6,12 +6,13 @@ ghost use Rattle.lis_model.specs.Noted.{noted_all};
 ghost use Rattle.lis_transducers.specs.Mail.{with_head};
 
 use arrayvec::ArrayVec;
+use lis_limits::MAX_WORD;
 use lis_model::derived::Derived;
 use lis_words::{Word, read_formula_word};
 
 /// The head and the bytes behind it in small letters. None comes exactly where they are more than 60 bytes.
 pub fn with_head(head: &[u8], bytes: &[u8]) -> Option<ArrayVec<u8, 60>>
-    ensures { MatchOption result (60 < length (with_head head.now bytes.now))
+    ensures { MatchOption result (MAX_WORD < length (with_head head.now bytes.now))
         (λ joined. joined.items ≡ with_head head.now bytes.now) }
 {
     let mut joined = ArrayVec::new();

@@ -1,6 +1,7 @@
 -- A station in memory as it is seen, and when it fails.
 use Rattle.std.specs.Prelude.{◌≡◌, ℕ, ◌-◌, ◌^◌, ◌==◌, nat_lt, Bool, ◌||◌, List, []}
 use Rattle.std.specs.List.{list_any}
+use Rattle.lis_memdisk.specs.declared.history.TheConstants.{PLAIN_ROOM}
 use Rattle.lis_ports.specs.Meaning.{Meaning}
 use Rattle.lis_memdisk.specs.declared.mem_station.MemStation.{MemStation}
 use Rattle.lis_memdisk.specs.Changes.{Medium, fresh, state_at}
@@ -50,7 +51,7 @@ pub record IsNew (m : MemStation) (bytes : List ℕ) (room : ℕ) : Type 0 where
   pub fails : m.fails.items ≡ []
   pub show_fails : m.show_fails.items ≡ []
   pub fuse : m.fuse ≡ 2 ^ 64 - 1
-  pub step : m.step ≡ 65536
+  pub step : m.step ≡ PLAIN_ROOM
 
 -- What it was told stays: which calls fail, and how much one shows.
 abbrev pub KeepsOrders : MemStation → MemStation → Type 0

@@ -1,6 +1,7 @@
 -- A disk in memory as it is seen, and what it means.
 use Rattle.std.specs.Prelude.{◌≡◌, ℕ, ◌+◌, ◌-◌, ◌^◌, ◌<◌, ◌≤◌, min, nat_lt, nat_le, Bool, true, ◌&&◌, ◌||◌, if◌then◌else◌, List, [], ◌∷◌, ◌++◌, length, Some, IsTrue}
 use Rattle.std.specs.List.{list_all}
+use Rattle.lis_memdisk.specs.declared.history.TheConstants.{PLAIN_ROOM}
 use Rattle.lis_ports.specs.Meaning.{Meaning}
 use Rattle.lis_ports.specs.Bytes.{put}
 use Rattle.lis_memdisk.specs.Changes.{Deed, Change, Medium, fresh, bytes_of, replay, IsImage, clock_at, time_of, Moment}
@@ -138,7 +139,7 @@ first_seen bytes room = record {
   changes = [];
   bytes = bytes;
   shown = [];
-  left = if nat_lt 0 room then room else 65536;
+  left = if nat_lt 0 room then room else PLAIN_ROOM;
   calls = 0;
   shows = 0;
 }

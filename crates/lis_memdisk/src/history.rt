@@ -13,7 +13,7 @@ use lis_ports::Failed;
 use std::alloc::{AllocError, Global};
 
 /// How many bytes may be shown where no record is kept.
-const PLAIN_ROOM: usize = 65_536;
+pub const PLAIN_ROOM: usize = 65_536;
 
 #[derive(Drop)]
 pub struct History {

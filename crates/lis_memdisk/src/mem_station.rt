@@ -10,7 +10,7 @@ ghost use Rattle.lis_memdisk.specs.Seen.{IsNext, IsNextShow};
 ghost use Rattle.lis_memdisk.specs.Changes.{crashed};
 
 use crate::counting::failed;
-use crate::history::History;
+use crate::history::{History, PLAIN_ROOM};
 use lis_ports::{Disk, Failed, Station};
 use std::alloc::{AllocError, Global};
 
@@ -52,7 +52,7 @@ impl MemStation {
             fails: Vec::new(alloc),
             show_fails: Vec::new(alloc),
             fuse: u64::MAX,
-            step: 65_536,
+            step: PLAIN_ROOM,
             history: History::new(alloc, bytes, room)?,
             disk_faults: 0,
             show_faults: 0,

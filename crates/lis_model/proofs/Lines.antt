@@ -1,4 +1,4 @@
--- What the first part of an input adds to its items.
+-- What the first segment of an input adds to its items.
 use Rattle.std.proofs.Common.{◌≡◌, ℕ, ◌≤◌, ◌<◌, nat_lt, Bool, true, false, cond, ◌||◌, Option, Some, None, List, [], ◌∷◌, ◌++◌, length, take, drop, ◌-◌, ◌⊎◌, zero, suc, refl, ap, sym, subst, ◌∙◌, inl, inr, arith, append-nil, length-append}
 use Rattle.std.proofs.lemmas.List.{length-drop}
 use Rattle.std.proofs.Math.Seq.{take-append_seam, drop-append_seam}
@@ -86,7 +86,7 @@ whole_fuel first some (suc n) (suc m) (b ∷ bytes) h k =
     ap (λ items. cond (first (b ∷ bytes)).is_whole (option_to_list (first (b ∷ bytes)).item ++ items) [])
     (whole_fuel first some n m (first (b ∷ bytes)).rest (omega (arith, some b bytes)) (omega (arith, some b bytes)))
 
--- A cut of inputs by their first parts: what the first part asks for, and then the items of the rest.
+-- A cut of inputs by their first segments: what the first segment asks for, and then the items of the rest.
 pub record CutsBy {I : Type 0} (cut : Cut I) (first : List ℕ → FirstOf I) : Type 0 where
   pub all_none : cut.all [] ≡ []
   pub whole_none : cut.whole [] ≡ []
@@ -118,7 +118,7 @@ pub session_cuts : CutsBy session_cut first_of
 unfolding all_items whole_items
 session_cuts = cuts_by first_of rest_shorter
 
--- the items of a session: what the first part of its input asks for, and then those of the rest
+-- the items of a session: what the first segment of its input asks for, and then those of the rest
 pub all_items_of : (bytes : List ℕ) (first : First) → 0 < length bytes → first_of bytes ≡ first
     → all_items bytes ≡ option_to_list first.item ++ all_items first.rest
 all_items_of bytes first some is = session_cuts.all bytes first some is

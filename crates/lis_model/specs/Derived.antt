@@ -1,6 +1,7 @@
 -- The words that a file has by its name and its bytes: by the end of its name, by its size, and by what a mail or a C source says.
 use Rattle.std.specs.Prelude.{ℕ, ◌==◌, nat_lt, Bool, false, ◌||◌, if◌then◌else◌, Option, Some, None, List, [], ◌∷◌, ◌++◌, length, filter, codes}
 use Rattle.std.specs.List.{list_any}
+use Rattle.lis_limits.specs.declared.TheConstants.{MEDIUM_FILE, SMALL_FILE}
 use Rattle.lis_words.specs.Words.{is_word, same_word}
 use Rattle.lis_transducers.specs.Mail.{mail_words}
 use Rattle.lis_transducers.specs.Source.{source_words}
@@ -27,8 +28,8 @@ suffix_words (Some suffix) = filter is_word ((codes "ext:" ++ suffix) ∷ [])
 abbrev pub size_word : ℕ → List ℕ
 size_word size =
     if size == 0 then codes "size:empty"
-    else if nat_lt size 1024 then codes "size:small"
-    else if nat_lt size 16384 then codes "size:medium"
+    else if nat_lt size SMALL_FILE then codes "size:small"
+    else if nat_lt size MEDIUM_FILE then codes "size:medium"
     else codes "size:large"
 
 -- the suffix is this one; its case is judged

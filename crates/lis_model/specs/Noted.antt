@@ -1,13 +1,14 @@
 -- Words noted one after another, each once and 48 at most.
 use Rattle.std.specs.Prelude.{ℕ, nat_lt, Bool, true, not, ◌&&◌, if◌then◌else◌, List, [], ◌∷◌, ◌++◌, length}
 use Rattle.std.specs.List.{fold}
+use Rattle.lis_limits.specs.declared.TheConstants.{MAX_DERIVED}
 use Rattle.lis_words.specs.Words.{has_word}
 
 -- the words, with one more where it is not there and fewer than 48 are
 abbrev pub noted : List (List ℕ) → List ℕ → List (List ℕ)
 noted words word =
     if has_word words word then words
-    else (if nat_lt (length words) 48 then words ++ word ∷ [] else words)
+    else (if nat_lt (length words) MAX_DERIVED then words ++ word ∷ [] else words)
 
 abbrev pub noted_all : List (List ℕ) → List (List ℕ) → List (List ℕ)
 noted_all words more = fold noted words more

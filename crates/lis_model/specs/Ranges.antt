@@ -1,5 +1,6 @@
 -- Which limits a state may have.
 use Rattle.std.specs.Prelude.{ℕ, ◌^◌, ◌%◌, ◌==◌, nat_le, Bool, ◌&&◌, ◌||◌}
+use Rattle.lis_limits.specs.declared.TheConstants.{MAX_PROPS, MAX_BLOCKS}
 use Rattle.lis_model.specs.declared.limits.Limits.{Limits}
 
 -- a power of two from 64 to 4,096
@@ -9,10 +10,10 @@ is_files_limit n =
 
 -- a multiple of 64 from 64 to 8,192
 abbrev pub is_props_limit : ℕ → Bool
-is_props_limit n = nat_le 64 n && nat_le n 8192 && (n % 64 == 0)
+is_props_limit n = nat_le 64 n && nat_le n MAX_PROPS && (n % 64 == 0)
 
 abbrev pub is_blocks_limit : ℕ → Bool
-is_blocks_limit n = nat_le 1 n && nat_le n 32768
+is_blocks_limit n = nat_le 1 n && nat_le n MAX_BLOCKS
 
 abbrev pub is_version : ℕ → Bool
 is_version n = (n == 1) || (n == 2)

@@ -81,10 +81,26 @@ two_digits n = (48 + n / 10) ∷ (48 + n % 10) ∷ []
 abbrev pub refusal_line : Refusal → List ℕ
 refusal_line refusal = line (codes "no " ++ two_digits (number_of refusal) ++ 32 ∷ refusal_words refusal)
 
+-- the letters that begin the lines of a reply
+abbrev pub word_letter : ℕ
+word_letter = 100
+
+abbrev pub file_letter : ℕ
+file_letter = 102
+
+abbrev pub property_letter : ℕ
+property_letter = 112
+
+abbrev pub place_letter : ℕ
+place_letter = 119
+
+abbrev pub refusal_letter : ℕ
+refusal_letter = 110
+
 -- a listing: `d` and each word, then `f` and each file's name
 abbrev pub listing_lines : List (List ℕ) → List Entry → List ℕ
 listing_lines words files =
-    flat_map (body_line 100) words ++ flat_map (λ (file : Entry). body_line 102 file.name) files
+    flat_map (body_line word_letter) words ++ flat_map (λ (file : Entry). body_line file_letter file.name) files
 
 -- a file's bytes: `b` and how many they are, and then the bytes and a line feed
 abbrev pub content_lines : List ℕ → List ℕ

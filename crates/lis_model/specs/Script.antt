@@ -2,6 +2,7 @@
 use Rattle.std.specs.Prelude.{ℕ, nat_lt, nat_le, zero, suc, Bool, false, true, ◌&&◌, ◌||◌, if◌then◌else◌, Option, Some, None, Result, Ok, Err, List, [], ◌∷◌, ◌++◌, length, take, drop, filter, codes}
 use Rattle.std.specs.Option.{option_to_list}
 use Rattle.std.specs.List.{list_any, list_all}
+use Rattle.lis_limits.specs.declared.TheConstants.{MAX_ASSIGNED, MAX_LINE, MAX_PAYLOAD}
 use Rattle.lis_words.specs.Bytes.{is_feed, is_blank, is_some_bytes, without_return}
 use Rattle.lis_words.specs.Words.{same_word, is_property, is_file_name, is_count, count_of}
 use Rattle.lis_model.specs.declared.refusal.Refusal.{Refusal}
@@ -51,7 +52,7 @@ any_word word = true
 -- words that a file is to be given: at most 16 in one line
 abbrev pub tags_form : List (List ℕ) → Result (List (List ℕ)) Refusal
 tags_form words =
-    if list_all is_property words then (if nat_lt 16 (length words) then Err TooManyAssigned else Ok words) else Err BadLine
+    if list_all is_property words then (if nat_lt MAX_ASSIGNED (length words) then Err TooManyAssigned else Ok words) else Err BadLine
 
 abbrev pub with_tags : (List (List ℕ) → Item) → Result (List (List ℕ)) Refusal → Item
 with_tags item (Ok words) = item words
@@ -104,7 +105,7 @@ item_of_words (first ∷ words) payload = Some (form_of first words payload)
 
 -- more bytes than a line may have before its line feed
 abbrev pub is_long : List ℕ → Bool
-is_long text = nat_lt 1024 (length text)
+is_long text = nat_lt MAX_LINE (length text)
 
 abbrev pub line_words : List ℕ → List (List ℕ)
 line_words text = words_of (without_return text)
@@ -127,13 +128,13 @@ payload_size text = if is_long text then None else size_of_words (line_words tex
 
 -- the most bytes of a payload that are kept: as many as a file of version 2 may have
 abbrev pub payload_limit : ℕ
-payload_limit = 1048576
+payload_limit = MAX_PAYLOAD
 
 -- of a larger payload its size alone is kept
 abbrev pub payload_of : ℕ → List ℕ → Payload
 payload_of size bytes = record { size = size; bytes = if nat_le size payload_limit then bytes else [] }
 
--- the first part of an input: what it asks for, what is left behind it, and whether it ended with its own line feed
+-- the first segment of an input: what it asks for, what is left behind it, and whether it ended with its own line feed
 pub record FirstOf (I : Type 0) : Type 0 where
   pub item : Option I
   pub rest : List ℕ
@@ -166,7 +167,7 @@ first_by (Some size) bytes = first_with (before_feed bytes) size (after_feed byt
 abbrev pub first_of : List ℕ → First
 first_of bytes = first_by (payload_size (before_feed bytes)) bytes
 
--- The items of an input, taken one after another, where `first` tells its first part: at most as many as there are bytes, since each takes one
+-- The items of an input, taken one after another, where `first` tells its first segment: at most as many as there are bytes, since each takes one
 -- byte at least.
 abbrev pub items_within : {I : Type 0} → (List ℕ → FirstOf I) → ℕ → List ℕ → List I
 items_within first zero bytes = []
@@ -174,7 +175,7 @@ items_within first (suc n) [] = []
 items_within first (suc n) (b ∷ bytes) =
     option_to_list (first (b ∷ bytes)).item ++ items_within first n (first (b ∷ bytes)).rest
 
--- the same, up to the first part that has no line feed of its own
+-- the same, up to the first segment that has no line feed of its own
 abbrev pub whole_within : {I : Type 0} → (List ℕ → FirstOf I) → ℕ → List ℕ → List I
 whole_within first zero bytes = []
 whole_within first (suc n) [] = []

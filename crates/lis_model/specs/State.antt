@@ -1,8 +1,9 @@
 -- What is kept: declared words, axioms and files, and the description of a file.
-use Rattle.std.specs.Prelude.{ℕ, ◌+◌, ◌/◌, ◌==◌, ◌≤◌, nat_lt, nat_le, Bool, not, ◌&&◌, ◌||◌, if◌then◌else◌, List, [], ◌∷◌, ◌++◌, length, map, sum, IsTrue}
+use Rattle.std.specs.Prelude.{◌-◌, ℕ, ◌+◌, ◌/◌, ◌==◌, ◌≤◌, nat_lt, nat_le, Bool, not, ◌&&◌, ◌||◌, if◌then◌else◌, List, [], ◌∷◌, ◌++◌, length, map, sum, IsTrue}
 use Rattle.std.specs.List.{list_all, flat_map}
 use Rattle.std.specs.declared.cmp.Ordering.{Ordering}
 use Rattle.std.specs.Ordering.{ordering_then}
+use Rattle.lis_limits.specs.declared.TheConstants.{BLOCK_LEN, MAX_ASSIGNED, MAX_DESCRIPTION, MAX_FILE, MAX_LARGE_FILE, SLOT_BLOCKS}
 use Rattle.lis_graph.specs.Graph as graph
 use Rattle.lis_graph.specs.Graph.{is_rising}
 use Rattle.lis_words.specs.Words.{word_cmp, same_word, has_word, head_bytes, is_plain_word, is_head, is_valued, is_test, is_built_in, is_file_name}
@@ -103,15 +104,15 @@ file_cmp a b = word_cmp a.name b.name
 
 -- how many bytes a file may have
 abbrev pub file_limit : ℕ → ℕ
-file_limit version = if version == 2 then 1048576 else 65536
+file_limit version = if version == 2 then MAX_LARGE_FILE else MAX_FILE
 
 -- how many blocks so many bytes take
 abbrev pub blocks_needed : ℕ → ℕ
-blocks_needed bytes = (bytes + 4095) / 4096
+blocks_needed bytes = (bytes + (BLOCK_LEN - 1)) / BLOCK_LEN
 
 -- with the block that numbers them, which version 2 has where they are more than 16
 abbrev pub blocks_taken : ℕ → ℕ → ℕ
-blocks_taken version bytes = if (version == 2) && nat_lt 16 (blocks_needed bytes) then blocks_needed bytes + 1 else blocks_needed bytes
+blocks_taken version bytes = if (version == 2) && nat_lt SLOT_BLOCKS (blocks_needed bytes) then blocks_needed bytes + 1 else blocks_needed bytes
 
 -- the blocks that the files take
 abbrev pub used_blocks : State → ℕ
@@ -128,8 +129,8 @@ pub record FilesAreFormed (s : State) : Type 0 where
   pub names : IsTrue (list_all (λ (file : File). is_file_name file.name) s.files)
   pub assigned_sets : IsTrue (list_all (λ (file : File). is_rising word_cmp file.assigned) s.files)
   pub assigned : IsTrue (list_all (λ (file : File). list_all (is_assignable s.declared) file.assigned) s.files)
-  pub few_assigned : IsTrue (list_all (λ (file : File). nat_le (length file.assigned) 16) s.files)
-  pub few_words : IsTrue (list_all (λ (file : File). nat_le (length (description s file)) 128) s.files)
+  pub few_assigned : IsTrue (list_all (λ (file : File). nat_le (length file.assigned) MAX_ASSIGNED) s.files)
+  pub few_words : IsTrue (list_all (λ (file : File). nat_le (length (description s file)) MAX_DESCRIPTION) s.files)
   pub short : IsTrue (list_all (λ (file : File). nat_le (length file.bytes) (file_limit s.limits.version)) s.files)
 
 -- what every command keeps

@@ -2,6 +2,7 @@
 -- the state that it would give are told of `made`.
 use Rattle.std.specs.Prelude.{ℕ, ◌+◌, ◌-◌, ◌==◌, nat_lt, nat_le, Bool, false, not, ◌&&◌, ◌||◌, if◌then◌else◌, is_some, unwrap_or, option_map, Option, Some, None, List, [], ◌∷◌, ◌++◌, length, map, filter, codes}
 use Rattle.std.specs.List.{list_any, list_all, flat_map}
+use Rattle.lis_limits.specs.declared.TheConstants.{MAX_ASSIGNED, MAX_DESCRIPTION}
 use Rattle.lis_words.specs.Words.{same_word, has_word, is_plain_word, is_head, is_valued, is_test, is_built_in}
 use Rattle.lis_grammar.specs.Formula.{Formula}
 use Rattle.lis_grammar.specs.Printing.{printed}
@@ -19,7 +20,7 @@ use Rattle.lis_model.specs.Places.{place_words, is_tag}
 use Rattle.lis_model.specs.Table.{Entry, table, entry_of}
 use Rattle.lis_model.specs.Listing.{extension, increments, locals}
 use Rattle.lis_model.specs.Route.{route}
-use Rattle.lis_model.specs.Replies.{body_line, number_line, ok_line, refusal_line, listing_lines, content_lines}
+use Rattle.lis_model.specs.Replies.{body_line, number_line, ok_line, refusal_line, listing_lines, content_lines, word_letter, property_letter, place_letter}
 
 -- a state, and the place at which commands are said, or the places where there are several
 pub record SituationOf (P : Type 0) : Type 0 where
@@ -45,7 +46,7 @@ pub record Payload : Type 0 where
 abbrev pub no_payload : Payload
 no_payload = record { size = 0; bytes = [] }
 
--- what one part of the input asks for: a command with its payload, or nothing that can be done
+-- what one segment of the input asks for: a command with its payload, or nothing that can be done
 pub data Item : Type 0 where
   Do : Command → Payload → Item
   Bad : Refusal → Item
@@ -84,7 +85,7 @@ abbrev pub exceeds_known : State → Bool
 exceeds_known s = nat_lt s.limits.props (length (known s))
 
 abbrev pub exceeds_words : State → Bool
-exceeds_words s = list_any (λ (file : File). nat_lt 128 (length (description s file))) s.files
+exceeds_words s = list_any (λ (file : File). nat_lt MAX_DESCRIPTION (length (description s file))) s.files
 
 -- the words of a place, and those that a file in it can be given; none where it has none
 abbrev pub words_at : List Formula → List (List ℕ)
@@ -193,7 +194,7 @@ create_checks now words file made =
     ∷ (list_any is_built_in words, BuiltIn)
     ∷ (list_any is_head_or_test words, NotAssignable)
     ∷ (not (list_all (is_assignable now.state.declared) file.assigned), UnknownProperty)
-    ∷ (nat_lt 16 (length file.assigned), TooManyAssigned)
+    ∷ (nat_lt MAX_ASSIGNED (length file.assigned), TooManyAssigned)
     ∷ (nat_le now.state.limits.files (length now.state.files), NoFileRoom)
     ∷ (exceeds_words made, LargeDescription)
     ∷ (exceeds_known made, NoPropertyRoom)
@@ -250,7 +251,7 @@ mv_checks now place words new made =
     ∷ (list_any is_built_in words, BuiltIn)
     ∷ (list_any is_head words, NotAssignable)
     ∷ (not (list_all (is_assignable now.state.declared) (tags_at place)), UnknownProperty)
-    ∷ (nat_lt 16 (length new.assigned), TooManyAssigned)
+    ∷ (nat_lt MAX_ASSIGNED (length new.assigned), TooManyAssigned)
     ∷ room_checks made
 
 abbrev pub mv_with : Situation → List Formula → List (List ℕ) → File → File → Outcome
@@ -290,13 +291,13 @@ abbrev pub cat : Situation → List ℕ → Outcome
 cat now name = shown_here now name (content_lines (file_of now.state.files name).bytes)
 
 abbrev pub props : Situation → List ℕ → Outcome
-props now name = shown_here now name (flat_map (body_line 112) (description now.state (file_of now.state.files name)))
+props now name = shown_here now name (flat_map (body_line property_letter) (description now.state (file_of now.state.files name)))
 
 abbrev pub entry_at : State → List ℕ → Entry
 entry_at s name = entry_of s.declared s.axioms (file_of s.files name)
 
 abbrev pub way : Situation → List ℕ → Outcome
-way now name = shown_here now name (flat_map (body_line 100) (route (table now.state) now.place (entry_at now.state name)))
+way now name = shown_here now name (flat_map (body_line word_letter) (route (table now.state) now.place (entry_at now.state name)))
 
 -- ---- places
 -- the place becomes another, and the state stays
@@ -314,7 +315,7 @@ abbrev pub cd : Situation → List ℕ → Outcome
 cd now text = cd_to now text (resolved now.place text)
 
 abbrev pub pwd : Situation → Outcome
-pwd now = shown now (body_line 119 (printed now.place))
+pwd now = shown now (body_line place_letter (printed now.place))
 
 abbrev pub ls : Situation → Outcome
 ls now = shown now (listing_lines (increments (table now.state) now.place) (locals (table now.state) now.place))

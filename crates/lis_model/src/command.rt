@@ -3,6 +3,7 @@
 ghost use Rattle.std.specs.Prelude.{◌≡◌, ◌==◌, ℕ, ◌<◌, ◌≤◌, List, [], ◌∷◌, ◌++◌, length, slice_get};
 
 use arrayvec::ArrayVec;
+use lis_limits::MAX_ASSIGNED;
 use lis_place::Text;
 use lis_words::{Name, Word};
 use std::marker::Model;
@@ -34,7 +35,7 @@ impl Tags {
 
     pub fn len(&self) -> usize
         ensures value { result ≡ length self.now }
-        ensures few { result ≤ 16 }
+        ensures few { result ≤ MAX_ASSIGNED }
     {
         self.words.len()
     }
@@ -47,7 +48,7 @@ impl Tags {
 
     /// Appends the word.
     pub fn push(&mut self, word: &Word)
-        requires { length self.old < 16 }
+        requires { length self.old < MAX_ASSIGNED }
         ensures { self.new ≡ self.old ++ word.now ∷ [] }
     {
         self.words.push(word.copied());
@@ -56,7 +57,7 @@ impl Tags {
     /// The words, in order.
     pub fn as_slice(&self) -> &[Word]
         ensures words { result.now ≡ self.now }
-        ensures few { length result.now ≤ 16 }
+        ensures few { length result.now ≤ MAX_ASSIGNED }
     {
         self.words.as_slice()
     }

@@ -5,11 +5,9 @@ ghost use Rattle.lis_words.specs.Words.{has_word};
 ghost use Rattle.lis_model.specs.Noted.{noted, are_distinct_words};
 
 use arrayvec::ArrayVec;
+use lis_limits::MAX_DERIVED;
 use lis_words::Word;
 use std::marker::Model;
-
-/// The most words that are derived from one file.
-pub const MAX_DERIVED: usize = 48;
 
 /// At most 48 distinct words, in the order in which they were noted.
 #[derive(Drop, Debug)]
@@ -40,7 +38,7 @@ impl Derived {
     /// How many words there are.
     pub fn len(&self) -> usize
         ensures value { result ≡ length self.now }
-        ensures few { result ≤ 48 }
+        ensures few { result ≤ MAX_DERIVED }
         ensures distinct { IsTrue (are_distinct_words self.now) }
     {
         self.words.len()
@@ -85,7 +83,7 @@ impl Derived {
     /// The words, in order.
     pub fn as_slice(&self) -> &[Word]
         ensures words { result.now ≡ self.now }
-        ensures few { length result.now ≤ 48 }
+        ensures few { length result.now ≤ MAX_DERIVED }
         ensures distinct { IsTrue (are_distinct_words result.now) }
     {
         self.words.as_slice()

@@ -4,6 +4,9 @@ ghost use Rattle.std.specs.Prelude.{◌≡◌, ◌<◌, ◌≤◌, IsTrue};
 ghost use Rattle.lis_model.specs.Ranges.{is_files_limit, is_props_limit, is_blocks_limit, is_version, are_in_range};
 ghost use Rattle.lis_model.specs.Image.{image_blocks};
 
+use lis_limits::{
+    AXIOMS_PER_BLOCK, BLOCK_BITS, MAX_BLOCKS, MAX_IMAGE_BLOCKS, MAX_PROPS, PROPERTIES_START,
+};
 /// How much a state may hold. In range are: files a power of two from 64 to 4,096, properties a multiple of 64
 /// from 64 to 8,192, 1 to 32,768 data blocks of 4,096 bytes, and the versions 1 and 2.
 #[derive(Clone, Copy, Debug, PartialEq, Eq)]
@@ -35,14 +38,14 @@ pub fn is_files_limit(files: u64) -> bool
 pub fn is_props_limit(props: u64) -> bool
     ensures { result ≡ is_props_limit props }
 {
-    64 <= props && props <= 8_192 && props % 64 == 0
+    64 <= props && props <= MAX_PROPS && props % 64 == 0
 }
 
 /// Whether so many data blocks are in range.
 pub fn is_blocks_limit(blocks: u64) -> bool
     ensures { result ≡ is_blocks_limit blocks }
 {
-    1 <= blocks && blocks <= 32_768
+    1 <= blocks && blocks <= MAX_BLOCKS
 }
 
 /// Whether there is such a version.
@@ -56,11 +59,11 @@ pub fn is_version(version: u64) -> bool
 pub fn image_blocks(limits: &Limits) -> u32
     requires { IsTrue (are_in_range limits.now) }
     ensures blocks { result ≡ image_blocks limits.now }
-    ensures few { result ≤ 34771 }
+    ensures few { result ≤ MAX_IMAGE_BLOCKS }
 {
     let properties = limits.props / 64;
-    let axioms = limits.props.div_ceil(512);
+    let axioms = limits.props.div_ceil(AXIOMS_PER_BLOCK as u32);
     let files = limits.files / 16;
-    let rows = (limits.props * limits.files).div_ceil(32_768);
-    578 + properties + axioms + files + rows + 1 + limits.blocks
+    let rows = (limits.props * limits.files).div_ceil(BLOCK_BITS);
+    PROPERTIES_START + properties + axioms + files + rows + 1 + limits.blocks
 }

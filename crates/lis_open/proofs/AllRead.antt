@@ -1,7 +1,7 @@
 -- The contents of the slots that were read, and the state that they spell.
 pub use Rattle.lis_open.specs.ReadAll.{HasRead}
 use Rattle.std.proofs.Common.{◌≢◌}
-use Rattle.lis_open.proofs.Common.{rules, ◌≡◌, ◌∙◌, refl, sym, ap, ap₂, subst, inl, inr, ℕ, Bool, true, List, [], map, Option, Some, None, slice_get, IsTrue, arith, ◌+◌, ◌/◌, ◌<◌, ◌≤◌, not, false, is_some, replicate, Result, Ok, Err, IfSome, OnOk, ⊎_elim, fold, eq-eqb, insert_key, Among, contains_from_among, among_map, map_among, among_flat_map, IsDict, word_of, number_from_word, Filed, rec_at, has, numbers_at, FileRecord, file_bytes, is_file, Pair, FileSlot, word_cmp, is_valued, same_word, head_bytes, same_word_decides, Limits, State, file_cmp, description, known, Kept, record_at, axiom_slots, file_slots, bit_of, words_told, file_told, state_of, is_head_by, is_used, among_from_number, filed_rec, filed_at_slot, declared_there, there_declared, Contents, AreSlots, all_records, spelled_state, contents_of, cases_eq, cases_lt, length-replicate, bits_bytes, is_taken, has_bit, FreeFile, among_from_has_word, Spot, Word, Row, are_in_range, bitmap_start, data_start, row_slots, AreSound, word_at, is_had_by, row_bit, and_parts, and_from, both_ways, false_from_ne_true, flat_map_among, File, has_from_among, file_of_record, not_true, zeros, has_word, has_word_from_among, Bitmap, or_left, list_any, is_left_of, is_left_head_of, any_from_among, among_place, cases_Bool}
+use Rattle.lis_open.proofs.Common.{rules, ◌≡◌, ◌∙◌, refl, sym, ap, ap₂, subst, inl, inr, ℕ, Bool, true, List, [], map, Option, Some, None, slice_get, IsTrue, arith, ◌+◌, ◌/◌, ◌<◌, ◌≤◌, not, false, is_some, replicate, Result, Ok, Err, IfSome, OnOk, ⊎_elim, fold, eq-eqb, insert_key, Among, contains_from_among, among_map, map_among, among_flat_map, IsDict, word_of, number_from_word, Filed, rec_at, has, numbers_at, FileRecord, file_bytes, is_file, Pair, FileSlot, word_cmp, is_valued, same_word, head_bytes, same_word_decides, Limits, State, file_cmp, description, known, Metadata, record_at, axiom_slots, file_slots, bit_of, words_told, file_told, state_of, is_head_by, is_used, among_from_number, filed_rec, filed_at_slot, declared_there, there_declared, Contents, AreSlots, all_records, spelled_state, contents_of, cases_eq, cases_lt, length-replicate, bits_bytes, is_taken, has_bit, FreeFile, among_from_has_word, Spot, Word, Row, are_in_range, bitmap_start, data_start, row_slots, AreSound, word_at, is_had_by, row_bit, and_parts, and_from, both_ways, false_from_ne_true, flat_map_among, File, has_from_among, file_of_record, not_true, zeros, has_word, has_word_from_among, Bitmap, or_left, list_any, is_left_of, is_left_head_of, any_from_among, among_place, cases_Bool}
 use Rattle.std.specs.List.{range_with_len}
 use Rattle.std.proofs.lemmas.List.FromFn.{length-map-range_with_len, get_or-map-range_with_len}
 use Rattle.lis_graph.proofs.Ranges.{range_among}
@@ -11,7 +11,7 @@ use Rattle.lis_laws.proofs.Forms.{file_order}
 use Rattle.lis_laws.proofs.Sources.{Source, source_of, known_from}
 use Rattle.lis_laws.proofs.Sources.Source.{Declared, Left, LeftHead, Described}
 use Rattle.lis_model.specs.State.{heads}
-use Rattle.lis_kept.specs.Kept.{file_by}
+use Rattle.lis_kept.specs.Metadata.{file_by}
 use Rattle.lis_store.specs.Stands.{records_in}
 use Rattle.lis_store.proofs.Points.{set_of_points}
 use Rattle.lis_store.proofs.SlotOrder.{given_at}
@@ -19,12 +19,12 @@ use Rattle.lis_open.specs.declared.words.Words.{Words}
 use Rattle.lis_open.specs.declared.axioms.Axioms.{Axioms}
 use Rattle.lis_open.specs.declared.files.Files.{Files}
 use Rattle.lis_open.specs.Checks.{AreContents, IsUsed, WordFails, BitFails, RowFault, RowFails, Fails, rank}
-use Rattle.lis_open.specs.ReadAll.{kept_in, AreNoMarks, is_stray, IsFirstStray, IsRowSpelled, IsFirstRow, row_place, AreRead, HasStray, Differs, RowsChecked, PartsEnded}
+use Rattle.lis_open.specs.ReadAll.{metadata_in, AreNoMarks, is_stray, IsFirstStray, IsRowSpelled, IsFirstRow, row_place, AreRead, HasStray, Differs, RowsChecked, PartsEnded}
 use Rattle.lis_open.proofs.Once.{rising_map}
 use Rattle.lis_open.proofs.Descriptions.{told_among, among_told, one_number, pair_among, among_pair, Sides, sides}
 use Rattle.lis_open.proofs.FilesRead.{file_is, slot_read, used_is, rec_is}
 use Rattle.lis_open.proofs.AxiomsRead.{are_axioms}
-use Rattle.lis_open.proofs.Joined.{slots_without, named, none_past, parts_sound}
+use Rattle.lis_open.proofs.Joined.{slots_without, named, none_past, metadata_sound}
 use Rattle.lis_kept.proofs.Used.{WhyUsed, why_used, used_flagged, used_had, used_left, named_head}
 use Rattle.lis_kept.proofs.Used.WhyUsed.{Flagged, Had, OnLeft, HeadOfLeft}
 use Rattle.lis_open.proofs.WordsRead.{declared_told, axioms_told, file_is_told, are_told, word_at_told}
@@ -45,7 +45,7 @@ use Rattle.lis_open.specs.declared.mounting.OpenFault.TheVariants.{TooShort, Dam
 use Rattle.lis_open.specs.declared.blocks.LastBlock.{LastBlock}
 
 -- where there is a reason, a number is in use
-used_for : (k : Kept) (n : ℕ) → WhyUsed k n → is_used k n ≡ true
+used_for : (k : Metadata) (n : ℕ) → WhyUsed k n → is_used k n ≡ true
 used_for k n (Flagged bit) = used_flagged k n bit
 used_for k n (Had slot h) = used_had k n slot h
 used_for k n (OnLeft slot right is) =
@@ -60,8 +60,8 @@ used_by (Some r) rec (inl same) = ap Some same
 used_by (Some r) rec (inr m) = absurd m
 
 module _ (limits : Limits) (at : ℕ → List ℕ) (words : Words) (axioms : Axioms) (files : Files) (marks : List Bool) (read : HasRead limits at words axioms files) where
-  abbrev k : Kept
-  k = kept_in limits words axioms files marks
+  abbrev k : Metadata
+  k = metadata_in limits words axioms files marks
 
   abbrev contents : Contents
   contents = contents_of k
@@ -81,7 +81,7 @@ module _ (limits : Limits) (at : ℕ → List ℕ) (words : Words) (axioms : Axi
         (there.bytes ∙ ap file_bytes given.1, subst (λ x. IsTrue (is_file limits.version x)) given.1 there.range);
   }
 
-  pub contents_are : AreContents limits at (contents_of (kept_in limits words axioms files marks))
+  pub contents_are : AreContents limits at (contents_of (metadata_in limits words axioms files marks))
   contents_are = search (rules, are_told, are_axioms, files_told)
 
   -- ---- the state
@@ -124,7 +124,7 @@ module _ (limits : Limits) (at : ℕ → List ℕ) (words : Words) (axioms : Axi
       let f = among_map told files.catalog.entries file m in
       subst (λ x. Among (map of_record records) x) (same_file f.0 ∙ f.2) (map_among of_record records (f.0).rec (record_there f.0 f.1)))
 
-  pub state_read : spelled_state limits (contents_of (kept_in limits words axioms files marks)) at ≡ state_of (kept_in limits words axioms files marks) at
+  pub state_read : spelled_state limits (contents_of (metadata_in limits words axioms files marks)) at ≡ state_of (metadata_in limits words axioms files marks) at
   state_read = search (rules, declared_told, axioms_told, files_same)
 
   -- ---- words in use
@@ -148,7 +148,7 @@ module _ (limits : Limits) (at : ℕ → List ℕ) (words : Words) (axioms : Axi
         (subst (λ ws. Among ws w) (described f m) (told_among words.dict (numbers_at files.ext slot) n w is (among_from_number (numbers_at files.ext slot) n h))))
 
     -- a word that is in use is known
-    pub used_known : is_used (kept_in limits words axioms files marks) n ≡ true → Among (known (state_of (kept_in limits words axioms files marks) at)) w
+    pub used_known : is_used (metadata_in limits words axioms files marks) n ≡ true → Among (known (state_of (metadata_in limits words axioms files marks) at)) w
     used_known used = by (why_used k n used)
       where
         by : WhyUsed k n → Among (known s) w
@@ -166,7 +166,7 @@ module _ (limits : Limits) (at : ℕ → List ℕ) (words : Words) (axioms : Axi
             (subst (λ v. Among (heads both.from.word) v) ((same_word_decides (head_bytes both.from.word) w).0 parts.1) (heads_of_valued both.from.word parts.0)))
 
     -- and no other word is
-    pub known_used : Among (known (state_of (kept_in limits words axioms files marks) at)) w → is_used (kept_in limits words axioms files marks) n ≡ true
+    pub known_used : Among (known (state_of (metadata_in limits words axioms files marks) at)) w → is_used (metadata_in limits words axioms files marks) n ≡ true
     known_used m = used_for k n (by (source_of s w m))
       where
         by : Source s w → WhyUsed k n
@@ -216,8 +216,8 @@ no_marks_clean limits = record {
 }
 
 module _ (limits : Limits) (at : ℕ → List ℕ) (words : Words) (axioms : Axioms) (files : Files) (read : HasRead limits at words axioms files) where
-  abbrev held : Kept
-  held = kept_in limits words axioms files (no_marks limits)
+  abbrev held : Metadata
+  held = metadata_in limits words axioms files (no_marks limits)
 
   abbrev held_contents : Contents
   held_contents = contents_of held
@@ -252,10 +252,10 @@ module _ (limits : Limits) (at : ℕ → List ℕ) (words : Words) (axioms : Axi
             (known_used limits at words axioms files (no_marks limits) read n w.0 w.1 (among_from_has_word (known (state_of held at)) w.0 there)));
       }
 
-  pub first_stray : (n : ℕ) → IsFirstStray (kept_in limits words axioms files (no_marks limits)) n → IsFirst limits at 5 (Word n)
+  pub first_stray : (n : ℕ) → IsFirstStray (metadata_in limits words axioms files (no_marks limits)) n → IsFirst limits at 5 (Word n)
   first_stray n first = search (rules, stray_fails, none_before, word_passes)
 
-  pub words_pass : ((n : ℕ) → is_stray (kept_in limits words axioms files (no_marks limits)) n ≡ false) → (spot : Spot) → rank spot ≡ 5 → Fails limits at spot → ⊥
+  pub words_pass : ((n : ℕ) → is_stray (metadata_in limits words axioms files (no_marks limits)) n ≡ false) → (spot : Spot) → rank spot ≡ 5 → Fails limits at spot → ⊥
   words_pass none = none_fails limits at 5 (λ n. word_passes n (none n))
 
   -- ---- the bitmap
@@ -289,12 +289,12 @@ module _ (limits : Limits) (at : ℕ → List ℕ) (words : Words) (axioms : Axi
   bits_pass same = none_fails limits at 6 (λ n fails. bit_passes n (same n fails.below) fails)
 
   -- ---- rows
-  module _ (range : IsTrue (are_in_range limits)) (used : (n : ℕ) → is_stray (kept_in limits words axioms files (no_marks limits)) n ≡ false) where
+  module _ (range : IsTrue (are_in_range limits)) (used : (n : ℕ) → is_stray (metadata_in limits words axioms files (no_marks limits)) n ≡ false) where
     all_read : AreRead limits words axioms files (no_marks limits)
     all_read = record { words_are = read.words_are; axioms_are = read.axioms_are; files_are = read.files_are; used = used }
 
     sound : AreSound held
-    sound = parts_sound limits words axioms files (no_marks limits) all_read range (no_marks_clean limits)
+    sound = metadata_sound limits words axioms files (no_marks limits) all_read range (no_marks_clean limits)
 
     abbrev held_state : State
     held_state = state_of held at
@@ -368,7 +368,7 @@ module _ (limits : Limits) (at : ℕ → List ℕ) (words : Words) (axioms : Axi
   abbrev unmarked : List Bool
   unmarked = replicate (data_start limits) false
 
-  pub words_failed : (fault : OpenFault) → ((marks : List Bool) → HasStray (kept_in limits words axioms files marks) fault) → PartsFail limits at fault
+  pub words_failed : (fault : OpenFault) → ((marks : List Bool) → HasStray (metadata_in limits words axioms files marks) fault) → PartsFail limits at fault
   words_failed (TooShort len need) stray = absurd (stray [])
   words_failed (Damaged spot) stray =
       let first = stray unmarked in
@@ -376,7 +376,7 @@ module _ (limits : Limits) (at : ℕ → List ℕ) (words : Words) (axioms : Axi
   words_failed DiskFault stray = absurd (stray [])
   words_failed NoMemory stray = absurd (stray [])
 
-  module _ (used : (marks : List Bool) (n : ℕ) → is_stray (kept_in limits words axioms files marks) n ≡ false) where
+  module _ (used : (marks : List Bool) (n : ℕ) → is_stray (metadata_in limits words axioms files marks) n ≡ false) where
     words_passed : PassBelow limits at 6
     words_passed = pass_more limits at 5 below (words_pass limits at words axioms files read (used unmarked))
 
@@ -408,7 +408,7 @@ on_ok (Ok done) holds = holds
 on_ok (Err fault) holds = tt
 
 -- ---- causes
-pub stray_cause : (T : Type 0) (before now : ℕ) (k : Kept) (fault : OpenFault) → now ≡ before → HasStray k fault → HasPartCause {T = T} before now (Err fault)
+pub stray_cause : (T : Type 0) (before now : ℕ) (k : Metadata) (fault : OpenFault) → now ≡ before → HasStray k fault → HasPartCause {T = T} before now (Err fault)
 stray_cause T before now k (TooShort len need) same stray = stray
 stray_cause T before now k (Damaged spot) same stray = same
 stray_cause T before now k DiskFault same stray = absurd stray

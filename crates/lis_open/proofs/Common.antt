@@ -29,7 +29,7 @@ pub use Rattle.lis_kept.proofs.InArea.{few_properties}
 pub use Rattle.lis_kept.proofs.Known.{among_place, placed_at, some_number}
 pub use Rattle.lis_kept.proofs.WordMore.{declared_there, there_declared}
 pub use Rattle.lis_kept.specs.Areas.{IsWritten, axiom_slots, file_slots, property_slots, row_slots}
-pub use Rattle.lis_kept.specs.Kept.{Kept, axiom_at, property_by, record_at}
+pub use Rattle.lis_kept.specs.Metadata.{Metadata, axiom_at, property_by, record_at}
 pub use Rattle.lis_kept.specs.Links.{has_pair}
 pub use Rattle.lis_kept.specs.Sound.{AreSound}
 pub use Rattle.lis_kept.specs.Telling.{HasIndex, Tells, axioms_of, bit_of, blocks_told, bytes_told, file_told, is_had, is_head_by, is_left_head_of, is_left_of, is_used, pair_by, pair_told, pairs_told, state_of, words_told}

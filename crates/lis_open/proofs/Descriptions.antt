@@ -1,6 +1,6 @@
 -- The numbers that the words of a file lead to are those of the words of its description.
 use Rattle.std.proofs.Common.{rules}
-use Rattle.lis_open.proofs.Common.{◌≡◌, ◌∙◌, refl, sym, ap, subst, ℕ, ◌||◌, not, Bool, true, false, List, Option, Some, None, is_some, IsSome, ◌≤◌, [], arith, slice_get, inl, inr, option_to_list, ◌++◌, length, append_assoc, flat_map, ◌+◌, ap₂, zero, suc, ◌==◌, eq-eqb, ◌<◌, ◌∷◌, ⊎_elim, nat_cmp, Among, among_map, is_taken, IsDict, number_of, word_of, number_from_word, is_plain_word, is_valued, head_bytes, among_from_has_word, Limits, is_assignable, is_nameable, bit_of, Dict, number_below, declared_there, there_declared, Pair, list_all, among_left, among_flat_map, word_from_number, FileRecord, plain_not_valued, among_set_of, own_words, met_tests, words_told, some_number, and_parts, both_ways, flat_map_among, has_word, has_word_from_among, set_of_among, all_among, set_of, File, contains_from_among, Taxonomy, no_links, has_edge, or_cases, or_left, or_right, same_Some, Chain, among_from_contains, among_from_any, Leads, AxiomSlot, FreeAxiom, head_not_valued, up, Kept, pair_told, pairs_told, axioms_of, has_pair, placed_at, among_place, IsStrictlySortedBy, entails, word_cmp, sorted_set_of, file_words, AllApart, and_from, any_from_among, pair_cmp}
+use Rattle.lis_open.proofs.Common.{◌≡◌, ◌∙◌, refl, sym, ap, subst, ℕ, ◌||◌, not, Bool, true, false, List, Option, Some, None, is_some, IsSome, ◌≤◌, [], arith, slice_get, inl, inr, option_to_list, ◌++◌, length, append_assoc, flat_map, ◌+◌, ap₂, zero, suc, ◌==◌, eq-eqb, ◌<◌, ◌∷◌, ⊎_elim, nat_cmp, Among, among_map, is_taken, IsDict, number_of, word_of, number_from_word, is_plain_word, is_valued, head_bytes, among_from_has_word, Limits, is_assignable, is_nameable, bit_of, Dict, number_below, declared_there, there_declared, Pair, list_all, among_left, among_flat_map, word_from_number, FileRecord, plain_not_valued, among_set_of, own_words, met_tests, words_told, some_number, and_parts, both_ways, flat_map_among, has_word, has_word_from_among, set_of_among, all_among, set_of, File, contains_from_among, Taxonomy, no_links, has_edge, or_cases, or_left, or_right, same_Some, Chain, among_from_contains, among_from_any, Leads, AxiomSlot, FreeAxiom, head_not_valued, up, Metadata, pair_told, pairs_told, axioms_of, has_pair, placed_at, among_place, IsStrictlySortedBy, entails, word_cmp, sorted_set_of, file_words, AllApart, and_from, any_from_among, pair_cmp}
 use Rattle.lis_graph.proofs.Members.{among_filter, among_append, among_right, among_with_more, with_more_new}
 use Rattle.lis_dict.specs.Dict.{words as words_of}
 use Rattle.lis_dict.proofs.Laws.{number_from_among}
@@ -195,7 +195,7 @@ leads_on t p q r leads edge =
 -- ---- chains of links between words that have numbers are chains of edges between their numbers. A head without a number ends a chain of words, and so each word here has a number, and its head too
 module _ (limits : Limits) (words : Words) (dict : IsDict words.dict) (axioms : List AxiomSlot)
     (sides : (slot left right : ℕ) → slice_get axioms slot ≡ Some (Pair left right) → Sides words left right) where
-  abbrev k : Kept
+  abbrev k : Metadata
   k = kept_words limits words axioms
 
   -- a link between words, by its definition
@@ -377,7 +377,7 @@ module _ (limits : Limits) (words : Words) (axioms : Axioms) (end : ℕ) (are : 
   abbrev dict : IsDict words.dict
   dict = are.are.dict
 
-  abbrev kept : Kept
+  abbrev kept : Metadata
   kept = kept_words limits words axioms.slots.items
 
   abbrev all_sides : (slot left right : ℕ) → slice_get axioms.slots.items slot ≡ Some (Pair left right) → Sides words left right

@@ -7,7 +7,7 @@ use Rattle.lis_catalog.specs.Catalog.{Catalog, IsCatalog, slot_of, with_filed}
 use Rattle.lis_catalog.proofs.Laws.{rec_at-with_filed, rec_at-slot_of, slot_of-rec_at}
 use Rattle.lis_fields.proofs.Parts.{record_tests}
 use Rattle.lis_laws.proofs.Counts.{all_weaker}
-use Rattle.lis_kept.specs.Kept.{file_by}
+use Rattle.lis_kept.specs.Metadata.{file_by}
 use Rattle.lis_kept.specs.Sound.{is_sound_record}
 use Rattle.lis_kept.proofs.Filing.{entries_longer, catalog_then, number_from_among}
 use Rattle.lis_open.specs.declared.words.Words.{Words}

@@ -2,7 +2,7 @@
 use Rattle.std.proofs.Common.{rules}
 pub use Rattle.lis_open.specs.ReadFiles.{Gathered}
 use Rattle.std.proofs.Common.{All}
-use Rattle.lis_open.proofs.Common.{◌≡◌, ℕ, ◌<◌, false, ◌||◌, Option, List, [], ◌∷◌, ◌++◌, get_or, sym, ap, ap₂, ◌∙◌, subst, arith, ◌+◌, nat_le, true, ◌&&◌, Some, None, option_to_list, length, take, refl, ◌≤◌, Bool, not, is_some, slice_get, le-leb, or-false, Among, among_from_contains, HasShape, get, with_row, Taxonomy, entails, list_all, list_all-append, number_of, FileRecord, or_left, IsDict, is_valued, head_bytes, met_tests, Kept, bit_of, Rows, and_from, both_ways}
+use Rattle.lis_open.proofs.Common.{◌≡◌, ℕ, ◌<◌, false, ◌||◌, Option, List, [], ◌∷◌, ◌++◌, get_or, sym, ap, ap₂, ◌∙◌, subst, arith, ◌+◌, nat_le, true, ◌&&◌, Some, None, option_to_list, length, take, refl, ◌≤◌, Bool, not, is_some, slice_get, le-leb, or-false, Among, among_from_contains, HasShape, get, with_row, Taxonomy, entails, list_all, list_all-append, number_of, FileRecord, or_left, IsDict, is_valued, head_bytes, met_tests, Metadata, bit_of, Rows, and_from, both_ways}
 use Rattle.std.specs.List.Sorted.{IsStrictlyIncreasing}
 use Rattle.std.proofs.Math.Bool.{or_assoc, and-true}
 use Rattle.std.proofs.lemmas.List.Elements.{Contains-get_or}
@@ -103,7 +103,7 @@ abbrev pub MetSoFar : Words → Taxonomy → ℕ → Rows → Rows → ℕ → T
 MetSoFar words t size old row i = Gathered t old row (numbers_of words.dict (met_first (kept_words no_limits words []) size i))
 
 module _ (words : Words) (t : Taxonomy) (size : ℕ) (old : Rows) where
-  abbrev k : Kept
+  abbrev k : Metadata
   k = kept_words no_limits words []
 
   pub met_none : (start : ℕ) → HasShape old 2 t.props → start ≤ length words.dict.entries → ((i : ℕ) (e : List ℕ × ℕ) → i < start → slice_get words.dict.entries i ≡ Some e → test_of e.0 ≡ None) → MetSoFar words t size old old start

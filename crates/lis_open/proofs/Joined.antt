@@ -1,5 +1,5 @@
 -- What was read and checked is what a store may keep.
-use Rattle.lis_open.proofs.Common.{rules, length-take, ◌≡◌, ◌∙◌, refl, sym, ap, ap₂, subst, ℕ, zero, ◌<◌, ◌≤◌, Bool, true, false, List, Option, Some, None, is_some, IsSome, slice_get, IsTrue, [], length, arith, suc, ◌+◌, ◌-◌, nat_le, ◌&&◌, ◌∷◌, map, sum, length-append, le-leb, option_to_list, flat_map, Contains, same_Some, Among, IsDict, number_of, word_of, rec_at, has, numbers_at, has_edge, FileRecord, is_prop, Pair, is_plain_word, is_valued, same_word, head_bytes, head_not_valued, same_word_decides, Limits, are_in_range, own_words, is_assignable, Kept, property_by, AreSound, is_head_by, is_used, among_from_number, list_all, is_test, image_blocks, Held, words_told, IsSound, among_from_contains, contains_from_among, among_flat_map, is_taken, are_distinct, Dict, Filed, SpellsSuper, AxiomSlot, FreeAxiom, word_cmp, sorted_set_of, data_start, State, description, is_nameable, file_cmp, WellFormed, pair_by, pairs_told, bytes_told, blocks_told, file_told, state_of, Tells, filed_rec, filed_at_slot, Stored, and_parts, both_ways, false_from_ne_true, and_from, has_number, all_among, has_from_among, has_word, File, pair_cmp, has_word_from_among, IsWritten}
+use Rattle.lis_open.proofs.Common.{rules, length-take, ◌≡◌, ◌∙◌, refl, sym, ap, ap₂, subst, ℕ, zero, ◌<◌, ◌≤◌, Bool, true, false, List, Option, Some, None, is_some, IsSome, slice_get, IsTrue, [], length, arith, suc, ◌+◌, ◌-◌, nat_le, ◌&&◌, ◌∷◌, map, sum, length-append, le-leb, option_to_list, flat_map, Contains, same_Some, Among, IsDict, number_of, word_of, rec_at, has, numbers_at, has_edge, FileRecord, is_prop, Pair, is_plain_word, is_valued, same_word, head_bytes, head_not_valued, same_word_decides, Limits, are_in_range, own_words, is_assignable, Metadata, property_by, AreSound, is_head_by, is_used, among_from_number, list_all, is_test, image_blocks, Held, words_told, IsSound, among_from_contains, contains_from_among, among_flat_map, is_taken, are_distinct, Dict, Filed, SpellsSuper, AxiomSlot, FreeAxiom, word_cmp, sorted_set_of, data_start, State, description, is_nameable, file_cmp, WellFormed, pair_by, pairs_told, bytes_told, blocks_told, file_told, state_of, Tells, filed_rec, filed_at_slot, Stored, and_parts, both_ways, false_from_ne_true, and_from, has_number, all_among, has_from_among, has_word, File, pair_cmp, has_word_from_among, IsWritten}
 use Rattle.lis_bits.proofs.Subset.{implied}
 use Rattle.lis_laws.proofs.Apart.{declarable_not_valued}
 use Rattle.lis_laws.proofs.Counts.{all_from, rising_from_sorted}
@@ -15,7 +15,7 @@ use Rattle.lis_open.specs.declared.axioms.Axioms.{Axioms}
 use Rattle.lis_open.specs.declared.files.Files.{Files}
 use Rattle.lis_open.specs.ReadWords.{declared_words}
 use Rattle.lis_open.specs.ReadFiles.{described, found_words, own_numbers, HasSomeNumbers, AreNumbers, is_assignable_number, AreFirstFiles}
-use Rattle.lis_open.specs.ReadAll.{AreNoMarks, kept_in, AreRead, AreSpelled, StoreTells}
+use Rattle.lis_open.specs.ReadAll.{AreNoMarks, metadata_in, AreRead, AreSpelled, StoreTells}
 use Rattle.lis_open.proofs.Descriptions.{Sides, sides, assignable_word, some_from, declared_flagged, IsNumbered, AreOf, file_with, tag_owned, left_numbered, entailed, word_below, leads_there, described_on, file_are, told_among, among_told, told_are}
 use Rattle.lis_kept.proofs.Used.{WhyUsed, why_used}
 use Rattle.lis_kept.proofs.Used.WhyUsed.{Flagged, Had, OnLeft, HeadOfLeft}
@@ -58,8 +58,8 @@ module _ (limits : Limits) (words : Words) (axioms : Axioms) (files : Files) (en
 
 -- ---- all parts
 module _ (limits : Limits) (words : Words) (axioms : Axioms) (files : Files) (marks : List Bool) (read : AreRead limits words axioms files marks) where
-  abbrev k : Kept
-  k = kept_in limits words axioms files marks
+  abbrev k : Metadata
+  k = metadata_in limits words axioms files marks
 
   abbrev dict : IsDict words.dict
   dict = read.words_are.are.dict
@@ -147,20 +147,20 @@ module _ (limits : Limits) (words : Words) (axioms : Axioms) (files : Files) (ma
   named_filed n slot file h = named n slot h
 
   module _ (range : IsTrue (are_in_range limits)) (clean : AreNoMarks limits marks) where
-    pub parts_sound : AreSound k
-    parts_sound = assumption (read.words_are.are.long ∙ read.words_are.props, headed, sound_axiom, named_filed)
+    pub metadata_sound : AreSound k
+    metadata_sound = assumption (read.words_are.are.long ∙ read.words_are.props, headed, sound_axiom, named_filed)
 
-    pub parts_held : AreHeld k axioms.taxonomy
-    parts_held = assumption parts_sound
+    pub metadata_held : AreHeld k axioms.taxonomy
+    metadata_held = assumption metadata_sound
 
-    pub parts_free : FreeSlotsAreEmpty k
-    parts_free slot none n = slots_without limits words axioms files limits.files read.files_are slot none n
+    pub metadata_free : FreeSlotsAreEmpty k
+    metadata_free slot none n = slots_without limits words axioms files limits.files read.files_are slot none n
 
-    pub parts_closed : AreClosed k
-    parts_closed slot p q h linked = let of = had_by p slot h in had_on slot of.0 of.1 p q h (read.axioms_are.links.edges p q ∙ linked)
+    pub metadata_closed : AreClosed k
+    metadata_closed slot p q h linked = let of = had_by p slot h in had_on slot of.0 of.1 p q h (read.axioms_are.links.edges p q ∙ linked)
 
-    pub parts_in_use : KeepsInUse k
-    parts_in_use = record {
+    pub metadata_in_use : KeepsInUse k
+    metadata_in_use = record {
       used = each_used;
       tags = λ slot rec is n tag. tag_had slot rec is n tag;
       rights = λ slot left right is. let to = (all_sides slot left right is).to in declared_flagged limits words dict right to.word to.is to.declared;
@@ -168,11 +168,11 @@ module _ (limits : Limits) (words : Words) (axioms : Axioms) (files : Files) (ma
 
 -- ---- tests in the descriptions that were read: a file has those that its size meets, and no others
 module _ (limits : Limits) (words : Words) (axioms : Axioms) (files : Files) (marks : List Bool) (read : AreRead limits words axioms files marks) (range : IsTrue (are_in_range limits)) (clean : AreNoMarks limits marks) where
-  abbrev parts : Kept
-  parts = kept_in limits words axioms files marks
+  abbrev metadata : Metadata
+  metadata = metadata_in limits words axioms files marks
 
-  parts_are : AreSound parts
-  parts_are = parts_sound limits words axioms files marks read range clean
+  metadata_are : AreSound metadata
+  metadata_are = metadata_sound limits words axioms files marks read range clean
 
   module _ (slot : ℕ) (rec : FileRecord) (there : rec_at files.catalog slot ≡ Some rec) where
     abbrev numbers : HasSomeNumbers words axioms.taxonomy rec (numbers_at files.ext slot)
@@ -190,30 +190,30 @@ module _ (limits : Limits) (words : Words) (axioms : Axioms) (files : Files) (ma
 
     test_met : (n : ℕ) (w : List ℕ) → word_of words.dict n ≡ Some w → is_test w ≡ true → has files.ext n slot ≡ is_met (test_of w) rec.size
     test_met n w is test =
-        number_told parts parts_are (numbers_at files.ext slot) n w is
-        ∙ (ap (λ ws. has_word ws w) (told_are words read.words_are.are.dict _ _ (slot_are limits words axioms files marks read slot rec there)) ∙ (test_described parts parts_are (draft_of file) given (derived_own file.name file.bytes) n w is test ∙ ap (is_met (test_of w)) numbers.sized))
+        number_told metadata metadata_are (numbers_at files.ext slot) n w is
+        ∙ (ap (λ ws. has_word ws w) (told_are words read.words_are.are.dict _ _ (slot_are limits words axioms files marks read slot rec there)) ∙ (test_described metadata metadata_are (draft_of file) given (derived_own file.name file.bytes) n w is test ∙ ap (is_met (test_of w)) numbers.sized))
 
     -- it was given none
     untested : (n : ℕ) → has_number rec.tags n ≡ true → is_some {T = Bool × ℕ} (test_by (word_of words.dict n)) ≡ false
     untested n tag =
         let m = among_from_number rec.tags n tag in
         let word = given_word limits words axioms files limits.files read.files_are slot n rec there m in
-        ap (λ o. is_some {T = Bool × ℕ} (test_by o)) word.1 ∙ assigned_no_test parts parts_are file.assigned given word.0 (told_among words.dict rec.tags n word.0 word.1 m)
+        ap (λ o. is_some {T = Bool × ℕ} (test_by o)) word.1 ∙ assigned_no_test metadata metadata_are file.assigned given word.0 (told_among words.dict rec.tags n word.0 word.1 m)
 
     met_by_number : (n : ℕ) → is_some {T = Bool × ℕ} (test_by (word_of words.dict n)) ≡ true → has files.ext n slot ≡ is_met (test_by (word_of words.dict n)) rec.size
     met_by_number n test =
         let found = test_word (word_of words.dict n) test in
         test_met n found.word found.is found.test ∙ sym (ap (λ o. is_met (test_by o) rec.size) found.is)
 
-  parts_tests : TestsAreMet (kept_in limits words axioms files marks)
-  parts_tests = record { given = untested; met = met_by_number }
+  metadata_tests : TestsAreMet (metadata_in limits words axioms files marks)
+  metadata_tests = record { given = untested; met = met_by_number }
 
   -- what was read is what a store may keep
-  pub store_sound : (journal : Held) → shape_of journal ≡ image_shape limits → journal.is_broken ≡ false → journal.staged ≡ [] → journal.placed ≡ [] → IsSound (record { parts = kept_in limits words axioms files marks; journal = journal; is_broken = false })
+  pub store_sound : (journal : Held) → shape_of journal ≡ image_shape limits → journal.is_broken ≡ false → journal.staged ≡ [] → journal.placed ≡ [] → IsSound (record { metadata = metadata_in limits words axioms files marks; journal = journal; is_broken = false })
   store_sound journal image unbroken staged placed =
       let few : length journal.staged ≤ 44 = omega (arith, ap length staged) in
       let whole : IsTrue (are_whole journal.staged) = ap are_whole staged in
-      assumption (parts_are, parts_tests, parts_free limits words axioms files marks read range clean, parts_closed limits words axioms files marks read range clean, parts_in_use limits words axioms files marks read range clean, few, whole)
+      assumption (metadata_are, metadata_tests, metadata_free limits words axioms files marks read range clean, metadata_closed limits words axioms files marks read range clean, metadata_in_use limits words axioms files marks read range clean, few, whole)
 
 -- ---- what was read and checked tells a state
 -- ---- where pairs stand below an end only, they are no more than the places below it
@@ -233,17 +233,17 @@ few_pairs dict end (Pair p q ∷ xs) first below =
     one (Some l) (Some r) = omega arith
 
 module _ (limits : Limits) (words : Words) (axioms : Axioms) (files : Files) (marks : List Bool) (at : ℕ → List ℕ) (read : AreRead limits words axioms files marks) (spelled : AreSpelled limits at words axioms files) (range : IsTrue (are_in_range limits)) (clean : AreNoMarks limits marks) where
-  abbrev held : Kept
-  held = kept_in limits words axioms files marks
+  abbrev held : Metadata
+  held = metadata_in limits words axioms files marks
 
   abbrev s : State
   s = state_of held at
 
   held_sound : AreSound held
-  held_sound = parts_sound limits words axioms files marks read range clean
+  held_sound = metadata_sound limits words axioms files marks read range clean
 
   free : FreeSlotsAreEmpty held
-  free = parts_free limits words axioms files marks read range clean
+  free = metadata_free limits words axioms files marks read range clean
 
   used : AreUsed held
   used = each_used limits words axioms files marks read
@@ -392,9 +392,9 @@ module _ (limits : Limits) (words : Words) (axioms : Axioms) (files : Files) (ma
     one_use = λ f g in_f in_g. one_owner f g (among_from_contains files.catalog.entries f in_f) (among_from_contains files.catalog.entries g in_g);
   }
 
-  pub store_told : (store : Stored) → store.parts ≡ held → SpellsSuper limits (at 0) → StoreTells at store
+  pub store_told : (store : Stored) → store.metadata ≡ held → SpellsSuper limits (at 0) → StoreTells at store
   store_told store is begins = record {
     state = s;
-    tells = subst (λ (p : Kept). Tells p at s) (sym is) (tells begins);
-    written = subst (λ (p : Kept). IsWritten p at) (sym is) is_written;
+    tells = subst (λ (p : Metadata). Tells p at s) (sym is) (tells begins);
+    written = subst (λ (p : Metadata). IsWritten p at) (sym is) is_written;
   }

@@ -1,7 +1,7 @@
 -- Rows of the left sides of axioms and of their heads, and the words that are not in use.
 use Rattle.std.proofs.Common.{rules}
 use Rattle.std.proofs.Common.{min, ◌↔◌}
-use Rattle.lis_open.proofs.Common.{◌≡◌, ◌∙◌, sym, ap, ap₂, ℕ, ◌/◌, ◌<◌, ◌==◌, Bool, false, List, length, IsTrue, arith, subst, refl, if◌then◌else◌, ◌&&◌, ◌||◌, not, true, cond, Some, None, is_some, list_all, bits_bytes, has, Limits, slot, Row, row_slots, both_ways, list_any, or-false, HasShape, get, with_row, is_taken, Dict, IsDict, word_of, AxiomSlot, Kept, is_head_by, is_had, is_left_of, is_left_head_of, is_used, Rows}
+use Rattle.lis_open.proofs.Common.{◌≡◌, ◌∙◌, sym, ap, ap₂, ℕ, ◌/◌, ◌<◌, ◌==◌, Bool, false, List, length, IsTrue, arith, subst, refl, if◌then◌else◌, ◌&&◌, ◌||◌, not, true, cond, Some, None, is_some, list_all, bits_bytes, has, Limits, slot, Row, row_slots, both_ways, list_any, or-false, HasShape, get, with_row, is_taken, Dict, IsDict, word_of, AxiomSlot, Metadata, is_head_by, is_had, is_left_of, is_left_head_of, is_used, Rows}
 use Rattle.lis_fields.specs.Layouts.{zeros}
 use Rattle.std.proofs.lemmas.Bool.Decides.{nat_tests}
 use Rattle.lis_bits.proofs.Numbers.{bytes_none}
@@ -85,11 +85,11 @@ module _ (d : Dict) (dict : IsDict d) (left n : ℕ) where
 
 -- ---- words that are not in use
 -- by a row of left sides
-pub stray_by_row : (k : Kept) (n : ℕ) (bit : Bool) → bit ≡ list_any (λ (slot : AxiomSlot). is_left_of n slot || is_left_head_of k.dict n slot) k.axioms
+pub stray_by_row : (k : Metadata) (n : ℕ) (bit : Bool) → bit ≡ list_any (λ (slot : AxiomSlot). is_left_of n slot || is_left_head_of k.dict n slot) k.axioms
     → (is_some (word_of k.dict n) && not (is_taken k.declared n || is_had k.ext n || bit)) ≡ is_stray k n
 stray_by_row k n bit told = ap (λ b. is_some (word_of k.dict n) && not (is_taken k.declared n || is_had k.ext n || b)) (told ∙ any_or (is_left_of n) (is_left_head_of k.dict n) k.axioms)
 
-pub no_stray_past : (k : Kept) (n : ℕ) → word_of k.dict n ≡ None → is_stray k n ≡ false
+pub no_stray_past : (k : Metadata) (n : ℕ) → word_of k.dict n ≡ None → is_stray k n ≡ false
 no_stray_past k n none = ap (λ o. is_some o && not (is_used k n)) none
 
 -- the test of one number, by its parts

@@ -328,7 +328,7 @@ module _ (old : Meaning) (limits : Limits) (super : HasSuper limits old.bytes) (
 
     module _ (journal : Held) (new : Meaning) (fits : Fits journal new kept) (left : Recovers old new) where
       -- the state that a store tells
-      told_stand : (store : Stored) (s : State) → IsSound store → Tells store.parts kept s → IsWritten store.parts kept → store.parts.limits ≡ limits → Stands old.bytes s
+      told_stand : (store : Stored) (s : State) → IsSound store → Tells store.metadata kept s → IsWritten store.metadata kept → store.metadata.limits ≡ limits → Stands old.bytes s
       unfolding Stands
       told_stand store s sound tells written same =
           let limits_are : limits ≡ s.limits = sym same ∙ ap (λ (t : State). t.limits) tells.state in
@@ -338,16 +338,16 @@ module _ (old : Meaning) (limits : Limits) (super : HasSuper limits old.bytes) (
             long = omega (arith, whole, long, ap image_blocks limits_are);
             replay = r;
             replays = ap (λ (l : Limits). replayed (image_layout l) old.bytes) (sym limits_are) ∙ replays;
-            contents = contents_of store.parts;
-            spells = tells_spells store.parts kept s sound.parts sound.free sound.pairs written tells;
+            contents = contents_of store.metadata;
+            spells = tells_spells store.metadata kept s sound.metadata sound.free sound.pairs written tells;
           }
 
       -- its limits are those of the super block
-      told_limits : (store : Stored) (s : State) → IsSound store → Tells store.parts kept s → store.parts.limits ≡ limits
+      told_limits : (store : Stored) (s : State) → IsSound store → Tells store.metadata kept s → store.metadata.limits ≡ limits
       told_limits store s sound tells =
-          let told : store.parts.limits ≡ s.limits = ap (λ (t : State). t.limits) tells.state in
+          let told : store.metadata.limits ≡ s.limits = ap (λ (t : State). t.limits) tells.state in
           told
-          ∙ one_limits r s.limits limits (record { range = subst (λ (l : Limits). IsTrue (are_in_range l)) told sound.parts.range; spelled = tells.super }) (record { range = super.range; spelled = super_kept })
+          ∙ one_limits r s.limits limits (record { range = subst (λ (l : Limits). IsTrue (are_in_range l)) told sound.metadata.range; spelled = tells.super }) (record { range = super.range; spelled = super_kept })
 
       parts_opened : (result : Result Stored OpenFault) → ((store : Stored) → result ≡ Ok store → IsOpened journal store) → StoreEnded limits kept result → Opened old new result
       parts_opened (Ok store) opened ended =

@@ -1,7 +1,7 @@
 -- A state of version 1 and what memory keeps of it, in another version: the same in all but the limits.
 use Rattle.std.proofs.Common.{rules}
 use Rattle.std.proofs.Common.{take-append-drop}
-use Rattle.lis_open.proofs.Common.{◌≡◌, sym, ap, ◌∙◌, subst, ℕ, ◌+◌, ◌≤◌, nat_le, true, Some, List, length, map, slice_get, sum, IsTrue, arith, ◌⊎◌, refl, ap₂, inl, inr, ◌*◌, ◌==◌, Bool, false, [], ◌∷◌, ◌++◌, take, drop, Result, Ok, Err, if◌then◌else◌, eq-eqb, le-leb, drop-drop, Contains, leb-true, list_all, among_from_contains, Filed, rec_at, are_distinct, Dict, FileRecord, SpellsSuper, Pair, data_start, State, description, WellFormed, Kept, AreSound, blocks_told, Tells, Meaning, part, Torn, Always, IsSettled, Leaves, part-torn, part-put, block, Keeps, Spreads, Limits, image_blocks, Stored, IsSound, and_parts, and_from, has_number, all_among, File, IsWritten, put, always_settled, leaves_then, leaves_weaken, replayed, recovered, ⊎_map}
+use Rattle.lis_open.proofs.Common.{◌≡◌, sym, ap, ◌∙◌, subst, ℕ, ◌+◌, ◌≤◌, nat_le, true, Some, List, length, map, slice_get, sum, IsTrue, arith, ◌⊎◌, refl, ap₂, inl, inr, ◌*◌, ◌==◌, Bool, false, [], ◌∷◌, ◌++◌, take, drop, Result, Ok, Err, if◌then◌else◌, eq-eqb, le-leb, drop-drop, Contains, leb-true, list_all, among_from_contains, Filed, rec_at, are_distinct, Dict, FileRecord, SpellsSuper, Pair, data_start, State, description, WellFormed, Metadata, AreSound, blocks_told, Tells, Meaning, part, Torn, Always, IsSettled, Leaves, part-torn, part-put, block, Keeps, Spreads, Limits, image_blocks, Stored, IsSound, and_parts, and_from, has_number, all_among, File, IsWritten, put, always_settled, leaves_then, leaves_weaken, replayed, recovered, ⊎_map}
 use Rattle.lis_store.specs.Stands.{Stands}
 use Rattle.std.proofs.lemmas.Bool.{cond-false}
 use Rattle.lis_content.proofs.Indexes.{small_size}
@@ -36,8 +36,8 @@ use Rattle.lis_model.specs.Image.{properties_start}
 abbrev pub state_in : ℕ → State → State
 state_in version s = record s { limits = record s.limits { version = version } }
 
-abbrev pub kept_in : ℕ → Kept → Kept
-kept_in version k = record k { limits = record k.limits { version = version } }
+abbrev pub metadata_in : ℕ → Metadata → Metadata
+metadata_in version k = record k { limits = record k.limits { version = version } }
 
 -- in its own version it is itself
 pub state_own : (s : State) → s.limits.version ≡ 1 → state_in 1 s ≡ s
@@ -67,10 +67,10 @@ formed_upgraded s one formed =
 record_upgraded : (dict : Dict) (blocks : ℕ) (rec : FileRecord) → IsTrue (is_sound_record 1 dict blocks rec) → IsTrue (is_sound_record 2 dict blocks rec)
 record_upgraded dict blocks rec sound = search (rules, and_parts, and_from, file_upgraded)
 
-pub sound_upgraded : (k : Kept) → k.limits.version ≡ 1 → AreSound k → AreSound (kept_in 2 k)
+pub sound_upgraded : (k : Metadata) → k.limits.version ≡ 1 → AreSound k → AreSound (metadata_in 2 k)
 sound_upgraded k one sound = assumption (upgraded_in_range k.limits sound.range, axioms, records)
   where
-    axioms : (slot left right : ℕ) → slice_get k.axioms slot ≡ Some (Pair left right) → IsSoundAxiom (kept_in 2 k) slot left right
+    axioms : (slot left right : ℕ) → slice_get k.axioms slot ≡ Some (Pair left right) → IsSoundAxiom (metadata_in 2 k) slot left right
     axioms slot left right is = assumption (sound.axioms slot left right is)
 
     records : (slot : ℕ) (rec : FileRecord) → rec_at k.catalog slot ≡ Some rec → IsTrue (is_sound_record 2 k.dict k.limits.blocks rec)
@@ -78,7 +78,7 @@ sound_upgraded k one sound = assumption (upgraded_in_range k.limits sound.range,
         record_upgraded k.dict k.limits.blocks rec (subst (λ version. IsTrue (is_sound_record version k.dict k.limits.blocks rec)) one (sound.records slot rec is))
 
 -- ---- what is told and what is written, where all home blocks are the same and the super block tells the version
-module _ (version : ℕ) (k : Kept) (at there : ℕ → List ℕ) (sound : AreSound k) (same : (n : ℕ) → properties_start ≤ n → there n ≡ at n) where
+module _ (version : ℕ) (k : Metadata) (at there : ℕ → List ℕ) (sound : AreSound k) (same : (n : ℕ) → properties_start ≤ n → there n ≡ at n) where
   files_same : AreFilesSame k at there
   files_same f m b of = same (data_start k.limits + b) (omega arith)
 
@@ -88,7 +88,7 @@ module _ (version : ℕ) (k : Kept) (at there : ℕ → List ℕ) (sound : AreSo
   was : (f : Filed) → Contains k.catalog.entries f → (n : ℕ) → has_number (blocks_told k.limits there f.rec) n ≡ true → has_number (blocks_told k.limits at f.rec) n ≡ true
   was f m n has = ap (λ ns. has_number ns n) (sym (blocks_same f m)) ∙ has
 
-  pub tells_in : (s : State) → SpellsSuper (record s.limits { version = version }) (there 0) → WellFormed (state_in version s) → Tells k at s → Tells (kept_in version k) there (state_in version s)
+  pub tells_in : (s : State) → SpellsSuper (record s.limits { version = version }) (there 0) → WellFormed (state_in version s) → Tells k at s → Tells (metadata_in version k) there (state_in version s)
   tells_in s super formed tells = record {
     super = super;
     state = ap (state_in version) (state_there k at there sound files_same ∙ tells.state);
@@ -104,7 +104,7 @@ module _ (version : ℕ) (k : Kept) (at there : ℕ → List ℕ) (sound : AreSo
     one_use = λ f g mf mg n has_f has_g. tells.one_use f g mf mg n (was f mf n has_f) (was g mg n has_g);
   }
 
-  pub written_in : IsWritten k at → IsWritten (kept_in version k) there
+  pub written_in : IsWritten k at → IsWritten (metadata_in version k) there
   written_in written =
       let all = written_there k at there sound.range (λ n low lt. same n low) written in
       elim [ Properties ↦ all Properties | Axioms ↦ all Axioms | Files ↦ all Files | Rows ↦ all Rows | Bitmap ↦ all Bitmap ]
@@ -129,7 +129,7 @@ module _ (k : Stored) (m : Meaning) (s : State) (sound : IsSound k) (fits : Stor
   keeps : Keeps k.journal.layout fits.kept m.bytes
   keeps = shut_keeps k.journal.layout fits.kept m.bytes shut (fits_stand k.journal (sound.placed fits.unbroken) fits.journal).reads
 
-  kept_one : k.parts.limits.version ≡ 1
+  kept_one : k.metadata.limits.version ≡ 1
   kept_one = ap (λ (t : State). t.limits.version) fits.tells.state ∙ one
 
   super_before : SpellsSuper s.limits (block 0 m.bytes)
@@ -152,21 +152,21 @@ module _ (k : Stored) (m : Meaning) (s : State) (sound : IsSound k) (fits : Stor
     behind = drop-take 25 4071 image ∙ (ap (take 4071) torn.after ∙ sym (drop-take 25 4071 m.bytes))
 
     -- it stands for the state in the version that its super block tells
-    stands_in : (version : ℕ) → SpellsSuper (record s.limits { version = version }) (block 0 image) → AreSound (kept_in version k.parts) → WellFormed (state_in version s) → Stands image (state_in version s)
+    stands_in : (version : ℕ) → SpellsSuper (record s.limits { version = version }) (block 0 image) → AreSound (metadata_in version k.metadata) → WellFormed (state_in version s) → Stands image (state_in version s)
     stands_in version super sound_then formed =
-        change_stands (record k { parts = kept_in version k.parts }) k.journal.layout (λ n. block n image) (state_in version s) sound_then sound.free sound.pairs
-        (tells_in version k.parts fits.kept (λ n. block n image) sound.parts same s super formed fits.tells)
-        (written_in version k.parts fits.kept (λ n. block n image) sound.parts same fits.written)
+        change_stands (record k { metadata = metadata_in version k.metadata }) k.journal.layout (λ n. block n image) (state_in version s) sound_then sound.free sound.pairs
+        (tells_in version k.metadata fits.kept (λ n. block n image) sound.metadata same s super formed fits.tells)
+        (written_in version k.metadata fits.kept (λ n. block n image) sound.metadata same fits.written)
         (same_layout sound.image) image (shut_stands k.journal.layout image (shut_torn 24 1 m.bytes image (omega arith) torn shut) long)
 
     stands_before : SpellsSuper s.limits (block 0 image) → Stands image s
     stands_before super =
         subst (Stands image) (state_own s one)
-        (stands_in 1 (subst (λ version. SpellsSuper (record s.limits { version = version }) (block 0 image)) one super) (subst AreSound (ap (λ version. kept_in version k.parts) kept_one) sound.parts)
+        (stands_in 1 (subst (λ version. SpellsSuper (record s.limits { version = version }) (block 0 image)) one super) (subst AreSound (ap (λ version. metadata_in version k.metadata) kept_one) sound.metadata)
         (subst WellFormed (sym (state_own s one)) fits.tells.formed))
 
     pub stands_upgraded : SpellsSuper (record s.limits { version = 2 }) (block 0 image) → Stands image (upgraded s)
-    stands_upgraded super = stands_in 2 super (sound_upgraded k.parts kept_one sound.parts) (formed_upgraded s one fits.tells.formed)
+    stands_upgraded super = stands_in 2 super (sound_upgraded k.metadata kept_one sound.metadata) (formed_upgraded s one fits.tells.formed)
 
     pub torn_stands : Stands image s ⊎ Stands image (upgraded s)
     torn_stands =
@@ -199,14 +199,14 @@ module _ (old mid : Meaning) (k : Stored) (sound : IsSound k) (ended : OpenEnded
   fits : StoreFits k mid s
   fits = ended.1.2
 
-  limits_are : k.parts.limits ≡ s.limits
+  limits_are : k.metadata.limits ≡ s.limits
   limits_are = ap (λ (t : State). t.limits) fits.tells.state
 
   -- nothing is unsynced
   settled : IsSettled mid mid.bytes
   settled = record { reads = refl; only = λ image is. left.2.only image is ∙ sym left.2.reads }
 
-  version_told : left.0.version ≡ k.parts.limits.version
+  version_told : left.0.version ≡ k.metadata.limits.version
   version_told =
       ap (λ (l : Limits). l.version) (one_limits old.bytes left.0 s.limits left.1 (has_super old.bytes s stood)) ∙ sym (ap (λ (l : Limits). l.version) limits_are)
 
@@ -217,16 +217,16 @@ module _ (old mid : Meaning) (k : Stored) (sound : IsSound k) (ended : OpenEnded
   gate_left {new} is_second is settled = (left.0, left.1, subst (λ b. IsSettled new (if b then after else put after 24 (2 ∷ []))) (sym is) settled)
 
   -- what opening left of an image of version 2 stays
-  pub second_left : k.parts.limits.version ≡ 2 → GateLeft old mid
+  pub second_left : k.metadata.limits.version ≡ 2 → GateLeft old mid
   second_left two = gate_left true (eq-eqb left.0.version 2 (version_told ∙ two)) left.2
 
   -- of version 2 it is what it becomes
-  pub second_stands : k.parts.limits.version ≡ 2 → Always mid (λ image. Stands image (upgraded s))
+  pub second_stands : k.metadata.limits.version ≡ 2 → Always mid (λ image. Stands image (upgraded s))
   second_stands two =
       let same : s ≡ upgraded s = ap (λ version. state_in version s) (sym (ap (λ (l : Limits). l.version) limits_are) ∙ two) in
       subst (λ (t : State). Always mid (λ image. Stands image t)) same (fitting_stands mid k s sound fits)
 
-  module _ (one : k.parts.limits.version ≡ 1) where
+  module _ (one : k.metadata.limits.version ≡ 1) where
     state_one : s.limits.version ≡ 1
     state_one = sym (ap (λ (l : Limits). l.version) limits_are) ∙ one
 

@@ -142,7 +142,7 @@ wiped_stands limits image range is first =
     let sound = empty_sound limits blocks range room in
     let super : SpellsSuper limits (block 0 image) =
     subst (λ bytes. SpellsSuper limits bytes) (sym (wiped_super limits image is first)) (super_spells limits range) in
-    change_stands (empty_stored limits blocks) (image_layout limits) (λ n. block n image) (empty_state limits) sound.parts sound.free sound.pairs
+    change_stands (empty_stored limits blocks) (image_layout limits) (λ n. block n image) (empty_state limits) sound.metadata sound.free sound.pairs
     (tells_empty limits blocks image range is.blank super) (written_empty limits blocks image range is.blank) refl image
     (shut_stands (image_layout limits) image (ap (λ gate. slice_index gate 0 == 1) is.blank.gates) is.blank.long)
 

@@ -1,5 +1,5 @@
 -- The words of property slots, read one after another.
-use Rattle.lis_open.proofs.Common.{rules, ◌≡◌, ◌∙◌, refl, sym, ap, subst, inl, ℕ, ◌+◌, ◌<◌, Bool, true, false, not, cond, is_some, Option, Some, None, List, replicate, get_or, IsTrue, IsSome, arith, eq-eqb, ap₂, option_to_list, [], map, ⊎_elim, IfSome, length-set, get_or-set_same, get_or-set_other, ne_eqb, fold, cases_lt, length-replicate, same_Some, Meaning, DiskFaultEnds, Held, Fits, slot, is_taken, number_of, word_of, word_from_number, number_from_word, number_below, prop_bytes, is_prop, PropSlot, FreeProp, are_in_range, Limits, Property, property_by, property_slots, few_properties, some_number, word_in, insert_key, Among, among_map, map_among, among_flat_map, Filed, AxiomSlot, FreeAxiom, Pair, among_from_has_word, among_set_of, sorted_set_of, Kept, bit_of, pair_by, pair_told, axioms_of, bytes_told, file_told, declared_there, there_declared, words_in, word_at, both_ways, get_or_past, has_word, flat_map_among, has_word_from_among, set_of_among, set_of, File, pair_cmp, file_of_record}
+use Rattle.lis_open.proofs.Common.{rules, ◌≡◌, ◌∙◌, refl, sym, ap, subst, inl, ℕ, ◌+◌, ◌<◌, Bool, true, false, not, cond, is_some, Option, Some, None, List, replicate, get_or, IsTrue, IsSome, arith, eq-eqb, ap₂, option_to_list, [], map, ⊎_elim, IfSome, length-set, get_or-set_same, get_or-set_other, ne_eqb, fold, cases_lt, length-replicate, same_Some, Meaning, DiskFaultEnds, Held, Fits, slot, is_taken, number_of, word_of, word_from_number, number_from_word, number_below, prop_bytes, is_prop, PropSlot, FreeProp, are_in_range, Limits, Property, property_by, property_slots, few_properties, some_number, word_in, insert_key, Among, among_map, map_among, among_flat_map, Filed, AxiomSlot, FreeAxiom, Pair, among_from_has_word, among_set_of, sorted_set_of, Metadata, bit_of, pair_by, pair_told, axioms_of, bytes_told, file_told, declared_there, there_declared, words_in, word_at, both_ways, get_or_past, has_word, flat_map_among, has_word_from_among, set_of_among, set_of, File, pair_cmp, file_of_record}
 use Rattle.lis_open.proofs.Once.{each_number}
 use Rattle.std.proofs.lemmas.Bool.{not-true, not-false}
 use Rattle.std.proofs.lemmas.List.{get_or-replicate}
@@ -7,7 +7,7 @@ use Rattle.lis_dict.proofs.Laws.{word_of-with_entry, length-with_entry, kept_wit
 use Rattle.lis_fields.proofs.Parts.{undeclared_word, declarable_word}
 use Rattle.lis_fields.specs.declared.slots.PropSlot.TheVariants.{Known, Declared}
 use Rattle.lis_words.specs.Words.{is_property}
-use Rattle.lis_kept.specs.Kept.{property_at}
+use Rattle.lis_kept.specs.Metadata.{property_at}
 use Rattle.lis_store.proofs.Admitted.{none_there}
 use Rattle.lis_store.proofs.Spelled.{word_by, declared_by as declared_by_slot}
 use Rattle.lis_open.specs.declared.blocks.LastBlock.{LastBlock}
@@ -195,7 +195,7 @@ module _ (limits : Limits) (words : Words) (are : AreWords words) (same : words.
   abbrev told : List PropSlot
   told = told_properties limits words
 
-  abbrev k : Kept
+  abbrev k : Metadata
   k = kept_words limits words []
 
   pub number_within : (n : ℕ) (w : List ℕ) → word_of words.dict n ≡ Some w → n < limits.props

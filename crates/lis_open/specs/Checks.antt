@@ -2,6 +2,7 @@
 use Rattle.std.specs.Prelude.{◌≡◌, ◌≢◌, ◌⊎◌, ℕ, ◌/◌, ◌≤◌, ◌<◌, Bool, false, List, [], Some, None, length, IsTrue}
 use Rattle.std.specs.BTreeSet.{insert_key}
 use Rattle.std.specs.List.{fold, Contains}
+use Rattle.lis_limits.specs.declared.TheConstants.{BLOCK_BITS, MAX_DESCRIPTION}
 use Rattle.lis_bits.specs.Bytes.{bits_bytes}
 use Rattle.lis_journal.specs.Record.{block, bad_record, replayed}
 use Rattle.lis_slots.specs.Slots.{Slots, slot}
@@ -158,7 +159,7 @@ pub data FileFault (limits : Limits) (at : ℕ → List ℕ) (properties : List 
   WordUnnumbered : (word : List ℕ) → IsTrue (has_word (description_by limits properties axioms at rec) word) → has_word (words_in properties) word ≡ false
       → FileFault limits at properties axioms n rec
   -- its description has more words than a state allows
-  TooManyWords : 128 < length (description_by limits properties axioms at rec) → FileFault limits at properties axioms n rec
+  TooManyWords : MAX_DESCRIPTION < length (description_by limits properties axioms at rec) → FileFault limits at properties axioms n rec
 
 abbrev pub HasFileFault : Limits → (ℕ → List ℕ) → List PropSlot → List AxiomSlot → ℕ → FileSlot → Type 0
 HasFileFault limits at properties axioms n FreeFile = ⊥
@@ -185,7 +186,7 @@ pub record WordFails (limits : Limits) (at : ℕ → List ℕ) (n : ℕ) : Type 
 
 -- A bit of the bitmap is 1 and no file uses the block, or it is 0 and some file does.
 pub record BitFails (limits : Limits) (at : ℕ → List ℕ) (n : ℕ) : Type 0 where
-  pub below : n < 32768
+  pub below : n < BLOCK_BITS
   pub fault : (IsTrue (has_bit (at (bitmap_start limits)) n) × (IsUsed limits at n → ⊥)) ⊎ ((has_bit (at (bitmap_start limits)) n ≡ false) × IsUsed limits at n)
 
 -- what may be wrong with a row

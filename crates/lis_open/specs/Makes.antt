@@ -1,5 +1,6 @@
 -- Images while an empty one is made.
-use Rattle.std.specs.Prelude.{◌≡◌, ◌≢◌, ◌⊎◌, ℕ, ◌≤◌, ◌<◌, List, drop, slice_index}
+use Rattle.std.specs.Prelude.{◌-◌, ◌≡◌, ◌≢◌, ◌⊎◌, ℕ, ◌≤◌, ◌<◌, List, drop, slice_index}
+use Rattle.lis_limits.specs.declared.TheConstants.{BLOCK_LEN}
 use Rattle.lis_ports.specs.Meaning.{Meaning}
 use Rattle.lis_ports.specs.Bytes.{part}
 use Rattle.lis_journal.specs.Record.{block}
@@ -26,7 +27,7 @@ IsSpared bytes image = (image ≡ bytes) ⊎ IsNameless image
 
 -- the blocks from `first` up to `end` are zeros
 abbrev pub AreZeros : ℕ → ℕ → List ℕ → Type 0
-AreZeros first end image = (n : ℕ) → first ≤ n → n < end → block n image ≡ zeros 4096
+AreZeros first end image = (n : ℕ) → first ≤ n → n < end → block n image ≡ zeros BLOCK_LEN
 
 -- the super block, but for its first byte
 unfoldable pub rest_of_super : Limits → List ℕ
@@ -34,9 +35,9 @@ rest_of_super limits = drop 1 (super_bytes limits)
 
 -- all of an empty image but the first byte, with zeros in all of the gate block
 pub record IsWiped (limits : Limits) (image : List ℕ) : Type 0 where
-  pub rest : part 1 4095 image ≡ rest_of_super limits
+  pub rest : part 1 (BLOCK_LEN - 1) image ≡ rest_of_super limits
   pub blank : IsBlank limits image
-  pub zero : block 1 image ≡ zeros 4096
+  pub zero : block 1 image ≡ zeros BLOCK_LEN
 
 -- a block that making leaves alone: one of the records, a data block, or one past the image
 abbrev pub IsSpare : Limits → ℕ → Type 0
@@ -53,7 +54,7 @@ pub record IsWiping (limits : Limits) (from image : List ℕ) : Type 0 where
 -- What making leaves: the super block, zeros in the gate block and in the home blocks before the data blocks, and each other block as it was.
 pub record IsMade (limits : Limits) (bytes image : List ℕ) : Type 0 where
   pub super : block 0 image ≡ super_bytes limits
-  pub gate : block 1 image ≡ zeros 4096
+  pub gate : block 1 image ≡ zeros BLOCK_LEN
   pub homes : AreZeros properties_start (data_start limits) image
   pub spare : KeepsSpare limits bytes image
 

@@ -1,5 +1,6 @@
 -- How opening an image ends, and its causes.
 use Rattle.std.specs.Prelude.{◌≡◌, ◌≢◌, ◌⊎◌, ℕ, ◌*◌, ◌≤◌, ◌<◌, List, Result, Ok, Err, IsTrue}
+use Rattle.lis_limits.specs.declared.TheConstants.{BLOCK_LEN}
 use Rattle.lis_ports.specs.Meaning.{Meaning}
 use Rattle.lis_ports.specs.Calls.{Rose, IsUnchanged}
 use Rattle.lis_ports.specs.Bytes.{part}
@@ -31,11 +32,11 @@ HasOpenCause before now (Err NoMemory) = now ≡ before
 -- the image begins with a super block of these limits
 pub record HasSuper (limits : Limits) (image : List ℕ) : Type 0 where
   pub range : IsTrue (are_in_range limits)
-  pub spelled : SpellsSuper limits (part 0 4096 image)
+  pub spelled : SpellsSuper limits (part 0 BLOCK_LEN image)
 
 -- how many bytes are needed: a super block, or the image that it tells
 abbrev pub IsNeeded : List ℕ → ℕ → Type 0
-IsNeeded image need = (need ≡ 4096) ⊎ ((limits : Limits) × HasSuper limits image × (need ≡ 4096 * image_blocks limits))
+IsNeeded image need = (need ≡ BLOCK_LEN) ⊎ ((limits : Limits) × HasSuper limits image × (need ≡ BLOCK_LEN * image_blocks limits))
 
 -- the disk has as many bytes as are needed
 abbrev pub IsLongEnough : Meaning → Type 0

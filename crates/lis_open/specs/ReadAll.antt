@@ -10,7 +10,7 @@ use Rattle.lis_model.specs.declared.spot.Spot.{Spot}
 use Rattle.lis_model.specs.declared.spot.Spot.TheVariants.{Word, Bitmap, Row}
 use Rattle.lis_model.specs.Image.{bitmap_start, data_start}
 use Rattle.lis_model.specs.State.{State}
-use Rattle.lis_kept.specs.Kept.{Kept, kept_of}
+use Rattle.lis_kept.specs.Metadata.{Metadata, metadata_of}
 use Rattle.lis_kept.specs.Areas.{IsWritten, axiom_slots, row_slots}
 use Rattle.lis_kept.specs.Rows.{row_bytes}
 use Rattle.lis_kept.specs.Telling.{Tells, is_used}
@@ -20,7 +20,7 @@ use Rattle.lis_open.specs.declared.mounting.OpenFault.TheVariants.{TooShort, Dam
 use Rattle.lis_open.specs.declared.words.Words.{Words}
 use Rattle.lis_open.specs.declared.axioms.Axioms.{Axioms}
 use Rattle.lis_open.specs.declared.files.Files.{Files}
-use Rattle.lis_open.specs.declared.room.Room.{Room}
+use Rattle.lis_open.specs.declared.memory.OpeningMemory.{OpeningMemory}
 use Rattle.lis_open.specs.Checks.{Fails, rank}
 use Rattle.lis_open.specs.Reading.{PartsFail}
 use Rattle.lis_open.specs.ReadWords.{no_words, AreNoAxioms, AreFirstWords, AreFirstAxioms, WordsAreSpelled, AxiomsAreSpelled}
@@ -33,35 +33,35 @@ pub record AreNoMarks (limits : Limits) (marks : List Bool) : Type 0 where
   pub none : marks ≡ replicate (length marks) false
 
 -- nothing was read yet
-pub record IsEmptyRoom (limits : Limits) (room : Room) : Type 0 where
-  pub words : room.words ≡ no_words limits
-  pub axioms : AreNoAxioms limits room.axioms
-  pub files : room.files ≡ no_files limits
-  pub row : HasShape room.row 2 limits.props
-  pub marks : AreNoMarks limits room.marks
+pub record IsEmptyMemory (limits : Limits) (memory : OpeningMemory) : Type 0 where
+  pub words : memory.words ≡ no_words limits
+  pub axioms : AreNoAxioms limits memory.axioms
+  pub files : memory.files ≡ no_files limits
+  pub row : HasShape memory.row 2 limits.props
+  pub marks : AreNoMarks limits memory.marks
 
 -- what memory keeps of what was read
-abbrev pub kept_in : Limits → Words → Axioms → Files → List Bool → Kept
-kept_in limits words axioms files marks =
-    kept_of limits words.dict words.declared axioms.slots.items files.catalog files.map files.ext marks
+abbrev pub metadata_in : Limits → Words → Axioms → Files → List Bool → Metadata
+metadata_in limits words axioms files marks =
+    metadata_of limits words.dict words.declared axioms.slots.items files.catalog files.map files.ext marks
 
 -- ---- words in use
 -- it has a word that is not in use
-abbrev pub is_stray : Kept → ℕ → Bool
+abbrev pub is_stray : Metadata → ℕ → Bool
 is_stray k n = is_some (word_of k.dict n) && not (is_used k n)
 
-pub record IsFirstStray (k : Kept) (n : ℕ) : Type 0 where
+pub record IsFirstStray (k : Metadata) (n : ℕ) : Type 0 where
   pub below : n < k.limits.props
   pub stray : IsTrue (is_stray k n)
   pub none_before : (m : ℕ) → m < n → is_stray k m ≡ false
 
-abbrev pub HasStray : Kept → OpenFault → Type 0
+abbrev pub HasStray : Metadata → OpenFault → Type 0
 HasStray k (Damaged spot) = (n : ℕ) × (spot ≡ Word n) × IsFirstStray k n
 HasStray k NoMemory = ⊥
 HasStray k DiskFault = ⊥
 HasStray k (TooShort len need) = ⊥
 
-abbrev pub WordsChecked : {T : Type 0} → Kept → Result T OpenFault → Type 0
+abbrev pub WordsChecked : {T : Type 0} → Metadata → Result T OpenFault → Type 0
 WordsChecked k (Ok done) = (n : ℕ) → is_stray k n ≡ false
 WordsChecked k (Err fault) = HasStray k fault
 
@@ -131,7 +131,7 @@ pub record AreRead (limits : Limits) (words : Words) (axioms : Axioms) (files : 
   pub words_are : AreFirstWords limits words limits.props
   pub axioms_are : AreFirstAxioms limits words axioms (axiom_slots limits).count
   pub files_are : AreFirstFiles limits words axioms files limits.files
-  pub used : (n : ℕ) → is_stray (kept_in limits words axioms files marks) n ≡ false
+  pub used : (n : ℕ) → is_stray (metadata_in limits words axioms files marks) n ≡ false
 
 -- the blocks of all parts are spelled by them
 pub record AreSpelled (limits : Limits) (at : ℕ → List ℕ) (words : Words) (axioms : Axioms) (files : Files) : Type 0 where
@@ -149,8 +149,8 @@ PartsEnded limits at words axioms files (Err fault) = PartsFail limits at fault
 -- a store that tells a state, and is written there
 pub record StoreTells (at : ℕ → List ℕ) (store : Stored) : Type 0 where
   pub state : State
-  pub tells : Tells store.parts at state
-  pub written : IsWritten store.parts at
+  pub tells : Tells store.metadata at state
+  pub written : IsWritten store.metadata at
 
 abbrev pub StoreEnded : Limits → (ℕ → List ℕ) → Result Stored OpenFault → Type 0
 StoreEnded limits at (Ok store) = StoreTells at store

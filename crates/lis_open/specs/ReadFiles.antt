@@ -2,6 +2,7 @@
 use Rattle.std.specs.Prelude.{◌≡◌, ℕ, ◌≤◌, ◌<◌, nat_le, Bool, true, false, not, ◌&&◌, ◌||◌, is_some, Option, Some, None, List, [], ◌++◌, length, replicate, slice_set, IsTrue}
 use Rattle.std.specs.Option.{option_to_list}
 use Rattle.std.specs.List.{list_all, list_any, flat_map, Contains}
+use Rattle.lis_limits.specs.declared.TheConstants.{MAX_DESCRIPTION}
 use Rattle.lis_bits.specs.Rows.{Rows, HasShape, get}
 use Rattle.lis_slots.specs.Slots.{slot}
 use Rattle.lis_blockmap.specs.Bitmap.{is_taken}
@@ -21,7 +22,7 @@ use Rattle.lis_model.specs.declared.limits.Limits.{Limits}
 use Rattle.lis_model.specs.Derived.{derived_words}
 use Rattle.lis_model.specs.State.{file_words, blocks_needed, is_assignable}
 use Rattle.lis_model.specs.Tests.{met_tests}
-use Rattle.lis_kept.specs.Kept.{record_at}
+use Rattle.lis_kept.specs.Metadata.{record_at}
 use Rattle.lis_kept.specs.Areas.{file_slots}
 use Rattle.lis_kept.specs.Sound.{is_sound_record}
 use Rattle.lis_kept.specs.Telling.{words_told, bytes_told, blocks_told, HasIndex, file_told, axioms_of}
@@ -69,7 +70,7 @@ own_numbers dict tags found = tags ++ numbers_of dict found
 -- the words that are found in a file have numbers, and its description is not too long
 abbrev pub may_describe : Words → Taxonomy → FileRecord → List (List ℕ) → Bool
 may_describe words t rec found =
-    list_all (is_numbered words.dict) found && nat_le (length (described t (own_numbers words.dict rec.tags found))) 128
+    list_all (is_numbered words.dict) found && nat_le (length (described t (own_numbers words.dict rec.tags found))) MAX_DESCRIPTION
 
 -- the numbers of a description where a file may have it
 abbrev pub AreDescribed : Words → Taxonomy → FileRecord → List (List ℕ) → Option (List ℕ) → Type 0
@@ -94,8 +95,8 @@ AreNumbers words t (Some rec) numbers = HasSomeNumbers words t rec numbers
 
 -- the numbers that were listed, or that there are more than a description may have
 abbrev pub AreListed : List ℕ → Option (List ℕ) → Type 0
-AreListed numbers None = 128 < length numbers
-AreListed numbers (Some listed) = (listed ≡ numbers) × (length numbers ≤ 128)
+AreListed numbers None = MAX_DESCRIPTION < length numbers
+AreListed numbers (Some listed) = (listed ≡ numbers) × (length numbers ≤ MAX_DESCRIPTION)
 
 -- ---- records
 -- the number is that of a word that files may be given
@@ -202,7 +203,7 @@ pub record AreFirstFiles (limits : Limits) (words : Words) (axioms : Axioms) (fi
   pub props : files.ext.props ≡ limits.props
   pub count : length files.ext.sets ≡ limits.files
   pub sets : (slot : ℕ) → AreNumbers words axioms.taxonomy (rec_at files.catalog slot) (set_of files.ext slot)
-  pub short : (slot : ℕ) → length (set_of files.ext slot) ≤ 128
+  pub short : (slot : ℕ) → length (set_of files.ext slot) ≤ MAX_DESCRIPTION
   pub settled : files.ext.marks ≡ []
 
 abbrev pub FilesAreSpelled : Limits → (ℕ → List ℕ) → Files → ℕ → Type 0

@@ -1,5 +1,6 @@
 -- What is read of words and axioms. No public clause cites this module.
 use Rattle.std.specs.Prelude.{◌≡◌, ◌⊎◌, ℕ, ◌≤◌, ◌<◌, nat_lt, Bool, true, false, not, ◌&&◌, ◌||◌, is_some, Option, Some, None, List, [], filter, length, replicate, slice_get, slice_set, IsTrue, IsSome}
+use Rattle.lis_limits.specs.declared.TheConstants.{MAX_PROPS}
 use Rattle.lis_slots.specs.Slots.{slot}
 use Rattle.lis_blockmap.specs.Bitmap.{is_taken}
 use Rattle.lis_dict.specs.Dict.{Dict, IsDict, number_of, word_of, with_entry, words as words_of}
@@ -13,7 +14,7 @@ use Rattle.lis_fields.specs.Layouts.{prop_bytes, is_prop, axiom_bytes}
 use Rattle.lis_words.specs.Words.{is_plain_word, is_valued, head_bytes, has_word}
 use Rattle.lis_model.specs.declared.limits.Limits.{Limits}
 use Rattle.lis_model.specs.State.{Acyclic, is_nameable}
-use Rattle.lis_kept.specs.Kept.{Kept, kept_of, property_at, axiom_at}
+use Rattle.lis_kept.specs.Metadata.{Metadata, metadata_of, property_at, axiom_at}
 use Rattle.lis_kept.specs.Areas.{property_slots, axiom_slots}
 use Rattle.lis_kept.specs.Edges.{head_number}
 use Rattle.lis_kept.specs.Telling.{bit_of, axioms_of, is_head_by}
@@ -54,7 +55,7 @@ with_property words number (Some (Declared word)) = with_word words number word 
 -- what holds of words however they were read
 pub record AreWords (words : Words) : Type 0 where
   pub dict : IsDict words.dict
-  pub few : words.dict.props ≤ 8192
+  pub few : words.dict.props ≤ MAX_PROPS
   pub long : length words.declared ≡ words.dict.props
   pub forms : (n : ℕ) → IsTrue (is_prop (property_at words.dict words.declared n))
   -- what is declared has a word
@@ -77,9 +78,9 @@ abbrev pub declared_words : Words → List (List ℕ)
 declared_words words = filter (λ word. bit_of words.declared (number_of words.dict word)) (words_of words.dict)
 
 -- what memory keeps of words and axioms, with no file
-abbrev pub kept_words : Limits → Words → List AxiomSlot → Kept
+abbrev pub kept_words : Limits → Words → List AxiomSlot → Metadata
 kept_words limits words axioms =
-    kept_of limits words.dict words.declared axioms (record { files = limits.files; entries = [] }) (replicate limits.blocks false)
+    metadata_of limits words.dict words.declared axioms (record { files = limits.files; entries = [] }) (replicate limits.blocks false)
     (empty_ext limits.props limits.files) []
 
 -- ---- links to heads and between tests

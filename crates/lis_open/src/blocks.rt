@@ -7,7 +7,8 @@ ghost use Rattle.lis_slots.specs.Slots.{slot};
 ghost use Rattle.lis_open.specs.Reading.{Recalls};
 ghost use Rattle.lis_journal.specs.Record.{homes_start};
 
-use lis_journal::{BLOCK_LEN, Journal};
+use lis_journal::Journal;
+use lis_limits::BLOCK_LEN;
 use lis_ports::{Disk, Failed};
 
 /// The block of a journal that was read last.
@@ -59,9 +60,9 @@ impl LastBlock {
         buf: &mut [u8],
     ) -> Result<(), Failed>
         requires width { 0 < length buf.old }
-        requires divides { 4096 % length buf.old ≡ 0 }
+        requires divides { BLOCK_LEN % length buf.old ≡ 0 }
         requires home { homes_start journal.now.layout ≤ first }
-        requires within { first + k / (4096 / length buf.old) < journal.now.layout.blocks }
+        requires within { first + k / (BLOCK_LEN / length buf.old) < journal.now.layout.blocks }
         requires few { journal.now.layout.blocks < 2 ^ 32 }
         requires clean { journal.now.staged ≡ [] }
         requires usable { JournalIsUsable journal.now (D.meaning disk.old) }

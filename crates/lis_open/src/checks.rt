@@ -17,7 +17,7 @@ ghost use Rattle.lis_kept.specs.Telling.{is_had, is_left_of, is_left_head_of};
 ghost use Rattle.lis_open.specs.Reading.{Recalls, ReadsPart, IsReadable};
 ghost use Rattle.lis_open.specs.ReadWords.{AreWords, AreFirstWords, AreFirstAxioms};
 ghost use Rattle.lis_open.specs.ReadFiles.{AreFirstFiles};
-ghost use Rattle.lis_open.specs.ReadAll.{kept_in, WordsChecked, BitmapChecked, IsRowSpelled, RowsChecked};
+ghost use Rattle.lis_open.specs.ReadAll.{metadata_in, WordsChecked, BitmapChecked, IsRowSpelled, RowsChecked};
 
 use crate::axioms::{Axioms, head_number};
 use crate::blocks::LastBlock;
@@ -29,8 +29,9 @@ use lis_blockmap::BlockMap;
 use lis_content::are_zeros;
 use lis_ext::Ext;
 use lis_fields::AxiomSlot;
-use lis_journal::{BLOCK_LEN, Journal};
+use lis_journal::Journal;
 use lis_kept::{bitmap_start, rows_start};
+use lis_limits::BLOCK_LEN;
 use lis_model::limits::Limits;
 use lis_model::spot::Spot;
 use lis_ports::{Disk, Failed};
@@ -107,7 +108,7 @@ pub fn check_words(
     requires axioms { AreFirstAxioms limits.now words.now axioms.now (axiom_slots limits.now).count }
     requires files { AreFirstFiles limits.now words.now axioms.now files.now limits.now.files }
     requires shape { HasShape row.old 2 limits.now.props }
-    ensures { (marks : List Bool) → WordsChecked (kept_in limits.now words.now axioms.now files.now marks) result }
+    ensures { (marks : List Bool) → WordsChecked (metadata_in limits.now words.now axioms.now files.now marks) result }
 {
     mark_lefts(words, axioms, row);
     for number in 0..limits.props {

@@ -9,9 +9,8 @@ ghost use Rattle.lis_model.specs.Ranges.{are_in_range};
 ghost use Rattle.lis_model.specs.Image.{image_blocks};
 ghost use Rattle.lis_open.specs.Makes.{Same, first_byte, IsNameless, IsSpared, AreZeros, IsWiped, IsWiping, rest_of_super};
 
-use lis_fields::{SUPER_LEN, write_super};
-use lis_journal::BLOCK_LEN;
-use lis_kept::PROPERTIES_START;
+use lis_fields::write_super;
+use lis_limits::{BLOCK_LEN, PROPERTIES_START};
 use lis_model::limits::{Limits, image_blocks};
 use lis_ports::{Disk, Failed};
 
@@ -69,12 +68,12 @@ pub fn take_name<D: Disk>(disk: &mut D) -> Result<(), Failed>
 // Fills the blocks from `first` up to `end` with zeros.
 fn clear_blocks<D: Disk>(disk: &mut D, first: u32, end: u32) -> Result<(), Failed>
     requires order { first ≤ end }
-    requires long { 4096 * end ≤ (D.meaning disk.old).len }
+    requires long { BLOCK_LEN * end ≤ (D.meaning disk.old).len }
     ensures disk { UsesDisk (D.meaning disk.old) (D.meaning disk.new) result }
     ensures spreads { IsTrue (D.meaning disk.old).is_honest
-        → Spreads (D.meaning disk.old) (D.meaning disk.new) (Torn (4096 * first) (4096 * (end - first))) }
+        → Spreads (D.meaning disk.old) (D.meaning disk.new) (Torn (BLOCK_LEN * first) (BLOCK_LEN * (end - first))) }
     ensures torn { OnOk result (IsTrue (D.meaning disk.old).is_honest
-        → Torn (4096 * first) (4096 * (end - first)) (D.meaning disk.old).bytes (D.meaning disk.new).bytes) }
+        → Torn (BLOCK_LEN * first) (BLOCK_LEN * (end - first)) (D.meaning disk.old).bytes (D.meaning disk.new).bytes) }
     ensures cleared { OnOk result (IsTrue (D.meaning disk.old).is_honest → AreZeros first end (D.meaning disk.new).bytes) }
 {
     let zeros = [0; BLOCK_LEN];
@@ -87,13 +86,13 @@ fn clear_blocks<D: Disk>(disk: &mut D, first: u32, end: u32) -> Result<(), Faile
 // Writes the super block, but for its first byte.
 fn write_rest<D: Disk>(disk: &mut D, limits: &Limits) -> Result<(), Failed>
     requires range { IsTrue (are_in_range limits.now) }
-    requires long { 4096 ≤ (D.meaning disk.old).len }
+    requires long { BLOCK_LEN ≤ (D.meaning disk.old).len }
     ensures disk { UsesDisk (D.meaning disk.old) (D.meaning disk.new) result }
-    ensures spreads { IsTrue (D.meaning disk.old).is_honest → Spreads (D.meaning disk.old) (D.meaning disk.new) (Torn 1 4095) }
+    ensures spreads { IsTrue (D.meaning disk.old).is_honest → Spreads (D.meaning disk.old) (D.meaning disk.new) (Torn 1 (BLOCK_LEN - 1)) }
     ensures written { OnOk result (IsTrue (D.meaning disk.old).is_honest
         → (D.meaning disk.new).bytes ≡ put (D.meaning disk.old).bytes 1 (rest_of_super limits.now)) }
 {
-    let mut bytes = [0; SUPER_LEN];
+    let mut bytes = [0; BLOCK_LEN];
     write_super(limits, &mut bytes);
     let (_, rest) = bytes.split_at(1);
     disk.write_at(1, rest)
@@ -103,7 +102,7 @@ fn write_rest<D: Disk>(disk: &mut D, limits: &Limits) -> Result<(), Failed>
 /// data blocks.
 pub fn wipe<D: Disk>(disk: &mut D, limits: &Limits) -> Result<(), Failed>
     requires range { IsTrue (are_in_range limits.now) }
-    requires long { 4096 * image_blocks limits.now ≤ (D.meaning disk.old).len }
+    requires long { BLOCK_LEN * image_blocks limits.now ≤ (D.meaning disk.old).len }
     ensures disk { UsesDisk (D.meaning disk.old) (D.meaning disk.new) result }
     ensures spreads { IsTrue (D.meaning disk.old).is_honest
         → Spreads (D.meaning disk.old) (D.meaning disk.new) (IsWiping limits.now) }

@@ -37,9 +37,10 @@ use lis_catalog::Catalog;
 use lis_content::Buffer;
 use lis_derive::derive_words;
 use lis_ext::Ext;
-use lis_fields::{FILE_LEN, FileRec, FileSlot, read_file};
+use lis_fields::{FileRec, FileSlot, read_file};
 use lis_journal::Journal;
 use lis_kept::{data_start, files_start};
+use lis_limits::{FILE_LEN, MAX_DESCRIPTION, MAX_PROPS};
 use lis_model::derived::Derived;
 use lis_model::limits::Limits;
 use lis_model::met::is_met;
@@ -48,9 +49,6 @@ use lis_ports::{Disk, Failed};
 use lis_taxonomy::Taxonomy;
 use lis_words::{Word, test_of};
 use std::alloc::{AllocError, Global};
-
-/// The most words of a description.
-const MAX_WORDS: usize = 128;
 
 /// The files of an image, the data blocks that they use, and their descriptions.
 #[derive(Drop)]
@@ -170,9 +168,9 @@ fn gather_met(words: &Words, taxonomy: &Taxonomy, size: u64, row: &mut Rows)
 }
 
 // The numbers of the row, as they rise. None comes where there are more than a description may have.
-fn list_numbers(row: &Rows) -> Option<ArrayVec<u16, MAX_WORDS>>
+fn list_numbers(row: &Rows) -> Option<ArrayVec<u16, MAX_DESCRIPTION>>
     requires shape { HasShape row.now 2 row.now.bits }
-    requires few { row.now.bits ≤ 8192 }
+    requires few { row.now.bits ≤ MAX_PROPS }
     ensures { AreListed (numbers_where row.now.bits (get row.now 0)) (option_map (λ listed. listed.items) result) }
 {
     let mut numbers = ArrayVec::new();
@@ -195,10 +193,10 @@ fn describe(
     rec: &FileRec,
     bytes: &[u8],
     row: &mut Rows,
-) -> Option<ArrayVec<u16, MAX_WORDS>>
+) -> Option<ArrayVec<u16, MAX_DESCRIPTION>>
     requires are { AreWords words.now }
     requires props { taxonomy.now.props ≡ words.now.dict.props }
-    requires few { taxonomy.now.props ≤ 8192 }
+    requires few { taxonomy.now.props ≤ MAX_PROPS }
     requires shape { HasShape row.old 2 taxonomy.now.props }
     requires below { IsTrue (list_all (λ n. nat_lt n taxonomy.now.props) rec.now.tags) }
     ensures shape { HasShape row.new 2 taxonomy.now.props }

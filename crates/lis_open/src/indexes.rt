@@ -19,8 +19,9 @@ use arrayvec::ArrayVec;
 use lis_blockmap::BlockMap;
 use lis_content::{index_numbers, is_large};
 use lis_fields::FileRec;
-use lis_journal::{BLOCK_LEN, Journal};
+use lis_journal::Journal;
 use lis_kept::data_start;
+use lis_limits::{BLOCK_LEN, MAX_FILE_BLOCKS, MAX_LARGE_FILE, MAX_PLACED};
 use lis_model::limits::Limits;
 use lis_ports::{Disk, Failed};
 
@@ -67,8 +68,8 @@ fn read_numbers<D: Disk>(
     journal: &Journal,
     home: u32,
     size: u32,
-) -> Result<Option<ArrayVec<u16, 256>>, Failed>
-    requires few { size ≤ 1048576 }
+) -> Result<Option<ArrayVec<u16, MAX_FILE_BLOCKS>>, Failed>
+    requires few { size ≤ MAX_LARGE_FILE }
     requires home { homes_start journal.now.layout ≤ home }
     requires within { home < journal.now.layout.blocks }
     requires clean { journal.now.staged ≡ [] }
@@ -85,7 +86,7 @@ fn read_numbers<D: Disk>(
 
 // The blocks of a content, and then those that the slot numbers.
 fn joined(content: &[u16], slot: &[u16]) -> ArrayVec<u16, MOST_BLOCKS>
-    requires { length content.now + length slot.now ≤ 257 }
+    requires { length content.now + length slot.now ≤ MAX_PLACED }
     ensures { result.items ≡ content.now ++ slot.now }
 {
     let mut blocks = ArrayVec::new();
@@ -103,7 +104,7 @@ fn all_blocks<D: Disk>(
     size: u32,
 ) -> Result<Option<ArrayVec<u16, MOST_BLOCKS>>, Failed>
     requires readable { IsReadable limits.now journal.now (D.meaning disk.old) }
-    requires few { size ≤ 1048576 }
+    requires few { size ≤ MAX_LARGE_FILE }
     requires count { length slot.now ≡ slot_count size }
     requires within { IsTrue (are_within (data_start limits.now) (image_blocks limits.now) slot.now) }
     ensures disk { ReadsDisk (D.meaning disk.old) (D.meaning disk.new) result }

@@ -9,10 +9,10 @@ mod files;
 mod indexes;
 pub mod laws;
 mod making;
+mod memory;
 mod mounting;
 mod naming;
 mod reading;
-mod room;
 mod upgrading;
 mod words;
 

@@ -13,7 +13,7 @@ ghost use Rattle.lis_open.specs.Faults.{IsShortWhere, HasMakeCause};
 ghost use Rattle.lis_open.specs.declared.making.MakeFault.TheVariants.{TooShort, DiskFault as DiskFailed};
 
 use crate::clearing::{FIRST_BYTE, take_name, wipe, write_first};
-use lis_journal::BLOCK_LEN;
+use lis_limits::BLOCK_LEN;
 use lis_model::limits::{Limits, image_blocks};
 use lis_ports::{Disk, Failed};
 use thiserror::Error;
@@ -42,7 +42,7 @@ impl From<Failed> for MakeFault {
 // Makes an image on a disk that is long enough.
 fn write_image<D: Disk>(disk: &mut D, limits: &Limits) -> Result<(), Failed>
     requires range { IsTrue (are_in_range limits.now) }
-    requires long { 4096 * image_blocks limits.now ≤ (D.meaning disk.old).len }
+    requires long { BLOCK_LEN * image_blocks limits.now ≤ (D.meaning disk.old).len }
     ensures disk { UsesDisk (D.meaning disk.old) (D.meaning disk.new) result }
     ensures made { OnOk result (IsTrue (D.meaning disk.old).is_honest
         → Always (D.meaning disk.new) (λ image. Stands image (empty_state limits.now))) }
@@ -66,7 +66,7 @@ pub fn make<D: Disk>(disk: &mut D, limits: &Limits) -> Result<(), MakeFault>
     ensures run { IsDiskRun (D.meaning disk.old) (D.meaning disk.new) }
 
     // A disk is too short where it has fewer bytes than the image. It is left as it was.
-    ensures short { IsShortWhere (D.meaning disk.old).len (4096 * image_blocks limits.now) result }
+    ensures short { IsShortWhere (D.meaning disk.old).len (BLOCK_LEN * image_blocks limits.now) result }
     ensures untouched { (len need : ℕ) → result ≡ Err (TooShort len need) → disk.new ≡ disk.old }
     ensures cause { HasMakeCause (D.meaning disk.old).disk_faults (D.meaning disk.new).disk_faults result }
     ensures first_fault { DiskFaultEnds (D.meaning disk.old) (D.meaning disk.new) }

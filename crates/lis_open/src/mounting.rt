@@ -18,11 +18,12 @@ ghost use Rattle.lis_open.specs.Reading.{Opened, LimitsRead};
 ghost use Rattle.lis_open.specs.declared.mounting.OpenFault.TheVariants.{TooShort, Damaged, DiskFault as DiskFailed};
 ghost use Rattle.lis_model.specs.declared.spot.Spot.{Spot as SpotOf};
 
+use crate::memory::take_memory;
 use crate::reading::read_store;
-use crate::room::take_room;
 use lis_fields::read_super;
-use lis_journal::{BLOCK_LEN, Journal, JournalFault};
+use lis_journal::{Journal, JournalFault};
 use lis_kept::{image_capacity, image_layout};
+use lis_limits::BLOCK_LEN;
 use lis_model::limits::{Limits, image_blocks};
 use lis_model::spot::Spot;
 use lis_ports::{Disk, Failed};
@@ -87,11 +88,11 @@ fn read_limits<D: Disk>(disk: &mut D) -> Result<Limits, OpenFault>
     ensures reads { OnlyReads (D.meaning disk.old) (D.meaning disk.new) }
     ensures cause { HasOpenCause (D.meaning disk.old).disk_faults (D.meaning disk.new).disk_faults result }
     ensures first_fault { DiskFaultEnds (D.meaning disk.old) (D.meaning disk.new) }
-    ensures small { (D.meaning disk.old).len < 4096
-        → (result ≡ Err (TooShort (D.meaning disk.old).len 4096)) × (disk.new ≡ disk.old) }
+    ensures small { (D.meaning disk.old).len < BLOCK_LEN
+        → (result ≡ Err (TooShort (D.meaning disk.old).len BLOCK_LEN)) × (disk.new ≡ disk.old) }
     ensures numbers { (len need : ℕ) → result ≡ Err (TooShort len need) → (len ≡ (D.meaning disk.old).len) × (len < need) }
     ensures range { IfOk result (λ limits. IsTrue (are_in_range limits)) }
-    ensures long { IfOk result (λ limits. 4096 * image_blocks limits ≤ (D.meaning disk.new).len) }
+    ensures long { IfOk result (λ limits. BLOCK_LEN * image_blocks limits ≤ (D.meaning disk.new).len) }
     ensures ended { IsTrue (D.meaning disk.old).is_honest → LimitsRead (D.meaning disk.old) (D.meaning disk.new) result }
 {
     let len = disk.len();
@@ -113,7 +114,7 @@ fn read_limits<D: Disk>(disk: &mut D) -> Result<Limits, OpenFault>
 // Opens the image behind a super block of these limits.
 fn mount_image<D: Disk>(alloc: Global, disk: &mut D, limits: Limits) -> Result<Store, OpenFault>
     requires range { IsTrue (are_in_range limits) }
-    requires long { 4096 * image_blocks limits ≤ (D.meaning disk.old).len }
+    requires long { BLOCK_LEN * image_blocks limits ≤ (D.meaning disk.old).len }
     requires begins { IsTrue (D.meaning disk.old).is_honest → HasSuper limits (D.meaning disk.old).bytes }
     ensures run { IsDiskRun (D.meaning disk.old) (D.meaning disk.new) }
     ensures cause { HasOpenCause (D.meaning disk.old).disk_faults (D.meaning disk.new).disk_faults result }
@@ -122,20 +123,20 @@ fn mount_image<D: Disk>(alloc: Global, disk: &mut D, limits: Limits) -> Result<S
     ensures opened { IsTrue (D.meaning disk.old).is_honest → Opened (D.meaning disk.old) (D.meaning disk.new) result }
     ensures sound { IfOk result IsSound }
     ensures ready { IfOk result (λ store. store.is_broken ≡ false) }
-    ensures long { IfOk result (λ store. 4096 * store.journal.layout.blocks ≤ (D.meaning disk.new).len) }
+    ensures long { IfOk result (λ store. BLOCK_LEN * store.journal.layout.blocks ≤ (D.meaning disk.new).len) }
     ensures any_moment { IsTrue (D.meaning disk.old).is_honest
         → Leaves (D.meaning disk.old) (D.meaning disk.new) (InOpening (D.meaning disk.old)) }
     ensures past { IsTrue (D.meaning disk.old).is_honest
         → (result ≡ Err DiskFailed → IsSettledPast (image_blocks limits) (D.meaning disk.old))
         → KeepsPast (image_blocks limits) (D.meaning disk.old) (D.meaning disk.new) }
 {
-    let room = take_room(alloc, &limits)?;
+    let memory = take_memory(alloc, &limits)?;
     let layout = image_layout(&limits);
     match Journal::mount(alloc, disk, layout, image_capacity(&limits)) {
-        Ok(journal) => read_store(disk, limits, journal, room),
+        Ok(journal) => read_store(disk, limits, journal, memory),
         // Closed by a call, since an end is checked with all that is let go there.
         Err(fault) => {
-            room.close();
+            memory.close();
             Err(OpenFault::from(fault))
         }
     }
@@ -154,11 +155,11 @@ pub fn mount<D: Disk>(alloc: Global, disk: &mut D) -> Result<Store, OpenFault>
     // Of any disk: at `TooShort` the first number is its length, and the second is greater. What is shorter than a super block is not
     // read.
     ensures numbers { (len need : ℕ) → result ≡ Err (TooShort len need) → (len ≡ (D.meaning disk.old).len) × (len < need) }
-    ensures small { (D.meaning disk.old).len < 4096
-        → (result ≡ Err (TooShort (D.meaning disk.old).len 4096)) × (disk.new ≡ disk.old) }
+    ensures small { (D.meaning disk.old).len < BLOCK_LEN
+        → (result ≡ Err (TooShort (D.meaning disk.old).len BLOCK_LEN)) × (disk.new ≡ disk.old) }
     ensures sound { IfOk result IsSound }
     ensures ready { IfOk result (λ store. store.is_broken ≡ false) }
-    ensures long { IfOk result (λ store. 4096 * store.journal.layout.blocks ≤ (D.meaning disk.new).len) }
+    ensures long { IfOk result (λ store. BLOCK_LEN * store.journal.layout.blocks ≤ (D.meaning disk.new).len) }
 
     // Nothing is written but what an open gate asks for, whatever the image; and where the image stood for a state, each moment
     // stands for the same one, or is an image that a crash could have left before.

@@ -6,17 +6,17 @@ ghost use Rattle.lis_journal.specs.Images.{Fits};
 ghost use Rattle.lis_fields.specs.Layouts.{SpellsSuper};
 ghost use Rattle.lis_store.specs.Stored.{IsSound};
 ghost use Rattle.lis_open.specs.Reading.{Recalls, ReadsPart, IsReadable};
-ghost use Rattle.lis_open.specs.ReadAll.{kept_in, is_stray, IsEmptyRoom, AreSlotsRead, ArePassed, SlotsEnded, AreRead, PartsEnded, StoreEnded};
+ghost use Rattle.lis_open.specs.ReadAll.{metadata_in, is_stray, IsEmptyMemory, AreSlotsRead, ArePassed, SlotsEnded, AreRead, PartsEnded, StoreEnded};
 
 use crate::axioms::read_axioms;
 use crate::blocks::LastBlock;
 use crate::checks::{check_bitmap, check_rows, check_words};
 use crate::files::{Known, read_files};
+use crate::memory::OpeningMemory;
 use crate::mounting::OpenFault;
-use crate::room::Room;
 use crate::words::read_words;
 use lis_journal::Journal;
-use lis_kept::{Fields, Parts};
+use lis_kept::{Fields, Metadata};
 use lis_model::limits::Limits;
 use lis_ports::Disk;
 use lis_store::{Built, Store};
@@ -27,33 +27,40 @@ fn read_slots<D: Disk>(
     disk: &mut D,
     journal: &Journal,
     limits: &Limits,
-    room: &mut Room,
+    memory: &mut OpeningMemory,
 ) -> Result<(), OpenFault>
     requires readable { IsReadable limits.now journal.now (D.meaning disk.old) }
-    requires room { IsEmptyRoom limits.now room.old }
-    ensures shape { OnOk result (HasShape room.new.row 2 limits.now.props) }
-    ensures marks { room.new.marks ≡ room.old.marks }
+    requires memory { IsEmptyMemory limits.now memory.old }
+    ensures shape { OnOk result (HasShape memory.new.row 2 limits.now.props) }
+    ensures marks { memory.new.marks ≡ memory.old.marks }
     ensures disk { ReadsPart (D.meaning disk.old) (D.meaning disk.new) result }
-    ensures read { OnOk result (AreSlotsRead limits.now room.new.words room.new.axioms room.new.files) }
+    ensures read { OnOk result (AreSlotsRead limits.now memory.new.words memory.new.axioms memory.new.files) }
     ensures recalls { OnOk result ((kept : ℕ → List ℕ) → Fits journal.now (D.meaning disk.old) kept → Recalls last.old kept → Recalls last.new kept) }
     ensures ended { (kept : ℕ → List ℕ) → Fits journal.now (D.meaning disk.old) kept → Recalls last.old kept
-        → SlotsEnded limits.now kept room.new.words room.new.axioms room.new.files result }
+        → SlotsEnded limits.now kept memory.new.words memory.new.axioms memory.new.files result }
 {
-    read_words(last, disk, journal, limits, &mut room.words)?;
-    read_axioms(last, disk, journal, limits, &room.words, &mut room.axioms)?;
+    read_words(last, disk, journal, limits, &mut memory.words)?;
+    read_axioms(
+        last,
+        disk,
+        journal,
+        limits,
+        &memory.words,
+        &mut memory.axioms,
+    )?;
     let known = Known {
         journal,
         limits,
-        words: &room.words,
-        axioms: &room.axioms,
+        words: &memory.words,
+        axioms: &memory.axioms,
     };
     read_files(
         last,
         disk,
         known,
-        &mut room.files,
-        &mut room.row,
-        &mut room.bytes,
+        &mut memory.files,
+        &mut memory.row,
+        &mut memory.bytes,
     )?;
     Ok(())
 }
@@ -64,28 +71,28 @@ fn check_parts<D: Disk>(
     disk: &mut D,
     journal: &Journal,
     limits: &Limits,
-    room: &mut Room,
+    memory: &mut OpeningMemory,
 ) -> Result<(), OpenFault>
     requires readable { IsReadable limits.now journal.now (D.meaning disk.old) }
-    requires read { AreSlotsRead limits.now room.old.words room.old.axioms room.old.files }
-    requires shape { HasShape room.old.row 2 limits.now.props }
-    ensures same { room.new ≡ record room.old { row = room.new.row } }
+    requires read { AreSlotsRead limits.now memory.old.words memory.old.axioms memory.old.files }
+    requires shape { HasShape memory.old.row 2 limits.now.props }
+    ensures same { memory.new ≡ record memory.old { row = memory.new.row } }
     ensures disk { ReadsPart (D.meaning disk.old) (D.meaning disk.new) result }
     ensures used { OnOk result ((marks : List Bool) (n : ℕ)
-        → is_stray (kept_in limits.now room.old.words room.old.axioms room.old.files marks) n ≡ false) }
+        → is_stray (metadata_in limits.now memory.old.words memory.old.axioms memory.old.files marks) n ≡ false) }
     ensures ended { (kept : ℕ → List ℕ) → Fits journal.now (D.meaning disk.old) kept → Recalls last.old kept
-        → ArePassed limits.now kept room.old.words room.old.axioms room.old.files
-        → PartsEnded limits.now kept room.old.words room.old.axioms room.old.files result }
+        → ArePassed limits.now kept memory.old.words memory.old.axioms memory.old.files
+        → PartsEnded limits.now kept memory.old.words memory.old.axioms memory.old.files result }
 {
     check_words(
         limits,
-        &room.words,
-        &room.axioms,
-        &room.files,
-        &mut room.row,
+        &memory.words,
+        &memory.axioms,
+        &memory.files,
+        &mut memory.row,
     )?;
-    check_bitmap(disk, journal, limits, &room.files.map)?;
-    check_rows(last, disk, journal, limits, &room.files.ext)
+    check_bitmap(disk, journal, limits, &memory.files.map)?;
+    check_rows(last, disk, journal, limits, &memory.files.ext)
 }
 
 // Reads and checks all parts in their order.
@@ -93,19 +100,19 @@ fn read_parts<D: Disk>(
     disk: &mut D,
     journal: &Journal,
     limits: &Limits,
-    room: &mut Room,
+    memory: &mut OpeningMemory,
 ) -> Result<(), OpenFault>
     requires readable { IsReadable limits.now journal.now (D.meaning disk.old) }
-    requires room { IsEmptyRoom limits.now room.old }
-    ensures marks { room.new.marks ≡ room.old.marks }
+    requires memory { IsEmptyMemory limits.now memory.old }
+    ensures marks { memory.new.marks ≡ memory.old.marks }
     ensures disk { ReadsPart (D.meaning disk.old) (D.meaning disk.new) result }
-    ensures read { OnOk result ((marks : List Bool) → AreRead limits.now room.new.words room.new.axioms room.new.files marks) }
+    ensures read { OnOk result ((marks : List Bool) → AreRead limits.now memory.new.words memory.new.axioms memory.new.files marks) }
     ensures ended { (kept : ℕ → List ℕ) → Fits journal.now (D.meaning disk.old) kept
-        → PartsEnded limits.now kept room.new.words room.new.axioms room.new.files result }
+        → PartsEnded limits.now kept memory.new.words memory.new.axioms memory.new.files result }
 {
     let mut last = LastBlock::new();
-    read_slots(&mut last, disk, journal, limits, room)?;
-    check_parts(&mut last, disk, journal, limits, room)
+    read_slots(&mut last, disk, journal, limits, memory)?;
+    check_parts(&mut last, disk, journal, limits, memory)
 }
 
 /// Reads all that a store keeps in memory, and checks that the image stands for a state. It takes no memory.
@@ -113,10 +120,10 @@ pub fn read_store<D: Disk>(
     disk: &mut D,
     limits: Limits,
     journal: Journal,
-    room: Room,
+    memory: OpeningMemory,
 ) -> Result<Store, OpenFault>
     requires readable { IsReadable limits journal (D.meaning disk.old) }
-    requires room { IsEmptyRoom limits room }
+    requires memory { IsEmptyMemory limits memory }
     requires unplaced { journal.placed ≡ [] }
     ensures disk { ReadsPart (D.meaning disk.old) (D.meaning disk.new) result }
     ensures sound { IfOk result IsSound }
@@ -125,26 +132,26 @@ pub fn read_store<D: Disk>(
     ensures ended { (kept : ℕ → List ℕ) → Fits journal (D.meaning disk.old) kept
         → SpellsSuper limits (kept 0) → StoreEnded limits kept result }
 {
-    let mut room = room;
+    let mut memory = memory;
     // Closed by a call, since an end is checked with all that is let go there.
-    if let Err(fault) = read_parts(disk, &journal, &limits, &mut room) {
-        room.close();
+    if let Err(fault) = read_parts(disk, &journal, &limits, &mut memory) {
+        memory.close();
         return Err(fault);
     }
-    let parts = Parts::join(Fields {
+    let metadata = Metadata::join(Fields {
         limits,
-        dict: room.words.dict,
-        declared: room.words.declared,
-        axioms: room.axioms.slots,
-        taxonomy: room.axioms.taxonomy,
-        catalog: room.files.catalog,
-        map: room.files.map,
-        ext: room.files.ext,
-        marks: room.marks,
+        dict: memory.words.dict,
+        declared: memory.words.declared,
+        axioms: memory.axioms.slots,
+        taxonomy: memory.axioms.taxonomy,
+        catalog: memory.files.catalog,
+        map: memory.files.map,
+        ext: memory.files.ext,
+        marks: memory.marks,
     });
     Ok(Store::join(Built {
-        parts,
+        metadata,
         journal,
-        bytes: room.bytes,
+        bytes: memory.bytes,
     }))
 }

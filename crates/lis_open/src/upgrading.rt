@@ -18,6 +18,7 @@ ghost use Rattle.lis_open.specs.Upgrades.{upgraded, UpgradeEnded, UpgradeLeft};
 ghost use Rattle.lis_open.specs.declared.mounting.OpenFault.TheVariants.{TooShort, Damaged, DiskFault as DiskFailed};
 
 use crate::mounting::{OpenFault, mount};
+use lis_limits::BLOCK_LEN;
 use lis_ports::{Disk, Failed};
 use std::alloc::Global;
 
@@ -60,8 +61,8 @@ pub fn upgrade<D: Disk>(alloc: Global, disk: &mut D) -> Result<(), OpenFault>
 
     // Of any disk: how the answer goes with its length.
     ensures numbers { (len need : ℕ) → result ≡ Err (TooShort len need) → (len ≡ (D.meaning disk.old).len) × (len < need) }
-    ensures small { (D.meaning disk.old).len < 4096
-        → (result ≡ Err (TooShort (D.meaning disk.old).len 4096)) × (disk.new ≡ disk.old) }
+    ensures small { (D.meaning disk.old).len < BLOCK_LEN
+        → (result ≡ Err (TooShort (D.meaning disk.old).len BLOCK_LEN)) × (disk.new ≡ disk.old) }
 
     // What lies past the image stays; where the disk failed, if a crash at entry left it as it read.
     ensures past { (limits : LimitsOf) → IsTrue (D.meaning disk.old).is_honest → HasSuper limits (D.meaning disk.old).bytes

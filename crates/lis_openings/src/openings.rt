@@ -47,11 +47,11 @@ const WIDE_START: &[u8] = b"LISFS-IM\x01\0\0\0\x40\0\0\0\xc0\0\0\0\x08\0\0\0\0";
 const SUPER_START: &[u8] = b"LISFS-IM\x01\0\0\0\x40\0\0\0\x40\0\0\0\x08\0\0\0\0";
 
 /// Bytes, and the place where they are written.
-type Change = (u64, &'static [u8]);
+type Patch = (u64, &'static [u8]);
 
 // The words `music`, `rock`, `year:` and `year:1999`, the axioms from `rock` and from `year:1999` to `music`, and the file `song` with
 // `rock`, which has 2 bytes in data block 1, and so the word `size:small`.
-const SONG: &[Change] = &[
+const SONG: &[Patch] = &[
     (WORDS, b"\x02\x05music"),
     (WORDS + 64, b"\x02\x05year:"),
     (WORDS + 2 * 64, b"\x01\x09year:1999"),
@@ -71,7 +71,7 @@ const SONG: &[Change] = &[
 ];
 
 // The file `a.c` in slot 0, whose 10 bytes are in data block 0, with the words that are derived from its name, its size and its content.
-const SOURCE: &[Change] = &[
+const SOURCE: &[Patch] = &[
     (WORDS, b"\x01\x04ext:"),
     (WORDS + 64, b"\x01\x05ext:c"),
     (WORDS + 2 * 64, b"\x01\x05size:"),
@@ -91,7 +91,7 @@ const SOURCE: &[Change] = &[
 ];
 
 // Changes of an image without words and files, and the spot of the first check that then fails.
-const DAMAGES: &[(&[Change], Spot)] = &[
+const DAMAGES: &[(&[Patch], Spot)] = &[
     (&[(8, b"\x09")], Spot::Super),
     (&[(12, b"\x3f")], Spot::Super),
     (&[(25, b"\x01")], Spot::Super),
@@ -161,7 +161,7 @@ const DAMAGES: &[(&[Change], Spot)] = &[
 ];
 
 // The same of the image with `song`.
-const SONG_DAMAGES: &[(&[Change], Spot)] = &[
+const SONG_DAMAGES: &[(&[Patch], Spot)] = &[
     (&[(WORDS + 6 * 64, b"\x02\x04rock")], Spot::Property(6)),
     (&[(WORDS + 3 * 64, b"\x01\x06from:x")], Spot::Word(3)),
     // the pair twice, two circles, a right side that is not plain, one without a word, and a slot past the last one
@@ -215,7 +215,7 @@ const SONG_DAMAGES: &[(&[Change], Spot)] = &[
 ];
 
 // The same of the image with `a.c`: a derived word without a slot, and one whose head has none.
-const SOURCE_DAMAGES: &[(&[Change], Spot)] = &[
+const SOURCE_DAMAGES: &[(&[Patch], Spot)] = &[
     (&[(WORDS + 64, b"\0\0\0\0\0\0\0")], Spot::File(0)),
     (&[(WORDS, b"\0\0\0\0\0\0")], Spot::File(0)),
     (&[(DATA + 4, b"g")], Spot::File(0)),
@@ -258,7 +258,7 @@ fn put(disk: &mut MemStation, at: u64, bytes: &[u8]) -> Result<(), Fail> {
     Ok(())
 }
 
-fn put_all(disk: &mut MemStation, changes: &[Change]) -> Result<(), Fail> {
+fn put_all(disk: &mut MemStation, changes: &[Patch]) -> Result<(), Fail> {
     for (at, bytes) in changes {
         put(disk, *at, bytes)?;
     }
@@ -287,7 +287,7 @@ fn opening(alloc: Global, disk: &mut MemStation) -> Result<Answer, Fail> {
 }
 
 // What opening answers to an empty image with some changes, and then others.
-fn opening_with(alloc: Global, first: &[Change], second: &[Change]) -> Result<Answer, Fail> {
+fn opening_with(alloc: Global, first: &[Patch], second: &[Patch]) -> Result<Answer, Fail> {
     let mut disk = empty_image(alloc)?;
     put_all(&mut disk, first)?;
     put_all(&mut disk, second)?;
@@ -298,8 +298,8 @@ fn opening_with(alloc: Global, first: &[Change], second: &[Change]) -> Result<An
 fn assert_found(
     rt: &impl Abort,
     alloc: Global,
-    changes: &[Change],
-    damages: &[(&[Change], Spot)],
+    changes: &[Patch],
+    damages: &[(&[Patch], Spot)],
 ) -> Result<(), Fail> {
     for (damage, spot) in damages {
         let answer = opening_with(alloc, changes, damage)?;

@@ -12,7 +12,7 @@ use Rattle.lis_model.specs.State.{State}
 use Rattle.lis_model.specs.Changes.{file_of}
 use Rattle.lis_model.specs.Step.{Payload, no_payload}
 use Rattle.lis_model.specs.Script.{payload_limit}
-use Rattle.lis_line.specs.Parts.{with_bytes}
+use Rattle.lis_line.specs.Segments.{with_bytes}
 use Rattle.lis_kept.proofs.Dropped.{record_in_form}
 use Rattle.lis_store.specs.Stored.{Stored, IsSound, StoreFits}
 use Rattle.lis_cuts.specs.Returns.{Holds}
@@ -81,22 +81,22 @@ module _ {E : Type 0} {k : Stored} {a b : Meaning} (text : State → List ℕ) w
 
 -- ---- the bytes
 abbrev pub HasSize : Stored → ℕ → ℕ → Type 0
-HasSize k slot size = IsSomeAnd (rec_at k.parts.catalog slot) (λ (rec : FileRecord). size ≡ rec.size)
+HasSize k slot size = IsSomeAnd (rec_at k.metadata.catalog slot) (λ (rec : FileRecord). size ≡ rec.size)
 
 -- each file can be loaded whole
 pub size_within : {k : Stored} (slot size : ℕ) → IsSound k → HasSize k slot size → size ≤ payload_limit
-size_within {k} slot size sound told = by (rec_at k.parts.catalog slot) refl told
+size_within {k} slot size sound told = by (rec_at k.metadata.catalog slot) refl told
   where
-    by : (o : Option FileRecord) → rec_at k.parts.catalog slot ≡ o → IsSomeAnd o (λ (rec : FileRecord). size ≡ rec.size) → size ≤ payload_limit
+    by : (o : Option FileRecord) → rec_at k.metadata.catalog slot ≡ o → IsSomeAnd o (λ (rec : FileRecord). size ≡ rec.size) → size ≤ payload_limit
     by None is told = absurd told
     by (Some rec) is told =
-        let form = record_in_form k.parts.limits.version k.parts.dict k.parts.limits.blocks rec (sound.parts.records slot rec is) in
-        omega (arith, told, size_fits k.parts.limits.version rec.size form.small)
+        let form = record_in_form k.metadata.limits.version k.metadata.dict k.metadata.limits.blocks rec (sound.metadata.records slot rec is) in
+        omega (arith, told, size_fits k.metadata.limits.version rec.size form.small)
 
 -- The first blocks of a file are in the payload.
 pub record IsLoaded (k : Stored) (slot size n : ℕ) (old : Meaning) (payload : Payload) : Type 0 where
   pub so_far : payload.size ≡ min size (4096 * n)
-  pub front : (s : State) (name : List ℕ) → StoreFits k old s → slot_of k.parts.catalog name ≡ Some slot → Holds payload (first_blocks n (file_of s.files name).bytes)
+  pub front : (s : State) (name : List ℕ) → StoreFits k old s → slot_of k.metadata.catalog name ≡ Some slot → Holds payload (first_blocks n (file_of s.files name).bytes)
 
 pub loaded_none : (k : Stored) (slot size : ℕ) (old : Meaning) (payload : Payload) → payload ≡ no_payload → IsLoaded k slot size 0 old payload
 loaded_none k slot size old payload is = record { so_far = ap (λ (p : Payload). p.size) is ∙ omega arith; front = λ s name fits is_slot. is ∙ none (file_of s.files name).bytes }
@@ -108,7 +108,7 @@ loaded_none k slot size old payload is = record { so_far = ap (λ (p : Payload).
 -- so much of a block is one of the file
 abbrev pub IsBlock : Stored → ℕ → ℕ → Meaning → List ℕ → Type 0
 IsBlock k slot n old buf =
-    (s : State) (name : List ℕ) → StoreFits k old s → slot_of k.parts.catalog name ≡ Some slot → take (length (block_of n (file_of s.files name).bytes)) buf ≡ block_of n (file_of s.files name).bytes
+    (s : State) (name : List ℕ) → StoreFits k old s → slot_of k.metadata.catalog name ≡ Some slot → take (length (block_of n (file_of s.files name).bytes)) buf ≡ block_of n (file_of s.files name).bytes
 
 module _ {k : Stored} (slot size n : ℕ) {old : Meaning} {payload : Payload} (sound : IsSound k) (told : HasSize k slot size) (loaded : IsLoaded k slot size n old payload) where
   pub loaded_more : {longer : Payload} (buf : List ℕ) (count : ℕ) → 4096 * n < size → length buf ≡ 4096 → count ≡ min (size - 4096 * n) 4096 → IsBlock k slot n old buf
@@ -125,7 +125,7 @@ module _ {k : Stored} (slot size n : ℕ) {old : Meaning} {payload : Payload} (s
         (held_more payload longer (first_blocks n bytes) (block_of n bytes) (loaded.front s name fits is_slot) (appended ∙ ap (with_bytes payload) block));
   }
 
-  pub loaded_all : size ≤ 4096 * n → (s : State) (name : List ℕ) → StoreFits k old s → slot_of k.parts.catalog name ≡ Some slot → payload.bytes ≡ (file_of s.files name).bytes
+  pub loaded_all : size ≤ 4096 * n → (s : State) (name : List ℕ) → StoreFits k old s → slot_of k.metadata.catalog name ≡ Some slot → payload.bytes ≡ (file_of s.files name).bytes
   loaded_all enough s name fits is_slot =
       let bytes = (file_of s.files name).bytes in
       let len = size_is name slot size sound fits is_slot told in

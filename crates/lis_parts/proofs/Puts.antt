@@ -21,7 +21,7 @@ use Rattle.lis_store.proofs.StoreSays.{name_filed}
 use Rattle.lis_store.proofs.FilesHere.{slot_seen}
 use Rattle.lis_store.specs.Stored.{Stored, IsSound, StoreFits}
 use Rattle.lis_store.specs.Changes.{Changes}
-use Rattle.lis_store.specs.declared.change.Change.{Change}
+use Rattle.lis_store.specs.declared.change_fault.ChangeFault.{ChangeFault}
 use Rattle.lis_views.specs.Edits.{Back}
 use Rattle.lis_views.specs.Edits.Back.{NotAView, WrongMarks, Content}
 use Rattle.lis_cuts.specs.Returns.{Returns, Holds}
@@ -90,7 +90,7 @@ module _ {k : Stored} {old : Meaning} {state : State} (name : List ℕ) (payload
       shows_item (put_as (root_of state) name back) [] fitting answers (ap (put_as (root_of state) name) (told_wrong_marks payload back returns))
 
   -- the new bytes are written at the root
-  pub puts_content : {D : Type 0} {after : Stored} {result : Result (Unit {0}) End} (meaning : D → Meaning) (mid new : D) (written : Result (Unit {0}) Change) → Returns back Whole payload → IsSound after
+  pub puts_content : {D : Type 0} {after : Stored} {result : Result (Unit {0}) End} (meaning : D → Meaning) (mid new : D) (written : Result (Unit {0}) ChangeFault) → Returns back Whole payload → IsSound after
       → Changes (root_of state) (write (root_of state) name payload) after old (meaning mid) written → Concludes meaning mid new written result → PutAs (meaning new) result after
   puts_content {after = after} {result} meaning mid new written returns sound changes concludes =
       let told = told_content payload back returns in
@@ -100,10 +100,10 @@ module _ {k : Stored} {old : Meaning} {state : State} (name : List ℕ) (payload
 
 -- ---- a file, by whether the state has it
 abbrev pub FindsSlot : Stored → List ℕ → Option ℕ → Type 0
-FindsSlot k name slot = seen.slot_of (seen_of k.parts) name ≡ slot
+FindsSlot k name slot = seen.slot_of (seen_of k.metadata) name ≡ slot
 
-pub slot_named : (k : Stored) (name : List ℕ) (slot : Option ℕ) → FindsSlot k name slot → slot_of k.parts.catalog name ≡ slot
-slot_named k name slot is = sym (slot_seen k.parts name k.parts.catalog.entries) ∙ is
+pub slot_named : (k : Stored) (name : List ℕ) (slot : Option ℕ) → FindsSlot k name slot → slot_of k.metadata.catalog name ≡ slot
+slot_named k name slot is = sym (slot_seen k.metadata name k.metadata.catalog.entries) ∙ is
 
 module _ (state : State) (name : List ℕ) (formula : Result (List Formula) Refusal) (done : List Formula → Outcome) where
   abbrev pub Done : Outcome
@@ -115,7 +115,7 @@ module _ (state : State) (name : List ℕ) (formula : Result (List Formula) Refu
   module _ {k : Stored} {m : Meaning} {place : List Formula} (is : formula ≡ Ok place) (sound : IsSound k) (fits : StoreFits k m state) where
     judged_by : (slot : Option ℕ) → FindsSlot k name slot → Done ≡ judged (root_of state) ((not (is_some slot), NoFileHere) ∷ []) (done place)
     judged_by slot found =
-        let has : has_name state.files name ≡ is_some slot = name_filed k.parts fits.kept state sound.parts sound.free fits.tells name ∙ ap is_some (slot_named k name slot found) in
+        let has : has_name state.files name ≡ is_some slot = name_filed k.metadata fits.kept state sound.metadata sound.free fits.tells name ∙ ap is_some (slot_named k name slot found) in
         ap (λ f. done_of (root_of state) name f done) is ∙ ap (λ t. judged (root_of state) ((not t, NoFileHere) ∷ []) (done place)) has
 
     pub done_nowhere : FindsSlot k name None → Done ≡ refused (root_of state) NoFileHere

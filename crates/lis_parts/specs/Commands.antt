@@ -1,5 +1,6 @@
 -- What viewing a part of a file and putting it back do: the new state, and the reply. Both are said at the root.
 use Rattle.std.specs.Prelude.{ℕ, nat_lt, not, if◌then◌else◌, Result, Ok, Err, List, [], ◌∷◌, ◌++◌, length, codes}
+use Rattle.lis_limits.specs.declared.TheConstants.{MAX_FORMULA}
 use Rattle.lis_grammar.specs.Formula.{Formula}
 use Rattle.lis_grammar.specs.Machine.{text_steps}
 use Rattle.lis_grammar.specs.Places.{Resolution, resolved_path}
@@ -18,7 +19,7 @@ use Rattle.lis_session.specs.Parts.{only_shows}
 
 -- The steps that a formula text stands for. A text of more than 1,024 bytes is too large whatever it holds; `..` is no formula here.
 abbrev pub formula_of : List ℕ → Resolution
-formula_of text = if nat_lt 1024 (length text) then BeyondLimits else resolved_path [] (text_steps text)
+formula_of text = if nat_lt MAX_FORMULA (length text) then BeyondLimits else resolved_path [] (text_steps text)
 
 -- what is done of a file with a formula: first the formula is judged, and then whether the state has the file
 abbrev pub done_of : Situation → List ℕ → Result (List Formula) Refusal → (List Formula → Outcome) → Outcome

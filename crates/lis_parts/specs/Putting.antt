@@ -1,6 +1,7 @@
 -- How putting an edited view back ends, which is read from an input first.
 use Rattle.std.specs.Prelude.{◌≡◌, ℕ, ◌<◌, Bool, true, false, List, [], length, Option}
 use Rattle.std.specs.Io.KnownBytes.{IsAtEnd}
+use Rattle.lis_limits.specs.declared.TheConstants.{MAX_VIEW}
 use Rattle.lis_line.specs.declared.carrier.Halt.{Halt}
 use Rattle.lis_line.specs.declared.carrier.Halt.TheVariants.{End as AtEnd, Limit, InputFault, Stopped}
 use Rattle.lis_model.specs.Step.{Situation, Outcome}
@@ -10,7 +11,7 @@ use Rattle.lis_parts.specs.Commands.{put}
 
 -- the most bytes of an edited view
 abbrev pub view_limit : ℕ
-view_limit = 8388608
+view_limit = MAX_VIEW
 
 -- Where the input was not taken whole, nothing is shown and nothing changes.
 abbrev pub put_by : Halt End → Situation → List ℕ → List ℕ → List ℕ → Outcome

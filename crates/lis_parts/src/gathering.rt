@@ -7,13 +7,14 @@ ghost use Rattle.lis_line.specs.Taking.{TakesFew, UsesSource};
 ghost use Rattle.lis_parts.specs.Inside.{IsKept, TakesBehind, TakesMore};
 ghost use Rattle.lis_parts.specs.Putting.{view_limit, Gathers};
 
+use lis_limits::MAX_VIEW;
 use lis_ports::{Failed, Source};
 use lis_region::{Frame, Region};
 use std::alloc::{AllocError, Global};
 use std::marker::Model;
 
 /// One byte more than an edited view may have, so that a longer one is seen.
-const ROOM: u32 = 8_388_609;
+const ROOM: u32 = MAX_VIEW + 1;
 
 /// The bytes of an edited view.
 #[derive(Drop)]

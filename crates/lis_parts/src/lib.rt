@@ -6,14 +6,14 @@ ghost use Rattle.lis_parts.specs.Laws.{UnchangedViewLeaves};
 mod formula;
 mod gathering;
 mod loading;
-pub mod parts;
 mod putting;
 mod showing;
 mod viewing;
+pub mod workspace;
 
-pub use parts::Parts;
 pub use putting::put_file;
 pub use viewing::view_file;
+pub use workspace::Workspace;
 
 /// A view that is put back unchanged leaves the state of a store. The answer is the refusal that the view has, or `ok`, or in version 2
 /// the refusal for want of space, where fewer blocks are free than the file takes.

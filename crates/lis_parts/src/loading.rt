@@ -8,12 +8,10 @@ ghost use Rattle.lis_model.specs.Changes.{file_of};
 ghost use Rattle.lis_model.specs.State.{State};
 ghost use Rattle.lis_store.specs.Stored.{IsSound, StoreFits, IsIndex, IsUsable};
 
+use lis_limits::BLOCK_LEN;
 use lis_line::reader::Payload;
 use lis_ports::{Disk, Failed};
 use lis_store::Store;
-
-/// How many bytes a data block has.
-const BLOCK_LEN: usize = 4_096;
 
 // Reads the index block of the file in the slot, which has so many bytes, where it has one.
 fn read_index<D: Disk>(
@@ -23,11 +21,11 @@ fn read_index<D: Disk>(
     index: &mut [u8],
     disk: &mut D,
 ) -> Result<(), Failed>
-    requires size { IsSomeAnd (rec_at store.now.parts.catalog slot) (λ (rec : FileRecord). size ≡ rec.size) }
-    requires whole { length index.old ≡ 4096 }
+    requires size { IsSomeAnd (rec_at store.now.metadata.catalog slot) (λ (rec : FileRecord). size ≡ rec.size) }
+    requires whole { length index.old ≡ BLOCK_LEN }
     requires usable { IsUsable store.now (D.meaning disk.old) }
     ensures held { OnOk result (IsTrue (D.meaning disk.old).is_honest → IsIndex store.now (D.meaning disk.old).bytes slot index.new) }
-    ensures len { length index.new ≡ 4096 }
+    ensures len { length index.new ≡ BLOCK_LEN }
     ensures disk { ReadsDisk (D.meaning disk.old) (D.meaning disk.new) result }
     ensures fits { (s : State) → StoreFits store.now (D.meaning disk.old) s → StoreFits store.now (D.meaning disk.new) s }
 {
@@ -46,9 +44,9 @@ pub fn load<D: Disk>(
     disk: &mut D,
 ) -> Result<(), Failed>
     requires sound { IsSound store.now }
-    requires size { IsSomeAnd (rec_at store.now.parts.catalog slot) (λ (rec : FileRecord). size ≡ rec.size) }
+    requires size { IsSomeAnd (rec_at store.now.metadata.catalog slot) (λ (rec : FileRecord). size ≡ rec.size) }
     requires usable { IsUsable store.now (D.meaning disk.old) }
-    ensures loads { OnOk result ((s : State) (name : List ℕ) → StoreFits store.now (D.meaning disk.old) s → slot_of store.now.parts.catalog name ≡ Some slot
+    ensures loads { OnOk result ((s : State) (name : List ℕ) → StoreFits store.now (D.meaning disk.old) s → slot_of store.now.metadata.catalog name ≡ Some slot
         → bytes.new.bytes ≡ (file_of s.files name).bytes) }
     ensures disk { ReadsDisk (D.meaning disk.old) (D.meaning disk.new) result }
     ensures fits { (s : State) → StoreFits store.now (D.meaning disk.old) s → StoreFits store.now (D.meaning disk.new) s }

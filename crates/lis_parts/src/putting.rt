@@ -20,7 +20,7 @@ ghost use Rattle.lis_parts.specs.Putting.{view_limit, put_by};
 
 use crate::formula::read_place;
 use crate::loading::load;
-use crate::parts::Parts;
+use crate::workspace::Workspace;
 use lis_cuts::back::{Returned, put_back};
 use lis_eval::{Scratch, View};
 use lis_line::carrier::Halt;
@@ -44,11 +44,11 @@ fn make_new<D: Disk>(
     edited: &[u8],
 ) -> Result<Returned, Failed>
     requires sound { IsSound store.now }
-    requires named { (name : List ℕ) × (slot_of store.now.parts.catalog name ≡ Some slot) }
+    requires named { (name : List ℕ) × (slot_of store.now.metadata.catalog name ≡ Some slot) }
     requires short { length edited.now ≤ view_limit }
     requires usable { IsUsable store.now (D.meaning disk.old) }
     ensures makes { IfOk result (λ returned. (s : State) (name : List ℕ) → StoreFits store.now (D.meaning disk.old) s
-        → slot_of store.now.parts.catalog name ≡ Some slot → Returns (back_of (file_of s.files name).bytes place.now edited.now) returned made.new) }
+        → slot_of store.now.metadata.catalog name ≡ Some slot → Returns (back_of (file_of s.files name).bytes place.now edited.now) returned made.new) }
     ensures disk { ReadsDisk (D.meaning disk.old) (D.meaning disk.new) result }
     ensures fits { (s : State) → StoreFits store.now (D.meaning disk.old) s → StoreFits store.now (D.meaning disk.new) s }
 {
@@ -66,7 +66,7 @@ fn carry_back<T: Station>(
     returned: Returned,
     made: &Payload,
 ) -> Result<(), End>
-    requires scratch { HasRoom scratch.old store.old.parts.limits }
+    requires scratch { HasRoom scratch.old store.old.metadata.limits }
     requires sound { IsSound store.old }
     requires usable { IsUsable store.old (T.meaning station.old) }
     ensures puts { (back : Back) → Returns back returned made.now
@@ -75,7 +75,7 @@ fn carry_back<T: Station>(
     ensures ends { Ends (T.meaning station.old) (T.meaning station.new) result }
     ensures left { StoreLeft store.old store.new result }
     ensures sound { IsSound store.new }
-    ensures scratch { HasRoom scratch.new store.old.parts.limits }
+    ensures scratch { HasRoom scratch.new store.old.metadata.limits }
 {
     match returned {
         Returned::NotInForm => answer_bytes(station, b"no 26 not a view\n"),
@@ -106,7 +106,7 @@ fn put_back_file<T: Station>(
     station: &mut T,
     edit: Edit,
 ) -> Result<(), End>
-    requires scratch { HasRoom scratch.old store.old.parts.limits }
+    requires scratch { HasRoom scratch.old store.old.metadata.limits }
     requires short { length edit.edited.now ≤ view_limit }
     requires sound { IsSound store.old }
     requires usable { IsUsable store.old (T.meaning station.old) }
@@ -115,7 +115,7 @@ fn put_back_file<T: Station>(
     ensures ends { Ends (T.meaning station.old) (T.meaning station.new) result }
     ensures left { StoreLeft store.old store.new result }
     ensures sound { IsSound store.new }
-    ensures scratch { HasRoom scratch.new store.old.parts.limits }
+    ensures scratch { HasRoom scratch.new store.old.metadata.limits }
 {
     let place = match read_place(edit.text) {
         Ok(place) => place,
@@ -138,13 +138,13 @@ fn put_back_file<T: Station>(
 /// view, where its marks are not those of the view, each once and in order, and then as a `write` of the new bytes is.
 pub fn put_file<S: Source, T: Station>(
     store: &mut Store,
-    parts: &mut Parts,
+    workspace: &mut Workspace,
     input: &mut S,
     station: &mut T,
     name: &Name,
     text: &[u8],
 ) -> Halt<End>
-    requires limits { parts.old ≡ store.old.parts.limits }
+    requires limits { workspace.old ≡ store.old.metadata.limits }
     requires sound { IsSound store.old }
     requires usable { IsUsable store.old (T.meaning station.old) }
     ensures puts { (bytes : List ℕ) → S.left input.old ≡ Some bytes
@@ -157,9 +157,9 @@ pub fn put_file<S: Source, T: Station>(
     ensures cause { HasHaltCause (S.faults input.old) (S.faults input.new) result }
     ensures input_first_fault { FaultEnds (S.faults input.old) (S.behind input.old) (S.behind input.new) }
     ensures few { TakesFew view_limit (S.left input.old) (S.left input.new) }
-    ensures limits { parts.new ≡ parts.old }
+    ensures limits { workspace.new ≡ workspace.old }
 {
-    match parts.edited.gather(input) {
+    match workspace.edited.gather(input) {
         Ok(true) => {}
         Ok(false) => return Halt::Limit,
         Err(_) => return Halt::InputFault,
@@ -167,13 +167,13 @@ pub fn put_file<S: Source, T: Station>(
     let edit = Edit {
         name,
         text,
-        edited: parts.edited.bytes(),
+        edited: workspace.edited.bytes(),
     };
     let put = put_back_file(
         store,
-        &mut parts.scratch,
-        &mut parts.file,
-        &mut parts.made,
+        &mut workspace.scratch,
+        &mut workspace.file,
+        &mut workspace.made,
         station,
         edit,
     );

@@ -14,10 +14,10 @@ use lis_session::replies::answer_bytes;
 const ROOM: usize = 8_192;
 
 /// Bytes that are to be shown, and are kept until there is no room for more.
-pub type Kept = ArrayVec<u8, 8_192>;
+pub type Outgoing = ArrayVec<u8, ROOM>;
 
 /// Shows the bytes that are kept.
-pub fn flush<T: Station>(station: &mut T, kept: &mut Kept) -> Result<(), End>
+pub fn flush<T: Station>(station: &mut T, kept: &mut Outgoing) -> Result<(), End>
     ensures shows { Answers (T.meaning station.old) (T.meaning station.new) kept.old.items result }
     ensures empty { OnOk result (kept.new.items ≡ []) }
 {
@@ -26,15 +26,15 @@ pub fn flush<T: Station>(station: &mut T, kept: &mut Kept) -> Result<(), End>
     Ok(())
 }
 
-fn keep(kept: &mut Kept, bytes: &[u8])
-    requires { array_vec_len kept.old + length bytes.now ≤ 8192 }
+fn keep(kept: &mut Outgoing, bytes: &[u8])
+    requires { array_vec_len kept.old + length bytes.now ≤ ROOM }
     ensures { kept.new.items ≡ kept.old.items ++ bytes.now }
 {
     kept.try_extend_from_slice(bytes).unwrap();
 }
 
 /// Puts the bytes behind those that are kept, and shows what there is no room for.
-pub fn say<T: Station>(station: &mut T, kept: &mut Kept, bytes: &[u8]) -> Result<(), End>
+pub fn say<T: Station>(station: &mut T, kept: &mut Outgoing, bytes: &[u8]) -> Result<(), End>
     ensures { Says (T.meaning station.old) (T.meaning station.new) kept.old.items kept.new.items bytes.now result }
 {
     if bytes.len() <= kept.remaining_capacity() {

@@ -15,8 +15,8 @@ ghost use Rattle.lis_parts.specs.Viewing.{mark_text, next_number, shown_text, en
 
 use crate::formula::read_place;
 use crate::loading::load;
-use crate::parts::Parts;
-use crate::showing::{Kept, flush, say};
+use crate::showing::{Outgoing, flush, say};
+use crate::workspace::Workspace;
 use lis_cuts::forms::mark;
 use lis_cuts::lines::is_open;
 use lis_cuts::stretches::{Stretch, next_stretch};
@@ -32,7 +32,7 @@ use lis_words::Name;
 // The mark of a run with this number, where any lines are hidden.
 fn say_mark<T: Station>(
     station: &mut T,
-    kept: &mut Kept,
+    kept: &mut Outgoing,
     number: u64,
     hidden: u64,
 ) -> Result<(), End>
@@ -46,7 +46,11 @@ fn say_mark<T: Station>(
     say(station, kept, b"\n")
 }
 
-fn say_shown<T: Station>(station: &mut T, kept: &mut Kept, shown: Option<&[u8]>) -> Result<(), End>
+fn say_shown<T: Station>(
+    station: &mut T,
+    kept: &mut Outgoing,
+    shown: Option<&[u8]>,
+) -> Result<(), End>
     ensures { Says (T.meaning station.old) (T.meaning station.new) kept.old.items kept.new.items (shown_text (option_copied shown.entry)) result }
 {
     let Some(text) = shown else {
@@ -59,7 +63,7 @@ fn say_shown<T: Station>(station: &mut T, kept: &mut Kept, shown: Option<&[u8]>)
 
 fn say_stretch<T: Station>(
     station: &mut T,
-    kept: &mut Kept,
+    kept: &mut Outgoing,
     number: u64,
     stretch: &Stretch,
 ) -> Result<(), End>
@@ -80,7 +84,7 @@ fn next_number(number: u64, hidden: u64) -> u64
 
 fn say_pieces<T: Station>(
     station: &mut T,
-    kept: &mut Kept,
+    kept: &mut Outgoing,
     place: &Place,
     bytes: &[u8],
 ) -> Result<(), End>
@@ -99,7 +103,7 @@ fn say_pieces<T: Station>(
     }
 }
 
-fn say_end<T: Station>(station: &mut T, kept: &mut Kept, is_open: bool) -> Result<(), End>
+fn say_end<T: Station>(station: &mut T, kept: &mut Outgoing, is_open: bool) -> Result<(), End>
     ensures { Says (T.meaning station.old) (T.meaning station.new) kept.old.items kept.new.items (end_text is_open) result }
 {
     if !is_open {
@@ -112,7 +116,7 @@ fn say_end<T: Station>(station: &mut T, kept: &mut Kept, is_open: bool) -> Resul
 fn show_view<T: Station>(station: &mut T, place: &Place, bytes: &[u8]) -> Result<(), End>
     ensures { Answers (T.meaning station.old) (T.meaning station.new) (view_of bytes.now place.now) result }
 {
-    let mut kept = Kept::new();
+    let mut kept = Outgoing::new();
     say_pieces(station, &mut kept, place, bytes)?;
     say_end(station, &mut kept, is_open(bytes))?;
     flush(station, &mut kept)
@@ -121,30 +125,30 @@ fn show_view<T: Station>(station: &mut T, place: &Place, bytes: &[u8]) -> Result
 // Shows the view of the file in the slot.
 fn view_slot<T: Station>(
     store: &Store,
-    parts: &mut Parts,
+    workspace: &mut Workspace,
     station: &mut T,
     place: &Place,
     slot: u16,
 ) -> Result<(), End>
     requires sound { IsSound store.now }
-    requires slot { (name : List ℕ) × (slot_of store.now.parts.catalog name ≡ Some slot) }
+    requires slot { (name : List ℕ) × (slot_of store.now.metadata.catalog name ≡ Some slot) }
     requires usable { IsUsable store.now (T.meaning station.old) }
-    ensures shows { (name : List ℕ) → slot_of store.now.parts.catalog name ≡ Some slot
+    ensures shows { (name : List ℕ) → slot_of store.now.metadata.catalog name ≡ Some slot
         → Shows store.now (λ state. view_of (file_of state.files name).bytes place.now) (T.meaning station.old) (T.meaning station.new) result }
-    ensures limits { parts.new ≡ parts.old }
+    ensures limits { workspace.new ≡ workspace.old }
 {
     let size = store.file_size(slot);
-    if let Err(Failed) = load(store, slot, size, &mut parts.file, station) {
+    if let Err(Failed) = load(store, slot, size, &mut workspace.file, station) {
         return Err(End::DiskFault);
     }
-    show_view(station, place, parts.file.bytes())
+    show_view(station, place, workspace.file.bytes())
 }
 
 /// Shows the lines of the file of that name of which the formula of the text holds, and a mark in place of each run of others. The text
 /// is refused where it is no formula or too large, and else the name where the state has no such file.
 pub fn view_file<T: Station>(
     store: &Store,
-    parts: &mut Parts,
+    workspace: &mut Workspace,
     station: &mut T,
     name: &Name,
     text: &[u8],
@@ -155,7 +159,7 @@ pub fn view_file<T: Station>(
         (T.meaning station.old) (T.meaning station.new) result (StoreFits store.now (T.meaning station.new)) [] }
     ensures ends { Ends (T.meaning station.old) (T.meaning station.new) result }
     ensures disk { IsTrue (T.meaning station.old).is_honest → DiskStays (T.meaning station.old) (T.meaning station.new) }
-    ensures limits { parts.new ≡ parts.old }
+    ensures limits { workspace.new ≡ workspace.old }
 {
     let place = match read_place(text) {
         Ok(place) => place,
@@ -164,5 +168,5 @@ pub fn view_file<T: Station>(
     let Some(slot) = store.slot_of(name) else {
         return answer_refusal(station, &Refusal::NoFileHere);
     };
-    view_slot(store, parts, station, &place, slot)
+    view_slot(store, workspace, station, &place, slot)
 }

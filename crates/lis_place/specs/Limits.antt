@@ -1,6 +1,7 @@
 -- The test by which nodes are those of a place. It looks at each node once.
 use Rattle.std.specs.Prelude.{ℕ, ◌+◌, ◌-◌, ◌^◌, nat_lt, nat_le, Bool, false, ◌&&◌, if◌then◌else◌, Option, Some, None, option_and_then, List, [], ◌∷◌, length}
 use Rattle.std.specs.Fmt.{decimal}
+use Rattle.lis_limits.specs.declared.TheConstants.{MAX_NODES, MAX_FORMULA}
 use Rattle.lis_words.specs.Words.{is_word}
 use Rattle.lis_place.specs.declared.node.Node.{Node}
 use Rattle.lis_place.specs.declared.node.Node.TheVariants.{Word, AtLeast, Below, Not, And, Or}
@@ -38,7 +39,7 @@ no_tally = record { trees = 0; bytes = 0 }
 abbrev pub is_within : ℕ → Option Tally → Bool
 is_within count None = false
 is_within count (Some tally) =
-    nat_le (count + (tally.trees - 1)) 64 && nat_le (tally.bytes + (tally.trees - 1)) 1024
+    nat_le (count + (tally.trees - 1)) MAX_NODES && nat_le (tally.bytes + (tally.trees - 1)) MAX_FORMULA
 
 abbrev pub are_place : List Node → Bool
-are_place nodes = if nat_le (length nodes) 64 then is_within (length nodes) (tally_after no_tally nodes) else false
+are_place nodes = if nat_le (length nodes) MAX_NODES then is_within (length nodes) (tally_after no_tally nodes) else false

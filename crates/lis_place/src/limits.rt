@@ -8,13 +8,8 @@ ghost use Rattle.lis_place.specs.declared.node.Node.TheVariants.{Word as NodeWor
 
 use crate::node::Node;
 use itoa::Buffer;
+use lis_limits::{MAX_FORMULA, MAX_NODES, MAX_WORD};
 use lis_words::{Word, is_word};
-
-/// The most nodes of a place's formula.
-pub const MAX_NODES: usize = 64;
-
-/// The most bytes of a printed place.
-pub const MAX_BYTES: usize = 1024;
 
 /// The first number that is too large for a test.
 const TEST_LIMIT: u64 = 1_000_000_000_000;
@@ -37,9 +32,9 @@ fn digit_count(number: u64) -> usize
 
 impl Tally {
     fn with_operand(self, bytes: usize) -> Option<Tally>
-        requires trees { self.trees ≤ 64 }
-        requires sum { self.bytes ≤ 3840 }
-        requires bytes { bytes ≤ 60 }
+        requires trees { self.trees ≤ MAX_NODES }
+        requires sum { self.bytes ≤ MAX_WORD * MAX_NODES }
+        requires bytes { bytes ≤ MAX_WORD }
         ensures { result ≡ with_operand self bytes }
     {
         Some(Tally {
@@ -50,10 +45,10 @@ impl Tally {
 
     /// A word that no formula may have, as a test is, makes no tree.
     fn with_word(self, word: &Word) -> Option<Tally>
-        requires trees { self.trees ≤ 64 }
-        requires sum { self.bytes ≤ 3840 }
+        requires trees { self.trees ≤ MAX_NODES }
+        requires sum { self.bytes ≤ MAX_WORD * MAX_NODES }
         ensures value { result ≡ tally_with self (NodeWord word.now) }
-        ensures bytes { IfSome result (λ next. next.bytes ≤ self.bytes + 60) }
+        ensures bytes { IfSome result (λ next. next.bytes ≤ self.bytes + MAX_WORD) }
     {
         if !is_word(word.bytes()) {
             return None;
@@ -62,11 +57,11 @@ impl Tally {
     }
 
     fn with_test(self, sign: usize, number: u64) -> Option<Tally>
-        requires trees { self.trees ≤ 64 }
-        requires sum { self.bytes ≤ 3840 }
+        requires trees { self.trees ≤ MAX_NODES }
+        requires sum { self.bytes ≤ MAX_WORD * MAX_NODES }
         requires sign { sign ≤ 6 }
         ensures value { result ≡ with_test self sign number }
-        ensures bytes { IfSome result (λ next. next.bytes ≤ self.bytes + 60) }
+        ensures bytes { IfSome result (λ next. next.bytes ≤ self.bytes + MAX_WORD) }
     {
         if number >= TEST_LIMIT {
             return None;
@@ -75,7 +70,7 @@ impl Tally {
     }
 
     fn with_mark(self) -> Option<Tally>
-        requires sum { self.bytes ≤ 3840 }
+        requires sum { self.bytes ≤ MAX_WORD * MAX_NODES }
         ensures { result ≡ with_mark self }
     {
         if self.trees < 1 {
@@ -88,7 +83,7 @@ impl Tally {
     }
 
     fn with_joint(self) -> Option<Tally>
-        requires sum { self.bytes ≤ 3840 }
+        requires sum { self.bytes ≤ MAX_WORD * MAX_NODES }
         ensures { result ≡ with_joint self }
     {
         if self.trees < 2 {
@@ -101,11 +96,11 @@ impl Tally {
     }
 
     fn with(self, node: &Node) -> Option<Tally>
-        requires trees { self.trees ≤ 64 }
-        requires sum { self.bytes ≤ 3840 }
+        requires trees { self.trees ≤ MAX_NODES }
+        requires sum { self.bytes ≤ MAX_WORD * MAX_NODES }
         ensures value { result ≡ tally_with self node.now }
         ensures trees { IfSome result (λ next. next.trees ≤ self.trees + 1) }
-        ensures bytes { IfSome result (λ next. next.bytes ≤ self.bytes + 60) }
+        ensures bytes { IfSome result (λ next. next.bytes ≤ self.bytes + MAX_WORD) }
     {
         match node {
             Node::Word(word) => self.with_word(word),
@@ -119,10 +114,10 @@ impl Tally {
 }
 
 fn tally_of(nodes: &[Node]) -> Option<Tally>
-    requires { length nodes.now ≤ 64 }
+    requires { length nodes.now ≤ MAX_NODES }
     ensures value { result ≡ tally_after no_tally nodes.now }
-    ensures trees { IfSome result (λ tally. tally.trees ≤ 64) }
-    ensures bytes { IfSome result (λ tally. tally.bytes ≤ 3840) }
+    ensures trees { IfSome result (λ tally. tally.trees ≤ MAX_NODES) }
+    ensures bytes { IfSome result (λ tally. tally.bytes ≤ MAX_WORD * MAX_NODES) }
 {
     let mut tally = Tally { trees: 0, bytes: 0 };
     for node in nodes {
@@ -145,7 +140,7 @@ pub fn are_place(nodes: &[Node]) -> bool
     if nodes.len() + joints > MAX_NODES {
         return false;
     }
-    tally.bytes + joints <= MAX_BYTES
+    tally.bytes + joints <= MAX_FORMULA
 }
 
 /// How many trees the nodes of a place make.

@@ -7,16 +7,17 @@ ghost use Rattle.lis_grammar.specs.Places.{IsPlace, without_last};
 ghost use Rattle.lis_place.specs.Nodes.{nodes_of};
 ghost use Rattle.lis_place.specs.Steps.{operands, before_last};
 
-use crate::limits::{MAX_NODES, are_place, tree_count};
+use crate::limits::{are_place, tree_count};
 use crate::node::Node;
 use arrayvec::ArrayVec;
+use lis_limits::MAX_NODES;
 use std::marker::Model;
 
 /// A place: a list of steps, each a tree of nodes, which stands for the files of which all steps hold. It has at most 64
 /// nodes and prints to at most 1,024 bytes, and the numbers of its tests are below 10^12.
 #[derive(Drop, Debug)]
 pub struct Place {
-    nodes: ArrayVec<Node, 64>,
+    nodes: ArrayVec<Node, MAX_NODES>,
 }
 
 impl Model for Place {
@@ -44,8 +45,8 @@ pub struct Path {
 }
 
 /// Puts copies of the nodes behind those that are held.
-fn extend(held: &mut ArrayVec<Node, 64>, nodes: &[Node])
-    requires { array_vec_len held.old + length nodes.now ≤ 64 }
+fn extend(held: &mut ArrayVec<Node, MAX_NODES>, nodes: &[Node])
+    requires { array_vec_len held.old + length nodes.now ≤ MAX_NODES }
     ensures { held.new.items ≡ held.old.items ++ nodes.now }
 {
     for node in nodes {
@@ -67,7 +68,7 @@ fn operands(node: &Node) -> usize
 
 /// Where the last tree of the nodes begins.
 fn last_start(nodes: &[Node]) -> usize
-    requires { length nodes.now ≤ 64 }
+    requires { length nodes.now ≤ MAX_NODES }
     ensures inside { result ≤ length nodes.now }
     ensures before { take result nodes.now ≡ before_last nodes.now }
 {
@@ -109,7 +110,7 @@ impl Place {
     pub fn nodes(&self) -> &[Node]
         ensures nodes { result.now ≡ nodes_of self.now }
         ensures place { IsPlace self.now }
-        ensures few { length result.now ≤ 64 }
+        ensures few { length result.now ≤ MAX_NODES }
     {
         self.nodes.as_slice()
     }

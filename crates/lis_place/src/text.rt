@@ -3,12 +3,13 @@
 ghost use Rattle.std.specs.Prelude.{◌≡◌, ◌==◌, ℕ, ◌<◌, ◌≤◌, List, length, MatchOption};
 
 use arrayvec::ArrayVec;
+use lis_limits::MAX_FORMULA;
 use std::marker::Model;
 
 /// At most 1,024 bytes.
 #[derive(Drop, Debug, PartialEq, Eq)]
 pub struct Text {
-    held: ArrayVec<u8, 1024>,
+    held: ArrayVec<u8, MAX_FORMULA>,
 }
 
 impl Model for Text {
@@ -25,8 +26,8 @@ impl Text {
     /// The text of these bytes. None comes exactly where there are more than 1,024.
     pub fn of(bytes: &[u8]) -> Option<Text>
         ensures { MatchOption result
-            (1024 < length bytes.now)
-            (λ text. (text ≡ bytes.now) × (length bytes.now ≤ 1024)) }
+            (MAX_FORMULA < length bytes.now)
+            (λ text. (text ≡ bytes.now) × (length bytes.now ≤ MAX_FORMULA)) }
     {
         let mut held = ArrayVec::new();
         held.try_extend_from_slice(bytes).ok()?;
@@ -36,7 +37,7 @@ impl Text {
     /// How many bytes the text has.
     pub fn len(&self) -> usize
         ensures value { result ≡ length self.now }
-        ensures short { result ≤ 1024 }
+        ensures short { result ≤ MAX_FORMULA }
     {
         self.held.len()
     }
@@ -51,7 +52,7 @@ impl Text {
     /// The text's bytes.
     pub fn bytes(&self) -> &[u8]
         ensures bytes { result.now ≡ self.now }
-        ensures short { length result.now ≤ 1024 }
+        ensures short { length result.now ≤ MAX_FORMULA }
     {
         self.held.as_slice()
     }
@@ -67,10 +68,10 @@ impl Text {
 }
 
 /// A text takes over the bytes that were put together in place.
-impl From<ArrayVec<u8, 1024>> for Text {
+impl From<ArrayVec<u8, MAX_FORMULA>> for Text {
     ghost from_gives = { λ held text. text ≡ held.items };
 
-    fn from(held: ArrayVec<u8, 1024>) -> Self {
+    fn from(held: ArrayVec<u8, MAX_FORMULA>) -> Self {
         Text { held }
     }
 }

@@ -7,24 +7,26 @@ ghost use Rattle.lis_model.specs.Changes.{file_of};
 
 use crate::file::File;
 use itoa::Buffer;
+use lis_limits::{BLOCK_LEN, MAX_FILE, MAX_LARGE_FILE};
 use lis_words::Name;
 use std::alloc::{AllocError, Global};
-
-/// How many bytes a data block has.
-const BLOCK_LEN: u64 = 4_096;
 
 /// How many bytes a file of the version may have.
 pub fn file_limit(version: u32) -> u64
     ensures { result ≡ file_limit version }
 {
-    if version == 2 { 1_048_576 } else { 65_536 }
+    if version == 2 {
+        u64::from(MAX_LARGE_FILE)
+    } else {
+        u64::from(MAX_FILE)
+    }
 }
 
 /// How many blocks so many bytes take.
 fn blocks_needed(bytes: u64) -> u64
     ensures { result ≡ blocks_needed bytes }
 {
-    bytes.div_ceil(BLOCK_LEN)
+    bytes.div_ceil(BLOCK_LEN as u64)
 }
 
 /// How many blocks a file of so many bytes takes.

@@ -11,14 +11,12 @@ use crate::file::File;
 use crate::plain::Answer;
 use crate::state::State;
 use crate::table::{description, known};
+use lis_limits::MAX_DESCRIPTION;
 use lis_model::refusal::Refusal;
 use lis_table::closure::Axiom;
 use lis_table::words::has_word;
 use lis_words::{Word, head_of, is_builtin, is_head, is_plain_word, test_of};
 use std::alloc::{AllocError, Global};
-
-/// The most words of a description.
-const MAX_WORDS: usize = 128;
 
 // ---- words
 
@@ -220,7 +218,7 @@ fn exceeds_words(alloc: Global, state: &State) -> Result<bool, AllocError>
 {
     for file in &state.files {
         let words = description(alloc, state, file)?;
-        if words.len() > MAX_WORDS {
+        if words.len() > MAX_DESCRIPTION {
             return Ok(true);
         }
     }

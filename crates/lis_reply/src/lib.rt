@@ -30,7 +30,7 @@ const MAX_TEXT: usize = 1_100;
 const MAX_FRONT: usize = 60;
 
 fn line_of(front: &[u8], text: &[u8]) -> ArrayVec<u8, 1168>
-    requires { length front.now + length text.now ≤ 1166 }
+    requires { length front.now + length text.now ≤ MAX_TEXT + 66 }
     ensures { result.items ≡ line (front.now ++ 32 ∷ text.now) }
 {
     let mut line = ArrayVec::new();

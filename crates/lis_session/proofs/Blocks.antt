@@ -32,9 +32,9 @@ use Rattle.lis_session.proofs.Moments.{take_none}
 use Rattle.lis_session.proofs.Saying.{Shows, unchanged_past, quiet_broke, quiet_done, item_front, item_then, item_none, shows_item, shows_bytes, item_shows}
 
 -- a file has as many bytes as its record says
-pub size_is : {k : Stored} {m : Meaning} {s : State} (name : List ℕ) (slot size : ℕ) → IsSound k → StoreFits k m s → slot_of k.parts.catalog name ≡ Some slot
-    → IsSomeAnd (rec_at k.parts.catalog slot) (λ (rec : FileRecord). size ≡ rec.size) → length (file_of s.files name).bytes ≡ size
-size_is {k} {m} {s} name slot size sound fits is_slot told = by (rec_at k.parts.catalog slot) (sizes_told k s sound (told_fits k m s sound fits) name slot is_slot) told
+pub size_is : {k : Stored} {m : Meaning} {s : State} (name : List ℕ) (slot size : ℕ) → IsSound k → StoreFits k m s → slot_of k.metadata.catalog name ≡ Some slot
+    → IsSomeAnd (rec_at k.metadata.catalog slot) (λ (rec : FileRecord). size ≡ rec.size) → length (file_of s.files name).bytes ≡ size
+size_is {k} {m} {s} name slot size sound fits is_slot told = by (rec_at k.metadata.catalog slot) (sizes_told k s sound (told_fits k m s sound fits) name slot is_slot) told
   where
     by : (o : Option FileRecord) → IsSomeAnd o (λ (rec : FileRecord). length (file_of s.files name).bytes ≡ rec.size) → IsSomeAnd o (λ (rec : FileRecord). size ≡ rec.size)
         → length (file_of s.files name).bytes ≡ size
@@ -73,7 +73,7 @@ module _ {k : Stored} {old mid : Meaning} {state : State} (piece : List ℕ) (fi
 -- what is shown of the file in a slot, by its bytes
 abbrev pub ShowsOf : (List ℕ → List ℕ) → Stored → ℕ → Meaning → Meaning → Result (Unit {0}) End → Type 0
 ShowsOf shown k slot old new result =
-    (name : List ℕ) → slot_of k.parts.catalog name ≡ Some slot
+    (name : List ℕ) → slot_of k.metadata.catalog name ≡ Some slot
     → Does (λ (now : Situation). only_shows (shown (file_of now.state.files name).bytes) now) (StoreFits k old) [] old new result (StoreFits k new) []
 
 -- the first n blocks, and the block behind them
@@ -107,7 +107,7 @@ module _ (k : Stored) (slot n : ℕ) {old : Meaning} where
         subst (λ xs. Shows state xs old next result (StoreFits k next)) (ap (λ xs. xs ++ rest) (block_more n bytes) ∙ take-append-drop (4096 * (n + 1)) bytes)
         (item_front rest (item_then (Err end) so_far item.past item) same)
 
-  pub blocks_all : {now : Meaning} (size : ℕ) → IsSound k → IsSomeAnd (rec_at k.parts.catalog slot) (λ (rec : FileRecord). size ≡ rec.size) → size ≤ 4096 * n
+  pub blocks_all : {now : Meaning} (size : ℕ) → IsSound k → IsSomeAnd (rec_at k.metadata.catalog slot) (λ (rec : FileRecord). size ≡ rec.size) → size ≤ 4096 * n
       → ShowsOf (first_blocks n) k slot old now (Ok tt) → ShowsOf (λ bytes. bytes) k slot old now (Ok tt)
   blocks_all {now} size sound told enough shown name is state fitting =
       subst (λ xs. Shows state xs old now (Ok tt) (StoreFits k now)) (take_all (4096 * n) (file_of state.files name).bytes (omega (arith, size_is name slot size sound fitting.own is told, enough)))
@@ -153,9 +153,9 @@ module _ {k : Stored} {old mid : Meaning} {state : State} (bytes : List ℕ) {si
 -- ---- where the file is
 -- a file of which something is shown, by whether the store finds it
 module _ {k : Stored} {old new : Meaning} {result : Result (Unit {0}) End} (now : Situation) (name body : List ℕ) (sound : IsSound k) (fitting : FitsAt (StoreFits k old) old now.state) where
-  pub shows_nowhere : is_among k.parts now.place name ≡ false → Answers old new (refusal_line NoFileHere) result → OneItem now (shown_here now name body) old new result (StoreFits k new) now.place
+  pub shows_nowhere : is_among k.metadata now.place name ≡ false → Answers old new (refusal_line NoFileHere) result → OneItem now (shown_here now name body) old new result (StoreFits k new) now.place
   shows_nowhere nowhere answers = shows_item (shown_here now name body) now.place fitting answers (refused_nowhere now name body (sym (here_told k now.state sound (told_fits k old now.state sound fitting.own) now.place name) ∙ nowhere))
 
-  pub shows_here : is_among k.parts now.place name ≡ true → Shows now.state (body ++ ok_line) old new result (StoreFits k new) → OneItem now (shown_here now name body) old new result (StoreFits k new) now.place
+  pub shows_here : is_among k.metadata now.place name ≡ true → Shows now.state (body ++ ok_line) old new result (StoreFits k new) → OneItem now (shown_here now name body) old new result (StoreFits k new) now.place
   shows_here here item =
       subst (λ (o : Outcome). OneItem now o old new result (StoreFits k new) now.place) (sym (shown_if_here now name body (sym (here_told k now.state sound (told_fits k old now.state sound fitting.own) now.place name) ∙ here))) (item_then result (item_none now fitting) item.past item)

@@ -22,7 +22,7 @@ use Rattle.lis_model.specs.Route.{route}
 use Rattle.lis_model.specs.Step.{Situation, entry_at}
 use Rattle.lis_eval.proofs.Members.{past_end}
 use Rattle.lis_incr.specs.Ways.{IsWay, file_here}
-use Rattle.lis_kept.specs.Kept.{Kept}
+use Rattle.lis_kept.specs.Metadata.{Metadata}
 use Rattle.lis_kept.specs.Sound.{AreSound}
 use Rattle.lis_kept.specs.Telling.{words_told}
 use Rattle.lis_kept.proofs.Filing.{rising_kept}
@@ -48,7 +48,7 @@ pub drop_none : {X : Type 0} (xs : List X) → drop 0 xs ≡ xs
 drop_none [] = refl
 drop_none (x ∷ xs) = refl
 
-module _ (k : Kept) (slot : ℕ) where
+module _ (k : Metadata) (slot : ℕ) where
   abbrev Numbered : Type 0
   Numbered = List ℕ × ℕ
 
@@ -98,14 +98,14 @@ module _ (k : Kept) (slot : ℕ) where
 
 module _ {k : Stored} {m : Meaning} (now : Situation) (name : List ℕ) (sound : IsSound k) (fits : StoreFits k m now.state) where
   -- ---- the description of a file
-  pub had_described : (slot : ℕ) → slot_of k.parts.catalog name ≡ Some slot → words_had k.parts slot k.parts.dict.entries ≡ description now.state (file_of now.state.files name)
-  had_described slot is = had_told k.parts slot sound.parts ∙ description_told k now.state sound (told_fits k m now.state sound fits) name slot is
+  pub had_described : (slot : ℕ) → slot_of k.metadata.catalog name ≡ Some slot → words_had k.metadata slot k.metadata.dict.entries ≡ description now.state (file_of now.state.files name)
+  had_described slot is = had_told k.metadata slot sound.metadata ∙ description_told k now.state sound (told_fits k m now.state sound fits) name slot is
 
   -- ---- the route to a file
-  pub way_here : is_among k.parts now.place name ≡ is_some (file_here (table_of k.parts) now.place name)
-  way_here = any_is_found (λ (e : Entry). same_word e.name name) (extension (table_of k.parts) now.place)
+  pub way_here : is_among k.metadata now.place name ≡ is_some (file_here (table_of k.metadata) now.place name)
+  way_here = any_is_found (λ (e : Entry). same_word e.name name) (extension (table_of k.metadata) now.place)
 
-  pub way_is : (words : List (List ℕ)) → IsWay (table_of k.parts) now.place name words → words ≡ route (table now.state) now.place (entry_at now.state name)
+  pub way_is : (words : List (List ℕ)) → IsWay (table_of k.metadata) now.place name words → words ≡ route (table now.state) now.place (entry_at now.state name)
   way_is words is =
       let told = table_told k now.state sound (told_fits k m now.state sound fits) in
       let entry = entry_found k now.state sound (told_fits k m now.state sound fits) now.place name is.file (ap (λ (t : Table). file_here t now.place name) (sym told) ∙ is.here) in

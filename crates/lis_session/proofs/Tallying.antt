@@ -21,8 +21,8 @@ use Rattle.lis_bits.specs.Rows.{Rows, get}
 use Rattle.lis_eval.specs.View.{Placed, Seen, IsView}
 use Rattle.lis_incr.specs.Lines.{lines_of, words_from, names_from, lines_from}
 use Rattle.lis_incr.specs.declared.listing.Line.TheVariants.{Prop, File}
-use Rattle.lis_store.specs.declared.change.Change.{Change}
-use Rattle.lis_store.specs.declared.change.Change.TheVariants.{Refused, Disk}
+use Rattle.lis_store.specs.declared.change_fault.ChangeFault.{ChangeFault}
+use Rattle.lis_store.specs.declared.change_fault.ChangeFault.TheVariants.{Refused, Disk}
 use Rattle.lis_store.specs.Stored.{Stored, IsSound, StoreFits}
 use Rattle.lis_store.specs.Judging.{is_among}
 use Rattle.lis_store.proofs.ToldBy.{told_fits}
@@ -42,7 +42,7 @@ tally_with refused listed = record { refused = refused; listed = listed }
 
 -- what a change of the store comes to
 module _ {k : Stored} {old new : Meaning} {now : Situation} {outcome : Outcome} {lines : ℕ} (stays : outcome.next.place ≡ now.place) (none : lines ≡ 0) (sound : IsSound k) where
-  pub tallied_change : {result : Result Tally Failed} (changed : Result (Unit {0}) Change) → Changes now outcome k old new changed → Concluded changed result
+  pub tallied_change : {result : Result Tally Failed} (changed : Result (Unit {0}) ChangeFault) → Changes now outcome k old new changed → Concluded changed result
       → Tallied now outcome lines old new result (StoreFits k new) now.place
   tallied_change (Ok u) changes is = rw is (record { made = changed_item stays sound (Ok u) changes; tally = ap₂ (λ reply n. tally_with (is_refusal reply) n) (sym changes.ended.0) (sym none) })
   tallied_change (Err (Refused refusal)) changes is =
@@ -79,8 +79,8 @@ refused_answer (Err refusal) = refl
 
 -- ---- a file of which something is shown
 pub tallied_look : {k : Stored} {m : Meaning} (now : Situation) (name body : List ℕ) → IsSound k → FitsAt (StoreFits k m) m now.state → is_refusal (body ++ ok_line) ≡ false
-    → Tallied now (shown_here now name body) 0 m m (Ok (tally_with (not (is_among k.parts now.place name)) 0)) (StoreFits k m) now.place
-tallied_look {k} {m} now name body sound fitting said = by (is_among k.parts now.place name) (sym (here_told k now.state sound (told_fits k m now.state sound fitting.own) now.place name))
+    → Tallied now (shown_here now name body) 0 m m (Ok (tally_with (not (is_among k.metadata now.place name)) 0)) (StoreFits k m) now.place
+tallied_look {k} {m} now name body sound fitting said = by (is_among k.metadata now.place name) (sym (here_told k now.state sound (told_fits k m now.state sound fitting.own) now.place name))
   where
     by : (here : Bool) → is_here now name ≡ here → Tallied now (shown_here now name body) 0 m m (Ok (tally_with (not here) 0)) (StoreFits k m) now.place
     by false is = tallied_still _ 0 now.place (refusal_line NoFileHere) _ fitting (refused_nowhere now name body is) refl

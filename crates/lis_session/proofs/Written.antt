@@ -3,14 +3,14 @@ use Rattle.std.proofs.Common.{◌≡◌, List, Result, subst}
 use Rattle.lis_ports.specs.Meaning.{Meaning}
 use Rattle.lis_grammar.specs.Formula.{Formula}
 use Rattle.lis_model.specs.Step.{Situation, Outcome}
-use Rattle.lis_store.specs.declared.change.Change.{Change}
+use Rattle.lis_store.specs.declared.change_fault.ChangeFault.{ChangeFault}
 use Rattle.lis_store.specs.declared.write.Write.{Write}
 use Rattle.lis_store.specs.Changes.{Changes, Holds}
 use Rattle.lis_store.specs.Stored.{Stored}
 use Rattle.lis_store.specs.Writes.{written}
 use Rattle.lis_session.specs.Parts.{Makes, MakesHeld}
 
-module _ (write : Write) {outcome : Situation → Outcome} (is : (now : Situation) → written now write ≡ outcome now) {place : List Formula} {old new : Stored} {before after : Meaning} {changed : Result (Unit {0}) Change} where
+module _ (write : Write) {outcome : Situation → Outcome} (is : (now : Situation) → written now write ≡ outcome now) {place : List Formula} {old new : Stored} {before after : Meaning} {changed : Result (Unit {0}) ChangeFault} where
   pub makes_written : Makes (λ now. written now write) place old new before after changed → Makes outcome place old new before after changed
   makes_written makes = λ state fits.
       let now : Situation = record { state = state; place = place } in

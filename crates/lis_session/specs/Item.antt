@@ -63,7 +63,7 @@ HasEndCause old new (Err OutputFault) = (new.disk_faults ≡ old.disk_faults) ×
 
 -- a store is broken by a fault of the disk alone, and its limits and the length of its image stay
 pub record StoreLeft (old new : Stored) (result : Result (Unit {0}) End) : Type 0 where
-  pub limits : new.parts.limits ≡ old.parts.limits
+  pub limits : new.metadata.limits ≡ old.metadata.limits
   pub image : shape_of new.journal ≡ shape_of old.journal
   pub unbroken : result ≢ Err DiskFault → new.is_broken ≡ false
 

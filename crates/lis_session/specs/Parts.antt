@@ -12,15 +12,15 @@ use Rattle.lis_model.specs.declared.command.Command.{Command}
 use Rattle.lis_model.specs.declared.command.Command.TheVariants.{Mkdir, Rmdir, Axiom, Unaxiom, Create, Add, Write, Mv, Rename, Rm}
 use Rattle.lis_model.specs.declared.refusal.Refusal.{Refusal}
 use Rattle.lis_model.specs.declared.refusal.Refusal.TheVariants.{BadFormula, UnknownProperty, LargeFormula}
-use Rattle.lis_model.specs.Replies.{body_line, ok_line, refusal_line}
+use Rattle.lis_model.specs.Replies.{body_line, ok_line, refusal_line, word_letter, file_letter}
 use Rattle.lis_model.specs.State.{State}
 use Rattle.lis_model.specs.Step.{SituationOf, OutcomeOf, Situation, Outcome}
 use Rattle.lis_incr.specs.declared.listing.Line.{Line}
 use Rattle.lis_incr.specs.declared.listing.Line.TheVariants.{Prop, File}
 use Rattle.lis_store.specs.Changes.{Changes, Holds}
 use Rattle.lis_store.specs.Stored.{Stored, StoreFits, StoreHolds}
-use Rattle.lis_store.specs.declared.change.Change.{Change}
-use Rattle.lis_store.specs.declared.change.Change.TheVariants.{Refused, Disk as DiskChange}
+use Rattle.lis_store.specs.declared.change_fault.ChangeFault.{ChangeFault}
+use Rattle.lis_store.specs.declared.change_fault.ChangeFault.TheVariants.{Refused, Disk as DiskChange}
 use Rattle.lis_session.specs.declared.end.End.{End}
 use Rattle.lis_session.specs.declared.end.End.TheVariants.{DiskFault, OutputFault}
 use Rattle.lis_session.specs.Item.{HasEndCause, IsSameStation}
@@ -46,15 +46,15 @@ answer_of (Ok done) = ok_line
 answer_of (Err refusal) = refusal_line refusal
 
 -- What a change of the store is answered. After a fault of the disk nothing is shown.
-abbrev pub Concludes : {D : Type 0} → (D → Meaning) → D → D → Result (Unit {0}) Change → Result (Unit {0}) End → Type 0
+abbrev pub Concludes : {D : Type 0} → (D → Meaning) → D → D → Result (Unit {0}) ChangeFault → Result (Unit {0}) End → Type 0
 Concludes meaning old new (Ok done) result = Answers (meaning old) (meaning new) ok_line result
 Concludes meaning old new (Err (Refused refusal)) result = Answers (meaning old) (meaning new) (refusal_line refusal) result
 Concludes meaning old new (Err DiskChange) result = (new ≡ old) × (result ≡ Err DiskFault)
 
 -- a line of a listing, as it is shown
 abbrev pub shown_line : Line → List ℕ
-shown_line (Prop word) = body_line 100 word
-shown_line (File name) = body_line 102 name
+shown_line (Prop word) = body_line word_letter word
+shown_line (File name) = body_line file_letter name
 
 -- the place to which a text leads, by the known words, or why it is refused
 abbrev pub led_to : List (List ℕ) → List ℕ → Resolution → Result (List Formula) Refusal
@@ -63,19 +63,19 @@ led_to known text BeyondLimits = Err LargeFormula
 led_to known text (NewPlace place) = if list_all (has_word known) (text_words text) then Ok place else Err UnknownProperty
 
 -- The store is changed as a command asks at a place, whichever state fits it.
-abbrev pub Makes : (Situation → Outcome) → List Formula → Stored → Stored → Meaning → Meaning → Result (Unit {0}) Change → Type 0
+abbrev pub Makes : (Situation → Outcome) → List Formula → Stored → Stored → Meaning → Meaning → Result (Unit {0}) ChangeFault → Type 0
 Makes outcome place old new before after changed =
     (state : State) → StoreFits old before state
     → Changes (record { state = state; place = place }) (outcome (record { state = state; place = place })) new before after changed
 
 -- The same where the change is held back, whichever states are the base and the present one.
-abbrev pub MakesHeld : (Situation → Outcome) → List Formula → Stored → Stored → Meaning → Meaning → Result (Unit {0}) Change → Type 0
+abbrev pub MakesHeld : (Situation → Outcome) → List Formula → Stored → Stored → Meaning → Meaning → Result (Unit {0}) ChangeFault → Type 0
 MakesHeld outcome place old new before after changed =
     (base state : State) → StoreHolds old before base state
     → Holds base (record { state = state; place = place }) (outcome (record { state = state; place = place })) new before after changed
 
 -- Whether the store did its part: a refusal is an answer.
-abbrev pub kept_up : Result (Unit {0}) Change → Result (Unit {0}) End
+abbrev pub kept_up : Result (Unit {0}) ChangeFault → Result (Unit {0}) End
 kept_up (Ok done) = Ok tt
 kept_up (Err (Refused refusal)) = Ok tt
 kept_up (Err DiskChange) = Err DiskFault

@@ -21,7 +21,7 @@ Situated = SituatedOf (List Formula)
 -- the store is sound, and the memory to work in is enough for its limits
 pub record CanWork (store : Stored) (scratch : Scratch) : Type 0 where
   pub sound : IsSound store
-  pub room : HasRoom scratch store.parts.limits
+  pub room : HasRoom scratch store.metadata.limits
 
 -- a state, with the root as the place
 abbrev pub root_of : State → Situation

@@ -1,5 +1,6 @@
 -- What carrying out an item without showing its reply does to an image, and what is kept of the reply.
 use Rattle.std.specs.Prelude.{◌≡◌, ℕ, ◌+◌, ◌==◌, Bool, true, false, List, [], ◌∷◌, length, Result, Ok, Err, IfOk}
+use Rattle.lis_model.specs.Replies.{refusal_letter}
 use Rattle.lis_ports.specs.Meaning.{Meaning}
 use Rattle.lis_ports.specs.declared.disk.Failed.{Failed}
 use Rattle.lis_grammar.specs.Formula.{Formula}
@@ -10,8 +11,8 @@ use Rattle.lis_model.specs.State.{State}
 use Rattle.lis_model.specs.Table.{table}
 use Rattle.lis_model.specs.Step.{OutcomeOf, Situation, Item, Outcome, step}
 use Rattle.lis_model.specs.Step.Item.{Do, Bad}
-use Rattle.lis_store.specs.declared.change.Change.{Change}
-use Rattle.lis_store.specs.declared.change.Change.TheVariants.{Refused, Disk}
+use Rattle.lis_store.specs.declared.change_fault.ChangeFault.{ChangeFault}
+use Rattle.lis_store.specs.declared.change_fault.ChangeFault.TheVariants.{Refused, Disk}
 use Rattle.lis_session.specs.declared.end.End.{End}
 use Rattle.lis_session.specs.declared.end.End.TheVariants.{DiskFault}
 use Rattle.lis_session.specs.declared.tally.Tally.{Tally}
@@ -20,7 +21,7 @@ use Rattle.lis_session.specs.Item.{FitsAt, OneItem}
 -- A reply is a refusal where it begins with `n`: every other one is `ok`, or begins with a line of another letter.
 abbrev pub is_refusal : List ℕ → Bool
 is_refusal [] = false
-is_refusal (letter ∷ bytes) = letter == 110
+is_refusal (letter ∷ bytes) = letter == refusal_letter
 
 -- how many lines of words and of files the listing of the place has
 abbrev pub listed_lines : Situation → ℕ
@@ -61,7 +62,7 @@ TalliesItem fits_before place_before old new result fits place item =
     Tallies (λ now. step now item) (λ now. listed now item) fits_before place_before old new result fits place
 
 -- the tally of what a change of the store is answered
-abbrev pub Concluded : Result (Unit {0}) Change → Result Tally Failed → Type 0
+abbrev pub Concluded : Result (Unit {0}) ChangeFault → Result Tally Failed → Type 0
 Concluded (Ok done) result = result ≡ Ok (record { refused = false; listed = 0 })
 Concluded (Err (Refused refusal)) result = result ≡ Ok (record { refused = true; listed = 0 })
 Concluded (Err Disk) result = result ≡ Err (record {})

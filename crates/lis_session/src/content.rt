@@ -16,14 +16,12 @@ ghost use Rattle.lis_session.specs.Showing.{DiskStays};
 use crate::end::End;
 use crate::replies::{answer_bytes, answer_refusal, answer_size};
 use lis_eval::Scratch;
+use lis_limits::BLOCK_LEN;
 use lis_model::refusal::Refusal;
 use lis_place::Place;
 use lis_ports::{Failed, Station};
 use lis_store::Store;
 use lis_words::Name;
-
-/// How many bytes a data block has.
-const BLOCK_LEN: usize = 4_096;
 
 // Shows the n-th block of the file in the slot, by its index block. The buffer has the length of a block.
 fn show_block<T: Station>(
@@ -36,18 +34,18 @@ fn show_block<T: Station>(
     station: &mut T,
 ) -> Result<(), End>
     requires sound { IsSound store.now }
-    requires size { IsSomeAnd (rec_at store.now.parts.catalog slot) (λ (rec : FileRecord). size ≡ rec.size) }
-    requires within { 4096 * n < size }
-    requires index { length index.now ≡ 4096 }
-    requires whole { length block.old ≡ 4096 }
+    requires size { IsSomeAnd (rec_at store.now.metadata.catalog slot) (λ (rec : FileRecord). size ≡ rec.size) }
+    requires within { BLOCK_LEN * n < size }
+    requires index { length index.now ≡ BLOCK_LEN }
+    requires whole { length block.old ≡ BLOCK_LEN }
     requires usable { IsUsable store.now (T.meaning station.old) }
     ensures shows { IsIndex store.now (T.meaning station.old).bytes slot index.now
-        → (name : List ℕ) → slot_of store.now.parts.catalog name ≡ Some slot
-        → Does (λ (now : Situation). only_shows (part (4096 * n) 4096 (file_of now.state.files name).bytes) now) (StoreFits store.now (T.meaning station.old)) []
+        → (name : List ℕ) → slot_of store.now.metadata.catalog name ≡ Some slot
+        → Does (λ (now : Situation). only_shows (part (BLOCK_LEN * n) BLOCK_LEN (file_of now.state.files name).bytes) now) (StoreFits store.now (T.meaning station.old)) []
         (T.meaning station.old) (T.meaning station.new) result (StoreFits store.now (T.meaning station.new)) [] }
     ensures ends { Ends (T.meaning station.old) (T.meaning station.new) result }
     ensures disk { IsTrue (T.meaning station.old).is_honest → DiskStays (T.meaning station.old) (T.meaning station.new) }
-    ensures whole { length block.new ≡ 4096 }
+    ensures whole { length block.new ≡ BLOCK_LEN }
 {
     if let Err(Failed) = store.content_by(station, slot, index, n, block) {
         return Err(End::DiskFault);
@@ -65,11 +63,11 @@ fn show_blocks<T: Station>(
     station: &mut T,
 ) -> Result<(), End>
     requires sound { IsSound store.now }
-    requires size { IsSomeAnd (rec_at store.now.parts.catalog slot) (λ (rec : FileRecord). size ≡ rec.size) }
-    requires index { length index.now ≡ 4096 }
+    requires size { IsSomeAnd (rec_at store.now.metadata.catalog slot) (λ (rec : FileRecord). size ≡ rec.size) }
+    requires index { length index.now ≡ BLOCK_LEN }
     requires usable { IsUsable store.now (T.meaning station.old) }
     ensures shows { IsIndex store.now (T.meaning station.old).bytes slot index.now
-        → (name : List ℕ) → slot_of store.now.parts.catalog name ≡ Some slot
+        → (name : List ℕ) → slot_of store.now.metadata.catalog name ≡ Some slot
         → Does (λ (now : Situation). only_shows (file_of now.state.files name).bytes now) (StoreFits store.now (T.meaning station.old)) []
         (T.meaning station.old) (T.meaning station.new) result (StoreFits store.now (T.meaning station.new)) [] }
     ensures ends { Ends (T.meaning station.old) (T.meaning station.new) result }
@@ -90,9 +88,9 @@ pub fn show_content<T: Station>(
     station: &mut T,
 ) -> Result<(), End>
     requires sound { IsSound store.now }
-    requires size { IsSomeAnd (rec_at store.now.parts.catalog slot) (λ (rec : FileRecord). size ≡ rec.size) }
+    requires size { IsSomeAnd (rec_at store.now.metadata.catalog slot) (λ (rec : FileRecord). size ≡ rec.size) }
     requires usable { IsUsable store.now (T.meaning station.old) }
-    ensures shows { (name : List ℕ) → slot_of store.now.parts.catalog name ≡ Some slot
+    ensures shows { (name : List ℕ) → slot_of store.now.metadata.catalog name ≡ Some slot
         → Does (λ (now : Situation). only_shows (file_of now.state.files name).bytes now) (StoreFits store.now (T.meaning station.old)) []
         (T.meaning station.old) (T.meaning station.new) result (StoreFits store.now (T.meaning station.new)) [] }
     ensures ends { Ends (T.meaning station.old) (T.meaning station.new) result }
@@ -111,9 +109,9 @@ pub fn show_content<T: Station>(
 // Shows the file in the slot: its size, its bytes, and a line feed behind them.
 fn show_file<T: Station>(store: &Store, slot: u16, station: &mut T) -> Result<(), End>
     requires sound { IsSound store.now }
-    requires slot { (name : List ℕ) × (slot_of store.now.parts.catalog name ≡ Some slot) }
+    requires slot { (name : List ℕ) × (slot_of store.now.metadata.catalog name ≡ Some slot) }
     requires usable { IsUsable store.now (T.meaning station.old) }
-    ensures shows { (name : List ℕ) → slot_of store.now.parts.catalog name ≡ Some slot
+    ensures shows { (name : List ℕ) → slot_of store.now.metadata.catalog name ≡ Some slot
         → Does (λ (now : Situation). shown now (content_lines (file_of now.state.files name).bytes)) (StoreFits store.now (T.meaning station.old)) []
         (T.meaning station.old) (T.meaning station.new) result (StoreFits store.now (T.meaning station.new)) [] }
     ensures ends { Ends (T.meaning station.old) (T.meaning station.new) result }
@@ -133,9 +131,9 @@ pub fn cat<T: Station>(
     station: &mut T,
 ) -> Result<(), End>
     requires sound { IsSound store.now }
-    requires scratch { HasRoom scratch.old store.now.parts.limits }
+    requires scratch { HasRoom scratch.old store.now.metadata.limits }
     requires usable { IsUsable store.now (T.meaning station.old) }
-    ensures scratch { HasRoom scratch.new store.now.parts.limits }
+    ensures scratch { HasRoom scratch.new store.now.metadata.limits }
     ensures carries { Does (λ now. cat now name.now) (StoreFits store.now (T.meaning station.old)) place.now
         (T.meaning station.old) (T.meaning station.new) result (StoreFits store.now (T.meaning station.new)) place.now }
     ensures ends { Ends (T.meaning station.old) (T.meaning station.new) result }

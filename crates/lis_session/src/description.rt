@@ -3,7 +3,7 @@
 ghost use Rattle.std.specs.Prelude.{◌++◌, ◌<◌, length, slice_get, option_to_list};
 ghost use Rattle.std.specs.List.{flat_map};
 ghost use Rattle.lis_eval.specs.Room.{HasRoom};
-ghost use Rattle.lis_model.specs.Replies.{body_line, ok_line};
+ghost use Rattle.lis_model.specs.Replies.{body_line, ok_line, property_letter};
 ghost use Rattle.lis_model.specs.Step.{props};
 ghost use Rattle.lis_store.specs.Stored.{IsSound, StoreFits};
 ghost use Rattle.lis_session.specs.Item.{Does};
@@ -22,9 +22,9 @@ use lis_words::Name;
 // Shows the k-th word, if there is one and the file in the slot has it.
 fn answer_word<T: Station>(store: &Store, slot: u16, k: u32, station: &mut T) -> Result<(), End>
     requires sound { IsSound store.now }
-    requires slot { slot < length store.now.parts.ext.sets }
+    requires slot { slot < length store.now.metadata.ext.sets }
     ensures { Answers (T.meaning station.old) (T.meaning station.new)
-        (flat_map (body_line 112) (words_had store.now.parts slot (option_to_list (slice_get store.now.parts.dict.entries k)))) result }
+        (flat_map (body_line property_letter) (words_had store.now.metadata slot (option_to_list (slice_get store.now.metadata.dict.entries k)))) result }
 {
     let Some((word, number)) = store.word_at(k) else {
         return Ok(());
@@ -38,9 +38,9 @@ fn answer_word<T: Station>(store: &Store, slot: u16, k: u32, station: &mut T) ->
 // Shows the words that the file in the slot has, one by one.
 fn answer_words<T: Station>(store: &Store, slot: u16, station: &mut T) -> Result<(), End>
     requires sound { IsSound store.now }
-    requires slot { slot < length store.now.parts.ext.sets }
+    requires slot { slot < length store.now.metadata.ext.sets }
     ensures { Answers (T.meaning station.old) (T.meaning station.new)
-        (flat_map (body_line 112) (words_had store.now.parts slot store.now.parts.dict.entries)) result }
+        (flat_map (body_line property_letter) (words_had store.now.metadata slot store.now.metadata.dict.entries)) result }
 {
     for k in 0..store.limits().props {
         answer_word(store, slot, k, station)?;
@@ -51,9 +51,9 @@ fn answer_words<T: Station>(store: &Store, slot: u16, station: &mut T) -> Result
 // Shows the words that the file in the slot has, and that the command was done.
 fn answer_description<T: Station>(store: &Store, slot: u16, station: &mut T) -> Result<(), End>
     requires sound { IsSound store.now }
-    requires slot { slot < length store.now.parts.ext.sets }
+    requires slot { slot < length store.now.metadata.ext.sets }
     ensures { Answers (T.meaning station.old) (T.meaning station.new)
-        (flat_map (body_line 112) (words_had store.now.parts slot store.now.parts.dict.entries) ++ ok_line) result }
+        (flat_map (body_line property_letter) (words_had store.now.metadata slot store.now.metadata.dict.entries) ++ ok_line) result }
 {
     answer_words(store, slot, station)?;
     answer_ok(station)
@@ -68,8 +68,8 @@ pub fn props<T: Station>(
     station: &mut T,
 ) -> Result<(), End>
     requires sound { IsSound store.now }
-    requires scratch { HasRoom scratch.old store.now.parts.limits }
-    ensures scratch { HasRoom scratch.new store.now.parts.limits }
+    requires scratch { HasRoom scratch.old store.now.metadata.limits }
+    ensures scratch { HasRoom scratch.new store.now.metadata.limits }
     ensures carries { Does (λ now. props now name.now) (StoreFits store.now (T.meaning station.old)) place.now
         (T.meaning station.old) (T.meaning station.new) result (StoreFits store.now (T.meaning station.new)) place.now }
     ensures ends { Ends (T.meaning station.old) (T.meaning station.new) result }

@@ -46,10 +46,10 @@ fn answer_listing<T: Station>(
     place: &Place,
     station: &mut T,
 ) -> Result<(), End>
-    requires { HasRoom scratch.old store.now.parts.limits }
-    ensures room { HasRoom scratch.new store.now.parts.limits }
+    requires { HasRoom scratch.old store.now.metadata.limits }
+    ensures room { HasRoom scratch.new store.now.metadata.limits }
     ensures answers { Answers (T.meaning station.old) (T.meaning station.new)
-        (listing_lines (increments (table_of store.now.parts) place.now) (locals (table_of store.now.parts) place.now) ++ ok_line) result }
+        (listing_lines (increments (table_of store.now.metadata) place.now) (locals (table_of store.now.metadata) place.now) ++ ok_line) result }
 {
     make_listing(store, scratch, place);
     answer_lines(lines(store, scratch), station)?;
@@ -64,8 +64,8 @@ pub fn ls<T: Station>(
     station: &mut T,
 ) -> Result<(), End>
     requires sound { IsSound store.now }
-    requires scratch { HasRoom scratch.old store.now.parts.limits }
-    ensures room { HasRoom scratch.new store.now.parts.limits }
+    requires scratch { HasRoom scratch.old store.now.metadata.limits }
+    ensures room { HasRoom scratch.new store.now.metadata.limits }
     ensures carries { Does ls (StoreFits store.now (T.meaning station.old)) place.now
         (T.meaning station.old) (T.meaning station.new) result (StoreFits store.now (T.meaning station.new)) place.now }
     ensures ends { Ends (T.meaning station.old) (T.meaning station.new) result }

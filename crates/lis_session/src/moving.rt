@@ -20,7 +20,7 @@ use lis_store::Store;
 
 // Whether the word of the node is known, where it has one.
 fn is_known(store: &Store, node: &Node) -> bool
-    ensures { result ≡ list_all (has_word (words store.now.parts.dict)) (node_words node.now) }
+    ensures { result ≡ list_all (has_word (words store.now.metadata.dict)) (node_words node.now) }
 {
     match node {
         Node::Word(word) => store.id_of(word).is_some(),
@@ -30,7 +30,7 @@ fn is_known(store: &Store, node: &Node) -> bool
 
 // Whether all words of the nodes are known.
 fn are_known(store: &Store, nodes: &[Node]) -> bool
-    ensures { result ≡ list_all (λ node. list_all (has_word (words store.now.parts.dict)) (node_words node)) nodes.now }
+    ensures { result ≡ list_all (λ node. list_all (has_word (words store.now.metadata.dict)) (node_words node)) nodes.now }
 {
     nodes.iter().all(|node| is_known(store, node))
 }
@@ -38,7 +38,7 @@ fn are_known(store: &Store, nodes: &[Node]) -> bool
 // Whether each word that the text names is known, where the text leads from some place to another. The text `..` names none.
 fn knows_text(store: &Store, text: &[u8]) -> bool
     ensures { (place new : List Formula) → resolved place text.now ≡ NewPlace new
-        → result ≡ list_all (has_word (words store.now.parts.dict)) (text_words text.now) }
+        → result ≡ list_all (has_word (words store.now.metadata.dict)) (text_words text.now) }
 {
     match read_formula(text) {
         Ok(path) => are_known(store, path.place.nodes()),
@@ -48,7 +48,7 @@ fn knows_text(store: &Store, text: &[u8]) -> bool
 
 // The place to which a text leads, or why it is refused.
 fn led_to(store: &Store, place: &Place, text: &Text) -> Result<Place, Refusal>
-    ensures { result ≡ led_to (words store.now.parts.dict) text.now (resolved place.now text.now) }
+    ensures { result ≡ led_to (words store.now.metadata.dict) text.now (resolved place.now text.now) }
 {
     let next = match resolve(place, text.bytes()) {
         Ok(next) => next,
@@ -63,7 +63,7 @@ fn led_to(store: &Store, place: &Place, text: &Text) -> Result<Place, Refusal>
 
 /// Goes to the place to which the text leads.
 pub fn go(store: &Store, place: &mut Place, text: &Text) -> Result<(), Refusal>
-    ensures { (state : State) → known state ≡ words store.now.parts.dict
+    ensures { (state : State) → known state ≡ words store.now.metadata.dict
         → cd (record { state = state; place = place.old }) text.now ≡ record { next = record { state = state; place = place.new }; reply = answer_of result } }
 {
     let next = led_to(store, place, text)?;

@@ -2,7 +2,7 @@
 
 ghost use Rattle.std.specs.Prelude.{◌++◌, codes};
 ghost use Rattle.lis_grammar.specs.Printing.{printed};
-ghost use Rattle.lis_model.specs.Replies.{body_line, number_line, ok_line, refusal_line};
+ghost use Rattle.lis_model.specs.Replies.{body_line, number_line, ok_line, refusal_line, place_letter};
 ghost use Rattle.lis_session.specs.Parts.{answer_of, Answers, Concludes};
 
 use crate::end::End;
@@ -11,7 +11,7 @@ use lis_model::refusal::Refusal;
 use lis_place::Place;
 use lis_ports::Station;
 use lis_reply::{show_all, show_line, show_number, show_ok, show_refusal};
-use lis_store::Change;
+use lis_store::ChangeFault;
 
 /// Shows bytes of a reply.
 pub fn answer_bytes<T: Station>(station: &mut T, bytes: &[u8]) -> Result<(), End>
@@ -73,19 +73,19 @@ pub fn answer_result<T: Station>(station: &mut T, answer: Result<(), Refusal>) -
 
 /// Shows the place.
 pub fn answer_place<T: Station>(station: &mut T, place: &Place) -> Result<(), End>
-    ensures { Answers (T.meaning station.old) (T.meaning station.new) (body_line 119 (printed place.now) ++ ok_line) result }
+    ensures { Answers (T.meaning station.old) (T.meaning station.new) (body_line place_letter (printed place.now) ++ ok_line) result }
 {
     answer_line(station, b'w', print(place).bytes())?;
     answer_ok(station)
 }
 
 /// Shows what a change of the store comes to.
-pub fn conclude<T: Station>(station: &mut T, changed: Result<(), Change>) -> Result<(), End>
+pub fn conclude<T: Station>(station: &mut T, changed: Result<(), ChangeFault>) -> Result<(), End>
     ensures { Concludes T.meaning station.old station.new changed result }
 {
     match changed {
         Ok(()) => answer_ok(station),
-        Err(Change::Refused(refusal)) => answer_refusal(station, &refusal),
-        Err(Change::Disk) => Err(End::DiskFault),
+        Err(ChangeFault::Refused(refusal)) => answer_refusal(station, &refusal),
+        Err(ChangeFault::Disk) => Err(End::DiskFault),
     }
 }

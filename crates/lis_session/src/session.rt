@@ -30,7 +30,7 @@ use lis_line::reader::{Item, Payload};
 use lis_model::command::Command;
 use lis_place::Place;
 use lis_ports::{Disk, Failed, Station};
-use lis_store::{Change, Store};
+use lis_store::{ChangeFault, Store};
 use std::alloc::{AllocError, Global};
 use std::marker::Model;
 
@@ -105,10 +105,10 @@ fn carry_command<T: Station>(
     station: &mut T,
 ) -> Result<(), End>
     requires sound { IsSound store.old }
-    requires scratch { HasRoom scratch.old store.old.parts.limits }
+    requires scratch { HasRoom scratch.old store.old.metadata.limits }
     requires usable { IsUsable store.old (T.meaning station.old) }
     ensures sound { IsSound store.new }
-    ensures scratch { HasRoom scratch.new store.old.parts.limits }
+    ensures scratch { HasRoom scratch.new store.old.metadata.limits }
     ensures carries { Does (λ now. done now command.now payload.now) (StoreFits store.old (T.meaning station.old)) place.old
         (T.meaning station.old) (T.meaning station.new) result (StoreFits store.new (T.meaning station.new)) place.new }
     ensures ends { Ends (T.meaning station.old) (T.meaning station.new) result }
@@ -150,7 +150,7 @@ pub fn carry_out<T: Station>(
 ) -> Result<(), End>
     requires asked { IsSome (asked_by item.now payload.now) }
     requires sound { IsSound store.old }
-    requires scratch { HasRoom scratch.old store.old.parts.limits }
+    requires scratch { HasRoom scratch.old store.old.metadata.limits }
     requires usable { IsUsable store.old (T.meaning station.old) }
     ensures carries { IfSome (asked_by item.now payload.now)
         (CarriesOut step (StoreFits store.old (T.meaning station.old)) place.old (T.meaning station.old) (T.meaning station.new) result
@@ -159,7 +159,7 @@ pub fn carry_out<T: Station>(
     ensures left { StoreLeft store.old store.new result }
     ensures settled { StaysSettled store.old store.new }
     ensures sound { IsSound store.new }
-    ensures scratch { HasRoom scratch.new store.old.parts.limits }
+    ensures scratch { HasRoom scratch.new store.old.metadata.limits }
 {
     match item {
         Item::Command(command) => carry_command(store, scratch, place, command, payload, station),
@@ -207,11 +207,11 @@ impl Session {
             (TalliesItem (StoreFits self.old.store (D.meaning disk.old)) self.old.place (D.meaning disk.old) (D.meaning disk.new) result
             (StoreFits self.new.store (D.meaning disk.new)) self.new.place) }
         ensures disk { UsesDisk (D.meaning disk.old) (D.meaning disk.new) result }
-        ensures limits { self.new.store.parts.limits ≡ self.old.store.parts.limits }
+        ensures limits { self.new.store.metadata.limits ≡ self.old.store.metadata.limits }
         ensures image { shape_of self.new.store.journal ≡ shape_of self.old.store.journal }
         ensures unbroken { IfOk result (λ _. self.new.store.is_broken ≡ false) }
         ensures settled { StaysSettled self.old.store self.new.store }
-        ensures few { IfOk result (λ tally. tally.listed ≤ self.old.store.parts.limits.props + self.old.store.parts.limits.files) }
+        ensures few { IfOk result (λ tally. tally.listed ≤ self.old.store.metadata.limits.props + self.old.store.metadata.limits.files) }
         ensures sound { IsSound self.new.store }
     {
         let store = &mut self.store;
@@ -237,7 +237,7 @@ impl Session {
         command: &Command,
         payload: &Payload,
         disk: &mut D,
-    ) -> Result<(), Change>
+    ) -> Result<(), ChangeFault>
         requires change { is_change command.now ≡ true }
         requires usable { IsUsable self.old.store (D.meaning disk.old) }
         ensures holds { MakesHeld (λ now. done now command.now payload.now) self.old.place self.old.store self.new.store (D.meaning disk.old) (D.meaning disk.new) result }
@@ -249,7 +249,7 @@ impl Session {
     }
 
     /// Commits all changes that are held back.
-    pub fn commit<D: Disk>(&mut self, disk: &mut D) -> Result<(), Change>
+    pub fn commit<D: Disk>(&mut self, disk: &mut D) -> Result<(), ChangeFault>
         requires usable { IsUsable self.old.store (D.meaning disk.old) }
         ensures commits { (base state : State) → StoreHolds self.old.store (D.meaning disk.old) base state
             → Commits base state self.new.store (D.meaning disk.old) (D.meaning disk.new) result }

@@ -20,7 +20,7 @@ use lis_line::reader::Payload;
 use lis_model::command::Command;
 use lis_place::Place;
 use lis_ports::{Disk, Failed};
-use lis_store::{Change, Store};
+use lis_store::{ChangeFault, Store};
 use lis_words::Name;
 
 /// What is kept of a reply that is not shown.
@@ -40,13 +40,13 @@ pub(crate) fn no_listing(refused: bool) -> Tally
 }
 
 // What a change of the store comes to.
-fn concluded(changed: Result<(), Change>) -> Result<Tally, Failed>
+fn concluded(changed: Result<(), ChangeFault>) -> Result<Tally, Failed>
     ensures { Concluded changed result }
 {
     match changed {
         Ok(()) => Ok(no_listing(false)),
-        Err(Change::Refused(_)) => Ok(no_listing(true)),
-        Err(Change::Disk) => Err(Failed),
+        Err(ChangeFault::Refused(_)) => Ok(no_listing(true)),
+        Err(ChangeFault::Disk) => Err(Failed),
     }
 }
 
@@ -65,10 +65,10 @@ fn count_lines(mut listing: Listing<'_, Store>) -> u64
 // How many lines the listing of the place has.
 fn count_listing(store: &Store, scratch: &mut Scratch, place: &Place) -> u64
     requires sound { IsSound store.now }
-    requires scratch { HasRoom scratch.old store.now.parts.limits }
-    ensures room { HasRoom scratch.new store.now.parts.limits }
-    ensures count { result ≡ length (increments (table_of store.now.parts) place.now) + length (locals (table_of store.now.parts) place.now) }
-    ensures few { result ≤ store.now.parts.limits.props + store.now.parts.limits.files }
+    requires scratch { HasRoom scratch.old store.now.metadata.limits }
+    ensures room { HasRoom scratch.new store.now.metadata.limits }
+    ensures count { result ≡ length (increments (table_of store.now.metadata) place.now) + length (locals (table_of store.now.metadata) place.now) }
+    ensures few { result ≤ store.now.metadata.limits.props + store.now.metadata.limits.files }
 {
     make_listing(store, scratch, place);
     count_lines(lines(store, scratch))
@@ -76,9 +76,9 @@ fn count_listing(store: &Store, scratch: &mut Scratch, place: &Place) -> u64
 
 // Whether there is the file of which something is to be shown.
 fn look(store: &Store, scratch: &mut Scratch, place: &Place, name: &Name) -> Tally
-    requires { HasRoom scratch.old store.now.parts.limits }
-    ensures room { HasRoom scratch.new store.now.parts.limits }
-    ensures here { result ≡ record { refused = not (is_among store.now.parts place.now name.now); listed = 0 } }
+    requires { HasRoom scratch.old store.now.metadata.limits }
+    ensures room { HasRoom scratch.new store.now.metadata.limits }
+    ensures here { result ≡ record { refused = not (is_among store.now.metadata place.now name.now); listed = 0 } }
 {
     no_listing(store.slot_here(scratch, place, name).is_none())
 }
@@ -86,13 +86,13 @@ fn look(store: &Store, scratch: &mut Scratch, place: &Place, name: &Name) -> Tal
 // Lists the place.
 fn list(store: &Store, scratch: &mut Scratch, place: &Place) -> Tally
     requires sound { IsSound store.now }
-    requires scratch { HasRoom scratch.old store.now.parts.limits }
-    ensures room { HasRoom scratch.new store.now.parts.limits }
+    requires scratch { HasRoom scratch.old store.now.metadata.limits }
+    ensures room { HasRoom scratch.new store.now.metadata.limits }
     ensures listed { result ≡ record {
       refused = false;
-      listed = length (increments (table_of store.now.parts) place.now) + length (locals (table_of store.now.parts) place.now);
+      listed = length (increments (table_of store.now.metadata) place.now) + length (locals (table_of store.now.metadata) place.now);
     } }
-    ensures few { result.listed ≤ store.now.parts.limits.props + store.now.parts.limits.files }
+    ensures few { result.listed ≤ store.now.metadata.limits.props + store.now.metadata.limits.files }
 {
     Tally {
         refused: false,
@@ -110,18 +110,18 @@ pub(crate) fn tally_command<D: Disk>(
     disk: &mut D,
 ) -> Result<Tally, Failed>
     requires sound { IsSound store.old }
-    requires scratch { HasRoom scratch.old store.old.parts.limits }
+    requires scratch { HasRoom scratch.old store.old.metadata.limits }
     requires usable { IsUsable store.old (D.meaning disk.old) }
     ensures sound { IsSound store.new }
-    ensures scratch { HasRoom scratch.new store.old.parts.limits }
+    ensures scratch { HasRoom scratch.new store.old.metadata.limits }
     ensures tallies { Tallies (λ now. done now command.now payload.now) (λ now. lines_listed now command.now) (StoreFits store.old (D.meaning disk.old)) place.old
         (D.meaning disk.old) (D.meaning disk.new) result (StoreFits store.new (D.meaning disk.new)) place.new }
     ensures disk { UsesDisk (D.meaning disk.old) (D.meaning disk.new) result }
-    ensures limits { store.new.parts.limits ≡ store.old.parts.limits }
+    ensures limits { store.new.metadata.limits ≡ store.old.metadata.limits }
     ensures image { shape_of store.new.journal ≡ shape_of store.old.journal }
     ensures unbroken { IfOk result (λ _. store.new.is_broken ≡ false) }
     ensures settled { StaysSettled store.old store.new }
-    ensures few { IfOk result (λ tally. tally.listed ≤ store.old.parts.limits.props + store.old.parts.limits.files) }
+    ensures few { IfOk result (λ tally. tally.listed ≤ store.old.metadata.limits.props + store.old.metadata.limits.files) }
 {
     match command {
         Command::Cat(name) => Ok(look(store, scratch, place, name)),

@@ -1,5 +1,6 @@
 -- What every word keeps that opens an image and does one work on it behind the opening.
 use Rattle.std.specs.Prelude.{◌≡◌, ◌≢◌, ℕ, ◌<◌, List, [], Bool, true, false, Option, Some, Result, Ok, Err, IsTrue}
+use Rattle.lis_limits.specs.declared.TheConstants.{BLOCK_LEN}
 use Rattle.lis_ports.specs.Meaning.{Meaning}
 use Rattle.lis_ports.specs.Calls.{IsUnchanged}
 use Rattle.lis_ports.specs.Runs.{Adds, Leaves}
@@ -117,7 +118,7 @@ IsJudged old new status = ByOpening (OpenRefused old new) (λ halt. IsLongEnough
 
 -- how the answer goes with the length of the disk
 pub record IsMeasured (old new : Meaning) (status : Status) (idle : Type 0) : Type 0 where
-  pub small : old.len < 4096 → (status ≡ Opening (TooShort old.len 4096)) × idle
+  pub small : old.len < BLOCK_LEN → (status ≡ Opening (TooShort old.len BLOCK_LEN)) × idle
   pub numbers : (len need : ℕ) → status ≡ Opening (TooShort len need) → (len ≡ old.len) × (len < need)
   pub same : (len need : ℕ) → status ≡ Opening (TooShort len need) → IsTrue old.is_honest → IsUnchanged old new
 

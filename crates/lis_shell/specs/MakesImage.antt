@@ -1,5 +1,6 @@
 -- How making an image ends.
 use Rattle.std.specs.Prelude.{◌≡◌, ◌*◌, ◌≤◌, ◌<◌, IsTrue}
+use Rattle.lis_limits.specs.declared.TheConstants.{BLOCK_LEN}
 use Rattle.lis_ports.specs.Meaning.{Meaning}
 use Rattle.lis_ports.specs.Runs.{Always, IsSettled}
 use Rattle.lis_model.specs.declared.limits.Limits.{Limits}
@@ -16,8 +17,8 @@ use Rattle.lis_shell.specs.declared.status.Status.TheVariants.{Opening, Ended}
 -- short, exactly where it has fewer bytes than the image takes; or it failed.
 abbrev pub MadeImage : Limits → Meaning → Meaning → Status → Type 0
 MadeImage limits old new (Ended AtEnd) =
-    (4096 * image_blocks limits ≤ old.len)
+    (BLOCK_LEN * image_blocks limits ≤ old.len)
     × (IsTrue old.is_honest → Always new (λ image. Stands image (empty_state limits) × IsMade limits old.bytes image) × IsSettled new new.bytes)
-MadeImage limits old new (Opening (TooShort len need)) = (len ≡ old.len) × (need ≡ 4096 * image_blocks limits) × (len < need)
-MadeImage limits old new (Opening DiskFault) = 4096 * image_blocks limits ≤ old.len
+MadeImage limits old new (Opening (TooShort len need)) = (len ≡ old.len) × (need ≡ BLOCK_LEN * image_blocks limits) × (len < need)
+MadeImage limits old new (Opening DiskFault) = BLOCK_LEN * image_blocks limits ≤ old.len
 MadeImage limits old new status = ⊥

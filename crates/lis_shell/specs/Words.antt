@@ -1,5 +1,5 @@
 -- What the words of the command line ask for.
-use Rattle.std.specs.Prelude.{ℕ, ◌*◌, nat_lt, not, ◌&&◌, if◌then◌else◌, Option, Some, None, List, [], ◌∷◌, codes, slice_index_or}
+use Rattle.std.specs.Prelude.{ℕ, ◌*◌, nat_lt, not, ◌&&◌, if◌then◌else◌, Option, Some, None, List, [], ◌∷◌, codes, slice_index_or, ◌^◌}
 use Rattle.lis_words.specs.Words.{same_word, is_count, count_of, is_file_name}
 use Rattle.lis_model.specs.declared.limits.Limits.{Limits}
 use Rattle.lis_model.specs.Ranges.{is_files_limit, is_props_limit, is_blocks_limit}
@@ -9,6 +9,7 @@ use Rattle.lis_shell.specs.declared.words.Task.TheVariants.{Try, Make, Upgrade, 
 use Rattle.lis_shell.specs.declared.words.ImageTask.{ImageTask}
 use Rattle.lis_shell.specs.declared.words.ImageTask.TheVariants.{Run, Load, Rooms, Dump, Grow, View, Put}
 use Rattle.std.specs.Option.{option_map}
+use Rattle.lis_limits.specs.declared.TheConstants.{BLOCK_LEN}
 
 -- three counts that are limits in range, of the version
 abbrev pub limits_of : ℕ → List ℕ → List ℕ → List ℕ → Option Limits
@@ -19,7 +20,7 @@ limits_of version files props blocks =
 
 -- a count below 2^31, of which a session can be made
 abbrev pub grow_number_of : List ℕ → Option ℕ
-grow_number_of digits = if is_count digits && nat_lt (count_of digits) 2147483648 then Some (count_of digits) else None
+grow_number_of digits = if is_count digits && nat_lt (count_of digits) (2 ^ 31) then Some (count_of digits) else None
 
 -- three limits, with `v2` behind them or not: what begins with them is of version 2 or 1
 abbrev pub limits_in : List (List ℕ) → Option Limits
@@ -75,7 +76,7 @@ task_of (word ∷ second ∷ words) = if same_word word (codes "try") then optio
 abbrev pub length_for : Option Task → Option ℕ
 length_for None = None
 length_for (Some (Try limits)) = None
-length_for (Some (Make limits)) = Some (4096 * image_blocks limits)
+length_for (Some (Make limits)) = Some (BLOCK_LEN * image_blocks limits)
 length_for (Some Upgrade) = None
 length_for (Some (OnImage work)) = None
 

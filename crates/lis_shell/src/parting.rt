@@ -10,7 +10,7 @@ ghost use Rattle.lis_shell.specs.Steps.{step_none, viewing, putting};
 
 use crate::image::{ImageWork, halted};
 use lis_line::carrier::Halt;
-use lis_parts::{Parts, put_file, view_file};
+use lis_parts::{Workspace, put_file, view_file};
 use lis_ports::{Source, Station};
 use lis_session::end::End;
 use lis_store::Store;
@@ -41,11 +41,11 @@ pub fn part_in(words: &[String]) -> Part<'_>
 }
 
 /// The memory for parts of the files of the store. Where there is none the store is given back.
-fn open_parts(alloc: Global, store: Store) -> Result<(Store, Parts), AllocError>
-    ensures { IfOk result (λ opened. (opened.0 ≡ store) × (opened.1 ≡ store.parts.limits)) }
+fn open_workspace(alloc: Global, store: Store) -> Result<(Store, Workspace), AllocError>
+    ensures { IfOk result (λ opened. (opened.0 ≡ store) × (opened.1 ≡ store.metadata.limits)) }
 {
-    match Parts::new(alloc, &store.limits()) {
-        Ok(parts) => Ok((store, parts)),
+    match Workspace::new(alloc, &store.limits()) {
+        Ok(workspace) => Ok((store, workspace)),
         Err(refused) => {
             store.close();
             Err(refused)
@@ -69,8 +69,8 @@ impl ImageWork for Viewing<'_> {
         _input: &mut S,
         station: &mut T,
     ) -> Result<Halt<End>, AllocError> {
-        let (store, mut parts) = open_parts(alloc, store)?;
-        let done = view_file(&store, &mut parts, station, &self.0.name, self.0.text);
+        let (store, mut workspace) = open_workspace(alloc, store)?;
+        let done = view_file(&store, &mut workspace, station, &self.0.name, self.0.text);
         store.close();
         Ok(halted(done))
     }
@@ -92,10 +92,10 @@ impl ImageWork for Putting<'_> {
         input: &mut S,
         station: &mut T,
     ) -> Result<Halt<End>, AllocError> {
-        let (mut store, mut parts) = open_parts(alloc, store)?;
+        let (mut store, mut workspace) = open_workspace(alloc, store)?;
         let halt = put_file(
             &mut store,
-            &mut parts,
+            &mut workspace,
             input,
             station,
             &self.0.name,

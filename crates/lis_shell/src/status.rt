@@ -4,6 +4,7 @@ ghost use Rattle.std.specs.Prelude.{◌≡◌, ◌≤◌, length};
 ghost use Rattle.lis_shell.specs.Causes.{is_disk_fault};
 ghost use Rattle.lis_shell.specs.Endings.{exit_code_of, status_text_of};
 
+use lis_limits::MAX_LINE;
 use lis_line::carrier::Halt;
 use lis_open::OpenFault;
 use lis_place::Text;
@@ -66,7 +67,7 @@ pub fn exit_code(status: &Status) -> u8
 
 fn message(status: &Status) -> &'static [u8]
     ensures message { result.now ≡ status_text_of status.now }
-    ensures short { length result.now ≤ 1024 }
+    ensures short { length result.now ≤ MAX_LINE }
 {
     match status {
         Status::Ended(Halt::End) => b"",

@@ -5,11 +5,9 @@ ghost use Rattle.std.specs.String.{string_bytes};
 ghost use Rattle.lis_words.specs.Words.{same_word};
 ghost use Rattle.lis_shell.specs.Words.{limits_of, grow_number_of, limits_in, work_alone, part_named, work_named, upgrade_alone, task_with, task_of, length_for};
 
+use lis_limits::BLOCK_LEN;
 use lis_model::limits::{Limits, image_blocks, is_blocks_limit, is_files_limit, is_props_limit};
 use lis_words::{read_count, read_name};
-
-/// How many bytes a block of an image has.
-const BLOCK_LEN: u64 = 4_096;
 
 /// Large sessions are made of the numbers below.
 const GROW_END: u64 = 1 << 31;
@@ -207,7 +205,7 @@ pub fn make_len(words: &[String]) -> Option<u64>
     ensures { result ≡ length_for (task_of (map string_bytes words.now)) }
 {
     match task_of(words) {
-        Some(Task::Make(limits)) => Some(u64::from(image_blocks(&limits)) * BLOCK_LEN),
+        Some(Task::Make(limits)) => Some(u64::from(image_blocks(&limits)) * BLOCK_LEN as u64),
         _ => None,
     }
 }

@@ -1,5 +1,6 @@
 -- Slots of equal width in a row of blocks.
 use Rattle.std.specs.Prelude.{◌≡◌, ℕ, ◌+◌, ◌*◌, ◌/◌, ◌%◌, ◌==◌, false, if◌then◌else◌, List, length, Result, Ok, Err}
+use Rattle.lis_limits.specs.declared.TheConstants.{BLOCK_LEN}
 use Rattle.lis_ports.specs.Meaning.{Meaning}
 use Rattle.lis_ports.specs.Bytes.{part}
 use Rattle.lis_journal.specs.Journal.{Held}
@@ -15,7 +16,7 @@ pub record Slots : Type 0 where
 
 -- how many slots a block has
 abbrev pub per_block : Slots → ℕ
-per_block s = 4096 / s.width
+per_block s = BLOCK_LEN / s.width
 
 -- the block of slot k
 abbrev pub home : Slots → ℕ → ℕ
@@ -32,7 +33,7 @@ slot s at k = part (place s k) s.width (at (home s k))
 -- The block of slot k is staged. By what is staged and kept, slot k has these bytes then, and every other slot what it had.
 pub record SlotPut (s : Slots) (k : ℕ) (bytes : List ℕ) (old new : Held) (m : Meaning) : Type 0 where
   pub content : List ℕ
-  pub whole : length content ≡ 4096
+  pub whole : length content ≡ BLOCK_LEN
   pub staged : new ≡ record old { staged = with_entry old.staged (home s k) content }
   pub slots : (kept : ℕ → List ℕ) → Fits old m kept → (j : ℕ)
       → slot s (looked new.staged kept) j ≡ (if j == k then bytes else slot s (looked old.staged kept) j)

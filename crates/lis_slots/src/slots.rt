@@ -8,7 +8,8 @@ ghost use Rattle.lis_journal.specs.Phases.{looked};
 ghost use Rattle.lis_journal.specs.Staging.{has_entry};
 ghost use Rattle.lis_journal.specs.Record.{homes_start};
 
-use lis_journal::{BLOCK_LEN, Journal};
+use lis_journal::Journal;
+use lis_limits::BLOCK_LEN;
 use lis_ports::{Disk, Failed};
 use std::marker::Model;
 
@@ -30,7 +31,7 @@ impl Model for Slots {
 
     ghost inverse = { λ s. record { first = s.first; count = s.count; width = s.width } };
 
-    ghost invariant = { λ s. (0 < s.width) × (4096 % s.width ≡ 0) };
+    ghost invariant = { λ s. (0 < s.width) × (BLOCK_LEN % s.width ≡ 0) };
 }
 
 // Writes the bytes over those of the block from a place on.
@@ -47,7 +48,7 @@ impl Slots {
     /// As many slots of so many bytes, from a block on. No slot lies across two blocks.
     pub fn new(first: u32, count: u32, width: u32) -> Slots
         requires width { 0 < width }
-        requires divides { 4096 % width ≡ 0 }
+        requires divides { BLOCK_LEN % width ≡ 0 }
         ensures { result ≡ record { first = first; count = count; width = width } }
     {
         Slots {
@@ -68,7 +69,7 @@ impl Slots {
     fn per_block(&self) -> u32
         ensures per_block { result ≡ per_block self.now }
         ensures some { 0 < result }
-        ensures all { result * self.now.width ≡ 4096 }
+        ensures all { result * self.now.width ≡ BLOCK_LEN }
     {
         BLOCK_LEN as u32 / self.width
     }
@@ -84,8 +85,8 @@ impl Slots {
     // Where in its block slot k begins.
     fn place(&self, k: u32) -> usize
         ensures place { result ≡ place self.now k }
-        ensures within { result + self.now.width ≤ 4096 }
-        ensures all { per_block self.now * self.now.width ≡ 4096 }
+        ensures within { result + self.now.width ≤ BLOCK_LEN }
+        ensures all { per_block self.now * self.now.width ≡ BLOCK_LEN }
     {
         (self.width * (k % self.per_block())) as usize
     }

@@ -1,6 +1,6 @@
 -- The row of a new file, told by what a store keeps, is the row of the state; and what holds where it refuses nothing.
 use Rattle.std.proofs.Common.{rules}
-use Rattle.lis_store.proofs.Common.{◌≡◌, refl, sym, ap, ap₂, ◌∙◌, subst, ℕ, ◌≤◌, nat_lt, nat_le, Bool, true, false, not, cond, is_some, Option, Some, None, List, [], ◌∷◌, ◌++◌, length, Result, Err, arith, ◌⊎◌, inl, inr, list_any, list_all, ltb-false, not-false, ltb-true, leb-true, Meaning, free_count, slot_of, Formula, word_cmp, is_file_name, is_built_in, Limits, Refusal, UnknownProperty, NameTaken, LargeFile, NoSpace, place_words, State, File, is_assignable, file_limit, blocks_taken, derived_words, derived_built_in, description, file_cmp, has_name, new_file, file_added, Situation, Payload, assigned_at, free_blocks, add, exceeds_words, exceeds_known, word_order, rising_from_sorted, Kept, declared_of, Among, among_insert_key, with_words, leb-false, known, changed, all_among, all_from, among_from_any, any_from_among, same_tests}
+use Rattle.lis_store.proofs.Common.{◌≡◌, refl, sym, ap, ap₂, ◌∙◌, subst, ℕ, ◌≤◌, nat_lt, nat_le, Bool, true, false, not, cond, is_some, Option, Some, None, List, [], ◌∷◌, ◌++◌, length, Result, Err, arith, ◌⊎◌, inl, inr, list_any, list_all, ltb-false, not-false, ltb-true, leb-true, Meaning, free_count, slot_of, Formula, word_cmp, is_file_name, is_built_in, Limits, Refusal, UnknownProperty, NameTaken, LargeFile, NoSpace, place_words, State, File, is_assignable, file_limit, blocks_taken, derived_words, derived_built_in, description, file_cmp, has_name, new_file, file_added, Situation, Payload, assigned_at, free_blocks, add, exceeds_words, exceeds_known, word_order, rising_from_sorted, Metadata, declared_of, Among, among_insert_key, with_words, leb-false, known, changed, all_among, all_from, among_from_any, any_from_among, same_tests}
 use Rattle.lis_model.specs.declared.refusal.Refusal.TheVariants.{NotAPlace, NotAssignable, TooManyAssigned, NoFileRoom, BuiltIn}
 use Rattle.lis_model.specs.Step.{is_head_or_test, room_checks as told_room, add_checks, first_refusal}
 use Rattle.lis_laws.proofs.Derived.{derived_few}
@@ -9,8 +9,8 @@ use Rattle.lis_store.proofs.ToldBy.{ToldBy, told_held}
 use Rattle.lis_store.specs.Drafts.{with_own, draft_of, AreOwnWords}
 use Rattle.lis_store.specs.Admitting.{described_by, known_with, named_checks, room_checks, add_checks_of, IsAdmitted}
 use Rattle.lis_store.specs.Beside.{words_checks, words_beside, known_beside}
-use Rattle.lis_store.specs.declared.change.Change.{Change}
-use Rattle.lis_store.specs.declared.change.Change.TheVariants.{Refused}
+use Rattle.lis_store.specs.declared.change_fault.ChangeFault.{ChangeFault}
+use Rattle.lis_store.specs.declared.change_fault.ChangeFault.TheVariants.{Refused}
 use Rattle.lis_store.specs.Changes.{Holds}
 use Rattle.lis_store.proofs.Assigned.{sorted_assigned}
 use Rattle.lis_store.proofs.StoreSays.{known_told, name_filed, files_counted, limits_told}
@@ -21,11 +21,11 @@ use Rattle.lis_store.proofs.FreeBlocks.{used_told}
 
 -- ---- what words are refused for, beside all files or in the place of one
 module _ (k : Stored) (s : State) (sound : IsSound k) (fits : ToldBy k s) where
-  abbrev kept : Kept
-  kept = k.parts
+  abbrev kept : Metadata
+  kept = k.metadata
 
   pub limits_are : kept.limits ≡ s.limits
-  limits_are = limits_told kept fits.kept s sound.parts sound.free fits.tells
+  limits_are = limits_told kept fits.kept s sound.metadata sound.free fits.tells
 
   pub declared_are : declared_of kept ≡ s.declared
   declared_are = ap (λ (t : State). t.declared) fits.tells.state
@@ -81,10 +81,10 @@ pub derived_few_own : (name bytes : List ℕ) → length (derived_words name byt
 derived_few_own name bytes = omega (arith, derived_few name bytes)
 
 -- ---- the row, part by part
-abbrev pub front_checks : Kept → List Formula → List (List ℕ) → File → ℕ → List (Bool × Refusal)
+abbrev pub front_checks : Metadata → List Formula → List (List ℕ) → File → ℕ → List (Bool × Refusal)
 front_checks k place words file size = (nat_lt (file_limit k.limits.version) size, LargeFile) ∷ named_checks k place words file
 
-pub room_refused : (k : Kept) (place : List Formula) (name : List ℕ) (words : List (List ℕ)) (bytes : List ℕ) (size : ℕ) (given : List (List ℕ)) → given ≡ assigned_at place words
+pub room_refused : (k : Metadata) (place : List Formula) (name : List ℕ) (words : List (List ℕ)) (bytes : List ℕ) (size : ℕ) (given : List (List ℕ)) → given ≡ assigned_at place words
     → first_refusal (front_checks k place words (new_file name (assigned_at place words) bytes) size) ≡ None → (refusal : Refusal)
     → first_refusal (room_checks k (draft_of (new_file name given bytes)) size) ≡ Some refusal → first_refusal (add_checks_of k place name words bytes size) ≡ Some refusal
 room_refused k place name words bytes size given is named refusal first = search (rules, refused_then)
@@ -92,14 +92,14 @@ room_refused k place name words bytes size given is named refusal first = search
 pub none_there : {X : Type 0} (o : Option X) → is_some o ≡ false → o ≡ None
 none_there o e = search (rules)
 
--- What a store asks of a payload speaks of the store's value, and what is proved speaks of its parts.
-pub whole_inside : {old now : Stored} (bytes : List ℕ) (size : ℕ) → old ≡ now → (size ≤ file_limit now.parts.limits.version → length bytes ≡ size)
-    → size ≤ file_limit old.parts.limits.version → length bytes ≡ size
-whole_inside bytes size is whole small = whole (subst (λ (k : Stored). size ≤ file_limit k.parts.limits.version) is small)
+-- What a store asks of a payload speaks of the store's value, and what is proved speaks of its metadata.
+pub whole_inside : {old now : Stored} (bytes : List ℕ) (size : ℕ) → old ≡ now → (size ≤ file_limit now.metadata.limits.version → length bytes ≡ size)
+    → size ≤ file_limit old.metadata.limits.version → length bytes ≡ size
+whole_inside bytes size is whole small = whole (subst (λ (k : Stored). size ≤ file_limit k.metadata.limits.version) is small)
 
 -- ---- a row that refuses nothing
 -- A file of a name, with the words of a place and words that were named, is let in.
-module _ (k : Kept) (place : List Formula) (name : List ℕ) (words : List (List ℕ)) (bytes : List ℕ) (size : ℕ) (form : is_file_name name ≡ true) (whole : size ≤ file_limit k.limits.version → length bytes ≡ size)
+module _ (k : Metadata) (place : List Formula) (name : List ℕ) (words : List (List ℕ)) (bytes : List ℕ) (size : ℕ) (form : is_file_name name ≡ true) (whole : size ≤ file_limit k.limits.version → length bytes ≡ size)
     (none : first_refusal (add_checks_of k place name words bytes size) ≡ None) where
   abbrev let_in : File
   let_in = new_file name (assigned_at place words) bytes
@@ -133,8 +133,8 @@ module _ (k : Kept) (place : List Formula) (name : List ℕ) (words : List (List
 
 -- ---- the row of the state
 module _ (k : Stored) (s : State) (sound : IsSound k) (fits : ToldBy k s) (place : List Formula) (words : List (List ℕ)) where
-  abbrev p : Kept
-  p = k.parts
+  abbrev p : Metadata
+  p = k.metadata
 
   abbrev now : Situation
   now = record { state = s; place = place }
@@ -158,16 +158,16 @@ module _ (k : Stored) (s : State) (sound : IsSound k) (fits : ToldBy k s) (place
 
     pub same_row : first_refusal (add_checks_of p place name words bytes size) ≡ first_refusal (add_checks now words new_one (file_added s new_one) size)
     same_row =
-        let named = name_filed p fits.kept s sound.parts sound.free fits.tells name in
+        let named = name_filed p fits.kept s sound.metadata sound.free fits.tells name in
         let limits = limits_are k s sound fits in
         let full : Bool × Refusal = (nat_lt (free_count p.taken) (blocks_taken p.limits.version size), NoSpace) in
         let full_told : Bool × Refusal = (nat_lt (free_blocks s) (blocks_taken s.limits.version size), NoSpace) in
         let rest = told_room (file_added s new_one) ++ full_told ∷ [] in
         same_behind (front p.limits (is_some (slot_of p.catalog name)) (declared_of p) (length p.catalog.entries)) (words_checks p None (draft_of new_one) ++ full ∷ []) rest
-        (λ passes. words_row k s sound fits None s.files (λ f m. m) (known_told p fits.kept s sound.parts sound.free fits.tells) new_one (derived_words name bytes) refl (named ∙ passes.1.0) (full ∷ []) (full_told ∷ [])
+        (λ passes. words_row k s sound fits None s.files (λ f m. m) (known_told p fits.kept s sound.metadata sound.free fits.tells) new_one (derived_words name bytes) refl (named ∙ passes.1.0) (full ∷ []) (full_told ∷ [])
         (ap₂ (λ free (l : Limits). cond (nat_lt free (blocks_taken l.version size)) (Some NoSpace) None) (free_are k s sound fits) limits))
         ∙ (ap₂ (λ l taken. first_refusal (front l taken (declared_of p) (length p.catalog.entries) ++ rest)) limits (sym named)
-        ∙ ap₂ (λ declared files. first_refusal (front s.limits (has_name s.files name) declared files ++ rest)) (declared_are k s sound fits) (sym (files_counted p fits.kept s sound.parts sound.free fits.tells)))
+        ∙ ap₂ (λ declared files. first_refusal (front s.limits (has_name s.files name) declared files ++ rest)) (declared_are k s sound fits) (sym (files_counted p fits.kept s sound.metadata sound.free fits.tells)))
 
   -- what `add` comes to
   pub add_done : (name : List ℕ) (payload : Payload) → first_refusal (add_checks_of p place name words payload.bytes payload.size) ≡ None
@@ -177,8 +177,8 @@ module _ (k : Stored) (s : State) (sound : IsSound k) (fits : ToldBy k s) (place
       judged_done now (add_checks now words file (file_added s file) payload.size) (changed now (file_added s file)) (sym (same_row name payload.bytes payload.size) ∙ none)
 
 -- a call that is refused changes nothing
-pub added_refused : {T : Type 0} (old : Stored) (m : Meaning) (place : List Formula) (name : List ℕ) (words : List (List ℕ)) (payload : Payload) (refusal : Refusal) (result : Result T Change)
-    → IsSound old → first_refusal (add_checks_of old.parts place name words payload.bytes payload.size) ≡ Some refusal → result ≡ Err (Refused refusal)
+pub added_refused : {T : Type 0} (old : Stored) (m : Meaning) (place : List Formula) (name : List ℕ) (words : List (List ℕ)) (payload : Payload) (refusal : Refusal) (result : Result T ChangeFault)
+    → IsSound old → first_refusal (add_checks_of old.metadata place name words payload.bytes payload.size) ≡ Some refusal → result ≡ Err (Refused refusal)
     → (base s : State) → StoreHolds old m base s → Holds base (record { state = s; place = place }) (add (record { state = s; place = place }) name words payload) old m m result
 added_refused old m place name words payload refusal result sound first ends base s holds =
     let now : Situation = record { state = s; place = place } in

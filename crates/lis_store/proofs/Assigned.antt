@@ -1,5 +1,5 @@
 -- The words of a place: which a new file is given and how they are put into a set, and the numbers of those under which a word is declared.
-use Rattle.lis_store.proofs.Common.{common_steps, rules, ◌≡◌, ◌⊎◌, refl, sym, ap, ap₂, ◌∙◌, subst, inl, inr, ℕ, suc, ◌+◌, ◌<◌, nat_le, Bool, true, false, cond, ◌&&◌, ◌||◌, is_some, IsSome, Option, Some, None, List, [], ◌∷◌, ◌++◌, length, take, drop, get_or, filter, slice_get, append-nil, arith, ◌≤◌, option_to_list, length-append, unwrap_or, flat_map, list_all, IsStrictlySortedBy, Ordering, Less, Equal, Greater, match_ordering, and-true, and-false, or-false, and_parts, or_cases, leb-true, take_more, IsStrictlySortedBy-filter, Among, among_filter, filter_among, among_flat_map, sorted_nil, word_cmp, same_word, has_word, is_plain_word, is_valued, head_bytes, Formula, Node, nodes_of, node_words, with_word, with_words, place_words, is_assignable, assigned_at, word_exact, word_order, same_word_decides, among_from_has_word, among_with_words, with_words_new, among_set_of, sorted_with_words, sorted_set_of, plain_not_valued, Kept, is_declared, declared_of, take_all, Contains-get_or, among_from_contains, among_insert_key, insert_key_old, sorted_insert_key, number_of, word_of, word_from_number, words_at, all_weaker, AreSound, word_among, option_map, and_from, or_left, or_right, both_ways, leb-false, le-leb, false_from_ne_true, flat_map-append, flat_map_among, set_of, tags_at, has_word_from_among, with_words_old, set_of_among, same_words, all_among, all_from, same_tests, has_number, words_told, declared_there}
+use Rattle.lis_store.proofs.Common.{common_steps, rules, ◌≡◌, ◌⊎◌, refl, sym, ap, ap₂, ◌∙◌, subst, inl, inr, ℕ, suc, ◌+◌, ◌<◌, nat_le, Bool, true, false, cond, ◌&&◌, ◌||◌, is_some, IsSome, Option, Some, None, List, [], ◌∷◌, ◌++◌, length, take, drop, get_or, filter, slice_get, append-nil, arith, ◌≤◌, option_to_list, length-append, unwrap_or, flat_map, list_all, IsStrictlySortedBy, Ordering, Less, Equal, Greater, match_ordering, and-true, and-false, or-false, and_parts, or_cases, leb-true, take_more, IsStrictlySortedBy-filter, Among, among_filter, filter_among, among_flat_map, sorted_nil, word_cmp, same_word, has_word, is_plain_word, is_valued, head_bytes, Formula, Node, nodes_of, node_words, with_word, with_words, place_words, is_assignable, assigned_at, word_exact, word_order, same_word_decides, among_from_has_word, among_with_words, with_words_new, among_set_of, sorted_with_words, sorted_set_of, plain_not_valued, Metadata, is_declared, declared_of, take_all, Contains-get_or, among_from_contains, among_insert_key, insert_key_old, sorted_insert_key, number_of, word_of, word_from_number, words_at, all_weaker, AreSound, word_among, option_map, and_from, or_left, or_right, both_ways, leb-false, le-leb, false_from_ne_true, flat_map-append, flat_map_among, set_of, tags_at, has_word_from_among, with_words_old, set_of_among, same_words, all_among, all_from, same_tests, has_number, words_told, declared_there}
 use Rattle.std.specs.List.{prefix_len, insert}
 use Rattle.std.specs.Ordering.{is_gt}
 use Rattle.std.proofs.lemmas.List.{take-append-drop}
@@ -201,16 +201,16 @@ module _ (place : List Formula) (words start mid : List (List ℕ)) (some : IsSo
       (next.room ∙ ap (λ (ws : List (List ℕ)). nat_le (length ws) 16) both, λ h. next.words h ∙ both)
 
 -- ---- assignable words
-pub has_declared : (k : Kept) (word : List ℕ) → has_word (declared_of k) word ≡ is_declared k word
+pub has_declared : (k : Metadata) (word : List ℕ) → has_word (declared_of k) word ≡ is_declared k word
 has_declared k word = search (rules, same_tests, there_declared, among_from_has_word, has_word_from_among, declared_there)
 
-pub plain_assignable : (k : Kept) (word : List ℕ) → is_plain_word word ≡ true → is_declared k word ≡ is_assignable (declared_of k) word
+pub plain_assignable : (k : Metadata) (word : List ℕ) → is_plain_word word ≡ true → is_declared k word ≡ is_assignable (declared_of k) word
 plain_assignable k word plain = search (rules, plain_not_valued, or-false, has_declared)
 
-pub valued_assignable : (k : Kept) (word : List ℕ) → is_plain_word word ≡ false → is_valued word ≡ true → is_declared k (head_bytes word) ≡ is_assignable (declared_of k) word
+pub valued_assignable : (k : Metadata) (word : List ℕ) → is_plain_word word ≡ false → is_valued word ≡ true → is_declared k (head_bytes word) ≡ is_assignable (declared_of k) word
 valued_assignable k word plain valued = search (rules, has_declared)
 
-pub not_assignable : (k : Kept) (word : List ℕ) → is_plain_word word ≡ false → is_valued word ≡ false → false ≡ is_assignable (declared_of k) word
+pub not_assignable : (k : Metadata) (word : List ℕ) → is_plain_word word ≡ false → is_valued word ≡ false → false ≡ is_assignable (declared_of k) word
 not_assignable k word plain bare = sym (ap₂ (λ p v. (p && has_word (declared_of k) word) || (v && has_word (declared_of k) (head_bytes word))) plain bare)
 
 -- ---- the words under which a word is declared
@@ -241,13 +241,13 @@ with_word_same : (words : List (List ℕ)) (word : List ℕ) → IsStrictlySorte
 with_word_same words word sorted there = search (rules, same_words, sorted_insert_key, word_order, among_insert_key, insert_key_old)
 
 -- ---- numbers that come one after another
-pub declared_is : (k : Kept) (word : List ℕ) (n : ℕ) → declared_number k word ≡ Some n → (is_declared k word ≡ true) × (number_of k.dict word ≡ Some n)
+pub declared_is : (k : Metadata) (word : List ℕ) (n : ℕ) → declared_number k word ≡ Some n → (is_declared k word ≡ true) × (number_of k.dict word ≡ Some n)
 declared_is k word n is = search (rules)
 
-pub takes_no_numbers : (k : Kept) (ns : List ℕ) → TakesNumbers k [] ns ns true
+pub takes_no_numbers : (k : Metadata) (ns : List ℕ) → TakesNumbers k [] ns ns true
 takes_no_numbers k ns = record { declared = refl; few = omega arith; numbers = λ fits words are. are }
 
-module _ (k : Kept) (word : List ℕ) (ns : List ℕ) where
+module _ (k : Metadata) (word : List ℕ) (ns : List ℕ) where
   module _ (sound : AreSound k) (n : ℕ) (declared : is_declared k word ≡ true) (numbered : number_of k.dict word ≡ Some n) where
     named : word_of k.dict n ≡ Some word
     named = word_from_number k.dict sound.dict word n numbered
@@ -277,22 +277,22 @@ few_words node = search (rules)
 
 -- ---- a loop over nodes
 -- the numbers of the words of these nodes
-abbrev pub AreNumbersIn : Kept → List Node → List ℕ → Type 0
+abbrev pub AreNumbersIn : Metadata → List Node → List ℕ → Type 0
 AreNumbersIn k nodes numbers = AreNumbersOf k (set_of (flat_map node_words nodes)) numbers
 
 pub among_item : (nodes : List Node) (i : ℕ) (node : Node) → i < length nodes → node ≡ get_or nodes i node → Among nodes node
 among_item nodes i node lt is = subst (λ n. Among nodes n) (sym is) (among_from_contains nodes (get_or nodes i node) (Contains-get_or nodes i node lt))
 
-pub numbers_next : (k : Kept) (nodes : List Node) (i : ℕ) (node : Node) → i < length nodes → node ≡ get_or nodes i node → (old new : List ℕ) (fits : Bool) → fits ≡ true → length old ≤ i
+pub numbers_next : (k : Metadata) (nodes : List Node) (i : ℕ) (node : Node) → i < length nodes → node ≡ get_or nodes i node → (old new : List ℕ) (fits : Bool) → fits ≡ true → length old ≤ i
     → AreNumbersIn k (take i nodes) old → TakesNumbers k (node_words node) old new fits → (length new ≤ i + 1) × AreNumbersIn k (take (i + 1) nodes) new
 numbers_next k nodes i node lt is old new fits fit few are takes = grind (arith, common_steps, with_words-append, flat_next, few_words)
 
-pub numbers_all : (k : Kept) (place : List Formula) (nodes : List Node) (i : ℕ) (numbers : List ℕ) → IsSome (place_words place) → nodes ≡ nodes_of place → length nodes ≤ i
+pub numbers_all : (k : Metadata) (place : List Formula) (nodes : List Node) (i : ℕ) (numbers : List ℕ) → IsSome (place_words place) → nodes ≡ nodes_of place → length nodes ≤ i
     → AreNumbersIn k (take i nodes) numbers → AreNumbersOf k (words_at place) numbers
 numbers_all k place nodes i numbers some is end are = search (rules, take_all, words_of_nodes)
 
 -- where the word of a node is not declared
-pub not_all_declared : (k : Kept) (place : List Formula) (nodes : List Node) (node : Node) (old new : List ℕ) (fits : Bool) → IsSome (place_words place) → nodes ≡ nodes_of place → Among nodes node
+pub not_all_declared : (k : Metadata) (place : List Formula) (nodes : List Node) (node : Node) (old new : List ℕ) (fits : Bool) → IsSome (place_words place) → nodes ≡ nodes_of place → Among nodes node
     → fits ≡ false → TakesNumbers k (node_words node) old new fits → list_all (is_declared k) (words_at place) ≡ false
 not_all_declared k place nodes node old new fits some is m not_fit takes =
     false_from_ne_true (list_all (is_declared k) (words_at place)) (λ all.

@@ -1,5 +1,5 @@
 -- Rows of bits of which none is set.
-use Rattle.lis_store.proofs.Common.{◌≡◌, refl, ap, ◌∙◌, ℕ, zero, suc, Bool, false, cond, length, replicate, arith, count_by, is_taken, Kept, marked_count}
+use Rattle.lis_store.proofs.Common.{◌≡◌, refl, ap, ◌∙◌, ℕ, zero, suc, Bool, false, cond, length, replicate, arith, count_by, is_taken, Metadata, marked_count}
 use Rattle.std.proofs.lemmas.List.Folds.{sum_by-replicate}
 
 -- where all bits are unset
@@ -9,6 +9,6 @@ none_set (suc n) zero = refl
 none_set (suc n) (suc i) = none_set n i
 
 -- where nothing is marked, no block is to be written
-pub none_marked : (k : Kept) → k.marks ≡ replicate (length k.marks) false → marked_count k ≡ 0
+pub none_marked : (k : Metadata) → k.marks ≡ replicate (length k.marks) false → marked_count k ≡ 0
 none_marked k is =
     ap (count_by (λ (b : Bool). b)) is ∙ (sum_by-replicate (λ (b : Bool). cond b 1 0) (length k.marks) false ∙ omega arith)

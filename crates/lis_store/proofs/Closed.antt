@@ -1,6 +1,6 @@
 -- What numbers entail, and the numbers of all that others entail.
 use Rattle.std.proofs.Common.{rules}
-use Rattle.lis_store.proofs.Common.{common_steps, ◌≡◌, refl, sym, ap, ◌∙◌, subst, ℕ, ◌+◌, ◌≤◌, true, false, List, [], ◌∷◌, length, Option, Some, None, is_some, IsSome, arith, ap₂, ◌<◌, ◌||◌, some_word, nat_cmp_total, nat_cmp, insert_key, list_all, IsStrictlySortedBy, same_Some, Among, members_le, sorted_nil, word_of, has, numbers_at, among_where, where_among, sorted_where, is_plain_word, up, all_up, up_self, entails_from_up, entailing, all_up_closed, sorted_all_up, insert_key_le, linked_up, Kept, AreSound, declared_of, axioms_of, link_named, named_below, among_axiom, both_ways, and_parts, among_from_any, any_from_among, among_from_contains, has_number, up_trans, all_from, all_among, is_linked, TellsLinks, words_told, among_from_number, number_from_among, HasShape, get, get_any, numbers_where, numbers_same, Taxonomy, link_cases}
+use Rattle.lis_store.proofs.Common.{common_steps, ◌≡◌, refl, sym, ap, ◌∙◌, subst, ℕ, ◌+◌, ◌≤◌, true, false, List, [], ◌∷◌, length, Option, Some, None, is_some, IsSome, arith, ap₂, ◌<◌, ◌||◌, some_word, nat_cmp_total, nat_cmp, insert_key, list_all, IsStrictlySortedBy, same_Some, Among, members_le, sorted_nil, word_of, has, numbers_at, among_where, where_among, sorted_where, is_plain_word, up, all_up, up_self, entails_from_up, entailing, all_up_closed, sorted_all_up, insert_key_le, linked_up, Metadata, AreSound, declared_of, axioms_of, link_named, named_below, among_axiom, both_ways, and_parts, among_from_any, any_from_among, among_from_contains, has_number, up_trans, all_from, all_among, is_linked, TellsLinks, words_told, among_from_number, number_from_among, HasShape, get, get_any, numbers_where, numbers_same, Taxonomy, link_cases}
 use Rattle.std.proofs.lemmas.Map.Lookups.{exact_unsigned}
 use Rattle.lis_graph.specs.Graph.{with_more}
 use Rattle.lis_graph.proofs.Members.{with_more_new}
@@ -18,23 +18,23 @@ use Rattle.lis_store.proofs.Entailed.{entails_told}
 
 -- ---- what numbers entail
 -- the words of the two, of which the one entails the other
-pub record IsLed (k : Kept) (m n : ℕ) : Type 0 where
+pub record IsLed (k : Metadata) (m n : ℕ) : Type 0 where
   pub from : List ℕ
   pub to : List ℕ
   pub is_from : word_of k.dict m ≡ Some from
   pub is_to : word_of k.dict n ≡ Some to
   pub entailed : Among (up (declared_of k) (axioms_of k) from) to
 
-pub led : (k : Kept) (m n : ℕ) → is_entailed k m n ≡ true → IsLed k m n
+pub led : (k : Metadata) (m n : ℕ) → is_entailed k m n ≡ true → IsLed k m n
 led k m n is = grind (arith, common_steps, both_ways, one_of)
 
-pub led_from : (k : Kept) (m n : ℕ) (p q : List ℕ) → word_of k.dict m ≡ Some p → word_of k.dict n ≡ Some q → Among (up (declared_of k) (axioms_of k) p) q → is_entailed k m n ≡ true
+pub led_from : (k : Metadata) (m n : ℕ) (p q : List ℕ) → word_of k.dict m ≡ Some p → word_of k.dict n ≡ Some q → Among (up (declared_of k) (axioms_of k) p) q → is_entailed k m n ≡ true
 led_from k m n p q is_m is_n h = ap (λ o. entails_by k o (word_of k.dict n)) is_m ∙ of_one (up (declared_of k) (axioms_of k) p) (word_of k.dict n) q is_n h
 
-pub led_itself : (k : Kept) (n : ℕ) (w : List ℕ) → word_of k.dict n ≡ Some w → is_entailed k n n ≡ true
+pub led_itself : (k : Metadata) (n : ℕ) (w : List ℕ) → word_of k.dict n ≡ Some w → is_entailed k n n ≡ true
 led_itself k n w is = led_from k n n w w is is (up_self (declared_of k) (axioms_of k) w)
 
-module _ (k : Kept) (sound : AreSound k) where
+module _ (k : Metadata) (sound : AreSound k) where
   pub led_on : (m a b : ℕ) → is_entailed k m a ≡ true → is_linked k a b ≡ true → is_entailed k m b ≡ true
   led_on m a b is linked =
       let l = led k m a is in
@@ -56,13 +56,13 @@ module _ (k : Kept) (sound : AreSound k) where
       (right_leads is_plain_word (λ u h. h) (axioms_of k) rights (declared_of k) chain.0 l.from l.to (subst (λ u. is_plain_word u ≡ true) (same_Some p l.from (sym is_m ∙ l.is_from)) plain) chain.1)
 
 -- ---- numbers with all that they entail
-pub from_closure : (k : Kept) (numbers : List ℕ) (n : ℕ) → has_number (closure k numbers) n ≡ true → (m : ℕ) × Among numbers m × (is_entailed k m n ≡ true)
+pub from_closure : (k : Metadata) (numbers : List ℕ) (n : ℕ) → has_number (closure k numbers) n ≡ true → (m : ℕ) × Among numbers m × (is_entailed k m n ≡ true)
 from_closure k numbers n h = search (rules, among_from_any, among_where, among_from_number)
 
-pub closure_named : (k : Kept) (numbers : List ℕ) (n : ℕ) → has_number (closure k numbers) n ≡ true → IsSome (word_of k.dict n)
+pub closure_named : (k : Metadata) (numbers : List ℕ) (n : ℕ) → has_number (closure k numbers) n ≡ true → IsSome (word_of k.dict n)
 closure_named k numbers n h = let from = from_closure k numbers n h in ap is_some (led k from.0 n from.2).is_to
 
-pub closure_words : (k : Kept) (numbers : List ℕ) → list_all (λ n. is_some (word_of k.dict n)) (closure k numbers) ≡ true
+pub closure_words : (k : Metadata) (numbers : List ℕ) → list_all (λ n. is_some (word_of k.dict n)) (closure k numbers) ≡ true
 closure_words k numbers = all_from (λ n. is_some (word_of k.dict n)) (closure k numbers) (λ n m. closure_named k numbers n (number_from_among (closure k numbers) n m))
 
 -- rising numbers among others are no more than those
@@ -76,7 +76,7 @@ few_within ns ys sorted within =
     let few = members_le nat_cmp nat_cmp_total ns set sorted (sorted_with_more nat_cmp nat_cmp_total [] ys (sorted_nil nat_cmp nat_cmp_total)) (λ n m. with_more_new nat_cmp exact_unsigned [] ys n (within n m)) in
     omega (arith, few, set_le [] ys)
 
-module _ (k : Kept) (sound : AreSound k) (numbers : List ℕ) where
+module _ (k : Metadata) (sound : AreSound k) (numbers : List ℕ) where
   pub in_closure : (m n : ℕ) → Among numbers m → is_entailed k m n ≡ true → has_number (closure k numbers) n ≡ true
   in_closure m n among is = search (rules, number_from_among, where_among, named_below, led, any_from_among)
 
@@ -121,16 +121,16 @@ module _ (k : Kept) (sound : AreSound k) (numbers : List ℕ) where
 
 -- ---- by the rows of a taxonomy
 -- a taxonomy tells what numbers entail
-pub number_led : (k : Kept) → AreSound k → (t : Taxonomy) → TellsLinks k t → (m n : ℕ) → is_some (word_of k.dict m) ≡ true → entails t m n ≡ is_entailed k m n
+pub number_led : (k : Metadata) → AreSound k → (t : Taxonomy) → TellsLinks k t → (m n : ℕ) → is_some (word_of k.dict m) ≡ true → entails t m n ≡ is_entailed k m n
 number_led k sound t tells m n some =
     let w = some_word (word_of k.dict m) some in
     entails_told k sound t tells m w.0 w.1 n ∙ sym (ap (λ o. entails_by k o (word_of k.dict n)) w.1)
 
 -- as wide as there are properties
-pub wide_as : (k : Kept) (t : Taxonomy) → TellsLinks k t → (rows : Rows) → HasShape rows t.props t.props → rows.bits ≡ k.limits.props
+pub wide_as : (k : Metadata) (t : Taxonomy) → TellsLinks k t → (rows : Rows) → HasShape rows t.props t.props → rows.bits ≡ k.limits.props
 wide_as k t tells rows shape = omega (arith, shape.wide, tells.props)
 
-module _ (k : Kept) (sound : AreSound k) (t : Taxonomy) (tells : TellsLinks k t) (rows : Rows) (shape : HasShape rows t.props t.props) where
+module _ (k : Metadata) (sound : AreSound k) (t : Taxonomy) (tells : TellsLinks k t) (rows : Rows) (shape : HasShape rows t.props t.props) where
   -- numbers of words have rows
   pub rows_below : (numbers : List ℕ) → list_all (λ n. is_some (word_of k.dict n)) numbers ≡ true → All (λ row. row < length rows.rows) numbers
   rows_below numbers named = grind (arith, common_steps, named_below, all_among, among_from_contains)

@@ -48,7 +48,7 @@ pub use Rattle.lis_kept.specs.Areas.{IsSaved, IsWritten, axiom_slots, block_of, 
 pub use Rattle.lis_kept.specs.Areas.Area.{Axioms, Bitmap, Files, Properties, Rows}
 pub use Rattle.lis_kept.specs.Changes.{Describes, GivesBack, Puts}
 pub use Rattle.lis_kept.specs.Forgetting.{KeepsInUse, MayForget, emptied}
-pub use Rattle.lis_kept.specs.Kept.{Kept, property_by}
+pub use Rattle.lis_kept.specs.Metadata.{Metadata, property_by}
 pub use Rattle.lis_kept.specs.Linking.{is_filled}
 pub use Rattle.lis_kept.specs.Links.{TellsLinks, has_pair, is_linked, is_own_link, is_pair}
 pub use Rattle.lis_kept.specs.Sound.{AreSound, FreeSlotsAreEmpty, is_sound_record}

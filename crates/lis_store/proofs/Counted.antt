@@ -7,16 +7,16 @@ use Rattle.lis_store.proofs.StoreSays.{files_counted, known_counted}
 use Rattle.lis_store.proofs.FreeBlocks.{used_told}
 
 module _ (k : Stored) (s : State) (sound : IsSound k) (fits : ToldBy k s) where
-  pub axioms_are : axioms_of k.parts ≡ s.axioms
+  pub axioms_are : axioms_of k.metadata ≡ s.axioms
   axioms_are = ap (λ (t : State). t.axioms) fits.tells.state
 
-  free_are : free_count k.parts.taken ≡ free_blocks s
+  free_are : free_count k.metadata.taken ≡ free_blocks s
   free_are = omega (arith, used_told k s sound fits)
 
-  pub counts_state : CountsState k.parts s
+  pub counts_state : CountsState k.metadata s
   counts_state = record {
-    files = sym (files_counted k.parts fits.kept s sound.parts sound.free fits.tells);
-    known = sym (known_counted k.parts fits.kept s sound.parts sound.free fits.tells);
-    axioms = sym (axioms_counted k.parts sound.parts sound.pairs) ∙ ap length axioms_are;
+    files = sym (files_counted k.metadata fits.kept s sound.metadata sound.free fits.tells);
+    known = sym (known_counted k.metadata fits.kept s sound.metadata sound.free fits.tells);
+    axioms = sym (axioms_counted k.metadata sound.metadata sound.pairs) ∙ ap length axioms_are;
     free = free_are;
   }

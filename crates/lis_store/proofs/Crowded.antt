@@ -1,6 +1,6 @@
 -- How many words files would have with a test that is declared.
 use Rattle.std.proofs.Common.{rules}
-use Rattle.lis_store.proofs.Common.{common_steps, ◌≡◌, sym, ap, ◌∙◌, ℕ, ◌<◌, nat_lt, Bool, true, false, Option, Some, None, is_some, IsSome, List, length, refl, arith, ◌⊎◌, ap₂, subst, inl, inr, ◌≤◌, nat_le, ◌&&◌, ◌||◌, get_or, ◌++◌, list_any, range_with_len, Among, range_among, Filed, rec_at, slot_is_below, FileRecord, State, File, description, Kept, AreSound, FreeSlotsAreEmpty, Tells, filed_rec, filed_at_slot, fun_ext, list_all, and_parts, ltb-true, lt-ltb, leb-true, list_any-append, contains_from_among, among_append, among_left, among_right, number_of, word_of, number_from_word, has, numbers_at, is_test, test_of, is_valued, is_met, all_up, declared_under, exceeds_words, word_exact, declared_of, axioms_of, named_all, some_word, among_word, word_among, both_ways, false_from_ne_true, among_from_any, any_from_among, same_tests, file_told, words_told, has_number, known, all_up_has, all_among, among_from_number, number_from_among, numbers_where}
+use Rattle.lis_store.proofs.Common.{common_steps, ◌≡◌, sym, ap, ◌∙◌, ℕ, ◌<◌, nat_lt, Bool, true, false, Option, Some, None, is_some, IsSome, List, length, refl, arith, ◌⊎◌, ap₂, subst, inl, inr, ◌≤◌, nat_le, ◌&&◌, ◌||◌, get_or, ◌++◌, list_any, range_with_len, Among, range_among, Filed, rec_at, slot_is_below, FileRecord, State, File, description, Metadata, AreSound, FreeSlotsAreEmpty, Tells, filed_rec, filed_at_slot, fun_ext, list_all, and_parts, ltb-true, lt-ltb, leb-true, list_any-append, contains_from_among, among_append, among_left, among_right, number_of, word_of, number_from_word, has, numbers_at, is_test, test_of, is_valued, is_met, all_up, declared_under, exceeds_words, word_exact, declared_of, axioms_of, named_all, some_word, among_word, word_among, both_ways, false_from_ne_true, among_from_any, any_from_among, same_tests, file_told, words_told, has_number, known, all_up_has, all_among, among_from_number, number_from_among, numbers_where}
 use Rattle.lis_graph.proofs.Ranges.{among_range}
 use Rattle.lis_store.proofs.StoreSays.{file_of_filed, filed_of_file, number_of_known, size_of_filed}
 use Rattle.lis_store.specs.Closing.{is_entailed, is_gained, is_met_at, is_met_by, closure, wider}
@@ -24,7 +24,7 @@ module _ (full : ℕ → Bool) (files : ℕ) where
   full_nowhere none = grind (arith, common_steps, false_from_ne_true, among_from_any, among_range, both_ways)
 
 -- ---- where each file is told to be too large by its slot, some file is where some slot is
-module _ (k : Kept) (sound : AreSound k) (at : ℕ → List ℕ) (s : State) (free : FreeSlotsAreEmpty k) (tells : Tells k at s) (made : State) (full : ℕ → Bool)
+module _ (k : Metadata) (sound : AreSound k) (at : ℕ → List ℕ) (s : State) (free : FreeSlotsAreEmpty k) (tells : Tells k at s) (made : State) (full : ℕ → Bool)
     (filed : (slot : ℕ) → full slot ≡ true → IsSome (rec_at k.catalog slot))
     (same : (f : Filed) → Among k.catalog.entries f → nat_lt 128 (length (description made (file_told k.limits k.dict at f))) ≡ full f.slot) where
   abbrev large : File → Bool
@@ -51,20 +51,20 @@ module _ (k : Kept) (sound : AreSound k) (at : ℕ → List ℕ) (s : State) (fr
           full_at full k.limits.files (f.0).slot (omega (arith, below, sound.slots)) (sym (same f.0 f.1) ∙ (ap large f.2 ∙ found.2))
 
 -- ---- one number after another
-pub named_at : (k : Kept) (numbers : List ℕ) → list_all (λ n. is_some (word_of k.dict n)) numbers ≡ true → (i : ℕ) → i < length numbers → is_some (word_of k.dict (get_or numbers i 0)) ≡ true
+pub named_at : (k : Metadata) (numbers : List ℕ) → list_all (λ n. is_some (word_of k.dict n)) numbers ≡ true → (i : ℕ) → i < length numbers → is_some (word_of k.dict (get_or numbers i 0)) ≡ true
 named_at k numbers named i lt = all_among (λ n. is_some (word_of k.dict n)) numbers (get_or numbers i 0) named (among_at numbers i 0 lt)
 
 -- numbers gain what others gain that are the same
-gains_within : (k : Kept) (some more : List ℕ) → ((n : ℕ) → Among some n → Among more n) → (n : ℕ) → is_gained k some n ≡ true → is_gained k more n ≡ true
+gains_within : (k : Metadata) (some more : List ℕ) → ((n : ℕ) → Among some n → Among more n) → (n : ℕ) → is_gained k some n ≡ true → is_gained k more n ≡ true
 gains_within k some more within n h = let found = among_from_any (λ m. is_entailed k m n) some h in any_from_among (λ m. is_entailed k m n) more found.0 (within found.0 found.1) found.2
 
-pub crowded_alike : (k : Kept) (t : Option (Bool × ℕ)) (some more : List ℕ) → ((n : ℕ) → Among some n → Among more n) → ((n : ℕ) → Among more n → Among some n) → has_crowded k t some ≡ has_crowded k t more
+pub crowded_alike : (k : Metadata) (t : Option (Bool × ℕ)) (some more : List ℕ) → ((n : ℕ) → Among some n → Among more n) → ((n : ℕ) → Among more n → Among some n) → has_crowded k t some ≡ has_crowded k t more
 crowded_alike k t some more to from =
     ap (λ (gains : ℕ → Bool). list_any (λ slot. is_met_at k t slot && nat_lt 127 (length (numbers_where k.ext.props (λ n. has k.ext n slot || gains n)))) (range_with_len 0 k.limits.files))
     (fun_ext (λ n. same_tests (is_gained k some n) (is_gained k more n) (gains_within k some more to n) (gains_within k more some from n)))
 
 -- ---- descriptions with all that they entail
-module _ (k : Kept) (sound : AreSound k) (free : FreeSlotsAreEmpty k) (closed : AreClosed k) (words : List (List ℕ)) (numbers : List ℕ) (told : words_told k.dict numbers ≡ words) (slot : ℕ) where
+module _ (k : Metadata) (sound : AreSound k) (free : FreeSlotsAreEmpty k) (closed : AreClosed k) (words : List (List ℕ)) (numbers : List ℕ) (told : words_told k.dict numbers ≡ words) (slot : ℕ) where
   abbrev set : List ℕ
   set = numbers_at k.ext slot
 
@@ -102,10 +102,10 @@ module _ (k : Kept) (sound : AreSound k) (free : FreeSlotsAreEmpty k) (closed : 
       (λ n m. closure_named k (numbers ++ set) n (ap (λ ns. has_number ns n) (sym wider_is) ∙ number_from_among (wider k (is_gained k numbers) slot) n m))
 
 -- ---- the last check of `mkdir`
-module _ {old : Stored} (sound : IsSound old) {s : State} (fits : ToldBy old s) (words : List (List ℕ)) (numbers : List ℕ) (told : words_told old.parts.dict numbers ≡ words)
-    (word : List ℕ) (bare : is_valued word ≡ false) (new : number_of old.parts.dict word ≡ None) where
-  abbrev k : Kept
-  k = old.parts
+module _ {old : Stored} (sound : IsSound old) {s : State} (fits : ToldBy old s) (words : List (List ℕ)) (numbers : List ℕ) (told : words_told old.metadata.dict numbers ≡ words)
+    (word : List ℕ) (bare : is_valued word ≡ false) (new : number_of old.metadata.dict word ≡ None) where
+  abbrev k : Metadata
+  k = old.metadata
 
   abbrev t : State
   t = declared_under s word words
@@ -115,12 +115,12 @@ module _ {old : Stored} (sound : IsSound old) {s : State} (fits : ToldBy old s) 
 
   pub unknown : Among (known s) word → ⊥
   unknown m =
-      let found = number_of_known k fits.kept s sound.parts sound.free fits.tells word m in
+      let found = number_of_known k fits.kept s sound.metadata sound.free fits.tells word m in
       both_ways (is_some (number_of k.dict word)) (ap is_some new) (ap is_some found.1)
 
   module _ (f : Filed) (there : Among k.catalog.entries f) where
     filed : Among s.files (file_at f)
-    filed = file_of_filed k fits.kept s sound.parts sound.free fits.tells f there
+    filed = file_of_filed k fits.kept s sound.metadata sound.free fits.tells f there
 
     abbrev wide : List (List ℕ)
     wide = all_up s.declared s.axioms (words ++ description s (file_at f))
@@ -133,11 +133,11 @@ module _ {old : Stored} (sound : IsSound old) {s : State} (fits : ToldBy old s) 
 
     not_wide : Among wide word → ⊥
     not_wide m =
-        let found = among_word k sound.parts (wider k (is_gained k numbers) f.slot) word (subst (λ ws. Among ws word) (sym wide_told) m) in
-        both_ways (is_some (number_of k.dict word)) (ap is_some new) (ap is_some (number_from_word k.dict sound.parts.dict word found.0 found.1))
+        let found = among_word k sound.metadata (wider k (is_gained k numbers) f.slot) word (subst (λ ws. Among ws word) (sym wide_told) m) in
+        both_ways (is_some (number_of k.dict word)) (ap is_some new) (ap is_some (number_from_word k.dict sound.metadata.dict word found.0 found.1))
 
     pub meets_same : is_met (test_of word) (length (file_at f).bytes) ≡ is_met_at k (test_of word) f.slot
-    meets_same = ap (is_met (test_of word)) (size_of_filed old s sound fits f there) ∙ sym (ap (is_met_by (test_of word)) (filed_rec k.catalog sound.parts.catalog f there))
+    meets_same = ap (is_met (test_of word)) (size_of_filed old s sound fits f there) ∙ sym (ap (is_met_by (test_of word)) (filed_rec k.catalog sound.metadata.catalog f there))
 
     same : nat_lt 128 (length (description t (file_at f))) ≡ is_crowded k (test_of word) numbers f.slot
     same = by (is_met_at k (test_of word) f.slot) meets_same
@@ -158,7 +158,7 @@ module _ {old : Stored} (sound : IsSound old) {s : State} (fits : ToldBy old s) 
 
   -- some description is too large then exactly where a file is crowded
   pub crowded_told : exceeds_words t ≡ has_crowded k (test_of word) numbers
-  crowded_told = sym (full_told k sound.parts fits.kept s sound.free fits.tells t (is_crowded k (test_of word) numbers) (λ slot h.
+  crowded_told = sym (full_told k sound.metadata fits.kept s sound.free fits.tells t (is_crowded k (test_of word) numbers) (λ slot h.
       by slot (rec_at k.catalog slot) refl (and_parts (is_met_at k (test_of word) slot) (nat_lt 127 (length (wider k (is_gained k numbers) slot))) h).0) same)
     where
       by : (slot : ℕ) (o : Option FileRecord) → rec_at k.catalog slot ≡ o → is_met_at k (test_of word) slot ≡ true → IsSome (rec_at k.catalog slot)
@@ -166,7 +166,7 @@ module _ {old : Stored} (sound : IsSound old) {s : State} (fits : ToldBy old s) 
       by slot (Some rec) is met = ap (λ (r : Option FileRecord). is_some r) is
 
 -- a word that is no test crowds nothing
-pub never_crowded : (k : Kept) (word : List ℕ) (numbers : List ℕ) → is_test word ≡ false → has_crowded k (test_of word) numbers ≡ false
+pub never_crowded : (k : Metadata) (word : List ℕ) (numbers : List ℕ) → is_test word ≡ false → has_crowded k (test_of word) numbers ≡ false
 never_crowded k word numbers plain = by (test_of word) plain
   where
     none : (o : Option FileRecord) → is_met_by None o ≡ false

@@ -1,6 +1,6 @@
 -- A word that may be declared, and what it comes to.
 use Rattle.std.proofs.Common.{eq-eqb}
-use Rattle.lis_store.proofs.Common.{◌≡◌, ◌⊎◌, refl, sym, ap, ap₂, ◌∙◌, subst, inl, inr, ℕ, ◌+◌, ◌≤◌, ◌==◌, nat_lt, not, ◌&&◌, ◌||◌, true, false, if◌then◌else◌, List, [], ◌∷◌, ◌++◌, length, count_by, set, slice_get, Option, Some, None, option_to_list, is_some, IsSome, arith, get_or-set_same, get_or-set_other, Result, list_all, flat_map, unwrap_or, and_parts, or_cases, cases_eq, ne_eqb, not-true, not-false, ltb-false, Among, is_taken, Dict, number_of, word_of, word_from_number, number_from_word, rec_at, has, Formula, FileRecord, AxiomSlot, Pair, is_prop, word_cmp, has_word, is_head, is_plain_word, is_valued, is_built_in, test_of, Refusal, Limits, place_words, with_word, State, declared_under, exceeds_known, exceeds_words, words_at, under, word_exact, word_order, sorted_set_of, among_from_has_word, known_from, Kept, property_by, is_pair, has_pair, is_filled, AreSound, KeepsInUse, bit_of, is_declared, declared_of, axioms_of, state_of, Tells, some_word, word_among, among_word, among_slot, axioms_counted, IsStrictlySortedBy, sorted_nil, option_map, and_from, both_ways, any_from_among, has_number, are_distinct, set_of, known, all_among, all_from, Left, words_told, among_from_number, number_from_among, one_number, fun_ext, common_steps, declarable_not_valued}
+use Rattle.lis_store.proofs.Common.{◌≡◌, ◌⊎◌, refl, sym, ap, ap₂, ◌∙◌, subst, inl, inr, ℕ, ◌+◌, ◌≤◌, ◌==◌, nat_lt, not, ◌&&◌, ◌||◌, true, false, if◌then◌else◌, List, [], ◌∷◌, ◌++◌, length, count_by, set, slice_get, Option, Some, None, option_to_list, is_some, IsSome, arith, get_or-set_same, get_or-set_other, Result, list_all, flat_map, unwrap_or, and_parts, or_cases, cases_eq, ne_eqb, not-true, not-false, ltb-false, Among, is_taken, Dict, number_of, word_of, word_from_number, number_from_word, rec_at, has, Formula, FileRecord, AxiomSlot, Pair, is_prop, word_cmp, has_word, is_head, is_plain_word, is_valued, is_built_in, test_of, Refusal, Limits, place_words, with_word, State, declared_under, exceeds_known, exceeds_words, words_at, under, word_exact, word_order, sorted_set_of, among_from_has_word, known_from, Metadata, property_by, is_pair, has_pair, is_filled, AreSound, KeepsInUse, bit_of, is_declared, declared_of, axioms_of, state_of, Tells, some_word, word_among, among_word, among_slot, axioms_counted, IsStrictlySortedBy, sorted_nil, option_map, and_from, both_ways, any_from_among, has_number, are_distinct, set_of, known, all_among, all_from, Left, words_told, among_from_number, number_from_among, one_number, fun_ext, common_steps, declarable_not_valued}
 use Rattle.lis_dict.proofs.Laws.{word_of-with_entry}
 use Rattle.lis_fields.specs.declared.slots.PropSlot.{PropSlot}
 use Rattle.lis_fields.specs.declared.slots.PropSlot.TheVariants.{Known}
@@ -11,12 +11,12 @@ use Rattle.lis_model.specs.State.{is_declarable}
 use Rattle.lis_model.specs.Step.{exceeds_axioms, is_plain_place, mkdir_checks, first_refusal}
 use Rattle.lis_laws.proofs.Apart.{declarable_from, declarable_not_built_in}
 use Rattle.lis_laws.proofs.Growth.{known_declares}
-use Rattle.lis_kept.specs.Kept.{property_at}
+use Rattle.lis_kept.specs.Metadata.{property_at}
 use Rattle.lis_kept.specs.Changes.{Declares, Marks}
 use Rattle.lis_kept.specs.Under.{is_plain_by, DeclaresUnder}
 use Rattle.lis_kept.proofs.OwnLinks.{pair_slot}
 use Rattle.lis_kept.proofs.AxiomsChanged.{sorted_axioms}
-use Rattle.lis_kept.proofs.StandsUnder.{AreWordsOf, declared_then_linked, declared_then_marked, each_parts, under_used, each_pairs, under_apart}
+use Rattle.lis_kept.proofs.StandsUnder.{AreWordsOf, declared_then_linked, declared_then_marked, each_metadata, under_used, each_pairs, under_apart}
 use Rattle.lis_store.specs.Stored.{PairsAreApart, Stored, IsSound}
 use Rattle.lis_store.specs.Judging.{word_checks, place_checks, room_checks}
 use Rattle.lis_store.specs.Placing.{AreNumbersOf}
@@ -41,7 +41,7 @@ slot_pair axioms slot left right is =
     (and_from (left == left) (right == right) (eq-eqb left left refl) (eq-eqb right right refl))
 
 -- ---- a word that may be declared, and is not, has no number
-pub new_word : (k : Kept) (word : List ℕ) → AreSound k → is_declarable word ≡ true → is_declared k word ≡ false → number_of k.dict word ≡ None
+pub new_word : (k : Metadata) (word : List ℕ) → AreSound k → is_declarable word ≡ true → is_declared k word ≡ false → number_of k.dict word ≡ None
 new_word k word sound form undeclared = by (number_of k.dict word) refl
   where
     none_fits : (is_valued word || (is_head word && is_built_in word)) ≡ true → ⊥
@@ -73,7 +73,7 @@ pub apart_at : (place : List Formula) → AllApart (words_at place)
 apart_at place = sorted_apart word_cmp word_order (words_at place) (sorted_at place)
 
 -- ---- what a state tells of the word
-pub declared_told : (k : Kept) (at : ℕ → List ℕ) (s : State) → Tells k at s → (word : List ℕ) → has_word s.declared word ≡ is_declared k word
+pub declared_told : (k : Metadata) (at : ℕ → List ℕ) (s : State) → Tells k at s → (word : List ℕ) → has_word s.declared word ≡ is_declared k word
 declared_told k at s tells word = ap (λ (x : State). has_word x.declared word) (sym tells.state) ∙ has_declared k word
 
 -- no number of these stands twice
@@ -84,7 +84,7 @@ apart_numbers (n ∷ ns) h =
     ((λ m. both_ways (has_number ns n) (not-true (has_number ns n) both.0) (number_from_among ns n m)), apart_numbers ns both.1)
 
 -- ---- the numbers of the words under which it is declared
-module _ {p : Kept} {words : List (List ℕ)} {rights : List ℕ} (sound : AreSound p) (numbers : AreNumbersOf p words rights) where
+module _ {p : Metadata} {words : List (List ℕ)} {rights : List ℕ} (sound : AreSound p) (numbers : AreNumbersOf p words rights) where
   pub right_some : (n : ℕ) → Among rights n → IsSome (word_of p.dict n)
   right_some n m = all_among (λ i. is_some (word_of p.dict i)) rights n numbers.named m
 
@@ -119,7 +119,7 @@ module _ {p : Kept} {words : List (List ℕ)} {rights : List ℕ} (sound : AreSo
           subst (λ i. Among rights i) (one_number p sound right.0 n found.0 right.1 found.1) (among_from_number rights right.0 right.2)
 
 -- ---- what a row says that refuses nothing
-pub may_be_declared : (k : Kept) (place : List Formula) (word : List ℕ) (numbers : List ℕ) → AreSound k → is_declarable word ≡ true → AreNumbersOf k (words_at place) numbers → length numbers ≤ 64
+pub may_be_declared : (k : Metadata) (place : List Formula) (word : List ℕ) (numbers : List ℕ) → AreSound k → is_declarable word ≡ true → AreNumbersOf k (words_at place) numbers → length numbers ≤ 64
     → first_refusal (place_checks k place word) ≡ None → first_refusal (room_checks k word (length numbers) numbers) ≡ None → MayDeclare k word numbers
 may_be_declared k place word numbers sound form are few placed room =
     let at = all_pass (place_checks k place word) placed in
@@ -142,15 +142,15 @@ may_be_declared k place word numbers sound form are few placed room =
     }
 
 -- and one that refuses the room
-pub row_told : (k : Kept) (place : List Formula) (word : List ℕ) (numbers : List ℕ) → AreSound k → AreNumbersOf k (words_at place) numbers → first_refusal (place_checks k place word) ≡ None
+pub row_told : (k : Metadata) (place : List Formula) (word : List ℕ) (numbers : List ℕ) → AreSound k → AreNumbersOf k (words_at place) numbers → first_refusal (place_checks k place word) ≡ None
     → {T : Type 0} (result : Result T Refusal) → Judges (room_checks k word (length numbers) numbers) result → Judges (word_checks k place word) result
 row_told k place word numbers sound are placed result judges =
     judges_then (place_checks k place word) (room_checks k word (length (words_at place)) (numbers_named k.dict (words_at place))) result placed (subst (λ checks. Judges checks result) (room_same sound are word) judges)
 
 -- ---- the row of `mkdir`, asked of what memory keeps
 module _ {old : Stored} (sound : IsSound old) {s : State} (fits : ToldBy old s) (place : List Formula) (word : List ℕ) (kept : is_property word ≡ true) where
-  abbrev k : Kept
-  k = old.parts
+  abbrev k : Metadata
+  k = old.metadata
 
   abbrev named_here : List (List ℕ)
   named_here = words_at place
@@ -162,7 +162,7 @@ module _ {old : Stored} (sound : IsSound old) {s : State} (fits : ToldBy old s) 
   tells = fits.tells
 
   most : s.limits.props ≡ k.limits.props
-  most = ap (λ (l : Limits). l.props) (sym (limits_told k fits.kept s sound.parts sound.free tells))
+  most = ap (λ (l : Limits). l.props) (sym (limits_told k fits.kept s sound.metadata sound.free tells))
 
   module _ (own : is_built_in word ≡ false) (valued : is_valued word ≡ false) (there : is_declared k word ≡ false) (plain : is_plain_place (place_words place) ≡ true)
       (over : list_all (is_declared k) named_here ≡ true) where
@@ -170,10 +170,10 @@ module _ {old : Stored} (sound : IsSound old) {s : State} (fits : ToldBy old s) 
     form = declarable_from word kept valued own
 
     new : number_of k.dict word ≡ None
-    new = new_word k word sound.parts form there
+    new = new_word k word sound.metadata form there
 
     told : words_told k.dict (numbers_named k.dict named_here) ≡ named_here
-    told = named_told k.dict sound.parts.dict named_here (sorted_at place) (λ w has.
+    told = named_told k.dict sound.metadata.dict named_here (sorted_at place) (λ w has.
         by w (number_of k.dict w) refl (all_among (is_declared k) named_here w over (among_from_has_word named_here w has)))
       where
         by : (w : List ℕ) (o : Option ℕ) → number_of k.dict w ≡ o → is_declared k w ≡ true → IsSome (number_of k.dict w)
@@ -190,13 +190,13 @@ module _ {old : Stored} (sound : IsSound old) {s : State} (fits : ToldBy old s) 
     axioms_more : length t.axioms ≡ count_by is_filled k.axioms + length named_here
     axioms_more =
         let counted = length-under word s.axioms named_here (apart_at place) (λ q m old_axiom. unlisted (known_from s word (Left (word, q) old_axiom refl))) in
-        omega (arith, counted, ap (λ (x : State). length x.axioms) (sym tells.state), axioms_counted k sound.parts sound.pairs)
+        omega (arith, counted, ap (λ (x : State). length x.axioms) (sym tells.state), axioms_counted k sound.metadata sound.pairs)
 
     known_more : length (known t) ≡ length k.dict.entries + 1
     known_more =
         let more = ap (λ (ws : List (List ℕ)). length ws) (known_declares s tells.formed word named_here (record { form = form; over = over_told })) in
         let one = length-with_word (known s) word (λ w m tie. unlisted (subst (λ v. Among (known s) v) (sym (word_exact word w tie)) m)) in
-        omega (arith, more, one, known_counted k fits.kept s sound.parts sound.free tells)
+        omega (arith, more, one, known_counted k fits.kept s sound.metadata sound.free tells)
 
     room_alike : Alike ((exceeds_axioms t, NoAxiomRoom) ∷ (exceeds_known t, NoPropertyRoom) ∷ (exceeds_words t, LargeDescription) ∷ []) (room_checks k word (length named_here) (numbers_named k.dict named_here))
     room_alike =
@@ -223,8 +223,8 @@ words_each d (n ∷ ns) some =
     (found.0, rest, found.1, ap (λ o. option_to_list o ++ rest) found.1, words_each d ns (λ i m. some i (inr m)))
 
 -- ---- a word that is declared under others
-module _ {p q : Kept} {word : List ℕ} {rights : List ℕ} (sound : AreSound p) (may : MayDeclare p word rights) (stands : DeclaresUnder word rights p q) where
-  abbrev mid : Kept
+module _ {p q : Metadata} {word : List ℕ} {rights : List ℕ} (sound : AreSound p) (may : MayDeclare p word rights) (stands : DeclaresUnder word rights p q) where
+  abbrev mid : Metadata
   mid = stands.mid
 
   abbrev declares : Declares word p mid
@@ -237,21 +237,21 @@ module _ {p q : Kept} {word : List ℕ} {rights : List ℕ} (sound : AreSound p)
   words = words_told p.dict rights
 
   mid_is : q ≡ record mid { axioms = q.axioms; marks = q.marks }
-  mid_is = each_parts number rights mid q stands.links
+  mid_is = each_metadata number rights mid q stands.links
 
-  pub parts_are : q ≡ record p { dict = mid.dict; declared = mid.declared; axioms = q.axioms; marks = q.marks }
-  parts_are = mid_is ∙ ap (λ (k : Kept). record k { dict = mid.dict; declared = mid.declared; axioms = q.axioms; marks = q.marks }) declares.parts
+  pub metadata_are : q ≡ record p { dict = mid.dict; declared = mid.declared; axioms = q.axioms; marks = q.marks }
+  metadata_are = mid_is ∙ ap (λ (k : Metadata). record k { dict = mid.dict; declared = mid.declared; axioms = q.axioms; marks = q.marks }) declares.metadata
 
   -- ---- words
   word_mid : (n : ℕ) → word_of mid.dict n ≡ (if number == n then Some word else word_of p.dict n)
-  word_mid n = ap (λ (k : Kept). word_of k.dict n) declares.parts ∙ word_of-with_entry p.dict word number may.new declares.free n
+  word_mid n = ap (λ (k : Metadata). word_of k.dict n) declares.metadata ∙ word_of-with_entry p.dict word number may.new declares.free n
 
   pub word_new : word_of q.dict number ≡ Some word
-  word_new = ap (λ (k : Kept). word_of k.dict number) mid_is ∙ (word_mid number ∙ ap (λ b. if b then Some word else word_of p.dict number) (eq-eqb number number refl))
+  word_new = ap (λ (k : Metadata). word_of k.dict number) mid_is ∙ (word_mid number ∙ ap (λ b. if b then Some word else word_of p.dict number) (eq-eqb number number refl))
 
   pub word_other : (n : ℕ) → (n ≡ number → ⊥) → word_of q.dict n ≡ word_of p.dict n
   word_other n differ =
-      ap (λ (k : Kept). word_of k.dict n) mid_is ∙ (word_mid n ∙ ap (λ b. if b then Some word else word_of p.dict n) (ne_eqb number n (λ same. differ (sym same))))
+      ap (λ (k : Metadata). word_of k.dict n) mid_is ∙ (word_mid n ∙ ap (λ b. if b then Some word else word_of p.dict n) (ne_eqb number n (λ same. differ (sym same))))
 
   pub named_other : (n : ℕ) → IsSome (word_of p.dict n) → n ≡ number → ⊥
   named_other n some same = both_ways (is_some (word_of p.dict n)) (ap (λ i. is_some (word_of p.dict i)) same ∙ ap is_some declares.free) some
@@ -266,7 +266,7 @@ module _ {p q : Kept} {word : List ℕ} {rights : List ℕ} (sound : AreSound p)
   number_then after = number_from_word q.dict after.dict word number word_new
 
   flagged_then : (n : ℕ) → is_taken p.declared n ≡ true → is_taken q.declared n ≡ true
-  flagged_then n bit = ap (λ (k : Kept). is_taken k.declared n) mid_is ∙ (ap (λ (k : Kept). is_taken k.declared n) declares.parts ∙ by (cases_eq n number))
+  flagged_then n bit = ap (λ (k : Metadata). is_taken k.declared n) mid_is ∙ (ap (λ (k : Metadata). is_taken k.declared n) declares.metadata ∙ by (cases_eq n number))
     where
       by : (n ≡ number) ⊎ (n ≡ number → ⊥) → is_taken (set p.declared number true) n ≡ true
       by (inl same) = ap (is_taken (set p.declared number true)) same ∙ get_or-set_same p.declared number true false (omega (arith, declares.below, sound.bits))
@@ -278,12 +278,12 @@ module _ {p q : Kept} {word : List ℕ} {rights : List ℕ} (sound : AreSound p)
     where
       by : (((number == left) && has_number rights right) ≡ true) ⊎ (has_pair mid.axioms left right ≡ true) → is_taken p.declared right ≡ true
       by (inl both) = right_declared sound may.are right (and_parts (number == left) (has_number rights right) both).1
-      by (inr pair) = let at = pair_slot p.axioms left right (subst (λ (k : Kept). has_pair k.axioms left right ≡ true) declares.parts pair) in keeps.rights at.0 left right at.1
+      by (inr pair) = let at = pair_slot p.axioms left right (subst (λ (k : Metadata). has_pair k.axioms left right ≡ true) declares.metadata pair) in keeps.rights at.0 left right at.1
 
   pub in_use_then : KeepsInUse p → KeepsInUse q
   in_use_then keeps = record {
     used = under_used word p mid q declares rights stands.links keeps.used;
-    tags = subst (λ (k : Kept). (slot : ℕ) (rec : FileRecord) → rec_at k.catalog slot ≡ Some rec → (n : ℕ) → has_number rec.tags n ≡ true → has k.ext n slot ≡ true) (sym parts_are) keeps.tags;
+    tags = subst (λ (k : Metadata). (slot : ℕ) (rec : FileRecord) → rec_at k.catalog slot ≡ Some rec → (n : ℕ) → has_number rec.tags n ≡ true → has k.ext n slot ≡ true) (sym metadata_are) keeps.tags;
     rights = right_then keeps;
   }
 

@@ -10,29 +10,29 @@ use Rattle.lis_store.proofs.StoreSays.{filed_named, slot_of_file, file_in_slot}
 
 module _ (k : Stored) (s : State) (sound : IsSound k) (fits : ToldBy k s) where
   -- the numbers in the slot of a name are those of the file's description
-  pub description_told : (name : List ℕ) (slot : ℕ) → slot_of k.parts.catalog name ≡ Some slot
-      → words_told k.parts.dict (numbers_at k.parts.ext slot) ≡ description s (file_of s.files name)
+  pub description_told : (name : List ℕ) (slot : ℕ) → slot_of k.metadata.catalog name ≡ Some slot
+      → words_told k.metadata.dict (numbers_at k.metadata.ext slot) ≡ description s (file_of s.files name)
   description_told name slot is =
-      let found = rec_at-slot_of k.parts.catalog name slot sound.parts.catalog is in
+      let found = rec_at-slot_of k.metadata.catalog name slot sound.metadata.catalog is in
       let f : Filed = record { slot = slot; rec = found.0 } in
-      let there = (filed_named k.parts sound.parts name slot found.0 is found.1).0 in
-      fits.tells.described f (contains_from_among k.parts.catalog.entries f there)
-      ∙ ap (description s) (sym (file_in_slot k.parts fits.kept s sound.parts sound.free fits.tells name slot found.0 is found.1))
+      let there = (filed_named k.metadata sound.metadata name slot found.0 is found.1).0 in
+      fits.tells.described f (contains_from_among k.metadata.catalog.entries f there)
+      ∙ ap (description s) (sym (file_in_slot k.metadata fits.kept s sound.metadata sound.free fits.tells name slot found.0 is found.1))
 
   -- and the words of its record are those that the file was given
-  pub tags_told : (name : List ℕ) (slot : ℕ) → slot_of k.parts.catalog name ≡ Some slot
-      → IsSomeAnd (rec_at k.parts.catalog slot) (λ (rec : FileRecord). words_told k.parts.dict rec.tags ≡ (file_of s.files name).assigned)
+  pub tags_told : (name : List ℕ) (slot : ℕ) → slot_of k.metadata.catalog name ≡ Some slot
+      → IsSomeAnd (rec_at k.metadata.catalog slot) (λ (rec : FileRecord). words_told k.metadata.dict rec.tags ≡ (file_of s.files name).assigned)
   tags_told name slot is =
-      let found = rec_at-slot_of k.parts.catalog name slot sound.parts.catalog is in
-      let file = file_in_slot k.parts fits.kept s sound.parts sound.free fits.tells name slot found.0 is found.1 in
-      subst (λ (o : Option FileRecord). IsSomeAnd o (λ (rec : FileRecord). words_told k.parts.dict rec.tags ≡ (file_of s.files name).assigned)) (sym found.1)
+      let found = rec_at-slot_of k.metadata.catalog name slot sound.metadata.catalog is in
+      let file = file_in_slot k.metadata fits.kept s sound.metadata sound.free fits.tells name slot found.0 is found.1 in
+      subst (λ (o : Option FileRecord). IsSomeAnd o (λ (rec : FileRecord). words_told k.metadata.dict rec.tags ≡ (file_of s.files name).assigned)) (sym found.1)
       (ap (λ (f : File). f.assigned) (sym file))
 
   -- a file of the state is the one of its name
   file_named : (file : File) → Among s.files file → file_of s.files file.name ≡ file
   file_named file there =
-      let at = slot_of_file k.parts fits.kept s sound.parts sound.free fits.tells file there in
-      file_in_slot k.parts fits.kept s sound.parts sound.free fits.tells file.name (at.0).slot (at.0).rec at.1 at.2 ∙ at.3
+      let at = slot_of_file k.metadata fits.kept s sound.metadata sound.free fits.tells file there in
+      file_in_slot k.metadata fits.kept s sound.metadata sound.free fits.tells file.name (at.0).slot (at.0).rec at.1 at.2 ∙ at.3
 
   -- what a place has of a name is that file
   pub entry_found : (place : List Formula) (name : List ℕ) (entry : Entry) → find (λ (e : Entry). same_word e.name name) (extension (table s) place) ≡ Some entry

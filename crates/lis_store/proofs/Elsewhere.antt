@@ -1,6 +1,6 @@
 -- Blocks that no file has may hold anything: what memory tells of a state and what it has written stay as they are.
 use Rattle.std.proofs.Common.{rules}
-use Rattle.lis_store.proofs.Common.{◌≡◌, refl, ap, inl, inr, ℕ, ◌+◌, ◌<◌, ◌≤◌, true, false, List, length, IsTrue, arith, and_parts, eqb-true, not-true, Among, among_from_contains, contains_from_among, is_taken, has_home, are_free, slot_count, Filed, are_in_range, data_start, State, Kept, IsWritten, IsSaved, AreSound, bytes_told, blocks_told, state_of, HasIndex, Tells, map_all, filed_rec, among_slots, both_ways, false_from_ne_true, among_from_any, all_among, file_told, number_from_among}
+use Rattle.lis_store.proofs.Common.{◌≡◌, refl, ap, inl, inr, ℕ, ◌+◌, ◌<◌, ◌≤◌, true, false, List, length, IsTrue, arith, and_parts, eqb-true, not-true, Among, among_from_contains, contains_from_among, is_taken, has_home, are_free, slot_count, Filed, are_in_range, data_start, State, Metadata, IsWritten, IsSaved, AreSound, bytes_told, blocks_told, state_of, HasIndex, Tells, map_all, filed_rec, among_slots, both_ways, false_from_ne_true, among_from_any, all_among, file_told, number_from_among}
 use Rattle.lis_journal.specs.Images.{IsOutside}
 use Rattle.lis_kept.specs.Image.{image_layout}
 use Rattle.lis_kept.proofs.Contents.{same_file, slot_counted}
@@ -8,16 +8,16 @@ use Rattle.lis_kept.proofs.InArea.{held_by}
 use Rattle.lis_model.specs.Image.{properties_start}
 
 -- a record of memory has as many numbers of blocks as its size asks for
-pub numbers_counted : (k : Kept) → AreSound k → (f : Filed) → Among k.catalog.entries f → length f.rec.blocks ≡ slot_count f.rec.size
+pub numbers_counted : (k : Metadata) → AreSound k → (f : Filed) → Among k.catalog.entries f → length f.rec.blocks ≡ slot_count f.rec.size
 numbers_counted k sound f m = slot_counted k.limits.version k.dict k.limits.blocks f.rec (sound.records f.slot f.rec (filed_rec k.catalog sound.catalog f m))
 
 -- the blocks of each file hold the same
-abbrev pub AreFilesSame : Kept → (ℕ → List ℕ) → (ℕ → List ℕ) → Type 0
+abbrev pub AreFilesSame : Metadata → (ℕ → List ℕ) → (ℕ → List ℕ) → Type 0
 AreFilesSame k at there =
     (f : Filed) → Among k.catalog.entries f → (b : ℕ) → Among (blocks_told k.limits at f.rec) b → there (data_start k.limits + b) ≡ at (data_start k.limits + b)
 
 -- ---- what is told
-module _ (k : Kept) (at there : ℕ → List ℕ) (sound : AreSound k) (same : AreFilesSame k at there) where
+module _ (k : Metadata) (at there : ℕ → List ℕ) (sound : AreSound k) (same : AreFilesSame k at there) where
   pub bytes_there : (f : Filed) → Among k.catalog.entries f → bytes_told k.limits there f.rec ≡ bytes_told k.limits at f.rec
   bytes_there f m = (same_file k.limits f.rec at there (numbers_counted k sound f m) (same f m)).0
 
@@ -37,7 +37,7 @@ module _ (k : Kept) (at there : ℕ → List ℕ) (sound : AreSound k) (same : A
   tells_there s front tells = search (rules, state_there, file_there, among_from_contains, blocks_there, index_there)
 
 -- ---- what is written
-module _ (k : Kept) (at there : ℕ → List ℕ) (range : IsTrue (are_in_range k.limits)) (same : (n : ℕ) → properties_start ≤ n → n < data_start k.limits → there n ≡ at n) where
+module _ (k : Metadata) (at there : ℕ → List ℕ) (range : IsTrue (are_in_range k.limits)) (same : (n : ℕ) → properties_start ≤ n → n < data_start k.limits → there n ≡ at n) where
   pub written_there : IsWritten k at → IsWritten k there
   written_there written area n lt = search (rules, among_slots, held_by)
 
@@ -50,14 +50,14 @@ pub no_home_before : (base n : ℕ) (blocks : List ℕ) → n < base → has_hom
 no_home_before base n blocks lt = search (rules, false_from_ne_true, among_from_any, eqb-true)
 
 -- a block that is free and one that is taken are two
-pub free_apart : (k : Kept) (blocks : List ℕ) → IsTrue (are_free k.taken blocks) → (b : ℕ) → is_taken k.taken b ≡ true → has_home (data_start k.limits) blocks (data_start k.limits + b) ≡ false
+pub free_apart : (k : Metadata) (blocks : List ℕ) → IsTrue (are_free k.taken blocks) → (b : ℕ) → is_taken k.taken b ≡ true → has_home (data_start k.limits) blocks (data_start k.limits + b) ≡ false
 free_apart k blocks free b taken = search (rules, false_from_ne_true, among_from_any, eqb-true, all_among, and_parts, both_ways, not-true)
 
 -- All blocks outside the gates and the records are the same but data blocks that were free.
-abbrev pub AreSameBut : Kept → List ℕ → (ℕ → List ℕ) → (ℕ → List ℕ) → Type 0
+abbrev pub AreSameBut : Metadata → List ℕ → (ℕ → List ℕ) → (ℕ → List ℕ) → Type 0
 AreSameBut k blocks at there = (n : ℕ) → IsOutside (image_layout k.limits) n → has_home (data_start k.limits) blocks n ≡ false → there n ≡ at n
 
-module _ (k : Kept) (blocks : List ℕ) (at there : ℕ → List ℕ) (sound : AreSound k) (free : IsTrue (are_free k.taken blocks)) (same : AreSameBut k blocks at there) where
+module _ (k : Metadata) (blocks : List ℕ) (at there : ℕ → List ℕ) (sound : AreSound k) (free : IsTrue (are_free k.taken blocks)) (same : AreSameBut k blocks at there) where
   pub homes_same : (n : ℕ) → properties_start ≤ n → n < data_start k.limits → there n ≡ at n
   homes_same n low lt = same n (inr low) (no_home_before (data_start k.limits) n blocks lt)
 

@@ -1,6 +1,6 @@
 -- A blank image tells of no words and no files: it stands for the empty state.
 use Rattle.std.proofs.Common.{rules}
-use Rattle.lis_store.proofs.Common.{◌≡◌, refl, sym, ap, ◌∙◌, ℕ, zero, suc, ◌+◌, ◌-◌, ◌/◌, ◌<◌, ◌≤◌, ◌≢◌, false, List, [], get_or, take, replicate, slice_get, slice_index, Some, IsTrue, arith, ◌==◌, insert_key, Contains, length-replicate, get_or-replicate, slice_get_within, get_or_from_slice_get, among_from_contains, part, block, is_taken, Dict, IsDict, has, SpellsSuper, AxiomSlot, FreeAxiom, Pair, Limits, are_in_range, bitmap_start, data_start, State, pair_cmp, Kept, IsWritten, axiom_slots, Properties, Axioms, Bitmap, AreSound, Tells, among_slots, list_any, Meaning, both_ways, Files, Rows}
+use Rattle.lis_store.proofs.Common.{◌≡◌, refl, sym, ap, ◌∙◌, ℕ, zero, suc, ◌+◌, ◌-◌, ◌/◌, ◌<◌, ◌≤◌, ◌≢◌, false, List, [], get_or, take, replicate, slice_get, slice_index, Some, IsTrue, arith, ◌==◌, insert_key, Contains, length-replicate, get_or-replicate, slice_get_within, get_or_from_slice_get, among_from_contains, part, block, is_taken, Dict, IsDict, has, SpellsSuper, AxiomSlot, FreeAxiom, Pair, Limits, are_in_range, bitmap_start, data_start, State, pair_cmp, Metadata, IsWritten, axiom_slots, Properties, Axioms, Bitmap, AreSound, Tells, among_slots, list_any, Meaning, both_ways, Files, Rows}
 use Rattle.std.specs.List.{fold}
 use Rattle.std.proofs.lemmas.List.{drop-replicate, take-replicate, take-take}
 use Rattle.lis_slots.specs.Slots.{Slots, home, place, slot}
@@ -18,30 +18,30 @@ use Rattle.lis_kept.proofs.InArea.{whole_files, files_range, each_files_limit}
 use Rattle.lis_kept.proofs.Spelled.{row_bytes_none}
 use Rattle.lis_store.specs.Blank.{IsBlank}
 use Rattle.lis_store.specs.Stands.{Stands}
-use Rattle.lis_store.specs.Stored.{IsSound, empty_parts, empty_stored, StoreFits}
+use Rattle.lis_store.specs.Stored.{IsSound, empty_metadata, empty_stored, StoreFits}
 use Rattle.lis_store.proofs.Cleaned.{none_set}
 use Rattle.lis_ports.specs.Runs.{IsSettled}
 use Rattle.lis_journal.proofs.Fitting.{settled_fits}
 
 -- ---- no words and no files
 module _ (limits : Limits) (blocks : ℕ) where
-  abbrev parts : Kept
-  parts = empty_parts limits blocks
+  abbrev metadata : Metadata
+  metadata = empty_metadata limits blocks
 
-  empty_dict : IsDict parts.dict
+  empty_dict : IsDict metadata.dict
   empty_dict = record { rising = refl; forms = refl; below = refl; apart = refl; few = omega arith }
 
-  empty_catalog : IsCatalog parts.catalog
+  empty_catalog : IsCatalog metadata.catalog
   empty_catalog = record { rising = refl; forms = refl; below = refl; apart = refl; few = omega arith }
 
-  no_axiom : (at left right : ℕ) → slice_get parts.axioms at ≡ Some (Pair left right) → ⊥
+  no_axiom : (at left right : ℕ) → slice_get metadata.axioms at ≡ Some (Pair left right) → ⊥
   no_axiom at left right is =
-      let lt : at < (axiom_slots limits).count = omega (arith, slice_get_within parts.axioms at (Pair left right) is, length-replicate (axiom_slots limits).count FreeAxiom) in
+      let lt : at < (axiom_slots limits).count = omega (arith, slice_get_within metadata.axioms at (Pair left right) is, length-replicate (axiom_slots limits).count FreeAxiom) in
       let same : ◌≡◌ {A = AxiomSlot} (Pair left right) FreeAxiom =
-      sym (get_or_from_slice_get parts.axioms at (Pair left right) FreeAxiom is) ∙ get_or-replicate (axiom_slots limits).count at FreeAxiom FreeAxiom lt in
+      sym (get_or_from_slice_get metadata.axioms at (Pair left right) FreeAxiom is) ∙ get_or-replicate (axiom_slots limits).count at FreeAxiom FreeAxiom lt in
       cc
 
-  empty_set : (at : ℕ) → set_of parts.ext at ≡ []
+  empty_set : (at : ℕ) → set_of metadata.ext at ≡ []
   empty_set at = all_empty limits.files at
     where
       all_empty : (files i : ℕ) → get_or {A = List ℕ} (replicate files []) i [] ≡ []
@@ -49,10 +49,10 @@ module _ (limits : Limits) (blocks : ℕ) where
       all_empty (suc files) zero = refl
       all_empty (suc files) (suc i) = all_empty files i
 
-  no_set : (n at : ℕ) → has parts.ext n at ≡ false
+  no_set : (n at : ℕ) → has metadata.ext n at ≡ false
   no_set n at = ap (λ ns. has_in ns n) (empty_set at)
 
-  empty_are_sound : IsTrue (are_in_range limits) → data_start limits ≤ blocks → AreSound parts
+  empty_are_sound : IsTrue (are_in_range limits) → data_start limits ≤ blocks → AreSound metadata
   empty_are_sound range room = search (rules, empty_dict, length-replicate, both_ways, none_set, no_axiom, empty_catalog, no_set)
 
   pub empty_sound : IsTrue (are_in_range limits) → data_start limits ≤ blocks → IsSound (empty_stored limits blocks)
@@ -88,7 +88,7 @@ module _ (limits : Limits) (blocks : ℕ) (image : List ℕ) (range : IsTrue (ar
   zero_at : (area : Area) (n : ℕ) → n < (slots_of limits area).count → at (home (slots_of limits area) n) ≡ zeros 4096
   zero_at area n lt = let inside = among_slots limits range area n lt in blank.homes (home (slots_of limits area) n) inside.0 inside.1
 
-  pub written_empty : IsWritten (empty_parts limits blocks) at
+  pub written_empty : IsWritten (empty_metadata limits blocks) at
   unfolding prop_bytes axiom_bytes file_bytes zeros
   written_empty Properties n lt = free_slot (slots_of limits Properties) at n (zero_at Properties n lt) (omega arith)
   written_empty Axioms n lt =
@@ -97,13 +97,13 @@ module _ (limits : Limits) (blocks : ℕ) (image : List ℕ) (range : IsTrue (ar
   written_empty Files n lt = free_slot (slots_of limits Files) at n (zero_at Files n lt) (omega arith)
   written_empty Rows n lt =
       free_slot (slots_of limits Rows) at n (zero_at Rows n lt) (row_within limits n range)
-      ∙ row_bytes_none (empty_parts limits blocks).ext n (limits.files / 8) (omega (arith, length-replicate {A = List ℕ} limits.files [], whole_files limits range)) (λ file. no_set limits blocks n file)
+      ∙ row_bytes_none (empty_metadata limits blocks).ext n (limits.files / 8) (omega (arith, length-replicate {A = List ℕ} limits.files [], whole_files limits range)) (λ file. no_set limits blocks n file)
   written_empty Bitmap n lt = blank.homes (bitmap_start limits) (omega arith) (omega arith) ∙ sym (bitmap-none limits.blocks)
 
-  pub tells_empty : SpellsSuper limits (part 0 4096 image) → Tells (empty_parts limits blocks) at (empty_state limits)
+  pub tells_empty : SpellsSuper limits (part 0 4096 image) → Tells (empty_metadata limits blocks) at (empty_state limits)
   tells_empty super = record {
     super = super;
-    state = ap (λ es. record (empty_state limits) { axioms = fold (insert_key pair_cmp) [] es }) (no_pairs (axiom_slots limits).count (empty_parts limits blocks).dict);
+    state = ap (λ es. record (empty_state limits) { axioms = fold (insert_key pair_cmp) [] es }) (no_pairs (axiom_slots limits).count (empty_metadata limits blocks).dict);
     formed = empty_formed limits range;
     used = λ n is. absurd cc;
     described = λ f m. absurd (none_contained f m);

@@ -1,5 +1,5 @@
 -- The numbers of all that words entail, left out of a row.
-use Rattle.lis_store.proofs.Common.{common_steps, ◌≡◌, refl, sym, ap, ap₂, ◌∙◌, ℕ, ◌<◌, ◌≤◌, not, ◌&&◌, ◌||◌, Bool, true, false, List, [], ◌∷◌, ◌++◌, length, Option, Some, append-nil, arith, flat_map, HasShape, get, with_row, number_of, word_of, word_from_number, number_below, Taxonomy, entails_decides, up, all_up, up_from_entails, among_set_of, Kept, TellsLinks, AreSound, declared_of, axioms_of, flat_map-append, set_of, set_of_among, same_tests, numbers_where}
+use Rattle.lis_store.proofs.Common.{common_steps, ◌≡◌, refl, sym, ap, ap₂, ◌∙◌, ℕ, ◌<◌, ◌≤◌, not, ◌&&◌, ◌||◌, Bool, true, false, List, [], ◌∷◌, ◌++◌, length, Option, Some, append-nil, arith, flat_map, HasShape, get, with_row, number_of, word_of, word_from_number, number_below, Taxonomy, entails_decides, up, all_up, up_from_entails, among_set_of, Metadata, TellsLinks, AreSound, declared_of, axioms_of, flat_map-append, set_of, set_of_among, same_tests, numbers_where}
 use Rattle.lis_bits.specs.Rows.{Rows}
 use Rattle.lis_taxonomy.specs.Taxonomy.{entails}
 use Rattle.lis_store.specs.Adding.{is_one_of, numbers_named}
@@ -36,14 +36,14 @@ out_more true false y = refl
 out_more false x y = refl
 
 -- the row lost the numbers of all that these words entail
-pub record LeavesOut (k : Kept) (words : List (List ℕ)) (old row : Rows) : Type 0 where
+pub record LeavesOut (k : Metadata) (words : List (List ℕ)) (old row : Rows) : Type 0 where
   pub shape : HasShape row 1 k.limits.props
   pub bits : (n : ℕ) → n < k.limits.props → get row 0 n ≡ (get old 0 n && not (is_one_of (all_up (declared_of k) (axioms_of k) words) (word_of k.dict n)))
 
-pub leaves_none : (k : Kept) (row : Rows) → HasShape row 1 k.limits.props → LeavesOut k [] row row
+pub leaves_none : (k : Metadata) (row : Rows) → HasShape row 1 k.limits.props → LeavesOut k [] row row
 leaves_none k row shape = grind (arith, common_steps, out_none, one_of_none)
 
-module _ (k : Kept) (sound : AreSound k) (t : Taxonomy) (tells : TellsLinks k t) where
+module _ (k : Metadata) (sound : AreSound k) (t : Taxonomy) (tells : TellsLinks k t) where
   -- the edges tell what a word entails
   pub entails_told : (n : ℕ) (p : List ℕ) → word_of k.dict n ≡ Some p → (m : ℕ) → entails t n m ≡ is_one_of (up (declared_of k) (axioms_of k) p) (word_of k.dict m)
   entails_told n p is m =
@@ -79,7 +79,7 @@ left_over : (x y z : Bool) → not (((true && not x) && not y) && not z) ≡ ((x
 left_over x y z = grind (arith, common_steps)
 
 -- the rows in turn: full, without what the first words entail, without what the others do, without what the tests do, and turned over
-module _ (k : Kept) (sound : AreSound k) (some more met : List (List ℕ)) (start full left rest last done : Rows)
+module _ (k : Metadata) (sound : AreSound k) (some more met : List (List ℕ)) (start full left rest last done : Rows)
     (shape : HasShape start 1 k.limits.props) (is_full : full ≡ with_row start 0 (λ _. true))
     (first : (n : ℕ) → n < k.limits.props → get left 0 n ≡ (get full 0 n && not (is_one_of (all_up (declared_of k) (axioms_of k) some) (word_of k.dict n))))
     (second : (n : ℕ) → n < k.limits.props → get rest 0 n ≡ (get left 0 n && not (is_one_of (all_up (declared_of k) (axioms_of k) more) (word_of k.dict n))))

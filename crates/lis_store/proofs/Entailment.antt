@@ -1,9 +1,9 @@
 -- What a word with a number entails has a number, and the files that have the one have the other.
-use Rattle.lis_store.proofs.Common.{◌≡◌, ℕ, zero, suc, true, List, Some, ap, ◌∙◌, subst, Among, word_of, has, up, entails_from_up, Kept, AreSound, declared_of, axioms_of, links, one_number, Chain}
+use Rattle.lis_store.proofs.Common.{◌≡◌, ℕ, zero, suc, true, List, Some, ap, ◌∙◌, subst, Among, word_of, has, up, entails_from_up, Metadata, AreSound, declared_of, axioms_of, links, one_number, Chain}
 use Rattle.lis_kept.proofs.Entailed.{link_numbered, chain_has_number}
 use Rattle.lis_store.specs.Stored.{AreClosed}
 
-module _ (k : Kept) (sound : AreSound k) where
+module _ (k : Metadata) (sound : AreSound k) where
   pub up_has_number : (n : ℕ) (p q : List ℕ) → word_of k.dict n ≡ Some p → Among (up (declared_of k) (axioms_of k) p) q → (m : ℕ) × (word_of k.dict m ≡ Some q)
   up_has_number n p q is entailed = let chain = entails_from_up (declared_of k) (axioms_of k) p q entailed in chain_has_number k sound chain.0 n p q is chain.1
 

@@ -1,5 +1,5 @@
 -- The blocks of a file: how many they are, and which of them have its content.
-use Rattle.lis_store.proofs.Common.{common_steps, ◌≡◌, ◌∙◌, ℕ, ◌≤◌, List, length, cond-false, Among, among_left, content_blocks, small_size, Filed, FileRecord, Limits, data_start, file_limit, blocks_taken, Kept, AreSound, blocks_told}
+use Rattle.lis_store.proofs.Common.{common_steps, ◌≡◌, ◌∙◌, ℕ, ◌≤◌, List, length, cond-false, Among, among_left, content_blocks, small_size, Filed, FileRecord, Limits, data_start, file_limit, blocks_taken, Metadata, AreSound, blocks_told}
 use native.Mathlib.Omega.{arith}
 use Rattle.lis_content.proofs.Files.{length-file_blocks}
 use Rattle.lis_content.proofs.Indexes.{length-numbers_in, large_numbers, large_blocks, small_numbers, small_blocks}
@@ -18,7 +18,7 @@ content_among limits at rec b of = grind (arith, common_steps, large_blocks, amo
 pub taken_by_version : (version size : ℕ) → size ≤ file_limit version → blocks_taken 2 size ≡ blocks_taken version size
 taken_by_version version size few = grind (arith, common_steps, cond-false, small_size)
 
-module _ (k : Kept) (sound : AreSound k) (f : Filed) (m : Among k.catalog.entries f) (at : ℕ → List ℕ) where
+module _ (k : Metadata) (sound : AreSound k) (f : Filed) (m : Among k.catalog.entries f) (at : ℕ → List ℕ) where
   pub content_counted : length (content_told k.limits at f.rec) ≡ blocks_needed f.rec.size
   content_counted = grind (arith, common_steps, large_numbers, length-numbers_in, small_numbers, numbers_counted, cond-false)
 

@@ -1,7 +1,7 @@
 -- The call that gives a file another name: its bytes are read before it judges.
-use Rattle.lis_store.proofs.Common.{◌≡◌, refl, sym, ap, ◌∙◌, subst, ℕ, nat_lt, true, false, List, length, cond, is_some, Option, Some, None, Result, Err, IsSomeAnd, lt-ltb, looked, Filed, slot_of, rec_at, Asks, FileRecord, Formula, is_file_name, derived_words, new_file, State, File, Kept, bytes_told, blocks_told, filed_at_slot, Meaning, Fits, Refusal, NameTaken, Situation, Outcome, refused, rename, file_of, all_from, words_told}
-use Rattle.lis_store.specs.declared.change.Change.{Change}
-use Rattle.lis_store.specs.declared.change.Change.TheVariants.{Refused, Disk}
+use Rattle.lis_store.proofs.Common.{◌≡◌, refl, sym, ap, ◌∙◌, subst, ℕ, nat_lt, true, false, List, length, cond, is_some, Option, Some, None, Result, Err, IsSomeAnd, lt-ltb, looked, Filed, slot_of, rec_at, Asks, FileRecord, Formula, is_file_name, derived_words, new_file, State, File, Metadata, bytes_told, blocks_told, filed_at_slot, Meaning, Fits, Refusal, NameTaken, Situation, Outcome, refused, rename, file_of, all_from, words_told}
+use Rattle.lis_store.specs.declared.change_fault.ChangeFault.{ChangeFault}
+use Rattle.lis_store.specs.declared.change_fault.ChangeFault.TheVariants.{Refused, Disk}
 use Rattle.lis_store.specs.Stored.{Stored, IsSound, StoreHolds}
 use Rattle.lis_store.specs.Changes.{Holds}
 use Rattle.lis_store.specs.Contents.{AreContentsWithin}
@@ -34,23 +34,23 @@ module _ (k : Stored) (base : State) (before mid : Meaning) (now : Situation) (s
   }
 
   -- what comes after the read is what the call comes to
-  pub after_read : {T : Type 0} (outcome : Outcome) (new : Stored) (after : Meaning) (result : Result T Change) → Holds base now outcome new mid after result → Holds base now outcome new before after result
+  pub after_read : {T : Type 0} (outcome : Outcome) (new : Stored) (after : Meaning) (result : Result T ChangeFault) → Holds base now outcome new mid after result → Holds base now outcome new before after result
   after_read outcome new after result =
       holds_behind base now outcome new before mid after result (asks_stand k base now.state before sound holds mid asks) (asks_past k base now.state before sound holds mid asks)
 
-  pub refused_read : {T : Type 0} (outcome : Outcome) (refusal : Refusal) (result : Result T Change) → outcome ≡ refused now refusal → result ≡ Err (Refused refusal) → Holds base now outcome k before mid result
+  pub refused_read : {T : Type 0} (outcome : Outcome) (refusal : Refusal) (result : Result T ChangeFault) → outcome ≡ refused now refusal → result ≡ Err (Refused refusal) → Holds base now outcome k before mid result
   refused_read outcome refusal result is ends = after_read outcome k mid result (change_refused k mid base now outcome refusal result held_read is ends)
 
-  pub lost_read : {T : Type 0} (outcome : Outcome) (new : Stored) (result : Result T Change) → new.is_broken ≡ true → result ≡ Err Disk → Holds base now outcome new before mid result
+  pub lost_read : {T : Type 0} (outcome : Outcome) (new : Stored) (result : Result T ChangeFault) → new.is_broken ≡ true → result ≡ Err Disk → Holds base now outcome new before mid result
   lost_read outcome new result =
       holds_lost base now outcome new before mid result (asks_stand k base now.state before sound holds mid asks) (asks_past k base now.state before sound holds mid asks)
 
 -- ---- a file that is here
--- What a call asks speaks of the store's value `now`, and what is proved of its parts, `old`.
-module _ {old now : Stored} (same : old ≡ now) (sound : IsSound old) (place : List Formula) (name : List ℕ) {slot : ℕ} (named_now : slot_of now.parts.catalog name ≡ Some slot)
-    (here_now : true ≡ is_among now.parts place name) (other : List ℕ) where
-  abbrev k : Kept
-  k = old.parts
+-- What a call asks speaks of the store's value `now`, and what is proved of its metadata, `old`.
+module _ {old now : Stored} (same : old ≡ now) (sound : IsSound old) (place : List Formula) (name : List ℕ) {slot : ℕ} (named_now : slot_of now.metadata.catalog name ≡ Some slot)
+    (here_now : true ≡ is_among now.metadata place name) (other : List ℕ) where
+  abbrev k : Metadata
+  k = old.metadata
 
   abbrev rec : FileRecord
   rec = (found_there same sound name named_now).0
@@ -59,10 +59,10 @@ module _ {old now : Stored} (same : old ≡ now) (sound : IsSound old) (place : 
   there = (found_there same sound name named_now).1
 
   named : slot_of k.catalog name ≡ Some slot
-  named = ap (λ (o : Stored). slot_of o.parts.catalog name) same ∙ named_now
+  named = ap (λ (o : Stored). slot_of o.metadata.catalog name) same ∙ named_now
 
   here : is_among k place name ≡ true
-  here = ap (λ (o : Stored). is_among o.parts place name) same ∙ sym here_now
+  here = ap (λ (o : Stored). is_among o.metadata place name) same ∙ sym here_now
 
   -- what is asked of memory in which the file is to have another name, and the bytes that were read
   pub rename_asks : {judged read bytes : List ℕ} → judged ≡ read → bytes ≡ read → ((r : FileRecord) → rec_at k.catalog slot ≡ Some r → length read ≡ r.size) → {given words : List (List ℕ)} → is_file_name other ≡ true
@@ -96,7 +96,7 @@ module _ {old now : Stored} (same : old ≡ now) (sound : IsSound old) (place : 
         (rest_of_rename k place name slot file here ∙ ap (λ b. cond b (Some NameTaken) (first_refusal (instead_checks k slot (draft_of file)))) taken)) refl)
 
     module _ (mid : Meaning) (asks : Asks old.journal m mid) where
-      pub read_lost : {T : Type 0} (new : Stored) (result : Result T Change) → new.is_broken ≡ true → result ≡ Err Disk → Holds base at_place (rename at_place name other) new m mid result
+      pub read_lost : {T : Type 0} (new : Stored) (result : Result T ChangeFault) → new.is_broken ≡ true → result ≡ Err Disk → Holds base at_place (rename at_place name other) new m mid result
       read_lost new result = lost_read old base m mid at_place sound holds asks (rename at_place name other) new result
 
       module _ {read bytes : List ℕ} (are_read : (r : FileRecord) (kept : ℕ → List ℕ) → rec_at k.catalog slot ≡ Some r → Fits old.journal m kept → AreContentsWithin k.limits (looked old.journal.staged kept) r
@@ -108,7 +108,7 @@ module _ {old now : Stored} (same : old ≡ now) (sound : IsSound old) (place : 
         within : AreContentsWithin k.limits at rec
         within =
             let filed : Filed = record { slot = slot; rec = rec } in
-            let of = filed_at_slot k.catalog sound.parts.catalog slot rec there in
+            let of = filed_at_slot k.catalog sound.metadata.catalog slot rec there in
             all_from (λ n. nat_lt n k.limits.blocks) (blocks_told k.limits at rec) (λ n among. lt-ltb n k.limits.blocks (told_below old s sound by_memory filed of n among))
 
         told : bytes_told k.limits at rec ≡ bytes
@@ -117,7 +117,7 @@ module _ {old now : Stored} (same : old ≡ now) (sound : IsSound old) (place : 
         bytes_are : bytes ≡ (file_of s.files name).bytes
         bytes_are = sym (ap (λ (f : File). f.bytes) (old_is old s sound by_memory name slot rec named there) ∙ told)
 
-        pub renaming_refused : {T : Type 0} (refusal : Refusal) (result : Result T Change) → result ≡ Err (Refused refusal)
+        pub renaming_refused : {T : Type 0} (refusal : Refusal) (result : Result T ChangeFault) → result ≡ Err (Refused refusal)
             → ((r : FileRecord) → rec_at k.catalog slot ≡ Some r → first_refusal (renaming_checks k slot (given_before k r other bytes)) ≡ Some refusal) → Holds base at_place (rename at_place name other) old m mid result
         renaming_refused refusal result ends first =
             let row = subst (λ bs. first_refusal (renaming_checks k slot (given_before k rec other bs)) ≡ Some refusal) bytes_are (first rec there) in
@@ -127,8 +127,8 @@ module _ {old now : Stored} (same : old ≡ now) (sound : IsSound old) (place : 
 
         pub renaming_holds : {T : Type 0} {judged : List ℕ} → judged ≡ read → ((r : FileRecord) → rec_at k.catalog slot ≡ Some r → first_refusal (renaming_checks k slot (given_before k r other judged)) ≡ None)
             → {assigned : List (List ℕ)} → ((r : FileRecord) → rec_at k.catalog slot ≡ Some r → assigned ≡ words_told k.dict r.tags)
-            → {q : Kept} {blocks : List ℕ} → RefilesIn (record_in k (Some slot)) (draft_of (new_file other assigned bytes)) blocks k q → ((r : FileRecord) → rec_at k.catalog slot ≡ Some r → blocks ≡ r.blocks)
-            → now.is_broken ≡ false → (new : Stored) (end : Meaning) (result : Result T Change) → Saves q old.journal new mid end result → Holds base at_place (rename at_place name other) new m end result
+            → {q : Metadata} {blocks : List ℕ} → RefilesIn (record_in k (Some slot)) (draft_of (new_file other assigned bytes)) blocks k q → ((r : FileRecord) → rec_at k.catalog slot ≡ Some r → blocks ≡ r.blocks)
+            → now.is_broken ≡ false → (new : Stored) (end : Meaning) (result : Result T ChangeFault) → Saves q old.journal new mid end result → Holds base at_place (rename at_place name other) new m end result
         renaming_holds is_judged none {assigned} words {q} {blocks} again blocks_are unbroken new end result saves =
             let file = new_file other assigned bytes in
             let Again : Option FileRecord → List ℕ → Type 0 = λ gone ns. RefilesIn gone (draft_of file) ns k q in

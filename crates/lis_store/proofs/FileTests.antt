@@ -1,6 +1,6 @@
 -- Tests in the descriptions of files: a file has those that its size meets, and no others.
 use Rattle.std.proofs.Common.{rules}
-use Rattle.lis_store.proofs.Common.{◌≡◌, ◌⊎◌, ℕ, Bool, true, false, Option, Some, None, is_some, List, ◌++◌, refl, sym, ap, subst, ◌∙◌, inl, inr, list_all, Among, among_append, among_filter, among_right, filter_among, is_taken, rec_at, Dict, word_of, has, is_prop, FileRecord, has_word, is_plain_word, is_test, test_of, plain_not_test, up, is_assignable, is_built_in, is_met, met_tests, up_self, entails_from_up, entailing, among_from_has_word, met_weaker, Kept, property_by, AreSound, declared_of, axioms_of, test_by, some_word, declared_word, among_axiom, both_ways, false_from_ne_true, entailed_in, all_among, has_word_from_among, same_tests}
+use Rattle.lis_store.proofs.Common.{◌≡◌, ◌⊎◌, ℕ, Bool, true, false, Option, Some, None, is_some, List, ◌++◌, refl, sym, ap, subst, ◌∙◌, inl, inr, list_all, Among, among_append, among_filter, among_right, filter_among, is_taken, rec_at, Dict, word_of, has, is_prop, FileRecord, has_word, is_plain_word, is_test, test_of, plain_not_test, up, is_assignable, is_built_in, is_met, met_tests, up_self, entails_from_up, entailing, among_from_has_word, met_weaker, Metadata, property_by, AreSound, declared_of, axioms_of, test_by, some_word, declared_word, among_axiom, both_ways, false_from_ne_true, entailed_in, all_among, has_word_from_among, same_tests}
 use Rattle.lis_fields.specs.Layouts.{is_undeclared}
 use Rattle.lis_words.proofs.Tests.{valued_not_test}
 use Rattle.lis_laws.proofs.Apart.{built_in_not_test}
@@ -13,7 +13,7 @@ use Rattle.lis_store.specs.Drafts.{Draft}
 use Rattle.lis_store.specs.Admitting.{described_by}
 use Rattle.lis_store.specs.Stored.{TestsAreMet}
 
-module _ (k : Kept) (sound : AreSound k) where
+module _ (k : Metadata) (sound : AreSound k) where
   abbrev D : List (List ℕ)
   D = declared_of k
 
@@ -75,7 +75,7 @@ module _ (k : Kept) (sound : AreSound k) where
         (up_self D A w)))
 
 -- what is declared has the word that it had, with more words
-pub flagged_before : (p : Kept) → AreSound p → (d : Dict) → ((n : ℕ) (w : List ℕ) → word_of p.dict n ≡ Some w → word_of d n ≡ Some w)
+pub flagged_before : (p : Metadata) → AreSound p → (d : Dict) → ((n : ℕ) (w : List ℕ) → word_of p.dict n ≡ Some w → word_of d n ≡ Some w)
     → (n : ℕ) (w : List ℕ) → is_taken p.declared n ≡ true → word_of d n ≡ Some w → word_of p.dict n ≡ Some w
 flagged_before p sound d keeps n w bit is = let word = some_word (word_of p.dict n) (sound.flagged n bit) in word.1 ∙ (sym (keeps n word.0 word.1) ∙ is)
 
@@ -86,7 +86,7 @@ tested_word None test = absurd (both_ways false refl test)
 tested_word (Some w) test = (w, refl, test)
 
 -- where the files of a slot and the words of tests are those that were there, and descriptions have the tests that they had
-pub tests_stay : (p q : Kept) → ((at : ℕ) (rec : FileRecord) → rec_at q.catalog at ≡ Some rec → rec_at p.catalog at ≡ Some rec)
+pub tests_stay : (p q : Metadata) → ((at : ℕ) (rec : FileRecord) → rec_at q.catalog at ≡ Some rec → rec_at p.catalog at ≡ Some rec)
     → ((n : ℕ) (w : List ℕ) → word_of q.dict n ≡ Some w → is_test w ≡ true → word_of p.dict n ≡ Some w)
     → ((n at : ℕ) (rec : FileRecord) (w : List ℕ) → rec_at q.catalog at ≡ Some rec → word_of p.dict n ≡ Some w → is_test w ≡ true → has q.ext n at ≡ has p.ext n at)
     → TestsAreMet p → TestsAreMet q

@@ -1,5 +1,5 @@
 -- Which files a place has.
-use Rattle.lis_store.proofs.Common.{common_steps, rules, ◌≡◌, refl, sym, ap, ap₂, ◌∙◌, ℕ, ◌<◌, ◌==◌, Bool, true, false, cond, IsSome, IsSomeAnd, List, [], ◌∷◌, map, filter, Some, None, option_map, slice_get, find, same_Some, Among, contains_from_among, among_filter, filter_among, same_word, Formula, FileRecord, Filed, slot_of, rec_at, rec_at-slot_of, same_word_decides, Placed, Kept, AreSound, filed_rec, filed_slot, false_from_ne_true, among_from_any, any_from_among, among_map, map_among}
+use Rattle.lis_store.proofs.Common.{common_steps, rules, ◌≡◌, refl, sym, ap, ap₂, ◌∙◌, ℕ, ◌<◌, ◌==◌, Bool, true, false, cond, IsSome, IsSomeAnd, List, [], ◌∷◌, map, filter, Some, None, option_map, slice_get, find, same_Some, Among, contains_from_among, among_filter, filter_among, same_word, Formula, FileRecord, Filed, slot_of, rec_at, rec_at-slot_of, same_word_decides, Placed, Metadata, AreSound, filed_rec, filed_slot, false_from_ne_true, among_from_any, any_from_among, among_map, map_among}
 use native.Mathlib.Omega.{arith}
 use Rattle.std.proofs.lemmas.Option.{slice_get-map}
 use Rattle.lis_model.specs.Table.{Entry}
@@ -10,7 +10,7 @@ use Rattle.lis_store.specs.Seen.{placed, seen_of, table_of}
 use Rattle.lis_store.specs.Judging.{is_among}
 use Rattle.lis_store.proofs.StoreSays.{filed_named}
 
-module _ (k : Kept) (sound : AreSound k) (place : List Formula) (name : List ℕ) where
+module _ (k : Metadata) (sound : AreSound k) (place : List Formula) (name : List ℕ) where
   abbrev entry : Filed → Entry
   entry f = (placed k f).entry
 
@@ -59,20 +59,20 @@ module _ (k : Kept) (sound : AreSound k) (place : List Formula) (name : List ℕ
               ap (λ (x : Filed). holds_all place (entry x)) (ap₂ make slots recs)
 
 -- ---- what a view asks of a file
-pub slot_seen : (k : Kept) (name : List ℕ) (fs : List Filed)
+pub slot_seen : (k : Metadata) (name : List ℕ) (fs : List Filed)
     → option_map (λ (f : Placed). f.slot) (find (λ (f : Placed). same_word f.entry.name name) (map (placed k) fs)) ≡ option_map (λ (f : Filed). f.slot) (find (λ (f : Filed). same_word f.rec.name name) fs)
 slot_seen k name [] = refl
 slot_seen k name (f ∷ fs) = grind (arith, common_steps, slot_seen k name fs)
 
-pub file_seen : (k : Kept) (fs : List Filed) (n : ℕ) → option_map name_and_slot (slice_get (map (placed k) fs) n) ≡ option_map (λ (f : Filed). (f.rec.name, f.slot)) (slice_get fs n)
+pub file_seen : (k : Metadata) (fs : List Filed) (n : ℕ) → option_map name_and_slot (slice_get (map (placed k) fs) n) ≡ option_map (λ (f : Filed). (f.rec.name, f.slot)) (slice_get fs n)
 file_seen k fs n = search (rules, slice_get-map)
 
-pub none_seen : (k : Kept) (slot : ℕ) (fs : List Filed) → option_map (λ (f : Filed). f.rec) (find (λ (f : Filed). f.slot == slot) fs) ≡ None
+pub none_seen : (k : Metadata) (slot : ℕ) (fs : List Filed) → option_map (λ (f : Filed). f.rec) (find (λ (f : Filed). f.slot == slot) fs) ≡ None
     → IsSome (find (λ (f : Placed). f.slot == slot) (map (placed k) fs)) → ⊥
 none_seen k slot [] none some = cc
 none_seen k slot (f ∷ fs) none some = grind (arith, common_steps, none_seen k slot fs)
 
-pub size_seen : (k : Kept) (slot : ℕ) (rec : FileRecord) (size : ℕ) (fs : List Filed) → option_map (λ (f : Filed). f.rec) (find (λ (f : Filed). f.slot == slot) fs) ≡ Some rec → size ≡ rec.size
+pub size_seen : (k : Metadata) (slot : ℕ) (rec : FileRecord) (size : ℕ) (fs : List Filed) → option_map (λ (f : Filed). f.rec) (find (λ (f : Filed). f.slot == slot) fs) ≡ Some rec → size ≡ rec.size
     → IsSomeAnd (find (λ (f : Placed). f.slot == slot) (map (placed k) fs)) (λ (f : Placed). size ≡ f.entry.size)
 size_seen k slot rec size [] is sized = absurd cc
 size_seen k slot rec size (f ∷ fs) is sized = by (f.slot == slot) is (λ e. size_seen k slot rec size fs e sized)
@@ -84,5 +84,5 @@ size_seen k slot rec size (f ∷ fs) is sized = by (f.slot == slot) is (λ e. si
     by false e rest = rest e
 
 -- the slot of a name is one of the limits
-pub slot_in : (k : Kept) → AreSound k → (name : List ℕ) (slot : ℕ) → slot_of k.catalog name ≡ Some slot → slot < k.limits.files
+pub slot_in : (k : Metadata) → AreSound k → (name : List ℕ) (slot : ℕ) → slot_of k.catalog name ≡ Some slot → slot < k.limits.files
 slot_in k sound name slot is = let found = rec_at-slot_of k.catalog name slot sound.catalog is in file_slot_below k sound slot found.0 found.1

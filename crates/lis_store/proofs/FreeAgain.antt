@@ -1,5 +1,5 @@
 -- How many blocks are free where some are given back.
-use Rattle.lis_store.proofs.Common.{rules, ◌≡◌, refl, ap, ◌∙◌, subst, inl, inr, ℕ, ◌+◌, ◌≤◌, not, Bool, true, false, cond, List, [], ◌∷◌, length, filter, set, Option, Some, IsSome, arith, get_or-set_other, and_parts, cases_lt, cond-false, eqb-true, ne_eqb, not-true, or_cases, sum_by-set, Among, Meaning, Held, is_taken, free_count, is_large, small_size, rec_at, FileRecord, Limits, are_in_range, file_limit, blocks_taken, Kept, AreSound, record_in_form, both_ways, given, has_number, are_distinct, GivesBack, number_from_among}
+use Rattle.lis_store.proofs.Common.{rules, ◌≡◌, refl, ap, ◌∙◌, subst, inl, inr, ℕ, ◌+◌, ◌≤◌, not, Bool, true, false, cond, List, [], ◌∷◌, length, filter, set, Option, Some, IsSome, arith, get_or-set_other, and_parts, cases_lt, cond-false, eqb-true, ne_eqb, not-true, or_cases, sum_by-set, Among, Meaning, Held, is_taken, free_count, is_large, small_size, rec_at, FileRecord, Limits, are_in_range, file_limit, blocks_taken, Metadata, AreSound, record_in_form, both_ways, given, has_number, are_distinct, GivesBack, number_from_among}
 use Rattle.std.proofs.lemmas.List.{set_past}
 use Rattle.lis_content.proofs.Numbers.{below_if_taken}
 use Rattle.lis_kept.proofs.Dropped.{blocks_apart}
@@ -44,7 +44,7 @@ first_version limits range not_two = search (rules, and_parts, or_cases, eqb-tru
 pub rec_some : (o : Option FileRecord) → IsSome o → (rec : FileRecord) × (o ≡ Some rec)
 rec_some o some = search (rules)
 
-module _ (p mid : Kept) (slot : ℕ) (rec : FileRecord) (there : rec_at p.catalog slot ≡ Some rec) (sound : AreSound p) (journal : Held) (m : Meaning) (gives : GivesBack rec p mid journal m) (size : ℕ)
+module _ (p mid : Metadata) (slot : ℕ) (rec : FileRecord) (there : rec_at p.catalog slot ≡ Some rec) (sound : AreSound p) (journal : Held) (m : Meaning) (gives : GivesBack rec p mid journal m) (size : ℕ)
     (not_two : p.limits.version ≡ 2 → ⊥) (enough : blocks_taken p.limits.version size ≤ free_instead p rec) where
   one : p.limits.version ≡ 1
   one = first_version p.limits sound.range not_two

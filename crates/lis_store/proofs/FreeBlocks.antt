@@ -29,31 +29,31 @@ free_after_marks taken (b ∷ ns) apart free =
 
 module _ (k : Stored) (s : State) (sound : IsSound k) (fits : ToldBy k s) where
   abbrev told : Filed → File
-  told = file_told k.parts.limits k.parts.dict fits.kept
+  told = file_told k.metadata.limits k.metadata.dict fits.kept
 
   abbrev taken_blocks : List ℕ
-  taken_blocks = used k.parts sound.parts fits.kept
+  taken_blocks = used k.metadata sound.metadata fits.kept
 
-  tells_itself : Tells k.parts fits.kept (state_of k.parts fits.kept)
-  tells_itself = subst (λ (x : State). Tells k.parts fits.kept x) (sym fits.tells.state) fits.tells
+  tells_itself : Tells k.metadata fits.kept (state_of k.metadata fits.kept)
+  tells_itself = subst (λ (x : State). Tells k.metadata fits.kept x) (sym fits.tells.state) fits.tells
 
   once : are_distinct taken_blocks ≡ true
-  once = used_once k.parts fits.kept sound.parts sound.free sound.pairs fits.written tells_itself
+  once = used_once k.metadata fits.kept sound.metadata sound.free sound.pairs fits.written tells_itself
 
-  below : (n : ℕ) → Among taken_blocks n → n < k.parts.limits.blocks
-  below = told_below k.parts fits.kept sound.parts sound.free sound.pairs fits.written tells_itself
+  below : (n : ℕ) → Among taken_blocks n → n < k.metadata.limits.blocks
+  below = told_below k.metadata fits.kept sound.metadata sound.free sound.pairs fits.written tells_itself
 
   -- ---- how many blocks files take
   abbrev blocks_of : Filed → List ℕ
-  blocks_of f = blocks_told k.parts.limits fits.kept f.rec
+  blocks_of f = blocks_told k.metadata.limits fits.kept f.rec
 
-  pub version_told : s.limits.version ≡ k.parts.limits.version
-  version_told = ap (λ (l : Limits). l.version) (sym (limits_told k.parts fits.kept s sound.parts sound.free fits.tells))
+  pub version_told : s.limits.version ≡ k.metadata.limits.version
+  version_told = ap (λ (l : Limits). l.version) (sym (limits_told k.metadata fits.kept s sound.metadata sound.free fits.tells))
 
-  one_takes : (f : Filed) → Among k.parts.catalog.entries f → blocks_taken s.limits.version (length (told f).bytes) ≡ length (blocks_of f)
+  one_takes : (f : Filed) → Among k.metadata.catalog.entries f → blocks_taken s.limits.version (length (told f).bytes) ≡ length (blocks_of f)
   one_takes f there = search (rules, version_told, size_of_filed, told_counted)
 
-  all_take : (fs : List Filed) → ((f : Filed) → Among fs f → Among k.parts.catalog.entries f)
+  all_take : (fs : List Filed) → ((f : Filed) → Among fs f → Among k.metadata.catalog.entries f)
       → sum (map (λ (file : File). blocks_taken s.limits.version (length file.bytes)) (map told fs)) ≡ length (flat_map blocks_of fs)
   all_take [] there = refl
   all_take (f ∷ fs) there =
@@ -68,24 +68,24 @@ module _ (k : Stored) (s : State) (sound : IsSound k) (fits : ToldBy k s) where
 
   used_counted : used_blocks s ≡ length taken_blocks
   used_counted =
-      ap (λ (fs : List File). sum (map (λ (file : File). blocks_taken s.limits.version (length file.bytes)) fs)) (sym (files_told k.parts fits.kept s sound.parts sound.free fits.tells))
-      ∙ all_take k.parts.catalog.entries (λ f there. there)
+      ap (λ (fs : List File). sum (map (λ (file : File). blocks_taken s.limits.version (length file.bytes)) fs)) (sym (files_told k.metadata fits.kept s sound.metadata sound.free fits.tells))
+      ∙ all_take k.metadata.catalog.entries (λ f there. there)
 
   -- ---- and those are the taken ones
-  marks_told : k.parts.taken ≡ marked (replicate k.parts.limits.blocks false) taken_blocks
-  marks_told = marks_are k.parts.taken taken_blocks k.parts.limits.blocks sound.parts.blocks (λ n lt.
-      same_tests (is_taken k.parts.taken n) (has_number taken_blocks n)
+  marks_told : k.metadata.taken ≡ marked (replicate k.metadata.limits.blocks false) taken_blocks
+  marks_told = marks_are k.metadata.taken taken_blocks k.metadata.limits.blocks sound.metadata.blocks (λ n lt.
+      same_tests (is_taken k.metadata.taken n) (has_number taken_blocks n)
       (λ taken.
       let of = fits.tells.taken n lt taken in
       number_from_among taken_blocks n
-      (flat_map_among blocks_of k.parts.catalog.entries of.file n (among_from_contains k.parts.catalog.entries of.file of.kept) (among_from_number (blocks_of of.file) n of.has)))
+      (flat_map_among blocks_of k.metadata.catalog.entries of.file n (among_from_contains k.metadata.catalog.entries of.file of.kept) (among_from_number (blocks_of of.file) n of.has)))
       (λ has_it.
-      let found = among_flat_map blocks_of k.parts.catalog.entries n (among_from_number taken_blocks n has_it) in
-      (fits.tells.given found.0 (contains_from_among k.parts.catalog.entries found.0 found.1) n (number_from_among (blocks_of found.0) n found.2)).1))
+      let found = among_flat_map blocks_of k.metadata.catalog.entries n (among_from_number taken_blocks n has_it) in
+      (fits.tells.given found.0 (contains_from_among k.metadata.catalog.entries found.0 found.1) n (number_from_among (blocks_of found.0) n found.2)).1))
 
-  free_before : are_free (replicate k.parts.limits.blocks false) taken_blocks ≡ true
+  free_before : are_free (replicate k.metadata.limits.blocks false) taken_blocks ≡ true
   free_before = search (rules, all_from, below, and_from, lt-ltb, length-replicate, not_from_false, get_or-replicate)
 
   -- the files take the blocks that are not free
-  pub used_told : used_blocks s + free_count k.parts.taken ≡ s.limits.blocks
+  pub used_told : used_blocks s + free_count k.metadata.taken ≡ s.limits.blocks
   used_told = search (rules, free_after_marks, once, free_before, used_counted, marks_told, all_free, limits_told)

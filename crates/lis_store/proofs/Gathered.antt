@@ -1,6 +1,6 @@
 -- Words that are gathered one after another: the numbers of what those with numbers entail, and those without.
 use Rattle.std.proofs.Common.{rules}
-use Rattle.lis_store.proofs.Common.{◌≡◌, refl, sym, ap, ◌∙◌, subst, ℕ, ◌+◌, ◌*◌, ◌<◌, ◌≤◌, Bool, true, false, not, ◌&&◌, ◌||◌, cond, is_some, is_none, Option, Some, None, List, [], ◌∷◌, ◌++◌, length, take, get_or, arith, length-append, or-false, list_any-append, HasShape, get, with_row, number_of, word_of, number_from_word, number_below, Taxonomy, same_word, has_word, is_valued, head_bytes, same_word_decides, heads, all_up, Kept, AreSound, TellsLinks, declared_of, axioms_of, false_from_ne_true}
+use Rattle.lis_store.proofs.Common.{◌≡◌, refl, sym, ap, ◌∙◌, subst, ℕ, ◌+◌, ◌*◌, ◌<◌, ◌≤◌, Bool, true, false, not, ◌&&◌, ◌||◌, cond, is_some, is_none, Option, Some, None, List, [], ◌∷◌, ◌++◌, length, take, get_or, arith, length-append, or-false, list_any-append, HasShape, get, with_row, number_of, word_of, number_from_word, number_below, Taxonomy, same_word, has_word, is_valued, head_bytes, same_word_decides, heads, all_up, Metadata, AreSound, TellsLinks, declared_of, axioms_of, false_from_ne_true}
 use Rattle.std.proofs.lemmas.List.Elements.{filter-append}
 use Rattle.lis_bits.specs.Rows.{Rows}
 use Rattle.lis_taxonomy.specs.Taxonomy.{entails}
@@ -11,7 +11,7 @@ use Rattle.lis_store.specs.Describing.{with_heads, with_numbers, Gathers}
 use Rattle.lis_store.proofs.Assigned.{flat_next}
 use Rattle.lis_store.proofs.Entailed.{LeavesOut, leaves_none, leaves_one, ups_both, out_more}
 
-module _ (k : Kept) where
+module _ (k : Metadata) where
   pub numbered_below : AreSound k → (word : List ℕ) (n : ℕ) → word_of k.dict n ≡ Some word → n < k.limits.props
   numbered_below sound word n is = omega (arith, number_below k.dict sound.dict word n (number_from_word k.dict sound.dict word n is), sound.numbers)
 
@@ -97,7 +97,7 @@ with_heads_few [] = omega arith
 with_heads_few (w ∷ words) = omega (arith, heads_le w, length-append (w ∷ heads w) (with_heads words), with_heads_few words)
 
 -- a loop that gathers words
-pub gathers_next : (k : Kept) (words : List (List ℕ)) (i : ℕ) (word : List ℕ) → i < length words → word ≡ get_or words i word → (p q r : Rows) (f g h : List (List ℕ))
+pub gathers_next : (k : Metadata) (words : List (List ℕ)) (i : ℕ) (word : List ℕ) → i < length words → word ≡ get_or words i word → (p q r : Rows) (f g h : List (List ℕ))
     → Gathers k (with_heads (take i words)) p q f g → Gathers k (word ∷ heads word) q r g h → Gathers k (with_heads (take (i + 1) words)) p r f h
 gathers_next k words i word lt is p q r f g h before next =
     subst (λ ws. Gathers k ws p r f h) (sym (flat_next (λ (w : List ℕ). w ∷ heads w) words i word lt is))

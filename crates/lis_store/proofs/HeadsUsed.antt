@@ -1,16 +1,16 @@
 -- The head of a word in use is in use.
-use Rattle.lis_store.proofs.Common.{rules, ◌≡◌, ◌⊎◌, refl, sym, ap, ◌∙◌, inl, inr, ℕ, ◌||◌, true, false, List, Option, Some, None, list_any, and_parts, eqb-true, or_cases, is_taken, word_of, has, AxiomSlot, FreeAxiom, Pair, same_word, is_valued, head_bytes, same_word_decides, head_not_valued, Kept, AreSound, has_pair, is_own_link, declared_of, is_left_of, is_head_by, is_left_head_of, is_had, is_named_left, is_used, had_at, used_flagged, used_had, both_ways, or_left, or_right, among_from_any, any_from_among, used_left}
+use Rattle.lis_store.proofs.Common.{rules, ◌≡◌, ◌⊎◌, refl, sym, ap, ◌∙◌, inl, inr, ℕ, ◌||◌, true, false, List, Option, Some, None, list_any, and_parts, eqb-true, or_cases, is_taken, word_of, has, AxiomSlot, FreeAxiom, Pair, same_word, is_valued, head_bytes, same_word_decides, head_not_valued, Metadata, AreSound, has_pair, is_own_link, declared_of, is_left_of, is_head_by, is_left_head_of, is_had, is_named_left, is_used, had_at, used_flagged, used_had, both_ways, or_left, or_right, among_from_any, any_from_among, used_left}
 use Rattle.lis_kept.proofs.OwnLinks.{own_head}
 use Rattle.lis_kept.proofs.Emptied.{flagged_not_valued}
 use Rattle.lis_store.specs.Stored.{AreClosed}
 
 -- why a number is in use
-pub data IsUsedFor (k : Kept) (n : ℕ) : Type 0 where
+pub data IsUsedFor (k : Metadata) (n : ℕ) : Type 0 where
   Flagged : is_taken k.declared n ≡ true → IsUsedFor k n
   HadAt : (slot : ℕ) → has k.ext n slot ≡ true → IsUsedFor k n
   NamedLeft : is_named_left k n ≡ true → IsUsedFor k n
 
-pub used_for : (k : Kept) (n : ℕ) → is_used k n ≡ true → IsUsedFor k n
+pub used_for : (k : Metadata) (n : ℕ) → is_used k n ≡ true → IsUsedFor k n
 used_for k n used = by (or_cases (is_taken k.declared n || is_had k.ext n) (is_named_left k n) used)
   where
     first : (is_taken k.declared n ≡ true) ⊎ (is_had k.ext n ≡ true) → IsUsedFor k n
@@ -22,11 +22,11 @@ used_for k n used = by (or_cases (is_taken k.declared n || is_had k.ext n) (is_n
     by (inr left) = NamedLeft left
 
 -- so it stays where these do
-pub use_stays : (k m : Kept) (n : ℕ) → (is_taken k.declared n ≡ true → is_taken m.declared n ≡ true) → (is_named_left k n ≡ true → is_named_left m n ≡ true)
+pub use_stays : (k m : Metadata) (n : ℕ) → (is_taken k.declared n ≡ true → is_taken m.declared n ≡ true) → (is_named_left k n ≡ true → is_named_left m n ≡ true)
     → ((slot : ℕ) → has k.ext n slot ≡ true → is_used m n ≡ true) → is_used k n ≡ true → is_used m n ≡ true
 use_stays k m n bits lefts had used = search (rules, used_for, used_flagged, used_left)
 
-module _ (k : Kept) (sound : AreSound k) (closed : AreClosed k) (n head : ℕ) (is_head : is_head_by (word_of k.dict n) (word_of k.dict head) ≡ true) where
+module _ (k : Metadata) (sound : AreSound k) (closed : AreClosed k) (n head : ℕ) (is_head : is_head_by (word_of k.dict n) (word_of k.dict head) ≡ true) where
   not_bare : (w : List ℕ) → word_of k.dict n ≡ Some w → is_valued w ≡ false → ⊥
   not_bare w is bare = search (rules, both_ways, and_parts)
 

@@ -1,7 +1,7 @@
 -- A store at which nothing is held back, and one at which changes are; and a change that is held back and then committed.
 use Rattle.lis_store.proofs.Common.{◌≡◌, ◌⊎◌, refl, sym, ap, ◌∙◌, subst, inl, inr, ℕ, true, false, List, [], Result, Ok, Err, Meaning, looked, KeepsPast, image_blocks, State, Situation, Outcome, IsWritten, Tells, leaves_weaken, leaves_then, HomeBlock}
-use Rattle.lis_store.specs.declared.change.Change.{Change}
-use Rattle.lis_store.specs.declared.change.Change.TheVariants.{Refused, Disk}
+use Rattle.lis_store.specs.declared.change_fault.ChangeFault.{ChangeFault}
+use Rattle.lis_store.specs.declared.change_fault.ChangeFault.TheVariants.{Refused, Disk}
 use Rattle.lis_store.specs.Stands.{Stands}
 use Rattle.lis_store.specs.Stored.{Stored, IsSound, StoreFits, StoreHolds}
 use Rattle.lis_store.specs.Changes.{Applies, AppliedEnded, Changes, ChangeEnded, ChangeLeft, Holds, HeldEnded, Commits, CommitEnded}
@@ -15,10 +15,10 @@ fits_held k m s sound fits = record {
   kept = fits.kept;
   journal = fits.journal;
   unbroken = fits.unbroken;
-  limits = limits_told k.parts fits.kept s sound.parts sound.free fits.tells;
-  stands = λ image stands. change_stands k k.journal.layout fits.kept s sound.parts sound.free sound.pairs fits.tells fits.written (same_layout sound.image) image stands;
-  tells = subst (λ (es : List HomeBlock). Tells k.parts (looked es fits.kept) s) (sym fits.settled) fits.tells;
-  written = subst (λ (es : List HomeBlock). IsWritten k.parts (looked es fits.kept)) (sym fits.settled) fits.written;
+  limits = limits_told k.metadata fits.kept s sound.metadata sound.free fits.tells;
+  stands = λ image stands. change_stands k k.journal.layout fits.kept s sound.metadata sound.free sound.pairs fits.tells fits.written (same_layout sound.image) image stands;
+  tells = subst (λ (es : List HomeBlock). Tells k.metadata (looked es fits.kept) s) (sym fits.settled) fits.tells;
+  written = subst (λ (es : List HomeBlock). IsWritten k.metadata (looked es fits.kept)) (sym fits.settled) fits.written;
 }
 
 -- and one where nothing is staged fits
@@ -28,8 +28,8 @@ held_fits k m base s settled holds = record {
   journal = holds.journal;
   unbroken = holds.unbroken;
   settled = settled;
-  tells = subst (λ (es : List HomeBlock). Tells k.parts (looked es holds.kept) s) settled holds.tells;
-  written = subst (λ (es : List HomeBlock). IsWritten k.parts (looked es holds.kept)) settled holds.written;
+  tells = subst (λ (es : List HomeBlock). Tells k.metadata (looked es holds.kept) s) settled holds.tells;
+  written = subst (λ (es : List HomeBlock). IsWritten k.metadata (looked es holds.kept)) settled holds.written;
 }
 
 one_of_two : {A B : Type 0} → (A ⊎ A) ⊎ B → A ⊎ B
@@ -38,9 +38,9 @@ one_of_two (inl (inr a)) = inl a
 one_of_two (inr b) = inr b
 
 -- ---- a store that held back nothing, where a change was made and committed
-module _ {T : Type 0} {now : Situation} {outcome : Outcome} {old new : Stored} {before after : Meaning} {result : Result T Change} (fits : StoreFits old before now.state) (left : ChangeLeft old new result)
+module _ {T : Type 0} {now : Situation} {outcome : Outcome} {old new : Stored} {before after : Meaning} {result : Result T ChangeFault} (fits : StoreFits old before now.state) (left : ChangeLeft old new result)
     (applies : Applies now.state now outcome new before after result) where
-  ended_by : (r : Result T Change) → ChangeLeft old new r → AppliedEnded now.state now outcome new after r → ChangeEnded now outcome new after r
+  ended_by : (r : Result T ChangeFault) → ChangeLeft old new r → AppliedEnded now.state now outcome new after r → ChangeEnded now outcome new after r
   ended_by (Ok done) whole ended = ended
   ended_by (Err (Refused refusal)) same ended = (ended.0, held_fits new after now.state now.state (ap (λ (k : Stored). k.journal.staged) same ∙ fits.settled) ended.1)
   ended_by (Err Disk) broken ended = ended
@@ -53,7 +53,7 @@ module _ {T : Type 0} {now : Situation} {outcome : Outcome} {old new : Stored} {
   }
 
 -- ---- a change that is held back, and a commit after it where there is one
-pub applies_ended : {T : Type 0} {base : State} {now : Situation} {outcome : Outcome} {new : Stored} {before after : Meaning} {change : Change} {held result : Result T Change} → held ≡ Err change → result ≡ Err change
+pub applies_ended : {T : Type 0} {base : State} {now : Situation} {outcome : Outcome} {new : Stored} {before after : Meaning} {change : ChangeFault} {held result : Result T ChangeFault} → held ≡ Err change → result ≡ Err change
     → Holds base now outcome new before after held → Applies base now outcome new before after result
 applies_ended {T} {base} {now} {outcome} {new} {before} {after} {change} {held} {result} was ends holds = record {
   moments = holds.moments;
@@ -61,12 +61,12 @@ applies_ended {T} {base} {now} {outcome} {new} {before} {after} {change} {held} 
   ended = subst (λ r. AppliedEnded {T = T} base now outcome new after r) (sym ends) (by change (subst (λ r. HeldEnded {T = T} base now outcome new after r) was holds.ended));
 }
   where
-    by : (c : Change) → HeldEnded {T = T} base now outcome new after (Err c) → AppliedEnded {T = T} base now outcome new after (Err c)
+    by : (c : ChangeFault) → HeldEnded {T = T} base now outcome new after (Err c) → AppliedEnded {T = T} base now outcome new after (Err c)
     by (Refused refusal) ended = ended
     by Disk ended = ended
 
-module _ {T U : Type 0} {base : State} {now : Situation} {outcome : Outcome} {old mid new : Stored} {before between after : Meaning} {done : T} {result : Result U Change}
-    (held : StoreHolds old before base now.state) (limits : mid.parts.limits ≡ old.parts.limits) (holds : Holds base now outcome mid before between (Ok done))
+module _ {T U : Type 0} {base : State} {now : Situation} {outcome : Outcome} {old mid new : Stored} {before between after : Meaning} {done : T} {result : Result U ChangeFault}
+    (held : StoreHolds old before base now.state) (limits : mid.metadata.limits ≡ old.metadata.limits) (holds : Holds base now outcome mid before between (Ok done))
     (commits : (base s : State) → StoreHolds mid between base s → Commits base s new between after result) where
   abbrev next : State
   next = outcome.next.state
@@ -74,7 +74,7 @@ module _ {T U : Type 0} {base : State} {now : Situation} {outcome : Outcome} {ol
   abbrev Any : List ℕ → Type 0
   Any image = (Stands image base ⊎ Stands image now.state) ⊎ Stands image next
 
-  committed_by : (r : Result U Change) → CommitEnded next new after r → AppliedEnded base now outcome new after r
+  committed_by : (r : Result U ChangeFault) → CommitEnded next new after r → AppliedEnded base now outcome new after r
   committed_by (Ok d) fits = (holds.ended.0, fits)
   committed_by (Err (Refused refusal)) never = absurd (let e : false ≡ true = never in cc)
   committed_by (Err Disk) broken = broken

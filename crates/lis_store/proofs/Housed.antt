@@ -1,6 +1,6 @@
 -- The blocks of a file that comes into the place of another.
 use Rattle.std.proofs.Common.{rules}
-use Rattle.lis_store.proofs.Common.{None, Some, ◌≡◌, refl, sym, ap, ◌∙◌, ℕ, ◌+◌, ◌<◌, nat_lt, not, ◌&&◌, ◌||◌, Bool, true, false, List, [], length, IsTrue, arith, and_parts, ltb-true, not-true, Among, contains_from_among, is_taken, are_free, has_home, Filed, Limits, data_start, State, Kept, AreSound, bytes_told, blocks_told, Tells, both_ways, false_from_ne_true, given, marked, are_distinct, has_number, all_among, among_from_number, number_from_among, and-true, common_steps}
+use Rattle.lis_store.proofs.Common.{None, Some, ◌≡◌, refl, sym, ap, ◌∙◌, ℕ, ◌+◌, ◌<◌, nat_lt, not, ◌&&◌, ◌||◌, Bool, true, false, List, [], length, IsTrue, arith, and_parts, ltb-true, not-true, Among, contains_from_among, is_taken, are_free, has_home, Filed, Limits, data_start, State, Metadata, AreSound, bytes_told, blocks_told, Tells, both_ways, false_from_ne_true, given, marked, are_distinct, has_number, all_among, among_from_number, number_from_among, and-true, common_steps}
 use Rattle.lis_content.specs.Placing.{HasFile}
 use Rattle.lis_content.proofs.Laying.{home_new}
 use Rattle.lis_content.proofs.Numbers.{length-given}
@@ -86,7 +86,7 @@ module _ (limits : Limits) (taken mid now : List Bool) (old blocks bytes numbers
       by false t o none = refl
 
 -- ---- bytes that stay
-module _ (k : Kept) (at : ℕ → List ℕ) (s : State) (tells : Tells k at s) (f : Filed) (m : Among k.catalog.entries f) (bytes : List ℕ) (size : f.rec.size ≡ length bytes) (told : bytes_told k.limits at f.rec ≡ bytes) where
+module _ (k : Metadata) (at : ℕ → List ℕ) (s : State) (tells : Tells k at s) (f : Filed) (m : Among k.catalog.entries f) (bytes : List ℕ) (size : f.rec.size ≡ length bytes) (told : bytes_told k.limits at f.rec ≡ bytes) where
   abbrev base : ℕ
   base = data_start k.limits
 
@@ -100,7 +100,7 @@ module _ (k : Kept) (at : ℕ → List ℕ) (s : State) (tells : Tells k at s) (
   stay_housed = search (rules, given_here, contains_from_among, both_ways)
 
 -- ---- blocks that are traded
-module _ (k : Kept) (sound : AreSound k) (at there : ℕ → List ℕ) (s : State) (tells : Tells k at s) (f : Filed) (m : Among k.catalog.entries f) (now : List Bool) (blocks bytes numbers : List ℕ) (distinct : are_distinct blocks ≡ true)
+module _ (k : Metadata) (sound : AreSound k) (at there : ℕ → List ℕ) (s : State) (tells : Tells k at s) (f : Filed) (m : Among k.catalog.entries f) (now : List Bool) (blocks bytes numbers : List ℕ) (distinct : are_distinct blocks ≡ true)
     (holds : HasFile (data_start k.limits) bytes numbers blocks there) (same : (n : ℕ) → has_home (data_start k.limits) blocks n ≡ false → there n ≡ at n) where
   abbrev old : List ℕ
   old = blocks_told k.limits at f.rec

@@ -1,6 +1,6 @@
 -- Where what words are refused for refuses nothing, a file may come into the place of another.
 use Rattle.std.proofs.Common.{rules}
-use Rattle.lis_store.proofs.Common.{◌≡◌, ◌≢◌, sym, ap, subst, ℕ, ◌≤◌, Bool, true, option_to_list, Some, None, List, ◌++◌, length, arith, flat_map, list_all, ltb-false, not-false, is_rising, Among, Filed, slot_of, rec_at, word_of, FileRecord, word_cmp, is_built_in, is_file_name, Refusal, State, File, is_assignable, file_limit, word_order, sorted_set_of, rising_from_sorted, Kept, declared_of, Tells, filed_at_slot, record_in_form, all_among, words_told, file_told}
+use Rattle.lis_store.proofs.Common.{◌≡◌, ◌≢◌, sym, ap, subst, ℕ, ◌≤◌, Bool, true, option_to_list, Some, None, List, ◌++◌, length, arith, flat_map, list_all, ltb-false, not-false, is_rising, Among, Filed, slot_of, rec_at, word_of, FileRecord, word_cmp, is_built_in, is_file_name, Refusal, State, File, is_assignable, file_limit, word_order, sorted_set_of, rising_from_sorted, Metadata, declared_of, Tells, filed_at_slot, record_in_form, all_among, words_told, file_told}
 use Rattle.lis_store.specs.Stored.{Stored, IsSound}
 use Rattle.lis_store.specs.Drafts.{Draft}
 use Rattle.lis_store.specs.Instead.{instead_checks}
@@ -10,9 +10,9 @@ use Rattle.lis_store.proofs.Relates.{told_few}
 use Rattle.lis_store.proofs.Judged.{AllPass}
 use Rattle.lis_fields.proofs.Parts.{few_tags}
 
-module _ (k : Stored) (sound : IsSound k) (slot : ℕ) (rec : FileRecord) (is_rec : rec_at k.parts.catalog slot ≡ Some rec) where
-  abbrev p : Kept
-  p = k.parts
+module _ (k : Stored) (sound : IsSound k) (slot : ℕ) (rec : FileRecord) (is_rec : rec_at k.metadata.catalog slot ≡ Some rec) where
+  abbrev p : Metadata
+  p = k.metadata
 
   abbrev given : List (List ℕ)
   given = words_told p.dict rec.tags
@@ -21,7 +21,7 @@ module _ (k : Stored) (sound : IsSound k) (slot : ℕ) (rec : FileRecord) (is_re
   filed = record { slot = slot; rec = rec }
 
   there : Among p.catalog.entries filed
-  there = filed_at_slot p.catalog sound.parts.catalog slot rec is_rec
+  there = filed_at_slot p.catalog sound.metadata.catalog slot rec is_rec
 
   -- ---- the words that it was given
   pub given_set : is_rising word_cmp given ≡ true
@@ -29,13 +29,13 @@ module _ (k : Stored) (sound : IsSound k) (slot : ℕ) (rec : FileRecord) (is_re
 
   pub given_few : length given ≤ 16
   given_few =
-      let few = few_tags rec.tags (record_in_form p.limits.version p.dict p.limits.blocks rec (sound.parts.records slot rec is_rec)).tags in
+      let few = few_tags rec.tags (record_in_form p.limits.version p.dict p.limits.blocks rec (sound.metadata.records slot rec is_rec)).tags in
       omega (arith, few, told_few p.dict rec.tags)
 
   -- A state that is told says that they may be given.
   pub given_assignable : (at : ℕ → List ℕ) (s : State) → Tells p at s → list_all (is_assignable (declared_of p)) given ≡ true
   given_assignable at s tells =
-      let m = file_of_filed p at s sound.parts sound.free tells filed there in
+      let m = file_of_filed p at s sound.metadata sound.free tells filed there in
       subst (λ declared. list_all (is_assignable declared) given ≡ true) (sym (ap (λ (t : State). t.declared) tells.state))
       (all_among (λ (f : File). list_all (is_assignable s.declared) f.assigned) s.files (file_told p.limits p.dict at filed) tells.formed.files.assigned m)
 
@@ -46,4 +46,4 @@ module _ (k : Stored) (sound : IsSound k) (slot : ℕ) (rec : FileRecord) (is_re
   may_stand draft name new set few own few_own small more row = search (rules, there, not-false, ltb-false)
 
   pub sized_small : (size : ℕ) → size ≤ rec.size → size ≤ file_limit p.limits.version
-  sized_small size sized = omega (arith, sized, (record_in_form p.limits.version p.dict p.limits.blocks rec (sound.parts.records slot rec is_rec)).small)
+  sized_small size sized = omega (arith, sized, (record_in_form p.limits.version p.dict p.limits.blocks rec (sound.metadata.records slot rec is_rec)).small)

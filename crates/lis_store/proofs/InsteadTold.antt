@@ -1,5 +1,5 @@
 -- The rows of `write` and `rename`, told by what a store keeps, are the rows of the state.
-use Rattle.lis_store.proofs.Common.{◌≡◌, refl, sym, ap, ap₂, ◌∙◌, ℕ, ◌+◌, ◌==◌, nat_lt, Bool, true, false, not, cond, is_some, Some, None, List, [], ◌∷◌, ◌++◌, length, filter, arith, list_all, cond-false, not-false, free_count, is_taken, small_size, Filed, slot_of, rec_at, FileRecord, Among, contains_from_among, among_filter, Formula, same_word, Limits, Refusal, UnknownProperty, NameTaken, NoFileHere, LargeFile, NoSpace, data_start, State, File, is_assignable, file_limit, blocks_taken, has_name, derived_words, new_file, file_removed, file_replaced, Situation, Payload, refused, free_blocks, write, rename, file_of_name, Kept, declared_of, bytes_told, blocks_told, record_in_form, filed_at_slot, file_of, changed, words_told, number_from_among}
+use Rattle.lis_store.proofs.Common.{◌≡◌, refl, sym, ap, ap₂, ◌∙◌, ℕ, ◌+◌, ◌==◌, nat_lt, Bool, true, false, not, cond, is_some, Some, None, List, [], ◌∷◌, ◌++◌, length, filter, arith, list_all, cond-false, not-false, free_count, is_taken, small_size, Filed, slot_of, rec_at, FileRecord, Among, contains_from_among, among_filter, Formula, same_word, Limits, Refusal, UnknownProperty, NameTaken, NoFileHere, LargeFile, NoSpace, data_start, State, File, is_assignable, file_limit, blocks_taken, has_name, derived_words, new_file, file_removed, file_replaced, Situation, Payload, refused, free_blocks, write, rename, file_of_name, Metadata, declared_of, bytes_told, blocks_told, record_in_form, filed_at_slot, file_of, changed, words_told, number_from_among}
 use Rattle.lis_content.proofs.Indexes.{small_blocks}
 use Rattle.lis_model.specs.Step.{blocks_for, is_here, room_checks, write_checks, rename_checks, first_refusal}
 use Rattle.lis_laws.proofs.Named.{gone_free, still_free}
@@ -21,13 +21,13 @@ use Rattle.lis_store.proofs.Judged.{same_behind, judged_refused, judged_done}
 
 -- ---- a file in the place of another
 module _ (k : Stored) (s : State) (sound : IsSound k) (fits : ToldBy k s) (name : List ℕ) (slot : ℕ) (rec : FileRecord)
-    (is_slot : slot_of k.parts.catalog name ≡ Some slot) (is_rec : rec_at k.parts.catalog slot ≡ Some rec) where
-  abbrev p : Kept
-  p = k.parts
+    (is_slot : slot_of k.metadata.catalog name ≡ Some slot) (is_rec : rec_at k.metadata.catalog slot ≡ Some rec) where
+  abbrev p : Metadata
+  p = k.metadata
 
   -- the file that is there
   pub old_is : file_of s.files name ≡ given_before p rec rec.name (bytes_told p.limits fits.kept rec)
-  old_is = file_in_slot p fits.kept s sound.parts sound.free fits.tells name slot rec is_slot is_rec
+  old_is = file_in_slot p fits.kept s sound.metadata sound.free fits.tells name slot rec is_slot is_rec
 
   pub old_given : (file_of s.files name).assigned ≡ words_told p.dict rec.tags
   old_given = ap (λ (f : File). f.assigned) old_is
@@ -40,7 +40,7 @@ module _ (k : Stored) (s : State) (sound : IsSound k) (fits : ToldBy k s) (name 
       f = record { slot = slot; rec = rec }
 
       there : Among p.catalog.entries f
-      there = filed_at_slot p.catalog sound.parts.catalog slot rec is_rec
+      there = filed_at_slot p.catalog sound.metadata.catalog slot rec is_rec
 
       old : File
       old = file_of s.files name
@@ -54,12 +54,12 @@ module _ (k : Stored) (s : State) (sound : IsSound k) (fits : ToldBy k s) (name 
       -- in version 1 the slot numbers all blocks of the file, and they are taken
       taken : (p.limits.version == 2) ≡ false → length (filter (is_taken p.taken) rec.blocks) ≡ blocks_taken p.limits.version (length old.bytes)
       taken one =
-          let short = (record_in_form p.limits.version p.dict p.limits.blocks rec (sound.parts.records slot rec is_rec)).small in
+          let short = (record_in_form p.limits.version p.dict p.limits.blocks rec (sound.metadata.records slot rec is_rec)).small in
           let small = small_size rec.size (omega (arith, short, cond-false {A = ℕ} (p.limits.version == 2) 1048576 65536 one)) in
           ap length (all_pass_filter (is_taken p.taken) rec.blocks (λ b of.
           (fits.tells.given f (contains_from_among p.catalog.entries f there) b (number_from_among (blocks_told p.limits fits.kept rec) b (slot_blocks_told p.limits fits.kept rec b of))).1))
           ∙ (ap length (sym (small_blocks (data_start p.limits) rec.blocks rec.size fits.kept small))
-          ∙ (told_counted p sound.parts f there fits.kept ∙ ap (blocks_taken p.limits.version) (sym size)))
+          ∙ (told_counted p sound.metadata f there fits.kept ∙ ap (blocks_taken p.limits.version) (sym size)))
 
       by : (two : Bool) → (p.limits.version == 2) ≡ two
           → cond two (free_count p.taken) (free_count p.taken + length (filter (is_taken p.taken) rec.blocks))
@@ -69,15 +69,15 @@ module _ (k : Stored) (s : State) (sound : IsSound k) (fits : ToldBy k s) (name 
 
 -- ---- the rows
 module _ (k : Stored) (s : State) (sound : IsSound k) (fits : ToldBy k s) (place : List Formula) (name : List ℕ) (slot : ℕ) (rec : FileRecord)
-    (there : is_among k.parts place name ≡ true → (slot_of k.parts.catalog name ≡ Some slot) × (rec_at k.parts.catalog slot ≡ Some rec)) where
+    (there : is_among k.metadata place name ≡ true → (slot_of k.metadata.catalog name ≡ Some slot) × (rec_at k.metadata.catalog slot ≡ Some rec)) where
   abbrev now : Situation
   now = record { state = s; place = place }
 
   abbrev old : File
   old = file_of s.files name
 
-  abbrev kept : Kept
-  kept = k.parts
+  abbrev kept : Metadata
+  kept = k.metadata
 
   abbrev There : Type 0
   There = (slot_of kept.catalog name ≡ Some slot) × (rec_at kept.catalog slot ≡ Some rec)
@@ -96,7 +96,7 @@ module _ (k : Stored) (s : State) (sound : IsSound k) (fits : ToldBy k s) (place
   instead_row at file own are_own made is new given checks others same =
       ap (λ b. cond (not b) (Some UnknownProperty) (first_refusal (words_checks kept (Some slot) (with_own file own) ++ checks))) given
       ∙ (words_row k s sound fits (Some slot) (file_removed s name).files (λ f m. (among_filter (λ (g : File). not (same_word g.name name)) s.files f m).0)
-      (rest_known kept fits.kept s sound.parts sound.free fits.tells name slot rec at.0 at.1) file own are_own new checks others same
+      (rest_known kept fits.kept s sound.metadata sound.free fits.tells name slot rec at.0 at.1) file own are_own new checks others same
       ∙ ap (λ (t : State). first_refusal (room_checks t ++ others)) is)
 
   given : There → old.assigned ≡ words_told kept.dict rec.tags
@@ -123,7 +123,7 @@ module _ (k : Stored) (s : State) (sound : IsSound k) (fits : ToldBy k s) (place
   rename_row other =
       let file = given_before kept rec other old.bytes in
       let made = file_replaced s old.name (new_file other old.assigned old.bytes) in
-      let named = name_filed kept fits.kept s sound.parts sound.free fits.tells other in
+      let named = name_filed kept fits.kept s sound.metadata sound.free fits.tells other in
       here_row (renaming_checks kept slot file) ((has_name s.files other, NameTaken) ∷ room_checks made) (λ at.
       same_behind ((is_some (slot_of kept.catalog other), NameTaken) ∷ []) (instead_checks kept slot (draft_of file)) (room_checks made) (λ new.
       instead_row at file (derived_words other old.bytes) refl made (ap₂ (λ n ws. file_replaced s n (new_file other ws old.bytes)) (sym (file_of_name s.files name)) (sym (given at))) (still_free s name other (named ∙ new.0))

@@ -3,8 +3,8 @@ use Rattle.lis_store.proofs.Common.{common_steps, rules, ◌≡◌, refl, sym, a
 use native.Mathlib.Omega.{arith}
 use Rattle.lis_ports.proofs.Moments.{leaves_none}
 use Rattle.lis_model.specs.Step.{judged, first_refusal}
-use Rattle.lis_store.specs.declared.change.Change.{Change}
-use Rattle.lis_store.specs.declared.change.Change.TheVariants.{Refused}
+use Rattle.lis_store.specs.declared.change_fault.ChangeFault.{ChangeFault}
+use Rattle.lis_store.specs.declared.change_fault.ChangeFault.TheVariants.{Refused}
 use Rattle.lis_store.specs.Stored.{Stored, StoreHolds}
 use Rattle.lis_store.specs.Changes.{Holds, Judges}
 
@@ -77,13 +77,13 @@ same_behind (check ∷ front) checks others same = by check.0 (λ passes. same_b
     by false more = more refl
 
 -- nothing was changed
-pub change_refused : {T : Type 0} (k : Stored) (m : Meaning) (base : State) (now : Situation) (outcome : Outcome) (refusal : Refusal) (result : Result T Change) → StoreHolds k m base now.state
+pub change_refused : {T : Type 0} (k : Stored) (m : Meaning) (base : State) (now : Situation) (outcome : Outcome) (refusal : Refusal) (result : Result T ChangeFault) → StoreHolds k m base now.state
     → outcome ≡ refused now refusal → result ≡ Err (Refused refusal) → Holds base now outcome k m m result
 change_refused k m base now outcome refusal result holds is ends =
     subst (λ r. Holds base now outcome k m m r) (sym ends) (record { moments = leaves_none m _; past = λ n le. refl; ended = (is, holds) })
 
 -- nor of a store and its view
-pub view_refused : {T : Type 0} {old now : Stored} {m : Meaning} {base : State} {outcome : Outcome} {result : Result T Change} → old ≡ now → (sit : Situation) (refusal : Refusal) → StoreHolds now m base sit.state
+pub view_refused : {T : Type 0} {old now : Stored} {m : Meaning} {base : State} {outcome : Outcome} {result : Result T ChangeFault} → old ≡ now → (sit : Situation) (refusal : Refusal) → StoreHolds now m base sit.state
     → (StoreHolds old m base sit.state → outcome ≡ refused sit refusal) → result ≡ Err (Refused refusal) → Holds base sit outcome now m m result
 view_refused {now = now} {m = m} {base = base} {outcome = outcome} {result = result} view sit refusal holds is ends =
     change_refused now m base sit outcome refusal result holds (is (subst (λ k. StoreHolds k m base sit.state) (sym view) holds)) ends

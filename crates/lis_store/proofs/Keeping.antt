@@ -1,65 +1,65 @@
 -- What a change keeps of a store, from what its steps keep.
-use Rattle.lis_store.proofs.Common.{◌≡◌, sym, ap, ◌∙◌, subst, true, false, Result, Ok, Err, Ext, Kept}
-use Rattle.lis_store.specs.declared.change.Change.{Change}
-use Rattle.lis_store.specs.declared.change.Change.TheVariants.{Refused, Disk}
+use Rattle.lis_store.proofs.Common.{◌≡◌, sym, ap, ◌∙◌, subst, true, false, Result, Ok, Err, Ext, Metadata}
+use Rattle.lis_store.specs.declared.change_fault.ChangeFault.{ChangeFault}
+use Rattle.lis_store.specs.declared.change_fault.ChangeFault.TheVariants.{Refused, Disk}
 use Rattle.lis_store.specs.Stored.{Stored, IsSound}
 use Rattle.lis_store.specs.Changes.{ChangeLeft, ChangeKeeps, CommitLeft, AreEditsFew}
 use Rattle.lis_store.specs.Saving.{SaveEnded}
 use Rattle.lis_store.proofs.Edits.{edits_same}
 use Rattle.lis_journal.specs.Journal.{shape_of}
 
-left_saved : {T : Type 0} (old new : Stored) (result : Result T Change) → SaveEnded new.is_broken result → ChangeLeft old new result
+left_saved : {T : Type 0} (old new : Stored) (result : Result T ChangeFault) → SaveEnded new.is_broken result → ChangeLeft old new result
 left_saved old new (Ok done) whole = whole
 left_saved old new (Err (Refused refusal)) never = absurd (let e : false ≡ true = never in cc)
 left_saved old new (Err Disk) broken = broken
 
-left_committed : {T : Type 0} (old new : Stored) (result : Result T Change) → CommitLeft new result → ChangeLeft old new result
+left_committed : {T : Type 0} (old new : Stored) (result : Result T ChangeFault) → CommitLeft new result → ChangeLeft old new result
 left_committed old new (Ok done) whole = whole.0
 left_committed old new (Err (Refused refusal)) never = absurd (let e : false ≡ true = never in cc)
 left_committed old new (Err Disk) broken = broken
 
 -- memory was changed, and then it was saved
-pub keeps_saved : {T : Type 0} {old now new : Stored} → old ≡ now → (made : Kept) (result : Result T Change) → made.limits ≡ old.parts.limits → AreEditsFew old.parts.ext made.ext → IsSound new
-    → new.parts ≡ record made { marks = new.parts.marks } → shape_of new.journal ≡ shape_of old.journal → SaveEnded new.is_broken result → ChangeKeeps now new result
-keeps_saved {old = old} {new = new} view made result limits edits sound parts image ended =
+pub keeps_saved : {T : Type 0} {old now new : Stored} → old ≡ now → (made : Metadata) (result : Result T ChangeFault) → made.limits ≡ old.metadata.limits → AreEditsFew old.metadata.ext made.ext → IsSound new
+    → new.metadata ≡ record made { marks = new.metadata.marks } → shape_of new.journal ≡ shape_of old.journal → SaveEnded new.is_broken result → ChangeKeeps now new result
+keeps_saved {old = old} {new = new} view made result limits edits sound metadata image ended =
     subst (λ (k : Stored). ChangeKeeps k new result) view (record {
-      limits = ap (λ (k : Kept). k.limits) parts ∙ limits;
+      limits = ap (λ (k : Metadata). k.limits) metadata ∙ limits;
       image = image;
       left = left_saved old new result ended;
-      edits = subst (λ (e : Ext). AreEditsFew old.parts.ext e) (sym (ap (λ (k : Kept). k.ext) parts)) edits;
+      edits = subst (λ (e : Ext). AreEditsFew old.metadata.ext e) (sym (ap (λ (k : Metadata). k.ext) metadata)) edits;
       sound = sound;
     })
 
 -- the disk failed, which broke the store
-pub keeps_lost : {T : Type 0} {old now new : Stored} {result : Result T Change} → old ≡ now → IsSound new → result ≡ Err Disk → new.parts.limits ≡ old.parts.limits → shape_of new.journal ≡ shape_of old.journal
-    → new.parts.ext ≡ old.parts.ext → new.is_broken ≡ true → ChangeKeeps now new result
+pub keeps_lost : {T : Type 0} {old now new : Stored} {result : Result T ChangeFault} → old ≡ now → IsSound new → result ≡ Err Disk → new.metadata.limits ≡ old.metadata.limits → shape_of new.journal ≡ shape_of old.journal
+    → new.metadata.ext ≡ old.metadata.ext → new.is_broken ≡ true → ChangeKeeps now new result
 keeps_lost {old = old} {new = new} {result = result} view sound lost limits image rows broken =
     subst (λ (k : Stored). ChangeKeeps k new result) view (record {
       limits = limits;
       image = image;
       left = subst (λ r. ChangeLeft old new r) (sym lost) broken;
-      edits = edits_same old.parts.ext new.parts.ext rows;
+      edits = edits_same old.metadata.ext new.metadata.ext rows;
       sound = sound;
     })
 
 -- a commit came before it
-pub keeps_behind : {T : Type 0} {old mid new : Stored} {result : Result T Change} → mid.parts ≡ old.parts → shape_of mid.journal ≡ shape_of old.journal → ChangeKeeps mid new result → SaveEnded new.is_broken result
+pub keeps_behind : {T : Type 0} {old mid new : Stored} {result : Result T ChangeFault} → mid.metadata ≡ old.metadata → shape_of mid.journal ≡ shape_of old.journal → ChangeKeeps mid new result → SaveEnded new.is_broken result
     → ChangeKeeps old new result
-keeps_behind {old = old} {new = new} {result = result} parts image keeps ended = record {
-  limits = keeps.limits ∙ ap (λ (k : Kept). k.limits) parts;
+keeps_behind {old = old} {new = new} {result = result} metadata image keeps ended = record {
+  limits = keeps.limits ∙ ap (λ (k : Metadata). k.limits) metadata;
   image = keeps.image ∙ image;
   left = left_saved old new result ended;
-  edits = subst (λ (k : Kept). AreEditsFew k.ext new.parts.ext) parts keeps.edits;
+  edits = subst (λ (k : Metadata). AreEditsFew k.ext new.metadata.ext) metadata keeps.edits;
   sound = keeps.sound;
 }
 
 -- or came behind it
-pub keeps_committed : {T U : Type 0} {old mid new : Stored} {held : Result T Change} (result : Result U Change) → ChangeKeeps old mid held → IsSound new → CommitLeft new result → new.parts ≡ mid.parts
+pub keeps_committed : {T U : Type 0} {old mid new : Stored} {held : Result T ChangeFault} (result : Result U ChangeFault) → ChangeKeeps old mid held → IsSound new → CommitLeft new result → new.metadata ≡ mid.metadata
     → shape_of new.journal ≡ shape_of mid.journal → ChangeKeeps old new result
-keeps_committed {old = old} {new = new} result keeps sound left parts image = record {
-  limits = ap (λ (k : Kept). k.limits) parts ∙ keeps.limits;
+keeps_committed {old = old} {new = new} result keeps sound left metadata image = record {
+  limits = ap (λ (k : Metadata). k.limits) metadata ∙ keeps.limits;
   image = image ∙ keeps.image;
   left = left_committed old new result left;
-  edits = subst (λ (k : Kept). AreEditsFew old.parts.ext k.ext) (sym parts) keeps.edits;
+  edits = subst (λ (k : Metadata). AreEditsFew old.metadata.ext k.ext) (sym metadata) keeps.edits;
   sound = sound;
 }

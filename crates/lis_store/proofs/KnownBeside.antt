@@ -1,6 +1,6 @@
 -- How many words would be known with a file, beside all that are known or in the place of another file.
 use Rattle.std.proofs.Common.{rules}
-use Rattle.lis_store.proofs.Common.{◌≡◌, ◌⊎◌, refl, sym, ap, ap₂, ◌∙◌, subst, inl, inr, ℕ, ◌+◌, not, ◌&&◌, ◌||◌, Bool, true, false, is_some, IsSome, IfSome, Option, Some, None, List, [], length, arith, IsStrictlySortedBy, and-true, and-false, and_parts, cases_eq, length-map, none-some, sorted_from_rising, get, is_taken, rec_at, number_of, word_of, number_from_word, has, numbers_same, word_cmp, has_word, word_order, among_from_has_word, sorted_with_words, Kept, AreSound, is_had, is_named_left, is_used, AreUsed, emptied, had_at, left_out, both_ways, false_from_ne_true, words, numbers_where, has_word_from_among, same_tests, one_number}
+use Rattle.lis_store.proofs.Common.{◌≡◌, ◌⊎◌, refl, sym, ap, ap₂, ◌∙◌, subst, inl, inr, ℕ, ◌+◌, not, ◌&&◌, ◌||◌, Bool, true, false, is_some, IsSome, IfSome, Option, Some, None, List, [], length, arith, IsStrictlySortedBy, and-true, and-false, and_parts, cases_eq, length-map, none-some, sorted_from_rising, get, is_taken, rec_at, number_of, word_of, number_from_word, has, numbers_same, word_cmp, has_word, word_order, among_from_has_word, sorted_with_words, Metadata, AreSound, is_had, is_named_left, is_used, AreUsed, emptied, had_at, left_out, both_ways, false_from_ne_true, words, numbers_where, has_word_from_among, same_tests, one_number}
 use Rattle.lis_bits.specs.Rows.{Rows}
 use Rattle.lis_ext.proofs.Numbers.{numbers_apart}
 use Rattle.lis_kept.proofs.Without.{elsewhere_had}
@@ -25,7 +25,7 @@ not_both used row had named h = search (rules, and-false)
 only_had : (flag had other left : Bool) → (flag || had || left) ≡ true → (flag || other || left) ≡ false → (had ≡ true) × (other ≡ false)
 only_had flag had other left some none = search (rules)
 
-module _ (k : Kept) (sound : AreSound k) where
+module _ (k : Metadata) (sound : AreSound k) where
   -- the word of a number is in use, but for the slot, if one is given
   abbrev stays : Option ℕ → ℕ → Bool
   stays None n = true

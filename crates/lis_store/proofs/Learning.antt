@@ -1,7 +1,7 @@
 -- Words that are learnt, one behind the other.
 use Rattle.std.proofs.Common.{rules}
 use Rattle.std.proofs.Common.{take-append-drop}
-use Rattle.lis_store.proofs.Common.{◌≡◌, ◌⊎◌, refl, sym, ap, ◌∙◌, subst, inl, inr, ℕ, ◌+◌, ◌<◌, ◌≤◌, ◌&&◌, ◌||◌, Bool, true, false, cond, List, [], ◌∷◌, ◌++◌, length, take, drop, get_or, None, is_some, IsSome, append-nil, length-append, arith, list_all, or_cases, length-map, take_more, Contains-get_or, Among, among_from_contains, Dict, number_of, word_cmp, is_valued, is_plain_word, is_head, is_built_in, head_bytes, with_word, with_words, heads, head_not_valued, word_exact, among_from_has_word, Kept, stays_marked, block_of, is_marked, marked_count, Properties, and_from, or_left, or_right, both_ways, flat_map-append, words, built_in_not_plain, all_among, has_word_from_among}
+use Rattle.lis_store.proofs.Common.{◌≡◌, ◌⊎◌, refl, sym, ap, ◌∙◌, subst, inl, inr, ℕ, ◌+◌, ◌<◌, ◌≤◌, ◌&&◌, ◌||◌, Bool, true, false, cond, List, [], ◌∷◌, ◌++◌, length, take, drop, get_or, None, is_some, IsSome, append-nil, length-append, arith, list_all, or_cases, length-map, take_more, Contains-get_or, Among, among_from_contains, Dict, number_of, word_cmp, is_valued, is_plain_word, is_head, is_built_in, head_bytes, with_word, with_words, heads, head_not_valued, word_exact, among_from_has_word, Metadata, stays_marked, block_of, is_marked, marked_count, Properties, and_from, or_left, or_right, both_ways, flat_map-append, words, built_in_not_plain, all_among, has_word_from_among}
 use Rattle.std.proofs.lemmas.List.Sums.{fold-append}
 use Rattle.lis_graph.proofs.Members.{with_more_old, with_more_new}
 use Rattle.lis_words.proofs.Head.{head_is_word}
@@ -31,35 +31,35 @@ room_for d word more most none room =
     omega (arith, room, words_grow (with_word (words d) word) more, one_more d word none, length-map d.entries (λ (e : List ℕ × ℕ). e.0))
 
 -- ---- learning in turn
-pub learns_none : (p : Kept) → LearnsAll [] p p
+pub learns_none : (p : Metadata) → LearnsAll [] p p
 learns_none p = search (rules)
 
-pub learns_one : (p q : Kept) (word : List ℕ) (number : ℕ) → Learns word number p q → LearnsAll (word ∷ []) p q
+pub learns_one : (p q : Metadata) (word : List ℕ) (number : ℕ) → Learns word number p q → LearnsAll (word ∷ []) p q
 learns_one p q word number learns = record {
-  parts = elim learns.parts [
-    | inl there ↦ subst (λ (k : Kept). k ≡ record p { dict = k.dict; marks = k.marks }) (sym there.1) refl
-    | inr new ↦ subst (λ (k : Kept). k ≡ record p { dict = k.dict; marks = k.marks }) (sym new.2) refl
+  metadata = elim learns.metadata [
+    | inl there ↦ subst (λ (k : Metadata). k ≡ record p { dict = k.dict; marks = k.marks }) (sym there.1) refl
+    | inr new ↦ subst (λ (k : Metadata). k ≡ record p { dict = k.dict; marks = k.marks }) (sym new.2) refl
   ];
   marks = learns.marks;
-  few = elim learns.parts [
-    | inl there ↦ subst (λ (k : Kept). marked_count k + length (words p.dict) ≤ marked_count p + length (words k.dict)) (sym there.1) (omega arith)
+  few = elim learns.metadata [
+    | inl there ↦ subst (λ (k : Metadata). marked_count k + length (words p.dict) ≤ marked_count p + length (words k.dict)) (sym there.1) (omega arith)
     | inr new ↦ omega (arith, learns.marks.few, ap (λ (ws : List (List ℕ)). length ws) learns.words, one_more p.dict word new.0)
   ];
-  marked = λ block is. elim learns.parts [
-    | inl there ↦ subst (λ (k : Kept). is_marked k block ≡ true) (sym there.1) is
-    | inr new ↦ subst (λ (k : Kept). is_marked k block ≡ true) (sym new.2) (stays_marked p.marks (block_of p.limits Properties number ∷ []) block is)
+  marked = λ block is. elim learns.metadata [
+    | inl there ↦ subst (λ (k : Metadata). is_marked k block ≡ true) (sym there.1) is
+    | inr new ↦ subst (λ (k : Metadata). is_marked k block ≡ true) (sym new.2) (stays_marked p.marks (block_of p.limits Properties number ∷ []) block is)
   ];
   words = learns.words;
   keeps = learns.keeps;
   state = learns.state;
 }
 
-pub learns_more : (p q r : Kept) (some more : List (List ℕ)) → LearnsAll some p q → LearnsAll more q r → LearnsAll (some ++ more) p r
+pub learns_more : (p q r : Metadata) (some more : List (List ℕ)) → LearnsAll some p q → LearnsAll more q r → LearnsAll (some ++ more) p r
 learns_more p q r some more first second = search (rules, length-append, fold-append)
 
-module _ (p q : Kept) (more : List (List ℕ)) (learns : LearnsAll more p q) where
+module _ (p q : Metadata) (more : List (List ℕ)) (learns : LearnsAll more p q) where
   pub limits_stay : q.limits.props ≡ p.limits.props
-  limits_stay = ap (λ (k : Kept). k.limits.props) learns.parts
+  limits_stay = ap (λ (k : Metadata). k.limits.props) learns.metadata
 
   -- a word that had a number has one
   pub number_stays : (word : List ℕ) → IsSome (number_of p.dict word) → IsSome (number_of q.dict word)
@@ -104,7 +104,7 @@ built_in_is_undeclared word valued own =
     by (inl either) = first (or_cases (is_plain_word (head_bytes word)) (is_head (head_bytes word)) either)
     by (inr again) = absurd (both_ways (is_valued (head_bytes word)) (head_not_valued word) again)
 
-module _ (p : Kept) (word : List ℕ) (may : may_learn p word ≡ true) (room : HasWordRoom p (behind_head word)) where
+module _ (p : Metadata) (word : List ℕ) (may : may_learn p word ≡ true) (room : HasWordRoom p (behind_head word)) where
   abbrev by_form : Bool → Bool
   by_form b = cond b (is_some (number_of p.dict (head_bytes word)) || is_built_in (head_bytes word)) (is_some (number_of p.dict word) || (is_head word && is_built_in word))
 
@@ -136,14 +136,14 @@ module _ (p : Kept) (word : List ℕ) (may : may_learn p word ≡ true) (room : 
       (subst (λ hs. length (with_words (words p.dict) (hs ++ word ∷ [])) ≤ p.limits.props) (heads_are valued) room)
 
   -- the head is learnt, where there is one
-  pub heads_learnt : (q : Kept) (head : List ℕ) (number : ℕ) → head ≡ head_bytes word → is_valued word ≡ true → Learns head number p q → LearnsAll (heads word) p q
+  pub heads_learnt : (q : Metadata) (head : List ℕ) (number : ℕ) → head ≡ head_bytes word → is_valued word ≡ true → Learns head number p q → LearnsAll (heads word) p q
   heads_learnt q head number is valued learns =
       subst (λ hs. LearnsAll hs p q) (ap (λ h. h ∷ []) is ∙ sym (heads_are valued)) (learns_one p q head number learns)
 
-  pub no_head_learnt : (q : Kept) → q ≡ p → is_valued word ≡ false → LearnsAll (heads word) p q
+  pub no_head_learnt : (q : Metadata) → q ≡ p → is_valued word ≡ false → LearnsAll (heads word) p q
   no_head_learnt q same plain = search (rules, no_heads, learns_none)
 
-  module _ (q : Kept) (learns : LearnsAll (heads word) p q) where
+  module _ (q : Metadata) (learns : LearnsAll (heads word) p q) where
     pub word_form : number_of q.dict word ≡ None → is_undeclared word ≡ true
     word_form none = by (is_valued word) refl
       where
@@ -161,11 +161,11 @@ module _ (p : Kept) (word : List ℕ) (may : may_learn p word ≡ true) (room : 
     pub word_room : number_of q.dict word ≡ None → length q.dict.entries < q.limits.props
     word_room none = room_for q.dict word [] q.limits.props none (room_left p q (heads word) learns (word ∷ []) room)
 
-    pub word_learnt : (r : Kept) (number : ℕ) → Learns word number q r → LearnsAll (behind_head word) p r
+    pub word_learnt : (r : Metadata) (number : ℕ) → Learns word number q r → LearnsAll (behind_head word) p r
     word_learnt r number more = learns_more p q r (heads word) (word ∷ []) learns (learns_one q r word number more)
 
 -- ---- words one by one
-module _ (p q : Kept) (all : List (List ℕ)) (i : ℕ) (lt : i < length all) (word : List ℕ) (is : word ≡ get_or all i word) (learns : LearnsAll (with_heads (take i all)) p q) where
+module _ (p q : Metadata) (all : List (List ℕ)) (i : ℕ) (lt : i < length all) (word : List ℕ) (is : word ≡ get_or all i word) (learns : LearnsAll (with_heads (take i all)) p q) where
   next_is : with_heads (take (i + 1) all) ≡ with_heads (take i all) ++ behind_head word
   next_is =
       ap with_heads (take_more all i word lt ∙ ap (λ w. take i all ++ w ∷ []) (sym is))
@@ -186,5 +186,5 @@ module _ (p q : Kept) (all : List (List ℕ)) (i : ℕ) (lt : i < length all) (w
       may_still p q (with_heads (take i all)) learns word
       (subst (λ w. may_learn p w ≡ true) (sym is) (all_among (may_learn p) all (get_or all i word) may (among_from_contains all (get_or all i word) (Contains-get_or all i word lt))))
 
-  pub next_learnt : (r : Kept) → LearnsAll (behind_head word) q r → LearnsAll (with_heads (take (i + 1) all)) p r
+  pub next_learnt : (r : Metadata) → LearnsAll (behind_head word) q r → LearnsAll (with_heads (take (i + 1) all)) p r
   next_learnt r more = subst (λ ws. LearnsAll ws p r) (sym next_is) (learns_more p q r (with_heads (take i all)) (behind_head word) learns more)

@@ -1,14 +1,14 @@
 -- What is kept once words are learnt.
 use Rattle.std.proofs.Common.{rules}
-use Rattle.lis_store.proofs.Common.{◌≡◌, ◌⊎◌, refl, sym, ap, ap₂, ◌∙◌, subst, inl, inr, ℕ, ◌||◌, true, List, [], Option, Some, None, is_some, IsSome, Contains, or_cases, Among, among_from_contains, is_taken, word_of, Filed, numbers_at, State, description, among_with_words, Kept, AreSound, FreeSlotsAreEmpty, declared_of, state_of, is_head_by, is_had, is_named_left, is_used, filed_rec, some_word, named_all, known_word, or_left, or_right, among_from_any, any_from_among, words, is_linked, words_told, file_told, number_from_among, one_number}
+use Rattle.lis_store.proofs.Common.{◌≡◌, ◌⊎◌, refl, sym, ap, ap₂, ◌∙◌, subst, inl, inr, ℕ, ◌||◌, true, List, [], Option, Some, None, is_some, IsSome, Contains, or_cases, Among, among_from_contains, is_taken, word_of, Filed, numbers_at, State, description, among_with_words, Metadata, AreSound, FreeSlotsAreEmpty, declared_of, state_of, is_head_by, is_had, is_named_left, is_used, filed_rec, some_word, named_all, known_word, or_left, or_right, among_from_any, any_from_among, words, is_linked, words_told, file_told, number_from_among, one_number}
 use Rattle.lis_kept.proofs.Known.{word_known}
 use Rattle.lis_store.specs.Stored.{AreClosed}
 use Rattle.lis_store.specs.Adding.{LearnsAll}
 use Rattle.lis_store.proofs.Told.{same_map, words_same}
 use Rattle.lis_store.proofs.OwnStay.{own_back}
 
-module _ (p q : Kept) (more : List (List ℕ)) (learns : LearnsAll more p q) (sound : AreSound p) where
-  abbrev made : Kept
+module _ (p q : Metadata) (more : List (List ℕ)) (learns : LearnsAll more p q) (sound : AreSound p) where
+  abbrev made : Metadata
   made = record p { dict = q.dict; marks = q.marks }
 
   pub word_stays : (n : ℕ) → IsSome (word_of p.dict n) → word_of q.dict n ≡ word_of p.dict n
@@ -27,7 +27,7 @@ module _ (p q : Kept) (more : List (List ℕ)) (learns : LearnsAll more p q) (so
   left_stays n left = search (rules, or_cases, head_stays, or_left, among_from_any, or_right, any_from_among)
 
   pub used_learnt : (n : ℕ) → is_used p n ≡ true → is_used q n ≡ true
-  used_learnt n used = subst (λ (k : Kept). is_used k n ≡ true) (sym learns.parts) (by (or_cases (is_taken p.declared n || is_had p.ext n) (is_named_left p n) used))
+  used_learnt n used = subst (λ (k : Metadata). is_used k n ≡ true) (sym learns.metadata) (by (or_cases (is_taken p.declared n || is_had p.ext n) (is_named_left p n) used))
     where
       by : ((is_taken p.declared n || is_had p.ext n) ≡ true) ⊎ (is_named_left p n ≡ true) → is_used made n ≡ true
       by (inl either) = or_left (is_taken p.declared n || is_had p.ext n) (is_named_left made n) either
@@ -35,11 +35,11 @@ module _ (p q : Kept) (more : List (List ℕ)) (learns : LearnsAll more p q) (so
 
   -- ---- files
   pub free_learnt : FreeSlotsAreEmpty p → FreeSlotsAreEmpty q
-  free_learnt free = subst (λ (k : Kept). FreeSlotsAreEmpty k) (sym learns.parts) free
+  free_learnt free = subst (λ (k : Metadata). FreeSlotsAreEmpty k) (sym learns.metadata) free
 
   pub file_learnt : (at : ℕ → List ℕ) (f : Filed) → Among p.catalog.entries f → file_told p.limits q.dict at f ≡ file_told p.limits p.dict at f
   file_learnt at f m =
-      let states : state_of made at ≡ state_of p at = ap (λ (k : Kept). state_of k at) (sym learns.parts) ∙ learns.state at in
+      let states : state_of made at ≡ state_of p at = ap (λ (k : Metadata). state_of k at) (sym learns.metadata) ∙ learns.state at in
       same_map (file_told p.limits q.dict at) (file_told p.limits p.dict at) p.catalog.entries (ap (λ (s : State). s.files) states) f m
 
   pub described_learnt : (at : ℕ → List ℕ) (s : State) → state_of p at ≡ s
@@ -51,7 +51,7 @@ module _ (p q : Kept) (more : List (List ℕ)) (learns : LearnsAll more p q) (so
       let here : words_told q.dict ns ≡ description (state_of q at) (file_told p.limits q.dict at f) =
       words_same p.dict q.dict ns (λ n has_it. word_stays n (sound.named n f.slot (ap is_some (filed_rec p.catalog sound.catalog f (among_from_contains p.catalog.entries f m))) (number_from_among ns n has_it)))
       ∙ (described f m ∙ ap₂ (λ (x : State) (file : _). description x file) (sym states) (sym (file_learnt at f (among_from_contains p.catalog.entries f m)))) in
-      subst (λ (k : Kept). words_told q.dict (numbers_at k.ext f.slot) ≡ description (state_of q at) (file_told k.limits q.dict at f)) (sym learns.parts) here
+      subst (λ (k : Metadata). words_told q.dict (numbers_at k.ext f.slot) ≡ description (state_of q at) (file_told k.limits q.dict at f)) (sym learns.metadata) here
 
   module _ (after : AreSound q) where
     -- a word is one that was known, or one that is learnt

@@ -1,6 +1,6 @@
 -- How many words the description of a new file has, and how many of them are not known yet.
 use Rattle.std.proofs.Common.{rules}
-use Rattle.lis_store.proofs.Common.{◌≡◌, ◌⊎◌, refl, sym, ap, ap₂, ◌∙◌, subst, inl, inr, ℕ, zero, suc, ◌+◌, ◌<◌, ◌≤◌, Bool, true, false, not, ◌&&◌, ◌||◌, is_some, is_none, Option, Some, None, option_to_list, IsSome, List, [], ◌∷◌, ◌++◌, length, map, arith, flat_map, range_with_len, nat_cmp, nat_cmp_total, tied_itself, Ordering, IsStrictlySortedBy, and-true, and-false, or-false, and_parts, not-true, none-some, Among, among_from_contains, among_flat_map, among_filter, filter_among, below_tail, sorted_tail, HasShape, get, with_row, number_of, word_of, number_from_word, word_from_number, word_cmp, has_word, is_valued, head_bytes, with_words, heads, up, all_up, met_tests, word_exact, among_from_has_word, among_with_words, with_words_new, sorted_with_words, sorted_set_of, head_not_valued, among_heads, up_self, entails_from_up, up_from_entails, Head, Weaker, entailing, sorted_all_up, Kept, AreSound, declared_of, axioms_of, among_where, where_among, numbers_same, sorted_where, among_axiom, declared_has_number, word_among, among_word, some_word, both_ways, false_from_ne_true, sum_by-cons, Chain, flat_map_among, links, has_word_from_among, with_words_old, same_words, OwnLink, up_trans, entailed_in, same_tests, words_told, among_from_number, number_from_among, one_number, only_word}
+use Rattle.lis_store.proofs.Common.{◌≡◌, ◌⊎◌, refl, sym, ap, ap₂, ◌∙◌, subst, inl, inr, ℕ, zero, suc, ◌+◌, ◌<◌, ◌≤◌, Bool, true, false, not, ◌&&◌, ◌||◌, is_some, is_none, Option, Some, None, option_to_list, IsSome, List, [], ◌∷◌, ◌++◌, length, map, arith, flat_map, range_with_len, nat_cmp, nat_cmp_total, tied_itself, Ordering, IsStrictlySortedBy, and-true, and-false, or-false, and_parts, not-true, none-some, Among, among_from_contains, among_flat_map, among_filter, filter_among, below_tail, sorted_tail, HasShape, get, with_row, number_of, word_of, number_from_word, word_from_number, word_cmp, has_word, is_valued, head_bytes, with_words, heads, up, all_up, met_tests, word_exact, among_from_has_word, among_with_words, with_words_new, sorted_with_words, sorted_set_of, head_not_valued, among_heads, up_self, entails_from_up, up_from_entails, Head, Weaker, entailing, sorted_all_up, Metadata, AreSound, declared_of, axioms_of, among_where, where_among, numbers_same, sorted_where, among_axiom, declared_has_number, word_among, among_word, some_word, both_ways, false_from_ne_true, sum_by-cons, Chain, flat_map_among, links, has_word_from_among, with_words_old, same_words, OwnLink, up_trans, entailed_in, same_tests, words_told, among_from_number, number_from_among, one_number, only_word}
 use Rattle.lis_ext.specs.Numbers.{numbers_where}
 use Rattle.std.specs.Prelude.{count_by}
 use Rattle.std.specs.Cmp.{IsTotalOrder}
@@ -46,7 +46,7 @@ row_counted bits f = count_map f (range_with_len 0 bits) ∙ sym (length-filter 
 pub numbers_apart : (props : ℕ) (test : ℕ → Bool) → AllApart (numbers_where props test)
 numbers_apart props test = sorted_apart nat_cmp nat_cmp_total (numbers_where props test) (sorted_where props test)
 
-module _ (k : Kept) (sound : AreSound k) where
+module _ (k : Metadata) (sound : AreSound k) where
   -- ---- what words lead to
   abbrev Up : List ℕ → List (List ℕ)
   Up = up (declared_of k) (axioms_of k)

@@ -1,5 +1,5 @@
 -- The declared tests that so many bytes meet, word by word.
-use Rattle.lis_store.proofs.Common.{rules, ◌≡◌, refl, sym, ap, ◌∙◌, ℕ, zero, suc, ◌+◌, ◌-◌, ◌<◌, ◌≤◌, Bool, true, false, ◌&&◌, cond, Option, Some, None, List, [], ◌∷◌, ◌++◌, length, map, filter, take, arith, append-nil, and_parts, take_more, take_all, slice_get_within, get_or_from_slice_get, Among, among_filter, word_of, test_of, is_met, met_tests, Kept, AreSound, is_declared, declared_of, declared_has_number}
+use Rattle.lis_store.proofs.Common.{rules, ◌≡◌, refl, sym, ap, ◌∙◌, ℕ, zero, suc, ◌+◌, ◌-◌, ◌<◌, ◌≤◌, Bool, true, false, ◌&&◌, cond, Option, Some, None, List, [], ◌∷◌, ◌++◌, length, map, filter, take, arith, append-nil, and_parts, take_more, take_all, slice_get_within, get_or_from_slice_get, Among, among_filter, word_of, test_of, is_met, met_tests, Metadata, AreSound, is_declared, declared_of, declared_has_number}
 use Rattle.std.specs.List.{slice_get}
 use Rattle.std.proofs.lemmas.List.{map-append}
 use Rattle.std.proofs.lemmas.List.Elements.{filter-append}
@@ -7,7 +7,7 @@ use Rattle.lis_eval.proofs.Members.{past_end}
 
 -- ---- word by word
 -- those among the first words
-abbrev pub met_first : Kept → ℕ → ℕ → List (List ℕ)
+abbrev pub met_first : Metadata → ℕ → ℕ → List (List ℕ)
 met_first k size i = met_tests (filter (is_declared k) (map (λ (e : List ℕ × ℕ). e.0) (take i k.dict.entries))) size
 
 passes : (test more : List ℕ → Bool) (w : List ℕ) → (test w && more w) ≡ true → filter test (filter more (w ∷ [])) ≡ w ∷ []
@@ -23,7 +23,7 @@ not_both false b e h = refl
 fails : (test more : List ℕ → Bool) (w : List ℕ) → (test w && more w) ≡ false → filter test (filter more (w ∷ [])) ≡ []
 fails test more w h = search (rules, not_both)
 
-module _ (k : Kept) (size i : ℕ) (e : List ℕ × ℕ) (at : slice_get k.dict.entries i ≡ Some e) where
+module _ (k : Metadata) (size i : ℕ) (e : List ℕ × ℕ) (at : slice_get k.dict.entries i ≡ Some e) where
   abbrev met : List ℕ → Bool
   met w = is_met (test_of w) size
 
@@ -43,11 +43,11 @@ module _ (k : Kept) (size i : ℕ) (e : List ℕ × ℕ) (at : slice_get k.dict.
   pub unmet_next : (met e.0 && is_declared k e.0) ≡ false → met_first k size (i + 1) ≡ met_first k size i
   unmet_next h = next_is ∙ (ap (λ ws. met_first k size i ++ ws) (fails met (is_declared k) e.0 h) ∙ append-nil (met_first k size i))
 
-met_all : (k : Kept) (size i : ℕ) → length k.dict.entries ≤ i → met_first k size i ≡ met_tests (declared_of k) size
+met_all : (k : Metadata) (size i : ℕ) → length k.dict.entries ≤ i → met_first k size i ≡ met_tests (declared_of k) size
 met_all k size i end = ap (λ (es : List (List ℕ × ℕ)). met_tests (filter (is_declared k) (map (λ (e : List ℕ × ℕ). e.0) es)) size) (take_all i k.dict.entries end)
 
 -- words that are no tests add nothing
-met_past : (k : Kept) (size from n : ℕ) → from + n ≤ length k.dict.entries → ((i : ℕ) (e : List ℕ × ℕ) → from ≤ i → i < from + n → slice_get k.dict.entries i ≡ Some e → test_of e.0 ≡ None)
+met_past : (k : Metadata) (size from n : ℕ) → from + n ≤ length k.dict.entries → ((i : ℕ) (e : List ℕ × ℕ) → from ≤ i → i < from + n → slice_get k.dict.entries i ≡ Some e → test_of e.0 ≡ None)
     → met_first k size (from + n) ≡ met_first k size from
 met_past k size from zero within none = let same : from + 0 ≡ from = omega arith in ap (met_first k size) same
 met_past k size from (suc n) within none =
@@ -60,7 +60,7 @@ met_past k size from (suc n) within none =
         let untested = none (from + n) e (omega arith) (omega arith) is in
         ap (met_first k size) next ∙ (unmet_next k size (from + n) e is (ap (λ t. is_met t size && is_declared k e.0) untested) ∙ rest)
 
-module _ (k : Kept) (size : ℕ) where
+module _ (k : Metadata) (size : ℕ) where
   pub met_before : (start : ℕ) → start ≤ length k.dict.entries → ((i : ℕ) (e : List ℕ × ℕ) → i < start → slice_get k.dict.entries i ≡ Some e → test_of e.0 ≡ None) → met_first k size start ≡ []
   met_before start le none =
       let same : 0 + start ≡ start = omega arith in
@@ -71,5 +71,5 @@ module _ (k : Kept) (size : ℕ) where
       sym (met_past k size end (length k.dict.entries - end) (omega (arith, le)) (λ i e at_least lt at. none i e at_least at)) ∙ met_all k size (end + (length k.dict.entries - end)) (omega (arith, le))
 
 -- they have numbers
-pub met_numbered : (k : Kept) → AreSound k → (size : ℕ) (w : List ℕ) → Among (met_tests (declared_of k) size) w → (n : ℕ) × (word_of k.dict n ≡ Some w)
+pub met_numbered : (k : Metadata) → AreSound k → (size : ℕ) (w : List ℕ) → Among (met_tests (declared_of k) size) w → (n : ℕ) × (word_of k.dict n ≡ Some w)
 met_numbered k sound size w m = declared_has_number k sound w (among_filter (λ x. is_met (test_of x) size) (declared_of k) w m).0

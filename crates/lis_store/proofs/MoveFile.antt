@@ -1,11 +1,11 @@
 -- The call that moves a file to another place.
 use Rattle.std.proofs.Common.{rules}
-use Rattle.lis_store.proofs.Common.{◌≡◌, sym, ap, ap₂, ◌∙◌, subst, ℕ, ◌≤◌, true, false, List, length, Some, None, Result, Ok, Err, IsSomeAnd, same_Some, slot_of, rec_at, FileRecord, Formula, resolved, text_words, is_file_name, new_file, file_replaced, State, File, Meaning, Refusal, NoFileHere, Situation, mv, retagged, Kept, file_of, changed, tags_at}
+use Rattle.lis_store.proofs.Common.{◌≡◌, sym, ap, ap₂, ◌∙◌, subst, ℕ, ◌≤◌, true, false, List, length, Some, None, Result, Ok, Err, IsSomeAnd, same_Some, slot_of, rec_at, FileRecord, Formula, resolved, text_words, is_file_name, new_file, file_replaced, State, File, Meaning, Refusal, NoFileHere, Situation, mv, retagged, Metadata, file_of, changed, tags_at}
 use Rattle.lis_grammar.specs.Places.{Resolution}
 use Rattle.lis_grammar.specs.Places.Resolution.{NewPlace}
 use Rattle.lis_kept.proofs.Filed.{record_named}
-use Rattle.lis_store.specs.declared.change.Change.{Change}
-use Rattle.lis_store.specs.declared.change.Change.TheVariants.{Refused}
+use Rattle.lis_store.specs.declared.change_fault.ChangeFault.{ChangeFault}
+use Rattle.lis_store.specs.declared.change_fault.ChangeFault.TheVariants.{Refused}
 use Rattle.lis_store.specs.Stored.{Stored, IsSound, StoreHolds}
 use Rattle.lis_store.specs.Changes.{Holds}
 use Rattle.lis_store.specs.Drafts.{Draft, drafted, own_kept}
@@ -30,17 +30,17 @@ pub led_to : (r : Resolution) (next : List Formula) → place_or_refusal r ≡ O
 led_to r next is = search (rules, same_Some)
 
 -- no file of the name is here
-pub moved_nowhere : {T : Type 0} (old : Stored) (m : Meaning) (base s : State) (place next : List Formula) (name text : List ℕ) (result : Result T Change) → IsSound old → StoreHolds old m base s
-    → resolved place text ≡ NewPlace next → is_among old.parts place name ≡ false → result ≡ Err (Refused NoFileHere)
+pub moved_nowhere : {T : Type 0} (old : Stored) (m : Meaning) (base s : State) (place next : List Formula) (name text : List ℕ) (result : Result T ChangeFault) → IsSound old → StoreHolds old m base s
+    → resolved place text ≡ NewPlace next → is_among old.metadata place name ≡ false → result ≡ Err (Refused NoFileHere)
     → Holds base (record { state = s; place = place }) (mv (record { state = s; place = place }) name text) old m m result
 moved_nowhere old m base s place next name text result sound holds leads none ends = search (rules, change_refused, mv_nowhere, told_held)
 
 -- ---- a file that is here
--- What a call asks speaks of the store's value `now`, and what is proved of its parts, `old`.
-module _ {old now : Stored} (same : old ≡ now) (sound : IsSound old) (place : List Formula) (name : List ℕ) {slot : ℕ} (named_now : slot_of now.parts.catalog name ≡ Some slot)
-    (here_now : true ≡ is_among now.parts place name) (text : List ℕ) {next : List Formula} (led : Ok next ≡ place_or_refusal (resolved place text)) where
-  abbrev k : Kept
-  k = old.parts
+-- What a call asks speaks of the store's value `now`, and what is proved of its metadata, `old`.
+module _ {old now : Stored} (same : old ≡ now) (sound : IsSound old) (place : List Formula) (name : List ℕ) {slot : ℕ} (named_now : slot_of now.metadata.catalog name ≡ Some slot)
+    (here_now : true ≡ is_among now.metadata place name) (text : List ℕ) {next : List Formula} (led : Ok next ≡ place_or_refusal (resolved place text)) where
+  abbrev k : Metadata
+  k = old.metadata
 
   abbrev rec : FileRecord
   rec = (found_there same sound name named_now).0
@@ -55,16 +55,16 @@ module _ {old now : Stored} (same : old ≡ now) (sound : IsSound old) (place : 
   same_name = (found_there same sound name named_now).2
 
   named : slot_of k.catalog name ≡ Some slot
-  named = ap (λ (o : Stored). slot_of o.parts.catalog name) same ∙ named_now
+  named = ap (λ (o : Stored). slot_of o.metadata.catalog name) same ∙ named_now
 
   here : is_among k place name ≡ true
-  here = ap (λ (o : Stored). is_among o.parts place name) same ∙ sym here_now
+  here = ap (λ (o : Stored). is_among o.metadata place name) same ∙ sym here_now
 
   leads : resolved place text ≡ NewPlace next
   leads = led_to (resolved place text) next (sym led)
 
   -- its row refuses something
-  module _ {T : Type 0} (m : Meaning) (base s : State) (holds : StoreHolds now m base s) (refusal : Refusal) (result : Result T Change) (ends : result ≡ Err (Refused refusal)) where
+  module _ {T : Type 0} (m : Meaning) (base s : State) (holds : StoreHolds now m base s) (refusal : Refusal) (result : Result T ChangeFault) (ends : result ≡ Err (Refused refusal)) where
     abbrev at_place : Situation
     at_place = record { state = s; place = place }
 
@@ -92,7 +92,7 @@ module _ {old now : Stored} (same : old ≡ now) (sound : IsSound old) (place : 
     row : first_refusal (retag_checks k place next (text_words text) slot rec draft) ≡ first_refusal (instead_checks k slot told)
     row = refused_then (moving_checks k place next (text_words text) rec) (instead_checks k slot draft) (moving rec there) ∙ sym (ap (λ (d : Draft). first_refusal (instead_checks k slot d)) told_is)
 
-    pub standing_refused : {T : Type 0} (m : Meaning) (base s : State) → StoreHolds now m base s → (refusal : Refusal) (result : Result T Change) → result ≡ Err (Refused refusal)
+    pub standing_refused : {T : Type 0} (m : Meaning) (base s : State) → StoreHolds now m base s → (refusal : Refusal) (result : Result T ChangeFault) → result ≡ Err (Refused refusal)
         → first_refusal (instead_checks k slot told) ≡ Some refusal → Holds base (record { state = s; place = place }) (mv (record { state = s; place = place }) name text) now m m result
     standing_refused m base s holds refusal result ends first = refused_by m base s holds refusal result ends (row ∙ first)
 
@@ -102,11 +102,11 @@ module _ {old now : Stored} (same : old ≡ now) (sound : IsSound old) (place : 
           subst (λ o. IsSomeAnd o (λ (x : FileRecord). MayReplace k slot x told)) (sym there)
           (subst (λ d. MayReplace k slot rec d) (sym told_is)
           (mv_may old sound slot rec there place next name (text_words text) same_name
-          (subst (λ n. is_file_name n ≡ true) same_name (record_named k.limits.version k.dict k.limits.blocks rec (sound.parts.records slot rec there)))
+          (subst (λ n. is_file_name n ≡ true) same_name (record_named k.limits.version k.dict k.limits.blocks rec (sound.metadata.records slot rec there)))
           (subst (λ ws. length ws ≤ 128) own_are few) (row ∙ none)))
 
-      pub move_holds : {q : Kept} {blocks : List ℕ} → RefilesIn (record_in k (Some slot)) told blocks k q → ((r : FileRecord) → rec_at k.catalog slot ≡ Some r → blocks ≡ r.blocks) → now.is_broken ≡ false
-          → {T : Type 0} (m : Meaning) (base s : State) → StoreHolds now m base s → (new : Stored) (end : Meaning) (result : Result T Change) → Saves q old.journal new m end result
+      pub move_holds : {q : Metadata} {blocks : List ℕ} → RefilesIn (record_in k (Some slot)) told blocks k q → ((r : FileRecord) → rec_at k.catalog slot ≡ Some r → blocks ≡ r.blocks) → now.is_broken ≡ false
+          → {T : Type 0} (m : Meaning) (base s : State) → StoreHolds now m base s → (new : Stored) (end : Meaning) (result : Result T ChangeFault) → Saves q old.journal new m end result
           → Holds base (record { state = s; place = place }) (mv (record { state = s; place = place }) name text) new m end result
       move_holds {q} {blocks} again blocks_are unbroken m base s holds new end result saves =
           let held : StoreHolds old m base s = subst (λ (o : Stored). StoreHolds o m base s) (sym same) holds in

@@ -1,6 +1,6 @@
 -- The words that a file has by itself are the built-in ones of its description: no other word leads to one of them.
 use Rattle.std.proofs.Common.{rules}
-use Rattle.lis_store.proofs.Common.{◌≡◌, ◌⊎◌, sym, ap, ◌∙◌, subst, inl, inr, refl, ℕ, suc, zero, true, false, List, ◌++◌, option_to_list, Some, length, list_all, Among, among_append, among_filter, among_flat_map, among_left, among_right, contains_from_among, filter_among, Filed, slot_of, rec_at, numbers_at, word_of, FileRecord, State, WellFormed, File, all_up, up, description, met_tests, derived_words, derived_built_in, new_file, file_of_name, is_built_in, is_plain_word, is_test, is_valued, head_bytes, plain_not_valued, entails_from_up, up_self, entailing, sorted_all_up, OwnWord, own_word, Assigned, Derived, Met, Head, Weaker, Kept, filed_at_slot, among_word, word_among, both_ways, false_from_ne_true, Chain, flat_map_among, file_of, links, built_in_not_plain, declarable_not_valued, OwnLink, up_trans, entailed_in, all_among, all_from, link_cases, same_words, words_told, file_told, among_from_number, number_from_among, only_word}
+use Rattle.lis_store.proofs.Common.{◌≡◌, ◌⊎◌, sym, ap, ◌∙◌, subst, inl, inr, refl, ℕ, suc, zero, true, false, List, ◌++◌, option_to_list, Some, length, list_all, Among, among_append, among_filter, among_flat_map, among_left, among_right, contains_from_among, filter_among, Filed, slot_of, rec_at, numbers_at, word_of, FileRecord, State, WellFormed, File, all_up, up, description, met_tests, derived_words, derived_built_in, new_file, file_of_name, is_built_in, is_plain_word, is_test, is_valued, head_bytes, plain_not_valued, entails_from_up, up_self, entailing, sorted_all_up, OwnWord, own_word, Assigned, Derived, Met, Head, Weaker, Metadata, filed_at_slot, among_word, word_among, both_ways, false_from_ne_true, Chain, flat_map_among, file_of, links, built_in_not_plain, declarable_not_valued, OwnLink, up_trans, entailed_in, all_among, all_from, link_cases, same_words, words_told, file_told, among_from_number, number_from_among, only_word}
 use Rattle.lis_model.specs.State.{is_declarable}
 use Rattle.lis_laws.proofs.Apart.{head_built_in, built_in_not_test, declarable_not_built_in}
 use Rattle.lis_laws.proofs.Chains.{weaker_tests_are}
@@ -88,13 +88,13 @@ module _ (s : State) (formed : WellFormed s) where
       (swapped words derived own tests (λ w of. (w, all w (derived_built_in file.name file.bytes w of) (file_has s file w w (Derived of) (up_self D A w)), up_self D A w)))
 
 -- ---- in memory
-pub own_built_in : (k : Kept) (slot : ℕ) → list_all is_built_in (own_kept k slot) ≡ true
+pub own_built_in : (k : Metadata) (slot : ℕ) → list_all is_built_in (own_kept k slot) ≡ true
 own_built_in k slot = search (rules, all_from, among_flat_map, among_filter)
 
 module _ (k : Stored) (s : State) (sound : IsSound k) (fits : ToldBy k s) (name : List ℕ) (slot : ℕ) (rec : FileRecord)
-    (is_slot : slot_of k.parts.catalog name ≡ Some slot) (is_rec : rec_at k.parts.catalog slot ≡ Some rec) where
-  abbrev p : Kept
-  p = k.parts
+    (is_slot : slot_of k.metadata.catalog name ≡ Some slot) (is_rec : rec_at k.metadata.catalog slot ≡ Some rec) where
+  abbrev p : Metadata
+  p = k.metadata
 
   abbrev filed : Filed
   filed = record { slot = slot; rec = rec }
@@ -106,13 +106,13 @@ module _ (k : Stored) (s : State) (sound : IsSound k) (fits : ToldBy k s) (name 
   numbers = numbers_at p.ext slot
 
   of : Among p.catalog.entries filed
-  of = filed_at_slot p.catalog sound.parts.catalog slot rec is_rec
+  of = filed_at_slot p.catalog sound.metadata.catalog slot rec is_rec
 
   old_is : old ≡ file_told p.limits p.dict fits.kept filed
-  old_is = file_in_slot p fits.kept s sound.parts sound.free fits.tells name slot rec is_slot is_rec
+  old_is = file_in_slot p fits.kept s sound.metadata sound.free fits.tells name slot rec is_slot is_rec
 
   old_there : Among s.files old
-  old_there = subst (λ f. Among s.files f) (sym old_is) (file_of_filed p fits.kept s sound.parts sound.free fits.tells filed of)
+  old_there = subst (λ f. Among s.files f) (sym old_is) (file_of_filed p fits.kept s sound.metadata sound.free fits.tells filed of)
 
   described : words_told p.dict numbers ≡ description s old
   described = fits.tells.described filed (contains_from_among p.catalog.entries filed of) ∙ ap (description s) (sym old_is)
@@ -121,11 +121,11 @@ module _ (k : Stored) (s : State) (sound : IsSound k) (fits : ToldBy k s) (name 
   kept_described w m =
       let found = among_flat_map (kept_word p) numbers w m in
       let both = among_filter is_built_in (option_to_list (word_of p.dict found.0)) w found.2 in
-      (both.1, subst (λ ws. Among ws w) described (word_among p sound.parts numbers found.0 w (only_word (word_of p.dict found.0) w both.0) (number_from_among numbers found.0 found.1)))
+      (both.1, subst (λ ws. Among ws w) described (word_among p sound.metadata numbers found.0 w (only_word (word_of p.dict found.0) w both.0) (number_from_among numbers found.0 found.1)))
 
   described_kept : (w : List ℕ) → is_built_in w ≡ true → Among (description s old) w → Among (own_kept p slot) w
   described_kept w own m =
-      let found = among_word p sound.parts numbers w (subst (λ ws. Among ws w) (sym described) m) in
+      let found = among_word p sound.metadata numbers w (subst (λ ws. Among ws w) (sym described) m) in
       flat_map_among (kept_word p) numbers found.0 w (among_from_number numbers found.0 found.2)
       (filter_among is_built_in (option_to_list (word_of p.dict found.0)) w (subst (λ o. Among (option_to_list o) w) (sym found.1) (inl refl)) own)
 

@@ -1,7 +1,7 @@
 -- A file that is admitted: its words may be learnt, and its numbers are in form.
 use Rattle.std.proofs.Common.{rules}
 use Rattle.std.proofs.Common.{◌^◌}
-use Rattle.lis_store.proofs.Common.{◌≡◌, ◌⊎◌, refl, sym, ap, ap₂, ◌∙◌, subst, inl, inr, ℕ, ◌≤◌, nat_lt, nat_le, ◌&&◌, ◌||◌, cond, Bool, true, false, List, [], ◌∷◌, ◌++◌, length, is_some, IsSome, arith, flat_map, list_all, IsStrictlyIncreasing, nat_cmp, nat_cmp_total, and_parts, or_cases, lt-ltb, is_rising, Among, among_filter, among_append, among_left, among_flat_map, members_le, sorted_from_rising, number_of, word_of, are_blocks, is_record, word_cmp, has_word, is_valued, is_head, is_built_in, head_bytes, with_word, with_words, State, heads, up, all_up, is_assignable, met_tests, plain_not_valued, among_heads, up_self, all_weaker, rising_from_sorted, word_order, among_with_words, with_words_new, sorted_with_words, among_from_has_word, Kept, AreSound, is_sound_record, is_declared, declared_of, axioms_of, among_where, sorted_where, few_properties, and_from, or_left, or_right, both_ways, le-leb, flat_map-append, IsStrictlyIncreasing-from_sorted, flat_map_among, words, has_number, all_among, all_from, with_words_old, set_of_among, number_from_among}
+use Rattle.lis_store.proofs.Common.{◌≡◌, ◌⊎◌, refl, sym, ap, ap₂, ◌∙◌, subst, inl, inr, ℕ, ◌≤◌, nat_lt, nat_le, ◌&&◌, ◌||◌, cond, Bool, true, false, List, [], ◌∷◌, ◌++◌, length, is_some, IsSome, arith, flat_map, list_all, IsStrictlyIncreasing, nat_cmp, nat_cmp_total, and_parts, or_cases, lt-ltb, is_rising, Among, among_filter, among_append, among_left, among_flat_map, members_le, sorted_from_rising, number_of, word_of, are_blocks, is_record, word_cmp, has_word, is_valued, is_head, is_built_in, head_bytes, with_word, with_words, State, heads, up, all_up, is_assignable, met_tests, plain_not_valued, among_heads, up_self, all_weaker, rising_from_sorted, word_order, among_with_words, with_words_new, sorted_with_words, among_from_has_word, Metadata, AreSound, is_sound_record, is_declared, declared_of, axioms_of, among_where, sorted_where, few_properties, and_from, or_left, or_right, both_ways, le-leb, flat_map-append, IsStrictlyIncreasing-from_sorted, flat_map_among, words, has_number, all_among, all_from, with_words_old, set_of_among, number_from_among}
 use Rattle.std.proofs.lemmas.List.Sums.{fold-append}
 use Rattle.lis_fields.specs.Layouts.{are_tags}
 use Rattle.lis_model.specs.Sets.{are_short}
@@ -18,17 +18,17 @@ use Rattle.lis_store.proofs.Naming.{one_of, named_one, named_few}
 use Rattle.lis_store.proofs.Told.{words_grow}
 
 -- ---- words that may be learnt
-pub declared_known : (k : Kept) (word : List ℕ) → has_word (declared_of k) word ≡ true → IsSome (number_of k.dict word)
+pub declared_known : (k : Metadata) (word : List ℕ) → has_word (declared_of k) word ≡ true → IsSome (number_of k.dict word)
 declared_known k word h = number_there k.dict word (among_filter (is_declared k) (words k.dict) word (among_from_has_word (declared_of k) word h)).0
 
-abbrev pub may_by : Kept → List ℕ → Bool → Bool
+abbrev pub may_by : Metadata → List ℕ → Bool → Bool
 may_by k word b = cond b (is_some (number_of k.dict (head_bytes word)) || is_built_in (head_bytes word)) (is_some (number_of k.dict word) || (is_head word && is_built_in word))
 
-assignable_may : (k : Kept) (word : List ℕ) → is_assignable (declared_of k) word ≡ true → may_learn k word ≡ true
+assignable_may : (k : Metadata) (word : List ℕ) → is_assignable (declared_of k) word ≡ true → may_learn k word ≡ true
 assignable_may k word h = search (rules, or_cases, and_parts, plain_not_valued, or_left, declared_known)
 
 -- a built-in word is valued, and its head is built in, or it is a bare head
-built_in_may : (k : Kept) (word : List ℕ) → is_built_in word ≡ true → may_learn k word ≡ true
+built_in_may : (k : Metadata) (word : List ℕ) → is_built_in word ≡ true → may_learn k word ≡ true
 built_in_may k word own = by (is_valued word) refl
   where
     bare : is_valued word ≡ false → (has_word built_in_heads word ≡ true) ⊎ ((is_valued word && has_word built_in_heads (head_bytes word)) ≡ true) → is_head word ≡ true
@@ -41,10 +41,10 @@ built_in_may k word own = by (is_valued word) refl
         or_right (is_some (number_of k.dict word)) (is_head word && is_built_in word)
         (and_from (is_head word) (is_built_in word) (bare not_valued (or_cases (has_word built_in_heads word) (is_valued word && has_word built_in_heads (head_bytes word)) own)) own)
 
-pub learnable_from : (k : Kept) (words : List (List ℕ)) → list_all (is_assignable (declared_of k)) words ≡ true → list_all (may_learn k) words ≡ true
+pub learnable_from : (k : Metadata) (words : List (List ℕ)) → list_all (is_assignable (declared_of k)) words ≡ true → list_all (may_learn k) words ≡ true
 learnable_from k words h = all_weaker (is_assignable (declared_of k)) (may_learn k) words (λ word m one. assignable_may k word one) h
 
-pub own_may : (k : Kept) (words : List (List ℕ)) → list_all is_built_in words ≡ true → list_all (may_learn k) words ≡ true
+pub own_may : (k : Metadata) (words : List (List ℕ)) → list_all is_built_in words ≡ true → list_all (may_learn k) words ≡ true
 own_may k words h = all_weaker is_built_in (may_learn k) words (λ word m one. built_in_may k word one) h
 
 -- ---- what words entail has them and their heads
@@ -68,12 +68,12 @@ behind_itself own word m = flat_map_among behind_head own word word m (by (is_va
     by false = inl refl
 
 -- a file that is admitted
-pub may_come : (p : Kept) (draft : Draft) → IsAdmitted p draft → MayComeIn p draft
+pub may_come : (p : Metadata) (draft : Draft) → IsAdmitted p draft → MayComeIn p draft
 may_come p draft admitted = search (rules)
 
 -- ---- the file
-module _ {p : Kept} (sound : AreSound p) {draft : Draft} (may : MayComeIn p draft) where
-  abbrev tests : Kept → List (List ℕ)
+module _ {p : Metadata} (sound : AreSound p) {draft : Draft} (may : MayComeIn p draft) where
+  abbrev tests : Metadata → List (List ℕ)
   tests k = met_tests (declared_of k) draft.size
 
   -- its words and their heads are words of its description
@@ -109,13 +109,13 @@ module _ {p : Kept} (sound : AreSound p) {draft : Draft} (may : MayComeIn p draf
       let parts = ap (λ (ws : List (List ℕ)). length ws) (fold-append with_word (words p.dict) (with_heads draft.assigned) (with_heads draft.own)) in
       omega (arith, whole, parts, words_grow (with_words (words p.dict) (with_heads draft.assigned)) (with_heads draft.own), words_fit)
 
-  pub own_room : {q : Kept} → LearnsAll (with_heads draft.assigned) p q → HasWordRoom q (with_heads draft.own)
+  pub own_room : {q : Metadata} → LearnsAll (with_heads draft.assigned) p q → HasWordRoom q (with_heads draft.own)
   own_room {q} learns = room_left p q (with_heads draft.assigned) learns (with_heads draft.own) (subst (λ ws. HasWordRoom p ws) heads_split words_fit)
 
-  pub both_learnt : {q r : Kept} → LearnsAll (with_heads draft.assigned) p q → LearnsAll (with_heads draft.own) q r → LearnsAll (with_heads (learnt_words draft)) p r
+  pub both_learnt : {q r : Metadata} → LearnsAll (with_heads draft.assigned) p q → LearnsAll (with_heads draft.own) q r → LearnsAll (with_heads (learnt_words draft)) p r
   both_learnt {q} {r} first second = search (rules, heads_split, learns_more)
 
-  module _ {r : Kept} (learns : LearnsAll (with_heads (learnt_words draft)) p r) where
+  module _ {r : Metadata} (learns : LearnsAll (with_heads (learnt_words draft)) p r) where
     pub own_numbered : AreNumbered r.dict (learnt_words draft)
     own_numbered word h = number_learnt p r (with_heads (learnt_words draft)) learns word (behind_itself (learnt_words draft) word (among_from_has_word (learnt_words draft) word h))
 
@@ -132,7 +132,7 @@ module _ {p : Kept} (sound : AreSound p) {draft : Draft} (may : MayComeIn p draf
     entailed_short = omega (arith, ap length entailed_is, may.short)
 
 -- ---- numbers in form
-module _ (r : Kept) (sound : AreSound r) (words : List (List ℕ)) where
+module _ (r : Metadata) (sound : AreSound r) (words : List (List ℕ)) where
   pub named_tags : length words ≤ 16 → are_tags (numbers_named r.dict words) ≡ true
   named_tags few =
       and_from (nat_le (length (numbers_named r.dict words)) 16 && are_short (numbers_named r.dict words)) (is_rising nat_cmp (numbers_named r.dict words))
@@ -151,15 +151,15 @@ module _ (r : Kept) (sound : AreSound r) (words : List (List ℕ)) where
       ap is_some (one_of words (word_of r.dict n) (named_one r.dict sound.dict words n m)).1)
 
 -- ---- its record
-pub record_sound : {p r : Kept} {draft : Draft} → MayComeIn p draft → AreSound r → LearnsAll (with_heads (learnt_words draft)) p r → (blocks : List ℕ) → are_blocks p.limits.version draft.size blocks ≡ true
+pub record_sound : {p r : Metadata} {draft : Draft} → MayComeIn p draft → AreSound r → LearnsAll (with_heads (learnt_words draft)) p r → (blocks : List ℕ) → are_blocks p.limits.version draft.size blocks ≡ true
     → list_all (λ n. nat_lt n p.limits.blocks) blocks ≡ true → is_sound_record r.limits.version r.dict r.limits.blocks (record_of (numbers_named r.dict draft.assigned) draft blocks) ≡ true
 record_sound {p} {r} {draft} may sound learns blocks formed below =
     let rec = record_of (numbers_named r.dict draft.assigned) draft blocks in
     and_from (is_record r.limits.version rec && list_all (λ n. is_some (word_of r.dict n)) rec.tags) (list_all (λ n. nat_lt n r.limits.blocks) blocks)
     (and_from (is_record r.limits.version rec) (list_all (λ n. is_some (word_of r.dict n)) rec.tags)
-    (ap (λ (k : Kept). is_record k.limits.version rec) learns.parts ∙ record_from p.limits.version rec may.name may.small (named_tags r sound draft.assigned may.few) formed)
+    (ap (λ (k : Metadata). is_record k.limits.version rec) learns.metadata ∙ record_from p.limits.version rec may.name may.small (named_tags r sound draft.assigned may.few) formed)
     (named_worded r sound draft.assigned))
-    (ap (λ (k : Kept). list_all (λ n. nat_lt n k.limits.blocks) blocks) learns.parts ∙ below)
+    (ap (λ (k : Metadata). list_all (λ n. nat_lt n k.limits.blocks) blocks) learns.metadata ∙ below)
 
 -- a slot without numbers has the empty set
 pub none_has : (ns : List ℕ) → ((n : ℕ) → has_number ns n ≡ false) → ns ≡ []

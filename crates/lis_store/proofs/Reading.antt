@@ -48,77 +48,77 @@ module _ {X : Type 0} (w : ℕ) (at : X → List ℕ) where
 -- a slot has this record, with these numbers of blocks and this size, and its file has bytes in an n-th block
 pub record HasBlock (k : Stored) (slot n : ℕ) (rec : FileRecord) (ns : List ℕ) (size : ℕ) : Type 0 where
   pub sound : IsSound k
-  pub is_rec : rec_at k.parts.catalog slot ≡ Some rec
+  pub is_rec : rec_at k.metadata.catalog slot ≡ Some rec
   pub within : 4096 * n < rec.size
   pub numbers : ns ≡ rec.blocks
   pub sized : size ≡ rec.size
 
-pub has_block : {k now : Stored} {slot : ℕ} {rec inside : FileRecord} {ns : List ℕ} (n : ℕ) → k ≡ now → IsSound k → rec_at k.parts.catalog slot ≡ Some rec
-    → IsSomeAnd (rec_at now.parts.catalog slot) (λ (r : FileRecord). 4096 * n < r.size) → inside ≡ rec → ns ≡ inside.blocks → HasBlock k slot n rec ns inside.size
+pub has_block : {k now : Stored} {slot : ℕ} {rec inside : FileRecord} {ns : List ℕ} (n : ℕ) → k ≡ now → IsSound k → rec_at k.metadata.catalog slot ≡ Some rec
+    → IsSomeAnd (rec_at now.metadata.catalog slot) (λ (r : FileRecord). 4096 * n < r.size) → inside ≡ rec → ns ≡ inside.blocks → HasBlock k slot n rec ns inside.size
 has_block {slot = slot} n view sound is_rec within is_it numbers = search (rules)
 
 module _ {k : Stored} {slot n : ℕ} {rec : FileRecord} {ns : List ℕ} {size : ℕ} (has : HasBlock k slot n rec ns size) where
   abbrev filed : Filed
   filed = record { slot = slot; rec = rec }
 
-  there : Among k.parts.catalog.entries filed
-  there = filed_at_slot k.parts.catalog has.sound.parts.catalog slot rec has.is_rec
+  there : Among k.metadata.catalog.entries filed
+  there = filed_at_slot k.metadata.catalog has.sound.metadata.catalog slot rec has.is_rec
 
   pub block_few : size ≤ 1048576
-  block_few = omega (arith, has.sized, size_fits k.parts.limits.version rec.size (sound_parts k.parts has.sound.parts filed there).short)
+  block_few = omega (arith, has.sized, size_fits k.metadata.limits.version rec.size (sound_parts k.metadata has.sound.metadata filed there).short)
 
   pub block_counted : length ns ≡ slot_count size
-  block_counted = ap length has.numbers ∙ (numbers_counted k.parts has.sound.parts filed there ∙ ap slot_count (sym has.sized))
+  block_counted = ap length has.numbers ∙ (numbers_counted k.metadata has.sound.metadata filed there ∙ ap slot_count (sym has.sized))
 
-  pub block_within_slot : (base : ℕ) → base ≡ data_start k.parts.limits → are_within base k.journal.layout.blocks ns ≡ true
-  block_within_slot base is_base = slot_within k.parts rec base k.journal.layout.blocks ns (has.sound.parts.records slot rec has.is_rec) is_base (same_blocks has.sound.image) has.numbers
+  pub block_within_slot : (base : ℕ) → base ≡ data_start k.metadata.limits → are_within base k.journal.layout.blocks ns ≡ true
+  block_within_slot base is_base = slot_within k.metadata rec base k.journal.layout.blocks ns (has.sound.metadata.records slot rec has.is_rec) is_base (same_blocks has.sound.image) has.numbers
 
   pub block_inside : n < blocks_needed size
   block_inside = let within = has.within in omega (arith, within, has.sized)
 
   -- the index block, by the numbers of the slot
-  index_is : (base : ℕ) → base ≡ data_start k.parts.limits → index_home base ns ≡ index_home (data_start k.parts.limits) rec.blocks
-  index_is base is_base = ap (λ b. index_home b ns) is_base ∙ ap (index_home (data_start k.parts.limits)) has.numbers
+  index_is : (base : ℕ) → base ≡ data_start k.metadata.limits → index_home base ns ≡ index_home (data_start k.metadata.limits) rec.blocks
+  index_is base is_base = ap (λ b. index_home b ns) is_base ∙ ap (index_home (data_start k.metadata.limits)) has.numbers
 
-  pub index_held : (base : ℕ) (index bytes : List ℕ) → base ≡ data_start k.parts.limits → (is_large size ≡ true → index ≡ held_in k.journal bytes (index_home base ns)) → IsIndex k bytes slot index
+  pub index_held : (base : ℕ) (index bytes : List ℕ) → base ≡ data_start k.metadata.limits → (is_large size ≡ true → index ≡ held_in k.journal bytes (index_home base ns)) → IsIndex k bytes slot index
   index_held base index bytes is_base held other is_other large = search (rules, index_is)
 
-  pub index_kept : (m : Meaning) (base : ℕ) (index : List ℕ) → base ≡ data_start k.parts.limits → properties_start ≤ base → IsIndex k m.bytes slot index
+  pub index_kept : (m : Meaning) (base : ℕ) (index : List ℕ) → base ≡ data_start k.metadata.limits → properties_start ≤ base → IsIndex k m.bytes slot index
       → (kept : ℕ → List ℕ) → Fits k.journal m kept → is_large size ≡ true → index ≡ looked k.journal.staged kept (index_home base ns)
   index_kept m base index is_base high is_index kept fits large = search (rules, index_is, fits_held)
 
   module _ (m : Meaning) (s : State) (fits : StoreFits k m s) where
     abbrev numbers : List ℕ
-    numbers = content_told k.parts.limits fits.kept rec
+    numbers = content_told k.metadata.limits fits.kept rec
 
     in_content : n < length numbers
-    in_content = let within = has.within in omega (arith, within, content_counted k.parts has.sound.parts filed there fits.kept)
+    in_content = let within = has.within in omega (arith, within, content_counted k.metadata has.sound.metadata filed there fits.kept)
 
-    below : (b : ℕ) → Among numbers b → b < k.parts.limits.blocks
-    below b among = told_below k s has.sound (told_fits k m s has.sound fits) filed there b (content_among k.parts.limits fits.kept rec b among)
+    below : (b : ℕ) → Among numbers b → b < k.metadata.limits.blocks
+    below b among = told_below k s has.sound (told_fits k m s has.sound fits) filed there b (content_among k.metadata.limits fits.kept rec b among)
 
-    block_told : (name : List ℕ) → slot_of k.parts.catalog name ≡ Some slot
-        → take (length (part (4096 * n) 4096 (file_of s.files name).bytes)) (fits.kept (data_start k.parts.limits + get_or numbers n 0)) ≡ part (4096 * n) 4096 (file_of s.files name).bytes
+    block_told : (name : List ℕ) → slot_of k.metadata.catalog name ≡ Some slot
+        → take (length (part (4096 * n) 4096 (file_of s.files name).bytes)) (fits.kept (data_start k.metadata.limits + get_or numbers n 0)) ≡ part (4096 * n) 4096 (file_of s.files name).bytes
     block_told name is_slot =
-        let at : ℕ → List ℕ = λ b. fits.kept (data_start k.parts.limits + b) in
+        let at : ℕ → List ℕ = λ b. fits.kept (data_start k.metadata.limits + b) in
         let within = has.within in
-        let bytes_are : (file_of s.files name).bytes ≡ bytes_told k.parts.limits fits.kept rec =
-        ap (λ (file : File). file.bytes) (file_in_slot k.parts fits.kept s has.sound.parts has.sound.free fits.tells name slot rec is_slot has.is_rec) in
+        let bytes_are : (file_of s.files name).bytes ≡ bytes_told k.metadata.limits fits.kept rec =
+        ap (λ (file : File). file.bytes) (file_in_slot k.metadata fits.kept s has.sound.metadata has.sound.free fits.tells name slot rec is_slot has.is_rec) in
         subst (λ bytes. take (length (part (4096 * n) 4096 bytes)) (at (get_or numbers n 0)) ≡ part (4096 * n) 4096 bytes) (sym bytes_are)
         (part_of_pieces 4096 at numbers n rec.size 0 (λ b among. (told_fits k m s has.sound fits).whole b (below b among)) in_content (omega arith))
 
-    number_within : data_start k.parts.limits + get_or numbers n 0 < k.journal.layout.blocks
+    number_within : data_start k.metadata.limits + get_or numbers n 0 < k.journal.layout.blocks
     number_within = omega (arith, below (get_or numbers n 0) (among_at numbers n 0 in_content), same_blocks has.sound.image)
 
-  pub block_read : (m : Meaning) (base : ℕ) (buf : List ℕ) → base ≡ data_start k.parts.limits
+  pub block_read : (m : Meaning) (base : ℕ) (buf : List ℕ) → base ≡ data_start k.metadata.limits
       → ((kept : ℕ → List ℕ) → Fits k.journal m kept
       → buf ≡ block_within base k.journal.layout.blocks (looked k.journal.staged kept) (slice_index (content_blocks base ns size (looked k.journal.staged kept)) n))
-      → (s : State) (name : List ℕ) → StoreFits k m s → slot_of k.parts.catalog name ≡ Some slot
+      → (s : State) (name : List ℕ) → StoreFits k m s → slot_of k.metadata.catalog name ≡ Some slot
       → take (length (part (4096 * n) 4096 (file_of s.files name).bytes)) buf ≡ part (4096 * n) 4096 (file_of s.files name).bytes
   block_read m base buf is_base read s name fits is_slot =
       let held : ℕ → List ℕ → ℕ → List HomeBlock → List ℕ =
       λ b slots bytes es. block_within b k.journal.layout.blocks (looked es fits.kept) (slice_index (content_blocks b slots bytes (looked es fits.kept)) n) in
-      let ds = data_start k.parts.limits in
+      let ds = data_start k.metadata.limits in
       let number = get_or (numbers m s fits) n 0 in
       let is_read : buf ≡ held ds rec.blocks rec.size [] =
       read fits.kept fits.journal

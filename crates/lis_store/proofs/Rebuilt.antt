@@ -1,6 +1,6 @@
 -- Descriptions that become others, slot by slot, and those that are made anew: what holds of memory then, and how much is edited and marked.
 use Rattle.std.proofs.Common.{rules}
-use Rattle.lis_store.proofs.Common.{◌≡◌, ◌⊎◌, inl, inr, refl, subst, ℕ, zero, suc, ◌+◌, ◌≤◌, Bool, true, false, cond, List, [], ◌∷◌, ◌++◌, length, count_by, arith, length-append, sym, ap, ap₂, ◌∙◌, ◌<◌, map, get_or-set_same, get_or-set_other, length-set, if◌then◌else◌, filter, take, not, Option, Some, is_some, IsSome, both_ways, false_from_ne_true, sum_by-cons, Among, among_left, among_right, is_taken, Kept, is_marked, marked_count, cases_lt, numbers_at, differs, IsSaved, block_of, Describes, among_where, map_all, length-map, length-take-le, list_all, among_append, among_filter, word_of, rec_at, slot_is_below, Ext, has, FileRecord, is_test, is_had, had_at, AreSound, FreeSlotsAreEmpty, among_map, map_among, numbers_where, Rows, has_number, all_among, all_from, is_linked, common_steps}
+use Rattle.lis_store.proofs.Common.{◌≡◌, ◌⊎◌, inl, inr, refl, subst, ℕ, zero, suc, ◌+◌, ◌≤◌, Bool, true, false, cond, List, [], ◌∷◌, ◌++◌, length, count_by, arith, length-append, sym, ap, ap₂, ◌∙◌, ◌<◌, map, get_or-set_same, get_or-set_other, length-set, if◌then◌else◌, filter, take, not, Option, Some, is_some, IsSome, both_ways, false_from_ne_true, sum_by-cons, Among, among_left, among_right, is_taken, Metadata, is_marked, marked_count, cases_lt, numbers_at, differs, IsSaved, block_of, Describes, among_where, map_all, length-map, length-take-le, list_all, among_append, among_filter, word_of, rec_at, slot_is_below, Ext, has, FileRecord, is_test, is_had, had_at, AreSound, FreeSlotsAreEmpty, among_map, map_among, numbers_where, Rows, has_number, all_among, all_from, is_linked, common_steps}
 use Rattle.lis_kept.proofs.Marking.{marked_within, marked_only}
 use Rattle.std.proofs.lemmas.List.FromFn.{sum_by-map-range_with_len_more}
 use Rattle.lis_store.specs.Redescribing.{SlotHas, turned_at, IsTurnedRow, Redescribes}
@@ -32,7 +32,7 @@ taken_among (true ∷ bits) i (suc n) is = let next : suc i + n ≡ i + suc n = 
 taken_among (false ∷ bits) i (suc n) is = let next : suc i + n ≡ i + suc n = omega arith in subst (λ m. Among (taken_from bits (suc i)) m) next (taken_among bits (suc i) n is)
 
 -- marks that were there, or are of these blocks
-pub marked_more : (p q : Kept) (blocks : List ℕ) → ((block : ℕ) → is_marked q block ≡ true → (is_marked p block ≡ true) ⊎ Among blocks block) → marked_count q ≤ marked_count p + length blocks
+pub marked_more : (p q : Metadata) (blocks : List ℕ) → ((block : ℕ) → is_marked q block ≡ true → (is_marked p block ≡ true) ⊎ Among blocks block) → marked_count q ≤ marked_count p + length blocks
 marked_more p q blocks within =
     let few = marked_within q.marks (taken_from p.marks 0 ++ blocks) (λ block is. by block (within block is)) in
     omega (arith, few, length-append (taken_from p.marks 0) blocks, taken_count p.marks 0)
@@ -43,18 +43,18 @@ marked_more p q blocks within =
 
 -- ---- one slot more
 -- nothing is done yet
-pub redescribed_none : (sets : ℕ → List ℕ) (p : Kept) → Redescribes sets 0 p p
+pub redescribed_none : (sets : ℕ → List ℕ) (p : Metadata) → Redescribes sets 0 p p
 redescribed_none sets p = grind (arith, common_steps)
 
-module _ (sets : ℕ → List ℕ) (n : ℕ) (p q : Kept) (so_far : Redescribes sets n p q) where
+module _ (sets : ℕ → List ℕ) (n : ℕ) (p q : Metadata) (so_far : Redescribes sets n p q) where
   -- the next slot is as it was at first
   pub same_here : numbers_at q.ext n ≡ numbers_at p.ext n
   same_here = so_far.others n (omega arith)
 
-  module _ (r : Kept) (inside : n < length p.ext.sets) (one : SlotHas n (sets n) q r) where
+  module _ (r : Metadata) (inside : n < length p.ext.sets) (one : SlotHas n (sets n) q r) where
     -- the slot, in the terms of what was at first
     record Turn : Type 0 where
-      parts : r ≡ record p { ext = r.ext; marks = r.marks }
+      metadata : r ≡ record p { ext = r.ext; marks = r.marks }
       props : r.ext.props ≡ p.ext.props
       slots : length r.ext.sets ≡ length p.ext.sets
       here : numbers_at r.ext n ≡ sets n
@@ -81,7 +81,7 @@ module _ (sets : ℕ → List ℕ) (n : ℕ) (p q : Kept) (so_far : Redescribes 
     redescribed_more = grind (arith, common_steps, turn, sum_by-map-range_with_len_more, cases_lt)
 
 -- ---- all slots
-module _ (sets : ℕ → List ℕ) (files : ℕ) (p q : Kept) (all : Redescribes sets files p q) (count : length p.ext.sets ≡ files) (past : (slot : ℕ) → files ≤ slot → sets slot ≡ numbers_at p.ext slot) where
+module _ (sets : ℕ → List ℕ) (files : ℕ) (p q : Metadata) (all : Redescribes sets files p q) (count : length p.ext.sets ≡ files) (past : (slot : ℕ) → files ≤ slot → sets slot ≡ numbers_at p.ext slot) where
   pub given_then : (slot : ℕ) → numbers_at q.ext slot ≡ sets slot
   given_then slot = grind (arith, common_steps, cases_lt)
 
@@ -91,8 +91,8 @@ module _ (sets : ℕ → List ℕ) (files : ℕ) (p q : Kept) (all : Redescribes
 
 -- ---- descriptions that are made anew
 -- ---- a slot that is not reached yet becomes what it becomes at first
-module _ (n : ℕ) (p : Kept) (ext : Ext) (marks : List Bool) (here : numbers_at ext n ≡ numbers_at p.ext n) where
-  abbrev so_far : Kept
+module _ (n : ℕ) (p : Metadata) (ext : Ext) (marks : List Bool) (here : numbers_at ext n ≡ numbers_at p.ext n) where
+  abbrev so_far : Metadata
   so_far = record p { ext = ext; marks = marks }
 
   words_yet : (how : Rebuild) → has_words so_far how ≡ has_words p how
@@ -107,18 +107,18 @@ module _ (n : ℕ) (p : Kept) (ext : Ext) (marks : List Bool) (here : numbers_at
   rebuilt_yet : (how : Rebuild) → rebuilt so_far how n ≡ rebuilt p how n
   rebuilt_yet how = search (rules, concerned_yet, base_yet)
 
-module _ (how : Rebuild) (n : ℕ) (p q : Kept) (so_far : Redescribes (rebuilt p how) n p q) where
+module _ (how : Rebuild) (n : ℕ) (p q : Metadata) (so_far : Redescribes (rebuilt p how) n p q) where
   pub words_same_yet : has_words q how ≡ has_words p how
-  words_same_yet = ap (λ k. has_words k how) so_far.parts ∙ words_yet n p q.ext q.marks (same_here (rebuilt p how) n p q so_far) how
+  words_same_yet = ap (λ k. has_words k how) so_far.metadata ∙ words_yet n p q.ext q.marks (same_here (rebuilt p how) n p q so_far) how
 
   pub concerned_same : is_concerned q how n ≡ is_concerned p how n
-  concerned_same = ap (λ k. is_concerned k how n) so_far.parts ∙ concerned_yet n p q.ext q.marks (same_here (rebuilt p how) n p q so_far) how
+  concerned_same = ap (λ k. is_concerned k how n) so_far.metadata ∙ concerned_yet n p q.ext q.marks (same_here (rebuilt p how) n p q so_far) how
 
   pub closure_same : closure q (base_at q how n) ≡ closure p (base_at p how n)
-  closure_same = ap (λ k. closure k (base_at k how n)) so_far.parts ∙ ap (closure p) (base_yet n p q.ext q.marks (same_here (rebuilt p how) n p q so_far) how)
+  closure_same = ap (λ k. closure k (base_at k how n)) so_far.metadata ∙ ap (closure p) (base_yet n p q.ext q.marks (same_here (rebuilt p how) n p q so_far) how)
 
   pub rebuilt_same : rebuilt q how n ≡ rebuilt p how n
-  rebuilt_same = ap (λ k. rebuilt k how n) so_far.parts ∙ rebuilt_yet n p q.ext q.marks (same_here (rebuilt p how) n p q so_far) how
+  rebuilt_same = ap (λ k. rebuilt k how n) so_far.metadata ∙ rebuilt_yet n p q.ext q.marks (same_here (rebuilt p how) n p q so_far) how
 
 -- ---- the numbers of which it is made anew
 added_few : (how : Rebuild) → length (added how) ≤ 1
@@ -132,13 +132,13 @@ pub base_room : (how : Rebuild) (test : ℕ → Bool) (xs items : List ℕ) (i :
 base_room how test xs items i lt few are = grind (arith, common_steps, length-append, added_few, filter_few, length-take-le)
 
 -- each has a word
-pub base_words : (k : Kept) (how : Rebuild) (slot : ℕ) → has_words k how ≡ true → list_all (λ n. is_some (word_of k.dict n)) (numbers_at k.ext slot) ≡ true
+pub base_words : (k : Metadata) (how : Rebuild) (slot : ℕ) → has_words k how ≡ true → list_all (λ n. is_some (word_of k.dict n)) (numbers_at k.ext slot) ≡ true
     → list_all (λ n. is_some (word_of k.dict n)) (base_at k how slot) ≡ true
 base_words k how slot words named = grind (arith, common_steps, all_from, among_append, all_among, among_filter)
 
 -- ---- memory then
 -- Descriptions of files were made anew.
-pub record IsRebuilt (concerned : ℕ → Bool) (base : ℕ → List ℕ) (k m : Kept) : Type 0 where
+pub record IsRebuilt (concerned : ℕ → Bool) (base : ℕ → List ℕ) (k m : Metadata) : Type 0 where
   pub sound : AreSound k
   pub filed : (slot : ℕ) → concerned slot ≡ true → IsSome (rec_at k.catalog slot)
   pub redescribes : Redescribes (anew k concerned base) k.limits.files k m
@@ -160,15 +160,15 @@ some_had e n = by (is_had e n) refl
     by false none = inr (λ slot. false_from_ne_true (has e n slot) (λ had. both_ways (is_had e n) none (had_from e n slot had)))
 
 -- a slot that has a number has a file
-pub had_filed : (k : Kept) → FreeSlotsAreEmpty k → (n slot : ℕ) → has k.ext n slot ≡ true → IsSome (rec_at k.catalog slot)
+pub had_filed : (k : Metadata) → FreeSlotsAreEmpty k → (n slot : ℕ) → has k.ext n slot ≡ true → IsSome (rec_at k.catalog slot)
 had_filed k free n slot had = grind (arith, common_steps, both_ways)
 
-module _ {concerned : ℕ → Bool} {base : ℕ → List ℕ} {k m : Kept} (r : IsRebuilt concerned base k m) where
-  abbrev pub made : Kept
+module _ {concerned : ℕ → Bool} {base : ℕ → List ℕ} {k m : Metadata} (r : IsRebuilt concerned base k m) where
+  abbrev pub made : Metadata
   made = record k { ext = m.ext; marks = m.marks }
 
   pub made_is : m ≡ made
-  made_is = r.redescribes.parts
+  made_is = r.redescribes.metadata
 
   none_past : (slot : ℕ) → k.limits.files ≤ slot → anew k concerned base slot ≡ numbers_at k.ext slot
   none_past slot le = search (rules, false_from_ne_true, slot_is_below)

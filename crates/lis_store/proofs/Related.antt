@@ -1,7 +1,7 @@
 -- What refuses an axiom: the row of `axiom`, told by what a store keeps, is the row of the state; and what holds where it refuses nothing.
 use Rattle.std.proofs.Common.{rules}
 use Rattle.std.proofs.Common.{◌↔◌}
-use Rattle.lis_store.proofs.Common.{◌≡◌, ◌⊎◌, refl, sym, ap, ap₂, ◌∙◌, subst, inl, inr, ℕ, ◌+◌, Bool, true, false, cond, is_some, Some, None, List, [], ◌∷◌, ◌++◌, length, arith, ◌<◌, ◌&&◌, ◌||◌, nat_lt, nat_le, Option, IsSome, option_to_list, not, declared_has_number, IsStrictlySortedBy, length-map, none-some, Among, among_insert_key, insert_key_old, sorted_from_rising, sorted_insert_key, number_of, number_from_word, word_from_number, Taxonomy, leads, entails_decides, word_cmp, has_word, is_valued, head_bytes, with_word, with_words, up, head_not_valued, word_exact, word_order, among_from_has_word, Kept, AreSound, declared_of, axioms_of, fun_ext, and_parts, cases_lt, leb-true, ltb-true, get_or_past, contains_from_among, Filed, rec_at, word_of, has, numbers_at, State, File, all_up, own_words, description, axiom_added, exceeds_words, entailing, sorted_all_up, all_up_closed, among_with_words, with_words_new, sorted_with_words, FreeSlotsAreEmpty, is_declared, Tells, among_word, number_told, not-false, ltb-false, same_word, is_plain_word, Limits, Refusal, pair_cmp, same_pair, has_axiom, Situation, refused, exceeds_known, add_axiom, pair_exact, same_word_decides, is_filled, axioms_counted, both_ways, false_from_ne_true, and_from, words, has_word_from_among, same_words, with_words_old, same_tests, set_of, entailed_in, all_up_has, all_among, words_told, file_told, any_from_among, changed, declared_there}
+use Rattle.lis_store.proofs.Common.{◌≡◌, ◌⊎◌, refl, sym, ap, ap₂, ◌∙◌, subst, inl, inr, ℕ, ◌+◌, Bool, true, false, cond, is_some, Some, None, List, [], ◌∷◌, ◌++◌, length, arith, ◌<◌, ◌&&◌, ◌||◌, nat_lt, nat_le, Option, IsSome, option_to_list, not, declared_has_number, IsStrictlySortedBy, length-map, none-some, Among, among_insert_key, insert_key_old, sorted_from_rising, sorted_insert_key, number_of, number_from_word, word_from_number, Taxonomy, leads, entails_decides, word_cmp, has_word, is_valued, head_bytes, with_word, with_words, up, head_not_valued, word_exact, word_order, among_from_has_word, Metadata, AreSound, declared_of, axioms_of, fun_ext, and_parts, cases_lt, leb-true, ltb-true, get_or_past, contains_from_among, Filed, rec_at, word_of, has, numbers_at, State, File, all_up, own_words, description, axiom_added, exceeds_words, entailing, sorted_all_up, all_up_closed, among_with_words, with_words_new, sorted_with_words, FreeSlotsAreEmpty, is_declared, Tells, among_word, number_told, not-false, ltb-false, same_word, is_plain_word, Limits, Refusal, pair_cmp, same_pair, has_axiom, Situation, refused, exceeds_known, add_axiom, pair_exact, same_word_decides, is_filled, axioms_counted, both_ways, false_from_ne_true, and_from, words, has_word_from_among, same_words, with_words_old, same_tests, set_of, entailed_in, all_up_has, all_among, words_told, file_told, any_from_among, changed, declared_there}
 use Rattle.lis_taxonomy.specs.Taxonomy.{Entails as Leads}
 use Rattle.lis_laws.specs.Changes.{AxiomFits}
 use Rattle.lis_laws.proofs.Steps.{axiom_fits}
@@ -32,7 +32,7 @@ pub decided : (t : Taxonomy) (p q : ℕ) (b : Bool) → ((b ≡ true) ↔ Leads 
 decided t p q b both = same_tests b (leads t p q) (λ h. (entails_decides t p q).1 (both.0 h)) (λ h. both.1 ((entails_decides t p q).0 h))
 
 -- ---- what a word entails
-module _ (k : Kept) (sound : AreSound k) where
+module _ (k : Metadata) (sound : AreSound k) where
   -- what a word with a number entails has one
   pub entails_unnumbered : (word other : List ℕ) (n : ℕ) → number_of k.dict word ≡ Some n → number_of k.dict other ≡ None → entails_word k word other ≡ false
   entails_unnumbered word other n is none = false_from_ne_true (entails_word k word other) (λ has_it.
@@ -55,7 +55,7 @@ word_counted ws sorted w = by (has_word ws w) refl
     by false none =
         length-with_word ws w (λ v m tie. both_ways (has_word ws w) none (has_word_from_among ws w (subst (λ u. Among ws u) (sym (word_exact w v tie)) m)))
 
-module _ (k : Kept) (sound : AreSound k) (word : List ℕ) where
+module _ (k : Metadata) (sound : AreSound k) (word : List ℕ) where
   abbrev known : List (List ℕ)
   known = words k.dict
 
@@ -90,23 +90,23 @@ module _ (k : Kept) (sound : AreSound k) (word : List ℕ) where
 
 -- ---- descriptions that an axiom would make too large, by their numbers and by their words
 -- a slot that has a number is one of those that there are
-pub had_below : (k : Kept) (n slot : ℕ) → has k.ext n slot ≡ true → slot < length k.ext.sets
+pub had_below : (k : Metadata) (n slot : ℕ) → has k.ext n slot ≡ true → slot < length k.ext.sets
 had_below k n slot had = search (rules, cases_lt, get_or_past, both_ways)
 
 -- what the right word entails, by its number
-gains_of : (k : Kept) (right : List ℕ) (number : ℕ) → word_of k.dict number ≡ Some right → is_gained k (number ∷ []) ≡ is_gained_by k (right ∷ [])
+gains_of : (k : Metadata) (right : List ℕ) (number : ℕ) → word_of k.dict number ≡ Some right → is_gained k (number ∷ []) ≡ is_gained_by k (right ∷ [])
 gains_of k right number is = fun_ext (λ n. ap (λ o. entails_by k o (word_of k.dict n) || false) is)
 
 -- one slot, by the numbers of the two words
-pub overfull_here : (k : Kept) (left right : List ℕ) (from number : ℕ) → number_of k.dict left ≡ Some from → word_of k.dict number ≡ Some right → (slot : ℕ)
+pub overfull_here : (k : Metadata) (left right : List ℕ) (from number : ℕ) → number_of k.dict left ≡ Some from → word_of k.dict number ≡ Some right → (slot : ℕ)
     → is_overfull k left right slot ≡ (has k.ext from slot && nat_lt 128 (length (wider k (is_gained k (number ∷ [])) slot)))
 overfull_here k left right from number is_left is_right slot = search (rules, gains_of)
 
 -- none has a word that has no number
-pub overfull_unnumbered : (k : Kept) (left right : List ℕ) → number_of k.dict left ≡ None → has_overfull k left right ≡ false
+pub overfull_unnumbered : (k : Metadata) (left right : List ℕ) → number_of k.dict left ≡ None → has_overfull k left right ≡ false
 overfull_unnumbered k left right none = search (rules, full_nowhere)
 
-module _ (k : Kept) (sound : AreSound k) (at : ℕ → List ℕ) (s : State) (free : FreeSlotsAreEmpty k) (closed : AreClosed k) (tells : Tells k at s) (left right : List ℕ) (declared : is_declared k right ≡ true) where
+module _ (k : Metadata) (sound : AreSound k) (at : ℕ → List ℕ) (s : State) (free : FreeSlotsAreEmpty k) (closed : AreClosed k) (tells : Tells k at s) (left right : List ℕ) (declared : is_declared k right ≡ true) where
   abbrev added : State
   added = axiom_added s (left, right)
 
@@ -186,7 +186,7 @@ module _ (k : Kept) (sound : AreSound k) (at : ℕ → List ℕ) (s : State) (fr
 
 -- ---- the row
 -- ---- what a row that refuses nothing says
-pub related : {k : Kept} → AreSound k → {left right : List ℕ} → first_refusal (axiom_checks_of k left right) ≡ None → MayRelate k left right
+pub related : {k : Metadata} → AreSound k → {left right : List ℕ} → first_refusal (axiom_checks_of k left right) ≡ None → MayRelate k left right
 related {k} sound {left} {right} none =
     let row = all_pass (axiom_checks_of k left right) none in
     let form = row.1 in
@@ -215,9 +215,9 @@ related {k} sound {left} {right} none =
     }
 
 -- ---- the row of the state
-module _ {k : Stored} {at : ℕ → List ℕ} (sound : IsSound k) (now : Situation) (tells : Tells k.parts at now.state) (left right : List ℕ) where
-  abbrev p : Kept
-  p = k.parts
+module _ {k : Stored} {at : ℕ → List ℕ} (sound : IsSound k) (now : Situation) (tells : Tells k.metadata at now.state) (left right : List ℕ) where
+  abbrev p : Metadata
+  p = k.metadata
 
   abbrev s : State
   s = now.state
@@ -229,7 +229,7 @@ module _ {k : Stored} {at : ℕ → List ℕ} (sound : IsSound k) (now : Situati
   made = axiom_added s pair
 
   limits_are : p.limits ≡ s.limits
-  limits_are = limits_told p at s sound.parts sound.free tells
+  limits_are = limits_told p at s sound.metadata sound.free tells
 
   declared_are : declared_of p ≡ s.declared
   declared_are = ap (λ (t : State). t.declared) tells.state
@@ -249,7 +249,7 @@ module _ {k : Stored} {at : ℕ → List ℕ} (sound : IsSound k) (now : Situati
   -- a new axiom is one more
   axioms_then : has_axiom s.axioms pair ≡ false → length made.axioms ≡ count_by is_filled p.axioms + 1
   axioms_then new =
-      let old = axioms_counted p sound.parts sound.pairs in
+      let old = axioms_counted p sound.metadata sound.pairs in
       let more = length-with_more pair_cmp pair_exact s.axioms (pair ∷ []) ((λ none. none), tt) (λ e m there. apart e m there) in
       omega (arith, more, old, ap (λ (es : List (List ℕ × List ℕ)). length es) axioms_are)
     where
@@ -264,7 +264,7 @@ module _ {k : Stored} {at : ℕ → List ℕ} (sound : IsSound k) (now : Situati
   slots_told new = ap₂ nat_lt (ap (λ (l : Limits). l.props) limits_are) (sym (axioms_then new))
 
   room_told : (is_plain_word right && has_word s.declared right) ≡ true → nat_lt p.limits.props (length (with_words (words p.dict) (behind_head left))) ≡ exceeds_known made
-  room_told form = ap₂ (λ props (ws : List (List ℕ)). nat_lt props (length ws)) (ap (λ (l : Limits). l.props) limits_are) (known_then p at s sound.parts sound.free tells left right form)
+  room_told form = ap₂ (λ props (ws : List (List ℕ)). nat_lt props (length ws)) (ap (λ (l : Limits). l.props) limits_are) (known_then p at s sound.metadata sound.free tells left right form)
 
   -- ---- the rows
   -- what the first two checks leave
@@ -272,7 +272,7 @@ module _ {k : Stored} {at : ℕ → List ℕ} (sound : IsSound k) (now : Situati
   pair_form plain formed = search (rules, and_parts, not-false, and_from, right_told)
 
   overfull_same : is_declared p right ≡ true → has_overfull p left right ≡ exceeds_words made
-  overfull_same declared = overfull_told p sound.parts at s sound.free sound.closed tells left right declared
+  overfull_same declared = overfull_told p sound.metadata at s sound.free sound.closed tells left right declared
 
   same_row : first_refusal (axiom_checks_of p left right) ≡ first_refusal (axiom_checks s pair made)
   same_row =

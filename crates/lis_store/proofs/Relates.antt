@@ -1,7 +1,7 @@
 -- What an axiom that is added comes to: it links two numbers, and descriptions gain what its right word entails.
 use Rattle.std.proofs.Common.{rules}
 use Rattle.std.proofs.Common.{eq-eqb}
-use Rattle.lis_store.proofs.Common.{◌≡◌, ◌⊎◌, refl, sym, ap, ap₂, ◌∙◌, subst, inl, inr, ℕ, ◌==◌, true, false, List, [], ◌∷◌, Some, is_some, IsSome, ◌+◌, ◌*◌, ◌/◌, ◌<◌, ◌≤◌, ◌&&◌, ◌||◌, Bool, length, count_by, arith, cond, ◌++◌, slice_get, slice_set, Option, None, option_to_list, length-append, Result, and_parts, or_cases, eqb-true, same_Some, Among, among_filter, filter_among, insert_key_old, word_of, Ext, has, numbers_at, differs, is_plain_word, is_test, has_word, plain_not_test, with_axiom, State, File, pair_cmp, up, all_up, own_words, file_words, up_self, Kept, AreSound, FreeSlotsAreEmpty, declared_of, axioms_of, is_used, named_all, among_word, word_among, number_told, used_had, among_right, number_of, number_from_word, word_from_number, among_where, where_among, sorted_where, is_valued, is_head, is_built_in, head_bytes, heads, has_axiom, plain_not_valued, has_pair, is_filled, some_word, some_number, flat_map, Contains, contains_from_among, among_append, among_left, is_taken, Dict, Filed, AxiomSlot, FreeAxiom, Pair, word_cmp, same_word, with_words, description, axiom_added, sorted_known, IsStrictlySortedBy, among_heads, same_word_decides, among_with_words, with_words_new, sorted_with_words, IsSaved, KeepsInUse, bit_of, state_of, is_head_by, AreUsed, Tells, named_below, marked_count, Meaning, looked, Situation, Outcome, filed_rec, both_ways, and_from, or_left, or_right, has_number, all_up_has, same_tests, is_linked, words_told, file_told, among_from_number, number_from_among, known, one_number, words, numbers_where, with_words_old, same_words, changed}
+use Rattle.lis_store.proofs.Common.{◌≡◌, ◌⊎◌, refl, sym, ap, ap₂, ◌∙◌, subst, inl, inr, ℕ, ◌==◌, true, false, List, [], ◌∷◌, Some, is_some, IsSome, ◌+◌, ◌*◌, ◌/◌, ◌<◌, ◌≤◌, ◌&&◌, ◌||◌, Bool, length, count_by, arith, cond, ◌++◌, slice_get, slice_set, Option, None, option_to_list, length-append, Result, and_parts, or_cases, eqb-true, same_Some, Among, among_filter, filter_among, insert_key_old, word_of, Ext, has, numbers_at, differs, is_plain_word, is_test, has_word, plain_not_test, with_axiom, State, File, pair_cmp, up, all_up, own_words, file_words, up_self, Metadata, AreSound, FreeSlotsAreEmpty, declared_of, axioms_of, is_used, named_all, among_word, word_among, number_told, used_had, among_right, number_of, number_from_word, word_from_number, among_where, where_among, sorted_where, is_valued, is_head, is_built_in, head_bytes, heads, has_axiom, plain_not_valued, has_pair, is_filled, some_word, some_number, flat_map, Contains, contains_from_among, among_append, among_left, is_taken, Dict, Filed, AxiomSlot, FreeAxiom, Pair, word_cmp, same_word, with_words, description, axiom_added, sorted_known, IsStrictlySortedBy, among_heads, same_word_decides, among_with_words, with_words_new, sorted_with_words, IsSaved, KeepsInUse, bit_of, state_of, is_head_by, AreUsed, Tells, named_below, marked_count, Meaning, looked, Situation, Outcome, filed_rec, both_ways, and_from, or_left, or_right, has_number, all_up_has, same_tests, is_linked, words_told, file_told, among_from_number, number_from_among, known, one_number, words, numbers_where, with_words_old, same_words, changed}
 use Rattle.lis_laws.proofs.Axioms.{up_with_axiom}
 use Rattle.lis_laws.proofs.Chains.{up_cons, up_through}
 use Rattle.lis_laws.proofs.Closures.{all_up_within}
@@ -34,7 +34,7 @@ use Rattle.lis_store.proofs.Declared.{slot_pair}
 use Rattle.lis_store.proofs.StoreSays.{known_told}
 use Rattle.lis_store.proofs.Cleaned.{none_marked}
 use Rattle.lis_store.proofs.FileTests.{test_flagged, flagged_before, tests_stay}
-use Rattle.lis_store.specs.declared.change.Change.{Change}
+use Rattle.lis_store.specs.declared.change_fault.ChangeFault.{ChangeFault}
 use Rattle.lis_store.specs.Changes.{Holds, AreEditsFew}
 use Rattle.lis_store.proofs.SavedAlone.{IsChange, saves_alone}
 use Rattle.lis_store.proofs.Retaken.{settled_sound}
@@ -44,7 +44,7 @@ use Rattle.lis_laws.proofs.Forms as forms
 
 -- ---- the axiom, and descriptions that have its left word made anew
 -- the axiom leads from the one number to the other
-pub record IsLinked (left right : List ℕ) (from to : ℕ) (k linked : Kept) : Type 0 where
+pub record IsLinked (left right : List ℕ) (from to : ℕ) (k linked : Metadata) : Type 0 where
   pub sound : AreSound k
   pub free : FreeSlotsAreEmpty k
   pub closed : AreClosed k
@@ -55,10 +55,10 @@ pub record IsLinked (left right : List ℕ) (from to : ℕ) (k linked : Kept) : 
   pub sound_then : AreSound linked
 
 -- the descriptions that have its left word are made anew
-abbrev pub of_all : Kept → ℕ → ℕ → List ℕ
+abbrev pub of_all : Metadata → ℕ → ℕ → List ℕ
 of_all k from = base_at k (Having from)
 
-module _ {left right : List ℕ} {from to : ℕ} {k linked : Kept} (l : IsLinked left right from to k linked) where
+module _ {left right : List ℕ} {from to : ℕ} {k linked : Metadata} (l : IsLinked left right from to k linked) where
   abbrev D : List (List ℕ)
   D = declared_of k
 
@@ -66,10 +66,10 @@ module _ {left right : List ℕ} {from to : ℕ} {k linked : Kept} (l : IsLinked
   A = axioms_of k
 
   pub dict_same : linked.dict ≡ k.dict
-  dict_same = ap (λ (x : Kept). x.dict) l.links.parts
+  dict_same = ap (λ (x : Metadata). x.dict) l.links.metadata
 
   pub ext_same : linked.ext ≡ k.ext
-  ext_same = ap (λ (x : Kept). x.ext) l.links.parts
+  ext_same = ap (λ (x : Metadata). x.ext) l.links.metadata
 
   declared_then : declared_of linked ≡ D
   declared_then = ap (λ (s : State). s.declared) (l.links.state (λ _. []) left right l.is_from l.is_to)
@@ -146,7 +146,7 @@ module _ {left right : List ℕ} {from to : ℕ} {k linked : Kept} (l : IsLinked
       then_is = ap₂ (λ d a. file_words d a file) declared_then axioms_then
 
   -- ---- memory
-  module _ {q : Kept} (rebuilds : Redescribes (rebuilt linked (Having from)) linked.limits.files linked q) where
+  module _ {q : Metadata} (rebuilds : Redescribes (rebuilt linked (Having from)) linked.limits.files linked q) where
     pub is_rebuilt : IsRebuilt (is_concerned linked (Having from)) (of_all linked from) linked q
     is_rebuilt = search (rules, had_filed)
 
@@ -165,7 +165,7 @@ module _ {left right : List ℕ} {from to : ℕ} {k linked : Kept} (l : IsLinked
     tests_linked tests = tests_made is_rebuilt (λ n slot w is test here.
         same_tests (has_number (closure linked (of_all linked from slot)) n) (has linked.ext n slot)
         (λ h. has_same n slot ∙ by n slot w (sym (word_same n) ∙ is) test (closure_cases n slot h)) (λ had. closure_had n slot (sym (has_same n slot) ∙ had)))
-        (subst (λ (x : Kept). TestsAreMet x) (sym l.links.parts) (record { given = tests.given; met = tests.met }))
+        (subst (λ (x : Metadata). TestsAreMet x) (sym l.links.metadata) (record { given = tests.given; met = tests.met }))
       where
         by : (n slot : ℕ) (w : List ℕ) → word_of k.dict n ≡ Some w → is_test w ≡ true → (has k.ext n slot ≡ true) ⊎ (is_entailed k to n ≡ true) → has k.ext n slot ≡ true
         by n slot w is test (inl had) = had
@@ -183,7 +183,7 @@ module _ {left right : List ℕ} {from to : ℕ} {k linked : Kept} (l : IsLinked
 
     pub used_linked : (n : ℕ) → is_used linked n ≡ true → is_used (record linked { ext = q.ext; marks = q.marks }) n ≡ true
     used_linked n =
-        let then_is : Kept = record linked { ext = q.ext; marks = q.marks } in
+        let then_is : Metadata = record linked { ext = q.ext; marks = q.marks } in
         use_stays linked then_is n (λ bit. bit) (λ lefts. lefts) (λ slot was. used_had then_is n slot (had_linked n slot (sym (has_same n slot) ∙ was)))
 
     -- a row turns only of what the right word entails
@@ -192,7 +192,7 @@ module _ {left right : List ℕ} {from to : ℕ} {k linked : Kept} (l : IsLinked
 
 -- ---- what an axiom that may come allows memory
 -- ---- the two words
-module _ {k : Kept} {left right : List ℕ} (may : MayRelate k left right) where
+module _ {k : Metadata} {left right : List ℕ} (may : MayRelate k left right) where
   head_known : (word : List ℕ) → is_known_head (declared_of k) word ≡ true → (is_head word ≡ true) × ((is_some (number_of k.dict word) || is_built_in word) ≡ true)
   head_known word h = search (rules, and_parts, or_cases, or_left, declared_known, or_right)
 
@@ -227,7 +227,7 @@ module _ {k : Kept} {left right : List ℕ} (may : MayRelate k left right) where
           let parts = and_parts (is_valued left) (is_known_head (declared_of k) (head_bytes left)) h in
           ap (may_by k left) parts.0 ∙ (head_known (head_bytes left) parts.1).1
 
-  module _ {learnt : Kept} (learns : LearnsAll (behind_head left) k learnt) where
+  module _ {learnt : Metadata} (learns : LearnsAll (behind_head left) k learnt) where
     pub left_numbered : IsSome (number_of learnt.dict left)
     left_numbered = number_learnt k learnt (behind_head left) learns left (among_right (heads left) (left ∷ []) left (inl refl))
 
@@ -241,7 +241,7 @@ module _ {k : Kept} {left right : List ℕ} (may : MayRelate k left right) where
     axioms_same = ap (λ (s : State). s.axioms) (learns.state (λ _. []))
 
     props_same : learnt.limits.props ≡ k.limits.props
-    props_same = ap (λ (x : Kept). x.limits.props) learns.parts
+    props_same = ap (λ (x : Metadata). x.limits.props) learns.metadata
 
     module _ (after : AreSound learnt) {from to : ℕ} (is_left : number_of learnt.dict left ≡ Some from) (is_right : number_of learnt.dict right ≡ Some to) where
       pub left_named : word_of learnt.dict from ≡ Some left
@@ -256,7 +256,7 @@ module _ {k : Kept} {left right : List ℕ} (may : MayRelate k left right) where
       pub may_link : MayLink from to learnt
       may_link =
           let many : learnt.limits.props ≤ length learnt.axioms = room learnt.limits.props (length learnt.axioms) after.axiom_count in
-          let few = ap (λ (x : Kept). count_by is_filled x.axioms) learns.parts in
+          let few = ap (λ (x : Metadata). count_by is_filled x.axioms) learns.metadata in
           let found = slot_free learnt.axioms learnt.limits.props many (omega (arith, few, may.slots, props_same)) in
           record {
             from = left;
@@ -274,12 +274,12 @@ module _ {k : Kept} {left right : List ℕ} (may : MayRelate k left right) where
           room : (props count : ℕ) → count ≡ 512 * ((props + 511) / 512) → props ≤ count
           room props count is = omega (arith, is)
 
-      module _ {linked : Kept} (links : Links from to learnt linked) (sound : AreSound k) (sound_linked : AreSound linked) (free : FreeSlotsAreEmpty k) (closed : AreClosed k) where
+      module _ {linked : Metadata} (links : Links from to learnt linked) (sound : AreSound k) (sound_linked : AreSound linked) (free : FreeSlotsAreEmpty k) (closed : AreClosed k) where
         pub linked_in : IsLinked left right from to learnt linked
         linked_in = search (rules, free_learnt, closed_learnt, left_named, right_named)
 
         ext_learnt : learnt.ext ≡ k.ext
-        ext_learnt = ap (λ (x : Kept). x.ext) learns.parts
+        ext_learnt = ap (λ (x : Metadata). x.ext) learns.metadata
 
         -- a file that has the left word had it before
         left_before : (slot : ℕ) → has k.ext from slot ≡ true → number_of k.dict left ≡ Some from
@@ -303,10 +303,10 @@ module _ {k : Kept} {left right : List ℕ} (may : MayRelate k left right) where
         -- no description gets too large
         pub few_linked : (slot : ℕ) → has linked.ext from slot ≡ true → length (closure linked (of_all linked from slot)) ≤ 128
         few_linked slot had =
-            let had_before : has k.ext from slot ≡ true = ap (λ (e : Ext). has e from slot) (sym ext_learnt) ∙ (ap (λ (x : Kept). has x.ext from slot) (sym links.parts) ∙ had) in
+            let had_before : has k.ext from slot ≡ true = ap (λ (e : Ext). has e from slot) (sym ext_learnt) ∙ (ap (λ (x : Metadata). has x.ext from slot) (sym links.metadata) ∙ had) in
             let numbers = closure linked (of_all linked from slot) in
             let le = few_within numbers (wider k (is_gained_by k (right ∷ [])) slot) (sorted_where linked.limits.props (is_gained linked (of_all linked from slot))) (λ n m.
-            inside n (omega (arith, (among_where linked.limits.props (is_gained linked (of_all linked from slot)) n m).0, ap (λ (x : Kept). x.limits.props) links.parts, props_same, sound.rows))
+            inside n (omega (arith, (among_where linked.limits.props (is_gained linked (of_all linked from slot)) n m).0, ap (λ (x : Metadata). x.limits.props) links.metadata, props_same, sound.rows))
             (closure_cases linked_in n slot (number_from_among numbers n m))) in
             omega (arith, le, may.short from slot (left_before slot had_before) had_before)
           where
@@ -340,7 +340,7 @@ behind_few word = by (is_valued word)
     by false = omega arith
 
 -- what becomes known with an axiom
-module _ (p : Kept) (at : ℕ → List ℕ) (s : State) (sound : AreSound p) (free : FreeSlotsAreEmpty p) (tells : Tells p at s) (left right : List ℕ) (form : (is_plain_word right && has_word s.declared right) ≡ true) where
+module _ (p : Metadata) (at : ℕ → List ℕ) (s : State) (sound : AreSound p) (free : FreeSlotsAreEmpty p) (tells : Tells p at s) (left right : List ℕ) (form : (is_plain_word right && has_word s.declared right) ≡ true) where
   -- the left word and its head are all that becomes known
   pub known_then : with_words (words p.dict) (behind_head left) ≡ known (axiom_added s (left, right))
   known_then =
@@ -370,17 +370,17 @@ module _ (p : Kept) (at : ℕ → List ℕ) (s : State) (sound : AreSound p) (fr
       from w (inl old) = with_words_old (known s) (behind_head left) w old
       from w (inr new) = with_words_new (known s) (behind_head left) w (back w new)
 
-module _ {old : Stored} {q : Kept} {left right : List ℕ} (was : IsSound old) (may : MayRelate old.parts left right) (relates : RelatesIn left right old.parts q) where
-  abbrev p : Kept
-  p = old.parts
+module _ {old : Stored} {q : Metadata} {left right : List ℕ} (was : IsSound old) (may : MayRelate old.metadata left right) (relates : RelatesIn left right old.metadata q) where
+  abbrev p : Metadata
+  p = old.metadata
 
   abbrev sound : AreSound p
-  sound = was.parts
+  sound = was.metadata
 
-  abbrev learnt : Kept
+  abbrev learnt : Metadata
   learnt = relates.learnt
 
-  abbrev linked : Kept
+  abbrev linked : Metadata
   linked = relates.linked
 
   abbrev from : ℕ
@@ -399,27 +399,27 @@ module _ {old : Stored} {q : Kept} {left right : List ℕ} (was : IsSound old) (
   few_wide = few_linked may relates.learns relates.sound relates.is_left relates.is_right relates.links sound relates.sound_linked was.free was.closed
 
   -- what is kept at the end
-  abbrev pub end : Kept
+  abbrev pub end : Metadata
   end = record p { dict = learnt.dict; axioms = slice_set p.axioms relates.links.slot (Pair from to); ext = q.ext; marks = q.marks }
 
   pub end_is : q ≡ end
   end_is = search (rules)
 
   made_end : record linked { ext = q.ext; marks = q.marks } ≡ end
-  made_end = sym relates.rebuilds.parts ∙ end_is
+  made_end = sym relates.rebuilds.metadata ∙ end_is
 
   ext_before : linked.ext ≡ p.ext
-  ext_before = ap (λ (k : Kept). k.ext) relates.links.parts ∙ ap (λ (k : Kept). k.ext) relates.learns.parts
+  ext_before = ap (λ (k : Metadata). k.ext) relates.links.metadata ∙ ap (λ (k : Metadata). k.ext) relates.learns.metadata
 
   had_stays : (n slot : ℕ) → has p.ext n slot ≡ true → has q.ext n slot ≡ true
-  had_stays n slot had = had_linked link relates.rebuilds n slot (ap (λ (k : Kept). has k.ext n slot) relates.learns.parts ∙ had)
+  had_stays n slot had = had_linked link relates.rebuilds n slot (ap (λ (k : Metadata). has k.ext n slot) relates.learns.metadata ∙ had)
 
   short_then : DescriptionsAreShort end
   short_then = short_made (is_rebuilt link relates.rebuilds) few_wide (λ slot. omega (arith, was.short slot, ap (λ (e : Ext). length (numbers_at e slot)) ext_before))
 
   -- ---- axioms
   slot_was_free : slice_get p.axioms relates.links.slot ≡ Some FreeAxiom
-  slot_was_free = ap (λ (k : Kept). slice_get k.axioms relates.links.slot) (sym relates.learns.parts) ∙ relates.links.free
+  slot_was_free = ap (λ (k : Metadata). slice_get k.axioms relates.links.slot) (sym relates.learns.metadata) ∙ relates.links.free
 
   none_there : InSlot learnt.axioms from to → ⊥
   none_there there = search (rules, both_ways, new_pair, slot_pair)
@@ -429,9 +429,9 @@ module _ {old : Stored} {q : Kept} {left right : List ℕ} (was : IsSound old) (
 
   pairs_then : PairsAreApart end
   pairs_then =
-      let before : learnt.axioms ≡ p.axioms = ap (λ (k : Kept). k.axioms) relates.learns.parts in
+      let before : learnt.axioms ≡ p.axioms = ap (λ (k : Metadata). k.axioms) relates.learns.metadata in
       let after : linked.axioms ≡ slice_set p.axioms relates.links.slot (Pair from to) =
-      ap (λ (k : Kept). k.axioms) relates.links.parts ∙ ap (λ (xs : List AxiomSlot). slice_set xs relates.links.slot (Pair from to)) before in
+      ap (λ (k : Metadata). k.axioms) relates.links.metadata ∙ ap (λ (xs : List AxiomSlot). slice_set xs relates.links.slot (Pair from to)) before in
       let P : List AxiomSlot → Type 0 = λ xs. AreOnce xs in
       subst P after (apart_linked from to learnt linked relates.links none_there (subst P (sym before) was.pairs))
 
@@ -461,7 +461,7 @@ module _ {old : Stored} {q : Kept} {left right : List ℕ} (was : IsSound old) (
       by (inr m) = or_left ((from == n) || is_head_by (word_of learnt.dict from) (word_of learnt.dict n)) (is_used learnt n) (new (among_append (heads left) (left ∷ []) word.0 m))
 
   used_then : AreUsed end
-  used_then n some = subst (λ (k : Kept). is_used k n ≡ true) made_end (used_linked link relates.rebuilds n (linked_used n some))
+  used_then n some = subst (λ (k : Metadata). is_used k n ≡ true) made_end (used_linked link relates.rebuilds n (linked_used n some))
 
   in_use_then : KeepsInUse end
   in_use_then = record {
@@ -477,9 +477,9 @@ module _ {old : Stored} {q : Kept} {left right : List ℕ} (was : IsSound old) (
 
   tests_learnt : TestsAreMet learnt
   tests_learnt =
-      let more_words : Kept = record p { dict = learnt.dict; marks = learnt.marks } in
-      let after : AreSound more_words = subst (λ (k : Kept). AreSound k) relates.learns.parts relates.sound in
-      subst (λ (k : Kept). TestsAreMet k) (sym relates.learns.parts)
+      let more_words : Metadata = record p { dict = learnt.dict; marks = learnt.marks } in
+      let after : AreSound more_words = subst (λ (k : Metadata). AreSound k) relates.learns.metadata relates.sound in
+      subst (λ (k : Metadata). TestsAreMet k) (sym relates.learns.metadata)
       (tests_stay p more_words (λ at rec there. there) (λ n w is test. flagged_before p sound learnt.dict relates.learns.keeps n w (test_flagged more_words after n w is test) is)
       (λ n at rec w there before test. refl) was.tests)
 
@@ -487,11 +487,11 @@ module _ {old : Stored} {q : Kept} {left right : List ℕ} (was : IsSound old) (
   form_end : AreSound end → AreInForm end
   form_end after = record {
     sound = after;
-    free = subst (λ (k : Kept). FreeSlotsAreEmpty k) made_end (free_made (is_rebuilt link relates.rebuilds) (subst (λ (k : Kept). FreeSlotsAreEmpty k) (sym relates.links.parts) link.free));
-    closed = subst (λ (k : Kept). AreClosed k) made_end (closed_linked link relates.rebuilds);
+    free = subst (λ (k : Metadata). FreeSlotsAreEmpty k) made_end (free_made (is_rebuilt link relates.rebuilds) (subst (λ (k : Metadata). FreeSlotsAreEmpty k) (sym relates.links.metadata) link.free));
+    closed = subst (λ (k : Metadata). AreClosed k) made_end (closed_linked link relates.rebuilds);
     short = short_then;
     in_use = in_use_then;
-    tests = subst (λ (k : Kept). TestsAreMet k) made_end (tests_linked link relates.rebuilds tests_learnt);
+    tests = subst (λ (k : Metadata). TestsAreMet k) made_end (tests_linked link relates.rebuilds tests_learnt);
   }
 
   few_marked : marked_count p ≡ 0 → marked_count q ≤ 131
@@ -501,7 +501,7 @@ module _ {old : Stored} {q : Kept} {left right : List ℕ} (was : IsSound old) (
       (λ slot had.
       let numbers = closure linked (of_all linked from slot) in
       let le = few_within ups numbers (sorted_where learnt.limits.props (is_entailed learnt to)) (λ n m.
-      among_from_number numbers n (closure_up link n slot (ap (λ (k : Kept). has k.ext from slot) (sym relates.links.parts) ∙ had) (among_where learnt.limits.props (is_entailed learnt to) n m).1)) in
+      among_from_number numbers n (closure_up link n slot (ap (λ (k : Metadata). has k.ext from slot) (sym relates.links.metadata) ∙ had) (among_where learnt.limits.props (is_entailed learnt to) n m).1)) in
       omega (arith, le, few_wide slot had))
       (λ slot n here turned.
       let up_so = turned_linked link relates.rebuilds slot n turned in
@@ -511,9 +511,9 @@ module _ {old : Stored} {q : Kept} {left right : List ℕ} (was : IsSound old) (
   pub axiom_change : old.is_broken ≡ false → IsChange old q
   axiom_change unbroken = record {
     settles = λ after.
-        subst (λ (k : Kept). IsSound (settled k old.journal)) (sym end_is)
-        (settled_sound end old.journal (form_end (subst (λ (k : Kept). AreSound k) end_is after)) pairs_then was.image (was.journal unbroken));
-    limits = ap (λ (k : Kept). k.limits) end_is;
+        subst (λ (k : Metadata). IsSound (settled k old.journal)) (sym end_is)
+        (settled_sound end old.journal (form_end (subst (λ (k : Metadata). AreSound k) end_is after)) pairs_then was.image (was.journal unbroken));
+    limits = ap (λ (k : Metadata). k.limits) end_is;
     room = omega (arith, few_marked (none_marked p (was.clean unbroken)), was.few unbroken);
     edits = subst (λ (e : Ext). AreEditsFew e q.ext) ext_before (made_edits (is_rebuilt link relates.rebuilds));
   }
@@ -528,7 +528,7 @@ module _ {old : Stored} {q : Kept} {left right : List ℕ} (was : IsSound old) (
 
     state_then : state_of q at ≡ t
     state_then =
-        ap (λ (k : Kept). state_of k at) relates.rebuilds.parts
+        ap (λ (k : Metadata). state_of k at) relates.rebuilds.metadata
         ∙ (relates.links.state at left right link.is_from link.is_to ∙ ap (λ (x : State). axiom_added x (left, right)) state_before)
 
     described_then : (f : Filed) → Contains p.catalog.entries f → words_told learnt.dict (numbers_at q.ext f.slot) ≡ description t (file_told p.limits learnt.dict at f)
@@ -536,7 +536,7 @@ module _ {old : Stored} {q : Kept} {left right : List ℕ} (was : IsSound old) (
         let before = described_learnt p learnt more relates.learns sound at s tells.state tells.described f m in
         described_linked link relates.rebuilds f.slot (file_told learnt.limits learnt.dict at f) before
         ∙ (ap (λ (x : State). description (axiom_added x (left, right)) (file_told learnt.limits learnt.dict at f)) state_before
-        ∙ ap (λ (k : Kept). description t (file_told k.limits learnt.dict at f)) relates.learns.parts)
+        ∙ ap (λ (k : Metadata). description t (file_told k.limits learnt.dict at f)) relates.learns.metadata)
 
     file_same : (f : Filed) → Among p.catalog.entries f → file_told p.limits learnt.dict at f ≡ file_told p.limits p.dict at f
     file_same f of = file_learnt p learnt more relates.learns sound at f of
@@ -545,18 +545,18 @@ module _ {old : Stored} {q : Kept} {left right : List ℕ} (was : IsSound old) (
     tags_stay f of n tag =
         let there = filed_rec p.catalog sound.catalog f of in
         let w = some_word (word_of p.dict n) (named_all p sound was.free n f.slot (was.in_use.tags f.slot f.rec there n (number_from_among f.rec.tags n tag))) in
-        ap (λ (k : Kept). word_of k.dict n) end_is ∙ (relates.learns.keeps n w.0 w.1 ∙ sym w.1)
+        ap (λ (k : Metadata). word_of k.dict n) end_is ∙ (relates.learns.keeps n w.0 w.1 ∙ sym w.1)
 
     ready_related : AxiomFits s (left, right) → IsSaved p at → IsReady q at t
     ready_related fits saved = record {
       tells =
-          retold p q (subst (λ (k : Kept). k ≡ record p { dict = k.dict; declared = k.declared; axioms = k.axioms; ext = k.ext; marks = k.marks }) (sym end_is) refl) tags_stay at s t tells refl
-          state_then (forms.adds_axiom s tells.formed (left, right) fits) (subst (λ (k : Kept). AreUsed k) (sym end_is) used_then)
-          (λ f of. ap (λ (k : Kept). words_told k.dict (numbers_at q.ext f.slot)) end_is ∙ (described_then f (contains_from_among p.catalog.entries f of) ∙ ap (description t) (file_same f of)));
+          retold p q (subst (λ (k : Metadata). k ≡ record p { dict = k.dict; declared = k.declared; axioms = k.axioms; ext = k.ext; marks = k.marks }) (sym end_is) refl) tags_stay at s t tells refl
+          state_then (forms.adds_axiom s tells.formed (left, right) fits) (subst (λ (k : Metadata). AreUsed k) (sym end_is) used_then)
+          (λ f of. ap (λ (k : Metadata). words_told k.dict (numbers_at q.ext f.slot)) end_is ∙ (described_then f (contains_from_among p.catalog.entries f of) ∙ ap (description t) (file_same f of)));
       saved = relates.rebuilds.saved at (relates.links.marks.saved at (relates.learns.marks.saved at saved));
     }
 
-  pub axiom_holds : {T : Type 0} {new : Stored} {before after : Meaning} {result : Result T Change} {base : State} {outcome : Outcome} → old.is_broken ≡ false → Saves q old.journal new before after result
+  pub axiom_holds : {T : Type 0} {new : Stored} {before after : Meaning} {result : Result T ChangeFault} {base : State} {outcome : Outcome} → old.is_broken ≡ false → Saves q old.journal new before after result
       → (now : Situation) → StoreHolds old before base now.state → AxiomFits now.state (left, right) → outcome ≡ changed now (axiom_added now.state (left, right)) → Holds base now outcome new before after result
   axiom_holds unbroken saves now holds fits done =
       saves_alone old was unbroken (axiom_change unbroken) saves now (axiom_added now.state (left, right)) holds

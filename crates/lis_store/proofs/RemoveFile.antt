@@ -1,8 +1,8 @@
 -- A call that takes a file away.
 use Rattle.std.proofs.Common.{rules}
-use Rattle.lis_store.proofs.Common.{◌≡◌, refl, sym, ap, ◌∙◌, subst, ℕ, is_some, not, IsSome, Bool, true, false, cond, List, set, Some, Result, Err, arith, Meaning, Held, looked, Asks, slot_of, rec_at, rec_at-slot_of, Ext, Formula, FileRecord, NoFileHere, bitmap_start, image_blocks, State, Situation, Outcome, refused, rm, file_removed, Kept, IsSaved, changed, GivesBack}
-use Rattle.lis_store.specs.declared.change.Change.{Change}
-use Rattle.lis_store.specs.declared.change.Change.TheVariants.{Refused, Disk}
+use Rattle.lis_store.proofs.Common.{◌≡◌, refl, sym, ap, ◌∙◌, subst, ℕ, is_some, not, IsSome, Bool, true, false, cond, List, set, Some, Result, Err, arith, Meaning, Held, looked, Asks, slot_of, rec_at, rec_at-slot_of, Ext, Formula, FileRecord, NoFileHere, bitmap_start, image_blocks, State, Situation, Outcome, refused, rm, file_removed, Metadata, IsSaved, changed, GivesBack}
+use Rattle.lis_store.specs.declared.change_fault.ChangeFault.{ChangeFault}
+use Rattle.lis_store.specs.declared.change_fault.ChangeFault.TheVariants.{Refused, Disk}
 use Rattle.lis_store.specs.Stored.{Stored, IsSound, StoreHolds}
 use Rattle.lis_store.specs.Contents.{ContentGiven, ContentEnded}
 use Rattle.lis_store.specs.Changes.{Holds, ChangeKeeps, AreEditsFew}
@@ -24,89 +24,89 @@ use Rattle.lis_store.proofs.WriteFile.{found_there}
 use Rattle.lis_kept.specs.Image.{image_shape}
 
 -- one that is refused
-pub removed_refused : {T : Type 0} (old : Stored) (m : Meaning) (place : List Formula) (name : List ℕ) (result : Result T Change) → IsSound old → is_among old.parts place name ≡ false
+pub removed_refused : {T : Type 0} (old : Stored) (m : Meaning) (place : List Formula) (name : List ℕ) (result : Result T ChangeFault) → IsSound old → is_among old.metadata place name ≡ false
     → result ≡ Err (Refused NoFileHere) → (base s : State) → StoreHolds old m base s → Holds base (record { state = s; place = place }) (rm (record { state = s; place = place }) name) old m m result
 removed_refused old m place name result sound none ends base s holds = search (rules, change_refused, here_told, told_held)
 
 -- what is known where the disk fails while its blocks are asked for
-given_err : (T : Type 0) (rec : FileRecord) (p q : Kept) (journal : Held) (before after : Meaning) (change : Change) → ContentGiven {T = T} rec p q journal before after (Err change)
+given_err : (T : Type 0) (rec : FileRecord) (p q : Metadata) (journal : Held) (before after : Meaning) (change : ChangeFault) → ContentGiven {T = T} rec p q journal before after (Err change)
     → (change ≡ Disk) × (q ≡ p) × Asks journal before after
 given_err T rec p q journal before after change never = search (rules)
 
-module _ (T : Type 0) (old : Stored) (slot : ℕ) (name : List ℕ) (sound : IsSound old) (named : slot_of old.parts.catalog name ≡ Some slot) (q : Kept) (b : Bool) (change : Change) (before after : Meaning)
-    (stays : (rec : FileRecord) → rec_at old.parts.catalog slot ≡ Some rec → ContentGiven {T = T} rec old.parts q old.journal before after (Err change)) (ended : ContentEnded {T = T} b (Err change)) where
-  lost : (change ≡ Disk) × (q ≡ old.parts) × Asks old.journal before after
+module _ (T : Type 0) (old : Stored) (slot : ℕ) (name : List ℕ) (sound : IsSound old) (named : slot_of old.metadata.catalog name ≡ Some slot) (q : Metadata) (b : Bool) (change : ChangeFault) (before after : Meaning)
+    (stays : (rec : FileRecord) → rec_at old.metadata.catalog slot ≡ Some rec → ContentGiven {T = T} rec old.metadata q old.journal before after (Err change)) (ended : ContentEnded {T = T} b (Err change)) where
+  lost : (change ≡ Disk) × (q ≡ old.metadata) × Asks old.journal before after
   lost =
-      let found = rec_at-slot_of old.parts.catalog name slot sound.parts.catalog named in
-      given_err T found.0 old.parts q old.journal before after change (stays found.0 found.1)
+      let found = rec_at-slot_of old.metadata.catalog name slot sound.metadata.catalog named in
+      given_err T found.0 old.metadata q old.journal before after change (stays found.0 found.1)
 
   broken : b ≡ true
   broken = ended_broken T b change ended
 
-  lost_parts : q ≡ old.parts
-  lost_parts = lost.1
+  lost_metadata : q ≡ old.metadata
+  lost_metadata = lost.1
 
-  pub lost_sound : IsSound (record { parts = q; journal = old.journal; is_broken = b })
-  lost_sound = search (rules, lost_parts, broken, sound_lost, in_form)
+  pub lost_sound : IsSound (record { metadata = q; journal = old.journal; is_broken = b })
+  lost_sound = search (rules, lost_metadata, broken, sound_lost, in_form)
 
-  pub lost_holds : {U : Type 0} (base : State) (now : Situation) (outcome : Outcome) (result : Result U Change) → result ≡ Err change → StoreHolds old before base now.state
-      → Holds base now outcome (record { parts = q; journal = old.journal; is_broken = b }) before after result
+  pub lost_holds : {U : Type 0} (base : State) (now : Situation) (outcome : Outcome) (result : Result U ChangeFault) → result ≡ Err change → StoreHolds old before base now.state
+      → Holds base now outcome (record { metadata = q; journal = old.journal; is_broken = b }) before after result
   lost_holds base now outcome result ends holds =
-      holds_lost base now outcome (record { parts = q; journal = old.journal; is_broken = b }) before after result (asks_stand old base now.state before sound holds after lost.2)
+      holds_lost base now outcome (record { metadata = q; journal = old.journal; is_broken = b }) before after result (asks_stand old base now.state before sound holds after lost.2)
       (asks_past old base now.state before sound holds after lost.2) broken (ends ∙ ap Err lost.0)
 
-  pub lost_keeps : {U : Type 0} {now : Stored} {result : Result U Change} → old ≡ now → result ≡ Err change → ChangeKeeps now (record { parts = q; journal = old.journal; is_broken = b }) result
-  lost_keeps view ends = keeps_lost view lost_sound (ends ∙ ap Err lost.0) (ap (λ (k : Kept). k.limits) lost_parts) refl (ap (λ (k : Kept). k.ext) lost_parts) broken
+  pub lost_keeps : {U : Type 0} {now : Stored} {result : Result U ChangeFault} → old ≡ now → result ≡ Err change → ChangeKeeps now (record { metadata = q; journal = old.journal; is_broken = b }) result
+  lost_keeps view ends = keeps_lost view lost_sound (ends ∙ ap Err lost.0) (ap (λ (k : Metadata). k.limits) lost_metadata) refl (ap (λ (k : Metadata). k.ext) lost_metadata) broken
 
 -- ---- its blocks are given back, and then it is taken out
--- What a call asks speaks of the store's value `now`, and what is proved of its parts, `old`.
-module _ {old now : Stored} (view : old ≡ now) (sound : IsSound old) (unbroken_now : now.is_broken ≡ false) (place : List Formula) (name : List ℕ) {slot : ℕ} (named : slot_of now.parts.catalog name ≡ Some slot)
-    (here_now : true ≡ is_among now.parts place name) {mid : Kept} {before asked : Meaning}
-    (given : (rec : FileRecord) → rec_at old.parts.catalog slot ≡ Some rec → GivesBack rec old.parts mid old.journal before × Asks old.journal before asked) where
-  found : (rec : FileRecord) × (rec_at old.parts.catalog slot ≡ Some rec) × (rec.name ≡ name)
+-- What a call asks speaks of the store's value `now`, and what is proved of its metadata, `old`.
+module _ {old now : Stored} (view : old ≡ now) (sound : IsSound old) (unbroken_now : now.is_broken ≡ false) (place : List Formula) (name : List ℕ) {slot : ℕ} (named : slot_of now.metadata.catalog name ≡ Some slot)
+    (here_now : true ≡ is_among now.metadata place name) {mid : Metadata} {before asked : Meaning}
+    (given : (rec : FileRecord) → rec_at old.metadata.catalog slot ≡ Some rec → GivesBack rec old.metadata mid old.journal before × Asks old.journal before asked) where
+  found : (rec : FileRecord) × (rec_at old.metadata.catalog slot ≡ Some rec) × (rec.name ≡ name)
   found = found_there view sound name named
 
   abbrev rec : FileRecord
   rec = found.0
 
-  gives : GivesBack rec old.parts mid old.journal before
+  gives : GivesBack rec old.metadata mid old.journal before
   gives = (given rec found.1).0
 
   unbroken : old.is_broken ≡ false
   unbroken = whole_view view unbroken_now
 
   pub form_given : AreInForm mid
-  form_given = form_taken old.parts mid mid.taken gives.takes (in_form old sound)
+  form_given = form_taken old.metadata mid mid.taken gives.takes (in_form old sound)
 
   filed_given : rec_at mid.catalog slot ≡ Some rec
-  filed_given = ap (λ (k : Kept). rec_at k.catalog slot) gives.takes.parts ∙ found.1
+  filed_given = ap (λ (k : Metadata). rec_at k.catalog slot) gives.takes.metadata ∙ found.1
 
   pub there_given : IsSome (rec_at mid.catalog slot)
   there_given = ap is_some filed_given
 
-  module _ {q : Kept} (takes : (rec : FileRecord) → rec_at mid.catalog slot ≡ Some rec → TakesOut slot rec mid q) where
+  module _ {q : Metadata} (takes : (rec : FileRecord) → rec_at mid.catalog slot ≡ Some rec → TakesOut slot rec mid q) where
     out : TakesOut slot rec mid q
     out = takes rec filed_given
 
     abbrev after_marks : List Bool
-    after_marks = set old.parts.marks (bitmap_start old.parts.limits) true
+    after_marks = set old.metadata.marks (bitmap_start old.metadata.limits) true
 
-    same_axioms : q.axioms ≡ old.parts.axioms
-    same_axioms = ap (λ (k : Kept). k.axioms) (end_is slot rec mid q form_given out) ∙ ap (λ (k : Kept). k.axioms) gives.takes.parts
+    same_axioms : q.axioms ≡ old.metadata.axioms
+    same_axioms = ap (λ (k : Metadata). k.axioms) (end_is slot rec mid q form_given out) ∙ ap (λ (k : Metadata). k.axioms) gives.takes.metadata
 
-    same_limits : q.limits ≡ old.parts.limits
-    same_limits = ap (λ (k : Kept). k.limits) (end_is slot rec mid q form_given out) ∙ ap (λ (k : Kept). k.limits) gives.takes.parts
+    same_limits : q.limits ≡ old.metadata.limits
+    same_limits = ap (λ (k : Metadata). k.limits) (end_is slot rec mid q form_given out) ∙ ap (λ (k : Metadata). k.limits) gives.takes.metadata
 
     pub removed_change : IsChange old q
     removed_change = record {
       settles = λ after.
-          settled_sound q old.journal (form_removed slot rec mid q form_given out) (pairs_same old.parts q same_axioms sound.pairs) (sound.image ∙ ap image_shape (sym same_limits)) (sound.journal unbroken);
+          settled_sound q old.journal (form_removed slot rec mid q form_given out) (pairs_same old.metadata q same_axioms sound.pairs) (sound.image ∙ ap image_shape (sym same_limits)) (sound.journal unbroken);
       limits = same_limits;
-      room = omega (arith, few_marked slot rec mid q form_given out, gives.takes.marks.few, none_marked old.parts (sound.clean unbroken), sound.few unbroken);
-      edits = subst (λ (e : Ext). AreEditsFew e q.ext) (ap (λ (k : Kept). k.ext) gives.takes.parts) (few_edits slot rec mid q form_given out);
+      room = omega (arith, few_marked slot rec mid q form_given out, gives.takes.marks.few, none_marked old.metadata (sound.clean unbroken), sound.few unbroken);
+      edits = subst (λ (e : Ext). AreEditsFew e q.ext) (ap (λ (k : Metadata). k.ext) gives.takes.metadata) (few_edits slot rec mid q form_given out);
     }
 
-    pub removed_holds : {T : Type 0} {new : Stored} {after : Meaning} {result : Result T Change} → Saves q old.journal new asked after result → (base s : State) → StoreHolds now before base s
+    pub removed_holds : {T : Type 0} {new : Stored} {after : Meaning} {result : Result T ChangeFault} → Saves q old.journal new asked after result → (base s : State) → StoreHolds now before base s
         → Holds base (record { state = s; place = place }) (rm (record { state = s; place = place }) name) new before after result
     removed_holds {new = new} {after = after} {result = result} saves base s holds_now =
         let at_place : Situation = record { state = s; place = place } in
@@ -115,11 +115,11 @@ module _ {old now : Stored} (view : old ≡ now) (sound : IsSound old) (unbroken
         let at : ℕ → List ℕ = looked old.journal.staged holds.kept in
         let gave = gives.given holds.kept holds.journal in
         let ts = mid.taken in
-        let R : Kept → Type 0 = λ k. AreInForm k → TakesOut slot rec k q → IsSaved k at → IsReady q at (file_removed s rec.name) in
+        let R : Metadata → Type 0 = λ k. AreInForm k → TakesOut slot rec k q → IsSaved k at → IsReady q at (file_removed s rec.name) in
         let ready : IsReady q at (file_removed s rec.name) =
-        subst R (sym gives.takes.parts) (λ form out saved. ready_removed slot rec old.parts ts after_marks q form out sound.parts at s holds.tells gave saved)
+        subst R (sym gives.takes.metadata) (λ form out saved. ready_removed slot rec old.metadata ts after_marks q form out sound.metadata at s holds.tells gave saved)
         form_given out (gives.takes.marks.saved at (λ area n lt unmarked. holds.written area n lt)) in
-        let here : is_among old.parts place name ≡ true = ap (λ (k : Stored). is_among k.parts place name) view ∙ sym here_now in
+        let here : is_among old.metadata place name ≡ true = ap (λ (k : Stored). is_among k.metadata place name) view ∙ sym here_now in
         holds_behind base at_place (rm at_place name) new before asked after result (asks_stand old base s before sound holds asked asks) (asks_past old base s before sound holds asked asks)
         (saves base at_place (rm at_place name) (file_removed s name) holds.kept (asks.fits holds.kept holds.journal) (same_limits ∙ holds.limits) (unplaced_stands old sound unbroken base s before holds)
         (λ _. subst (λ n. IsReady q at (file_removed s n)) found.2 ready)

@@ -1,5 +1,5 @@
 -- What a file that is taken out comes to.
-use Rattle.lis_store.proofs.Common.{◌≡◌, refl, sym, ap, ◌∙◌, subst, ℕ, ◌+◌, ◌<◌, ◌≤◌, Bool, List, [], length, set, arith, given, Ext, numbers_at, differs, FileRecord, State, file_removed, Kept, IsSaved, marked_count, AreSound, blocks_told, Tells, numbers_where}
+use Rattle.lis_store.proofs.Common.{◌≡◌, refl, sym, ap, ◌∙◌, subst, ℕ, ◌+◌, ◌<◌, ◌≤◌, Bool, List, [], length, set, arith, given, Ext, numbers_at, differs, FileRecord, State, file_removed, Metadata, IsSaved, marked_count, AreSound, blocks_told, Tells, numbers_where}
 use Rattle.lis_store.specs.Saving.{IsReady}
 use Rattle.lis_store.specs.ReplacingIn.{AreInForm}
 use Rattle.lis_store.specs.Removing.{TakesOut}
@@ -9,30 +9,30 @@ use Rattle.lis_store.proofs.Edits.{edits_at}
 use Rattle.lis_store.proofs.Unfiled.{gone, set_gone, form_gone, tells_without}
 use Rattle.lis_store.proofs.Vacated.{slot_below}
 
-module _ (slot : ℕ) (rec : FileRecord) (p q : Kept) (form : AreInForm p) (out : TakesOut slot rec p q) where
+module _ (slot : ℕ) (rec : FileRecord) (p q : Metadata) (form : AreInForm p) (out : TakesOut slot rec p q) where
   abbrev numbers : List ℕ
   numbers = numbers_at p.ext slot
 
-  abbrev v : Kept
+  abbrev v : Metadata
   v = out.vacated
 
   pub sets_are : q.ext.sets ≡ set p.ext.sets slot []
-  sets_are = out.empties.sets ∙ ap (λ (k : Kept). set k.ext.sets slot []) out.vacates.parts
+  sets_are = out.empties.sets ∙ ap (λ (k : Metadata). set k.ext.sets slot []) out.vacates.metadata
 
-  abbrev end : Kept
+  abbrev end : Metadata
   end = gone p v slot rec form out.vacates q.ext q.marks sets_are
 
   pub end_is : q ≡ end
-  end_is = out.empties.parts ∙ ap (λ (k : Kept). record k { ext = q.ext; marks = q.marks }) out.vacates.parts
+  end_is = out.empties.metadata ∙ ap (λ (k : Metadata). record k { ext = q.ext; marks = q.marks }) out.vacates.metadata
 
   pub form_removed : AreInForm q
   form_removed =
-      subst (λ (k : Kept). AreInForm k) (sym end_is)
-      (form_gone p v slot rec form out.vacates q.ext q.marks sets_are (subst (λ (k : Kept). AreSound k) end_is out.sound))
+      subst (λ (k : Metadata). AreInForm k) (sym end_is)
+      (form_gone p v slot rec form out.vacates q.ext q.marks sets_are (subst (λ (k : Metadata). AreSound k) end_is out.sound))
 
   -- ---- how much is marked, and how often rows are edited
   ext_is : v.ext ≡ p.ext
-  ext_is = ap (λ (k : Kept). k.ext) out.vacates.parts
+  ext_is = ap (λ (k : Metadata). k.ext) out.vacates.metadata
 
   was : numbers ≡ numbers_at v.ext slot
   was = ap (λ (e : Ext). numbers_at e slot) (sym ext_is)
@@ -52,13 +52,13 @@ module _ (slot : ℕ) (rec : FileRecord) (p q : Kept) (form : AreInForm p) (out 
 
 -- ---- the state that it tells
 -- Memory told s, and the blocks of the file in the slot are given back before it is taken out.
-pub ready_removed : (slot : ℕ) (rec : FileRecord) (o : Kept) (taken marks : List Bool) (q : Kept) (form : AreInForm (record o { taken = taken; marks = marks })) (out : TakesOut slot rec (record o { taken = taken; marks = marks }) q)
+pub ready_removed : (slot : ℕ) (rec : FileRecord) (o : Metadata) (taken marks : List Bool) (q : Metadata) (form : AreInForm (record o { taken = taken; marks = marks })) (out : TakesOut slot rec (record o { taken = taken; marks = marks }) q)
     → AreSound o → (at : ℕ → List ℕ) (s : State) → Tells o at s → taken ≡ given o.taken (blocks_told o.limits at rec) → IsSaved (record o { taken = taken; marks = marks }) at → IsReady q at (file_removed s rec.name)
 ready_removed slot rec o taken marks q form out sound at s tells gave saved =
-    let p : Kept = record o { taken = taken; marks = marks } in
+    let p : Metadata = record o { taken = taken; marks = marks } in
     let without = tells_without o taken marks out.vacated slot rec form out.vacates sound at s tells q.ext (sets_are slot rec p q form out) q.marks in
     let T : List Bool → Type 0 = λ ts. Tells (record (end slot rec p q form out) { taken = ts }) at (file_removed s rec.name) in
     record {
-      tells = subst (λ (k : Kept). Tells k at (file_removed s rec.name)) (sym (end_is slot rec p q form out)) (subst T (sym gave) without);
+      tells = subst (λ (k : Metadata). Tells k at (file_removed s rec.name)) (sym (end_is slot rec p q form out)) (subst T (sym gave) without);
       saved = (out.empties.marks (numbers_at o.ext slot) (was slot rec p q form out)).saved at (out.vacates.marks.saved at saved);
     }

@@ -1,13 +1,13 @@
 -- Bytes that come into blocks in the place of others, and what the disk keeps meanwhile.
 use Rattle.std.proofs.Common.{rules}
 use Rattle.std.proofs.Common.{OnErr}
-use Rattle.lis_store.proofs.Common.{◌≡◌, refl, sym, ap, ◌∙◌, subst, ℕ, true, false, Bool, List, [], ◌∷◌, length, Some, None, Result, Ok, Err, IsTrue, set, get_or-set_same, arith, both_ways, false_from_ne_true, ArrayVec, Meaning, Leaves, Held, block, looked, Fits, KeepsPast, are_free, has_home, is_large, Asks, homes_of, stays_marked, among_homes, FileRecord, bitmap_start, data_start, Kept, is_marked, AreSound, blocks_told, Puts, leaves_weaken, leaves_then, is_among, given, marked, GivesBack}
+use Rattle.lis_store.proofs.Common.{◌≡◌, refl, sym, ap, ◌∙◌, subst, ℕ, true, false, Bool, List, [], ◌∷◌, length, Some, None, Result, Ok, Err, IsTrue, set, get_or-set_same, arith, both_ways, false_from_ne_true, ArrayVec, Meaning, Leaves, Held, block, looked, Fits, KeepsPast, are_free, has_home, is_large, Asks, homes_of, stays_marked, among_homes, FileRecord, bitmap_start, data_start, Metadata, is_marked, AreSound, blocks_told, Puts, leaves_weaken, leaves_then, is_among, given, marked, GivesBack}
 use Rattle.lis_journal.specs.Images.{StandsBut}
 use Rattle.lis_journal.proofs.Fitting.{fits_but}
 use Rattle.lis_journal.proofs.Phases.{stands_less}
 use Rattle.lis_kept.specs.Changes.{Marks, Takes}
-use Rattle.lis_store.specs.declared.change.Change.{Change}
-use Rattle.lis_store.specs.declared.change.Change.TheVariants.{Refused, Disk}
+use Rattle.lis_store.specs.declared.change_fault.ChangeFault.{ChangeFault}
+use Rattle.lis_store.specs.declared.change_fault.ChangeFault.TheVariants.{Refused, Disk}
 use Rattle.lis_store.specs.Contents.{ContentTorn, IsRenewed, Renews, ContentPut, ContentGiven, ContentRenewed}
 use Rattle.lis_store.specs.Contents.Trades.{First, Last}
 use Rattle.lis_journal.specs.declared.layout.Layout.{Layout}
@@ -31,25 +31,25 @@ unplaced_stands journal {m} {kept} more none fits image is =
     stands_less journal.layout journal.placed more kept image (λ n absent. ap (λ ns. is_among ns n) none) (fits_but journal fits image is)
 
 -- ---- blocks are taken, once or twice
-marked_bitmap : (p q : Kept) → AreSound p → (ts : List Bool) → Takes ts p q → is_marked q (bitmap_start p.limits) ≡ true
-marked_bitmap p q sound ts takes = ap (λ (x : Kept). is_marked x (bitmap_start p.limits)) takes.parts ∙ get_or-set_same p.marks (bitmap_start p.limits) true false (omega (arith, sound.marks))
+marked_bitmap : (p q : Metadata) → AreSound p → (ts : List Bool) → Takes ts p q → is_marked q (bitmap_start p.limits) ≡ true
+marked_bitmap p q sound ts takes = ap (λ (x : Metadata). is_marked x (bitmap_start p.limits)) takes.metadata ∙ get_or-set_same p.marks (bitmap_start p.limits) true false (omega (arith, sound.marks))
 
-module _ (p mid q : Kept) (sound : AreSound p) (ts us : List Bool) (one : Takes ts p mid) (two : Takes us mid q) where
-  pub twice_parts : q ≡ record p { taken = q.taken; marks = q.marks }
-  twice_parts = search (rules)
+module _ (p mid q : Metadata) (sound : AreSound p) (ts us : List Bool) (one : Takes ts p mid) (two : Takes us mid q) where
+  pub twice_metadata : q ≡ record p { taken = q.taken; marks = q.marks }
+  twice_metadata = search (rules)
 
   pub twice_marks : Marks 2 p q
   twice_marks = record { saved = λ at saved. two.marks.saved at (one.marks.saved at saved); few = omega (arith, one.marks.few, two.marks.few) }
 
   pub twice_bitmap : is_marked q (bitmap_start p.limits) ≡ true
   twice_bitmap =
-      ap (λ (x : Kept). is_marked x (bitmap_start p.limits)) two.parts
+      ap (λ (x : Metadata). is_marked x (bitmap_start p.limits)) two.metadata
       ∙ stays_marked mid.marks (bitmap_start mid.limits ∷ []) (bitmap_start p.limits) (marked_bitmap p mid sound ts one)
 
 -- ---- no blocks are given back
-pub renews_alone : (p q : Kept) (bytes numbers : List ℕ) (old new : Held) (before after : Meaning) → AreSound p → Puts bytes numbers p q old new before after → Renews bytes numbers None p q old new before after
+pub renews_alone : (p q : Metadata) (bytes numbers : List ℕ) (old new : Held) (before after : Meaning) → AreSound p → Puts bytes numbers p q old new before after → Renews bytes numbers None p q old new before after
 renews_alone p q bytes numbers old new before after sound puts = record {
-  parts = subst (λ (x : Kept). x ≡ record p { taken = x.taken; marks = x.marks }) (sym puts.takes.parts) refl;
+  metadata = subst (λ (x : Metadata). x ≡ record p { taken = x.taken; marks = x.marks }) (sym puts.takes.metadata) refl;
   marks = record { saved = puts.takes.marks.saved; few = omega (arith, puts.takes.marks.few) };
   bitmap = marked_bitmap p q sound (marked p.taken puts.blocks) puts.takes;
   in_form = puts.in_form;
@@ -65,17 +65,17 @@ renews_alone p q bytes numbers old new before after sound puts = record {
   past = puts.fills.past;
   blocks = puts.blocks;
   distinct = puts.fills.distinct;
-  renewed = λ kept fits. record { lands = puts.lands kept fits; stays = puts.stays kept fits; trades = Last puts.fills.were_free (ap (λ (x : Kept). x.taken) puts.takes.parts) };
+  renewed = λ kept fits. record { lands = puts.lands kept fits; stays = puts.stays kept fits; trades = Last puts.fills.were_free (ap (λ (x : Metadata). x.taken) puts.takes.metadata) };
 }
 
-pub put_alone : (p q : Kept) (bytes : List ℕ) (old new : Held) (before after : Meaning) (result : Result (ArrayVec ℕ) Change) → AreSound p → ContentPut bytes p q old new before after result
+pub put_alone : (p q : Metadata) (bytes : List ℕ) (old new : Held) (before after : Meaning) (result : Result (ArrayVec ℕ) ChangeFault) → AreSound p → ContentPut bytes p q old new before after result
     → ContentRenewed bytes None p q old new before after result
 put_alone p q bytes old new before after result sound puts = search (rules, renews_alone)
 
 -- ---- the blocks of the other file are given back first
-module _ (p q : Kept) (ts ms : List Bool) (rec : FileRecord) (bytes numbers : List ℕ) (old new : Held) (before asked after : Meaning) (sound : AreSound p) (unplaced : old.placed ≡ []) (small : is_large (length bytes) ≡ false)
+module _ (p q : Metadata) (ts ms : List Bool) (rec : FileRecord) (bytes numbers : List ℕ) (old new : Held) (before asked after : Meaning) (sound : AreSound p) (unplaced : old.placed ≡ []) (small : is_large (length bytes) ≡ false)
     (gives : GivesBack rec p (record p { taken = ts; marks = ms }) old before) (asks : Asks old before asked) (puts : Puts bytes numbers (record p { taken = ts; marks = ms }) q old new asked after) where
-  abbrev freed : Kept
+  abbrev freed : Metadata
   freed = record p { taken = ts; marks = ms }
 
   none_placed : new.placed ≡ []
@@ -96,12 +96,12 @@ module _ (p q : Kept) (ts ms : List Bool) (rec : FileRecord) (bytes numbers : Li
         stays = puts.stays kept asked_fits;
         trades =
             let gave = gives.given kept fits in
-            First (subst (λ xs. IsTrue (are_free xs puts.blocks)) gave puts.fills.were_free) (ap (λ (x : Kept). x.taken) puts.takes.parts ∙ ap (λ xs. marked xs puts.blocks) gave);
+            First (subst (λ xs. IsTrue (are_free xs puts.blocks)) gave puts.fills.were_free) (ap (λ (x : Metadata). x.taken) puts.takes.metadata ∙ ap (λ xs. marked xs puts.blocks) gave);
       }
 
   pub renews_first : Renews bytes numbers (Some rec) p q old new before after
   renews_first = record {
-    parts = twice_parts p freed q sound ts (marked ts puts.blocks) gives.takes puts.takes;
+    metadata = twice_metadata p freed q sound ts (marked ts puts.blocks) gives.takes puts.takes;
     marks = twice_marks p freed q sound ts (marked ts puts.blocks) gives.takes puts.takes;
     bitmap = twice_bitmap p freed q sound ts (marked ts puts.blocks) gives.takes puts.takes;
     in_form = puts.in_form;
@@ -121,9 +121,9 @@ module _ (p q : Kept) (ts ms : List Bool) (rec : FileRecord) (bytes numbers : Li
   }
 
 -- ---- and last
-module _ (p : Kept) (ts ms : List Bool) (bytes numbers : List ℕ) (old new : Held) (before placed after : Meaning) (sound : AreSound p)
+module _ (p : Metadata) (ts ms : List Bool) (bytes numbers : List ℕ) (old new : Held) (before placed after : Meaning) (sound : AreSound p)
     (puts : Puts bytes numbers p (record p { taken = ts; marks = ms }) old new before placed) (asks : Asks new placed after) where
-  abbrev put : Kept
+  abbrev put : Metadata
   put = record p { taken = ts; marks = ms }
 
   -- what is asked leaves the images of then
@@ -147,7 +147,7 @@ module _ (p : Kept) (ts ms : List Bool) (bytes numbers : List ℕ) (old new : He
       torn : (spare : List ℕ) → are_free p.taken spare ≡ true → (is_large (length bytes) ≡ false → spare ≡ []) → ((n : ℕ) → is_among new.placed n ≡ true → has_home (data_start p.limits) spare n ≡ true)
           → ContentTorn bytes p put old new before after
       torn spare free small homes = record {
-        parts = refl;
+        metadata = refl;
         image = puts.image;
         spare = spare;
         were_free = free;
@@ -162,7 +162,7 @@ module _ (p : Kept) (ts ms : List Bool) (bytes numbers : List ℕ) (old new : He
       by true large = torn puts.blocks puts.fills.were_free (λ small. absurd (both_ways (is_large (length bytes)) small large)) puts.placed
       by false small = torn [] refl (λ _. refl) (λ n among. absurd (both_ways (is_among new.placed n) (ap (λ ns. is_among ns n) (puts.unplaced small)) among))
 
-  module _ (q : Kept) (rec : FileRecord) (gives : GivesBack rec put q new placed) where
+  module _ (q : Metadata) (rec : FileRecord) (gives : GivesBack rec put q new placed) where
     last_renewed : (kept : ℕ → List ℕ) → Fits old before kept → IsRenewed bytes numbers puts.blocks (Some rec) p q kept old new after
     last_renewed kept fits =
         let landed = puts.lands kept fits in
@@ -171,58 +171,58 @@ module _ (p : Kept) (ts ms : List Bool) (bytes numbers : List ℕ) (old new : He
           stays = puts.stays kept fits;
           trades =
               Last puts.fills.were_free
-              (gives.given landed.kept landed.fits ∙ ap (λ xs. given xs (blocks_told p.limits (looked new.staged landed.kept) rec)) (ap (λ (x : Kept). x.taken) puts.takes.parts));
+              (gives.given landed.kept landed.fits ∙ ap (λ xs. given xs (blocks_told p.limits (looked new.staged landed.kept) rec)) (ap (λ (x : Metadata). x.taken) puts.takes.metadata));
         }
 
     pub renews_last : Renews bytes numbers (Some rec) p q old new before after
-    renews_last = search (rules, twice_parts, twice_marks, twice_bitmap, last_moments, last_past, last_renewed)
+    renews_last = search (rules, twice_metadata, twice_marks, twice_bitmap, last_moments, last_past, last_renewed)
 
 -- ---- blocks that are not given back at all
-pub torn_first : (bytes : List ℕ) (p : Kept) (old : Held) (before after : Meaning) → old.placed ≡ [] → Asks old before after → ContentTorn bytes p p old old before after
+pub torn_first : (bytes : List ℕ) (p : Metadata) (old : Held) (before after : Meaning) → old.placed ≡ [] → Asks old before after → ContentTorn bytes p p old old before after
 torn_first bytes p old before after unplaced asks = search (rules, leaves_weaken, unplaced_stands)
 
 -- ---- the same, over what memory keeps in between
-pub renews_given : (p mid q : Kept) (rec : FileRecord) (bytes numbers : List ℕ) (old new : Held) (before asked after : Meaning) → AreSound p → old.placed ≡ [] → is_large (length bytes) ≡ false
+pub renews_given : (p mid q : Metadata) (rec : FileRecord) (bytes numbers : List ℕ) (old new : Held) (before asked after : Meaning) → AreSound p → old.placed ≡ [] → is_large (length bytes) ≡ false
     → GivesBack rec p mid old before → Asks old before asked → Puts bytes numbers mid q old new asked after → Renews bytes numbers (Some rec) p q old new before after
 renews_given p mid q rec bytes numbers old new before asked after sound unplaced small gives asks puts =
-    let P : Kept → Type 0 = λ x. GivesBack rec p x old before → Puts bytes numbers x q old new asked after → Renews bytes numbers (Some rec) p q old new before after in
-    subst P (sym gives.takes.parts)
+    let P : Metadata → Type 0 = λ x. GivesBack rec p x old before → Puts bytes numbers x q old new asked after → Renews bytes numbers (Some rec) p q old new before after in
+    subst P (sym gives.takes.metadata)
     (λ gave put. renews_first p q mid.taken (set p.marks (bitmap_start p.limits) true) rec bytes numbers old new before asked after sound unplaced small gave asks put) gives puts
 
-pub renews_placed : (p mid q : Kept) (rec : FileRecord) (bytes numbers : List ℕ) (old new : Held) (before placed after : Meaning) → AreSound p
+pub renews_placed : (p mid q : Metadata) (rec : FileRecord) (bytes numbers : List ℕ) (old new : Held) (before placed after : Meaning) → AreSound p
     → Puts bytes numbers p mid old new before placed → GivesBack rec mid q new placed → Asks new placed after → Renews bytes numbers (Some rec) p q old new before after
 renews_placed p mid q rec bytes numbers old new before placed after sound puts gives asks =
-    let P : Kept → Type 0 = λ x. Puts bytes numbers p x old new before placed → GivesBack rec x q new placed → Renews bytes numbers (Some rec) p q old new before after in
-    subst P (sym puts.takes.parts)
+    let P : Metadata → Type 0 = λ x. Puts bytes numbers p x old new before placed → GivesBack rec x q new placed → Renews bytes numbers (Some rec) p q old new before after in
+    subst P (sym puts.takes.metadata)
     (λ put gave. renews_last p (marked p.taken puts.blocks) (set p.marks (bitmap_start p.limits) true) bytes numbers old new before placed after sound put asks q rec gave) puts gives
 
-pub torn_placed : (p mid q : Kept) (bytes numbers : List ℕ) (old new : Held) (before placed after : Meaning) → AreSound p
+pub torn_placed : (p mid q : Metadata) (bytes numbers : List ℕ) (old new : Held) (before placed after : Meaning) → AreSound p
     → Puts bytes numbers p mid old new before placed → q ≡ mid → Asks new placed after → ContentTorn bytes p q old new before after
 torn_placed p mid q bytes numbers old new before placed after sound puts same asks =
-    let P : Kept → Type 0 = λ x. Puts bytes numbers p x old new before placed → ContentTorn bytes p x old new before after in
-    let T : Kept → Type 0 = λ x. ContentTorn bytes p x old new before after in
-    subst T (sym same) (subst P (sym puts.takes.parts) (λ put. torn_last p (marked p.taken puts.blocks) (set p.marks (bitmap_start p.limits) true) bytes numbers old new before placed after sound put asks) puts)
+    let P : Metadata → Type 0 = λ x. Puts bytes numbers p x old new before placed → ContentTorn bytes p x old new before after in
+    let T : Metadata → Type 0 = λ x. ContentTorn bytes p x old new before after in
+    subst T (sym same) (subst P (sym puts.takes.metadata) (λ put. torn_last p (marked p.taken puts.blocks) (set p.marks (bitmap_start p.limits) true) bytes numbers old new before placed after sound put asks) puts)
 
 -- ---- how it ends
-pub lost_last : (T : Type 0) (p mid q : Kept) (rec : FileRecord) (bytes numbers : List ℕ) (old new : Held) (before placed after : Meaning) (change : Change) (result : Result (ArrayVec ℕ) Change) → AreSound p
+pub lost_last : (T : Type 0) (p mid q : Metadata) (rec : FileRecord) (bytes numbers : List ℕ) (old new : Held) (before placed after : Meaning) (change : ChangeFault) (result : Result (ArrayVec ℕ) ChangeFault) → AreSound p
     → Puts bytes numbers p mid old new before placed → ContentGiven {T = T} rec mid q new placed after (Err change) → result ≡ Err change → ContentRenewed bytes (Some rec) p q old new before after result
 lost_last T p mid q rec bytes numbers old new before placed after change result sound puts gave ends =
     subst (λ r. ContentRenewed bytes (Some rec) p q old new before after r) (sym ends) (by change gave)
   where
-    by : (x : Change) → ContentGiven {T = T} rec mid q new placed after (Err x) → ContentRenewed bytes (Some rec) p q old new before after (Err x)
+    by : (x : ChangeFault) → ContentGiven {T = T} rec mid q new placed after (Err x) → ContentRenewed bytes (Some rec) p q old new before after (Err x)
     by (Refused refusal) never = never
     by Disk lost = torn_placed p mid q bytes numbers old new before placed after sound puts lost.0 lost.1
 
-pub lost_first : (T : Type 0) (p q : Kept) (rec : FileRecord) (bytes : List ℕ) (old : Held) (before after : Meaning) (change : Change) (result : Result (ArrayVec ℕ) Change) → old.placed ≡ []
+pub lost_first : (T : Type 0) (p q : Metadata) (rec : FileRecord) (bytes : List ℕ) (old : Held) (before after : Meaning) (change : ChangeFault) (result : Result (ArrayVec ℕ) ChangeFault) → old.placed ≡ []
     → ContentGiven {T = T} rec p q old before after (Err change) → result ≡ Err change → ContentRenewed bytes (Some rec) p q old old before after result
 lost_first T p q rec bytes old before after change result unplaced gave ends = search (rules, torn_first)
 
 -- a put of a content that is not large fails never
-pub put_last : (p mid q : Kept) (rec : FileRecord) (bytes : List ℕ) (old new : Held) (before asked after : Meaning) (result : Result (ArrayVec ℕ) Change) → AreSound p → old.placed ≡ [] → is_large (length bytes) ≡ false
+pub put_last : (p mid q : Metadata) (rec : FileRecord) (bytes : List ℕ) (old new : Held) (before asked after : Meaning) (result : Result (ArrayVec ℕ) ChangeFault) → AreSound p → old.placed ≡ [] → is_large (length bytes) ≡ false
     → GivesBack rec p mid old before → Asks old before asked → ContentPut bytes mid q old new asked after result → OnErr result (is_large (length bytes) ≡ true) → ContentRenewed bytes (Some rec) p q old new before after result
 put_last p mid q rec bytes old new before asked after result sound unplaced small gives asks put torn = by result put torn
   where
-    by : (r : Result (ArrayVec ℕ) Change) → ContentPut bytes mid q old new asked after r → OnErr r (is_large (length bytes) ≡ true) → ContentRenewed bytes (Some rec) p q old new before after r
+    by : (r : Result (ArrayVec ℕ) ChangeFault) → ContentPut bytes mid q old new asked after r → OnErr r (is_large (length bytes) ≡ true) → ContentRenewed bytes (Some rec) p q old new before after r
     by (Ok numbers) puts none = renews_given p mid q rec bytes numbers.items old new before asked after sound unplaced small gives asks puts
     by (Err (Refused refusal)) never none = never
     by (Err Disk) lost large = absurd (both_ways (is_large (length bytes)) small large)

@@ -1,9 +1,9 @@
 -- Calls in which a file comes into a free slot, or takes the place of another.
 use Rattle.std.proofs.Common.{rules}
-use Rattle.lis_store.proofs.Common.{◌≡◌, refl, sym, ap, ◌∙◌, subst, ℕ, ◌+◌, ◌≤◌, ◌==◌, ◌&&◌, not, nat_lt, is_some, cond, true, false, Bool, IsSome, IfSome, List, [], length, Option, Some, None, Result, arith, list_all, and_parts, eqb-true, Meaning, Held, Fits, KeepsPast, looked, Filed, slot_of, rec_at, is_large, word_of, same_word, FileRecord, are_blocks, is_record, Limits, bitmap_start, data_start, image_blocks, State, File, blocks_taken, used_blocks, derived_words, new_file, file_added, file_removed, file_replaced, file_limit, Situation, Outcome, same_word_decides, Kept, IsSaved, is_marked, marked_count, is_sound_record, AreSound, bytes_told, blocks_told, Tells, record_in_form, filed_at_slot, among_from_any, leaves_weaken, StandsBut, changed, file_told}
+use Rattle.lis_store.proofs.Common.{◌≡◌, refl, sym, ap, ◌∙◌, subst, ℕ, ◌+◌, ◌≤◌, ◌==◌, ◌&&◌, not, nat_lt, is_some, cond, true, false, Bool, IsSome, IfSome, List, [], length, Option, Some, None, Result, arith, list_all, and_parts, eqb-true, Meaning, Held, Fits, KeepsPast, looked, Filed, slot_of, rec_at, is_large, word_of, same_word, FileRecord, are_blocks, is_record, Limits, bitmap_start, data_start, image_blocks, State, File, blocks_taken, used_blocks, derived_words, new_file, file_added, file_removed, file_replaced, file_limit, Situation, Outcome, same_word_decides, Metadata, IsSaved, is_marked, marked_count, is_sound_record, AreSound, bytes_told, blocks_told, Tells, record_in_form, filed_at_slot, among_from_any, leaves_weaken, StandsBut, changed, file_told}
 use Rattle.lis_catalog.proofs.Laws.{slot_of-rec_at}
 use Rattle.lis_laws.proofs.Counts.{filter_sum_drops}
-use Rattle.lis_store.specs.declared.change.Change.{Change}
+use Rattle.lis_store.specs.declared.change_fault.ChangeFault.{ChangeFault}
 use Rattle.lis_store.specs.Stands.{Stands}
 use Rattle.lis_store.specs.Stored.{Stored, IsSound, StoreHolds}
 use Rattle.lis_store.specs.Changes.{Holds, AreEditsFew}
@@ -29,26 +29,26 @@ use Rattle.lis_journal.specs.Journal.{shape_of}
 use Rattle.lis_kept.specs.Image.{image_shape}
 use Rattle.lis_kept.proofs.Image.{same_layout, same_blocks, same_staged}
 
-may_retaken : (p : Kept) (taken marks : List Bool) (slot : ℕ) (rec : FileRecord) (draft : Draft) → MayReplace p slot rec draft → MayReplace (retaken p taken marks) slot rec draft
+may_retaken : (p : Metadata) (taken marks : List Bool) (slot : ℕ) (rec : FileRecord) (draft : Draft) → MayReplace p slot rec draft → MayReplace (retaken p taken marks) slot rec draft
 may_retaken p taken marks slot rec draft may = search (rules)
 
 -- a file that may be put into a slot may be where other blocks are taken
-put_retaken : (p : Kept) (taken marks : List Bool) (slot : Option ℕ) (draft : Draft) → MayPut p slot draft → MayPut (retaken p taken marks) slot draft
+put_retaken : (p : Metadata) (taken marks : List Bool) (slot : Option ℕ) (draft : Draft) → MayPut p slot draft → MayPut (retaken p taken marks) slot draft
 put_retaken p taken marks slot draft may = search (rules, retaken, may_retaken)
 
-put_small : (p : Kept) (slot : Option ℕ) (draft : Draft) → MayPut p slot draft → draft.size ≤ file_limit p.limits.version
+put_small : (p : Metadata) (slot : Option ℕ) (draft : Draft) → MayPut p slot draft → draft.size ≤ file_limit p.limits.version
 put_small p slot draft may = search (rules)
 
-record_retaken : (p : Kept) (taken marks : List Bool) (slot : Option ℕ) → record_in (retaken p taken marks) slot ≡ record_in p slot
+record_retaken : (p : Metadata) (taken marks : List Bool) (slot : Option ℕ) → record_in (retaken p taken marks) slot ≡ record_in p slot
 record_retaken p taken marks slot = search (rules)
 
 -- ---- memory tells the next state, from wherever the bytes come
-module _ (old : Stored) (taken marks : List Bool) (q : Kept) (j : Held) (gone : Option FileRecord) (draft : Draft) (numbers : List ℕ) (sound : IsSound old) (sound_p : AreSound (retaken old.parts taken marks))
-    (again : RefilesIn gone draft numbers (retaken old.parts taken marks) q) where
-  abbrev o : Kept
-  o = old.parts
+module _ (old : Stored) (taken marks : List Bool) (q : Metadata) (j : Held) (gone : Option FileRecord) (draft : Draft) (numbers : List ℕ) (sound : IsSound old) (sound_p : AreSound (retaken old.metadata taken marks))
+    (again : RefilesIn gone draft numbers (retaken old.metadata taken marks) q) where
+  abbrev o : Metadata
+  o = old.metadata
 
-  abbrev p : Kept
+  abbrev p : Metadata
   p = retaken o taken marks
 
   pub form : AreInForm p
@@ -70,14 +70,14 @@ module _ (old : Stored) (taken marks : List Bool) (q : Kept) (j : Held) (gone : 
   pub replaced_edits : AreEditsFew o.ext q.ext
   replaced_edits = edits_refiled again
 
-module _ (old : Stored) (taken marks : List Bool) (q : Kept) (j : Held) (gone : Option FileRecord) (file : File) (own : List (List ℕ)) (numbers : List ℕ) (sound : IsSound old)
-    (sound_p : AreSound (retaken old.parts taken marks)) (again : RefilesIn gone (with_own file own) numbers (retaken old.parts taken marks) q) where
-  abbrev parts_before : Kept
-  parts_before = old.parts
+module _ (old : Stored) (taken marks : List Bool) (q : Metadata) (j : Held) (gone : Option FileRecord) (file : File) (own : List (List ℕ)) (numbers : List ℕ) (sound : IsSound old)
+    (sound_p : AreSound (retaken old.metadata taken marks)) (again : RefilesIn gone (with_own file own) numbers (retaken old.metadata taken marks) q) where
+  abbrev metadata_before : Metadata
+  metadata_before = old.metadata
 
-  pub replaced_holds : {T : Type 0} (base : State) (now : Situation) (new : Stored) (before after : Meaning) (result : Result T Change) (outcome : Outcome) (at kept : ℕ → List ℕ) (held : List ℕ)
-      → parts_before.limits ≡ base.limits → (tells : Tells parts_before at now.state) → AreOwnWords (file_gone now.state gone).declared (file_gone now.state gone).axioms own file → IsSaved (retaken parts_before taken marks) at
-      → IsHoused parts_before.limits parts_before.taken taken (blocks_gone parts_before.limits at gone) held file.bytes numbers at (looked j.staged kept)
+  pub replaced_holds : {T : Type 0} (base : State) (now : Situation) (new : Stored) (before after : Meaning) (result : Result T ChangeFault) (outcome : Outcome) (at kept : ℕ → List ℕ) (held : List ℕ)
+      → metadata_before.limits ≡ base.limits → (tells : Tells metadata_before at now.state) → AreOwnWords (file_gone now.state gone).declared (file_gone now.state gone).axioms own file → IsSaved (retaken metadata_before taken marks) at
+      → IsHoused metadata_before.limits metadata_before.taken taken (blocks_gone metadata_before.limits at gone) held file.bytes numbers at (looked j.staged kept)
       → Fits j before kept → ((image : List ℕ) → StandsBut j.layout j.placed kept image → Stands image base)
       → used_blocks (file_gone now.state gone) + blocks_taken (file_gone now.state gone).limits.version (length file.bytes) ≤ (file_gone now.state gone).limits.blocks
       → outcome ≡ changed now (file_added (file_gone now.state gone) file) → Saves q j new before after result → Holds base now outcome new before after result
@@ -86,36 +86,36 @@ module _ (old : Stored) (taken marks : List Bool) (q : Kept) (j : Held) (gone : 
       let there = looked j.staged kept in
       saves base now outcome (file_added (file_gone now.state gone) file) kept fits (limits_then old taken marks q j gone draft numbers sound sound_p again ∙ limits) stands
       (λ sound_then. record {
-        tells = tells_refiled file own parts_before taken marks (form old taken marks q j gone draft numbers sound sound_p again) again sound.parts tells are_own housed room;
-        saved = saved_refiled again there (saved_there (retaken parts_before taken marks) at there sound_p.range (λ n low lt. housed.same n (no_home_before (data_start parts_before.limits) n held lt)) saved);
+        tells = tells_refiled file own metadata_before taken marks (form old taken marks q j gone draft numbers sound sound_p again) again sound.metadata tells are_own housed room;
+        saved = saved_refiled again there (saved_there (retaken metadata_before taken marks) at there sound_p.range (λ n low lt. housed.same n (no_home_before (data_start metadata_before.limits) n held lt)) saved);
       })
       done
 
 -- without a file its blocks are not used
-room_without : (old : Stored) (s : State) → IsSound old → {at : ℕ → List ℕ} → Tells old.parts at s → (slot : ℕ) (rec : FileRecord) → rec_at old.parts.catalog slot ≡ Some rec → (size : ℕ)
-    → used_blocks s + blocks_taken s.limits.version size ≤ s.limits.blocks + blocks_taken s.limits.version (length (bytes_told old.parts.limits at rec))
+room_without : (old : Stored) (s : State) → IsSound old → {at : ℕ → List ℕ} → Tells old.metadata at s → (slot : ℕ) (rec : FileRecord) → rec_at old.metadata.catalog slot ≡ Some rec → (size : ℕ)
+    → used_blocks s + blocks_taken s.limits.version size ≤ s.limits.blocks + blocks_taken s.limits.version (length (bytes_told old.metadata.limits at rec))
     → used_blocks (file_removed s rec.name) + blocks_taken s.limits.version size ≤ s.limits.blocks
 room_without old s sound {at} tells slot rec there size room =
-    let parts = old.parts in
+    let metadata = old.metadata in
     let filed : Filed = record { slot = slot; rec = rec } in
-    let told : File = file_told parts.limits parts.dict at filed in
+    let told : File = file_told metadata.limits metadata.dict at filed in
     let gone = (same_word_decides rec.name rec.name).1 refl in
     let fewer = filter_sum_drops (λ (f : File). blocks_taken s.limits.version (length f.bytes)) (λ (f : File). not (same_word f.name rec.name)) s.files told
-    (file_of_filed parts at s sound.parts sound.free tells filed (filed_at_slot parts.catalog sound.parts.catalog slot rec there)) (ap not gone) in
+    (file_of_filed metadata at s sound.metadata sound.free tells filed (filed_at_slot metadata.catalog sound.metadata.catalog slot rec there)) (ap not gone) in
     omega (arith, room, fewer)
 
 -- ---- other bytes
-pub anew_there : {old now : Stored} → old ≡ now → (slot : Option ℕ) (draft : Draft) → MayPut now.parts slot draft → IfSome slot (λ s. IsSome (rec_at old.parts.catalog s))
-anew_there {old} same slot draft may = may_there slot old.parts draft (subst (λ (o : Stored). MayPut o.parts slot draft) (sym same) may)
+pub anew_there : {old now : Stored} → old ≡ now → (slot : Option ℕ) (draft : Draft) → MayPut now.metadata slot draft → IfSome slot (λ s. IsSome (rec_at old.metadata.catalog s))
+anew_there {old} same slot draft may = may_there slot old.metadata draft (subst (λ (o : Stored). MayPut o.metadata slot draft) (sym same) may)
 
-pub anew_small : {old now : Stored} → old ≡ now → (slot : Option ℕ) (draft : Draft) → MayPut now.parts slot draft → draft.size ≤ file_limit old.parts.limits.version
-anew_small {old} same slot draft may = put_small old.parts slot draft (subst (λ (o : Stored). MayPut o.parts slot draft) (sym same) may)
+pub anew_small : {old now : Stored} → old ≡ now → (slot : Option ℕ) (draft : Draft) → MayPut now.metadata slot draft → draft.size ≤ file_limit old.metadata.limits.version
+anew_small {old} same slot draft may = put_small old.metadata slot draft (subst (λ (o : Stored). MayPut o.metadata slot draft) (sym same) may)
 
--- What a call asks speaks of the store's value `now`, and what is proved of its parts, `old`.
-module _ {old now : Stored} (same : old ≡ now) {mid : Kept} {j : Held} (slot : Option ℕ) (name : List ℕ) (assigned : List (List ℕ)) (bytes numbers : List ℕ) (sound : IsSound old) (sound_mid : AreSound mid)
-    (asked : MayPut now.parts slot (draft_of (new_file name assigned bytes))) {before placed : Meaning} (renews : Renews bytes numbers (record_in old.parts slot) old.parts mid old.journal j before placed) where
-  abbrev k : Kept
-  k = old.parts
+-- What a call asks speaks of the store's value `now`, and what is proved of its metadata, `old`.
+module _ {old now : Stored} (same : old ≡ now) {mid : Metadata} {j : Held} (slot : Option ℕ) (name : List ℕ) (assigned : List (List ℕ)) (bytes numbers : List ℕ) (sound : IsSound old) (sound_mid : AreSound mid)
+    (asked : MayPut now.metadata slot (draft_of (new_file name assigned bytes))) {before placed : Meaning} (renews : Renews bytes numbers (record_in old.metadata slot) old.metadata mid old.journal j before placed) where
+  abbrev k : Metadata
+  k = old.metadata
 
   abbrev file : File
   file = new_file name assigned bytes
@@ -124,23 +124,23 @@ module _ {old now : Stored} (same : old ≡ now) {mid : Kept} {j : Held} (slot :
   goes = record_in k slot
 
   first : MayPut k slot (draft_of file)
-  first = subst (λ (o : Stored). MayPut o.parts slot (draft_of file)) (sym same) asked
+  first = subst (λ (o : Stored). MayPut o.metadata slot (draft_of file)) (sym same) asked
 
-  abbrev renewed : Kept
+  abbrev renewed : Metadata
   renewed = retaken k mid.taken mid.marks
 
   sound_renewed : AreSound renewed
-  sound_renewed = subst (λ (x : Kept). AreSound x) renews.parts sound_mid
+  sound_renewed = subst (λ (x : Metadata). AreSound x) renews.metadata sound_mid
 
-  -- what is asked of the parts then
+  -- what is asked of the metadata then
   pub mid_form : AreInForm mid
-  mid_form = subst (λ (x : Kept). AreInForm x) (sym renews.parts) (form_retaken k mid.taken mid.marks sound_renewed (in_form old sound))
+  mid_form = subst (λ (x : Metadata). AreInForm x) (sym renews.metadata) (form_retaken k mid.taken mid.marks sound_renewed (in_form old sound))
 
   mid_same : mid.limits ≡ k.limits
-  mid_same = ap (λ (x : Kept). x.limits) renews.parts
+  mid_same = ap (λ (x : Metadata). x.limits) renews.metadata
 
-  pub mid_limits : mid.limits ≡ now.parts.limits
-  mid_limits = mid_same ∙ ap (λ (o : Stored). o.parts.limits) same
+  pub mid_limits : mid.limits ≡ now.metadata.limits
+  mid_limits = mid_same ∙ ap (λ (o : Stored). o.metadata.limits) same
 
   pub mid_in_form : are_blocks mid.limits.version (length bytes) numbers ≡ true
   mid_in_form = ap (λ (x : Limits). are_blocks x.version (length bytes) numbers) mid_same ∙ renews.in_form
@@ -149,7 +149,7 @@ module _ {old now : Stored} (same : old ≡ now) {mid : Kept} {j : Held} (slot :
   mid_below = ap (λ (x : Limits). list_all (λ n. nat_lt n x.blocks) numbers) mid_same ∙ renews.below
 
   pub mid_first : MayPut mid slot (draft_of file)
-  mid_first = subst (λ (x : Kept). MayPut x slot (draft_of file)) (sym renews.parts) (put_retaken k mid.taken mid.marks slot (draft_of file) first)
+  mid_first = subst (λ (x : Metadata). MayPut x slot (draft_of file)) (sym renews.metadata) (put_retaken k mid.taken mid.marks slot (draft_of file) first)
 
   pub mid_short : length bytes ≤ 1048576
   mid_short = by (k.limits.version == 2) (put_small k slot (draft_of file) first)
@@ -161,7 +161,7 @@ module _ {old now : Stored} (same : old ≡ now) {mid : Kept} {j : Held} (slot :
   pub mid_image : shape_of j ≡ shape_of now.journal
   mid_image = renews.image ∙ ap (λ (o : Stored). shape_of o.journal) same
 
-  module _ {q : Kept} (again_mid : RefilesIn (record_in mid slot) (draft_of file) numbers mid q) where
+  module _ {q : Metadata} (again_mid : RefilesIn (record_in mid slot) (draft_of file) numbers mid q) where
     again : RefilesIn goes (draft_of file) numbers renewed q
     again = search (rules, record_retaken)
 
@@ -184,13 +184,13 @@ module _ {old now : Stored} (same : old ≡ now) {mid : Kept} {j : Held} (slot :
         image = renews.image ∙ (sound.image ∙ ap image_shape (sym written_same));
         placed = λ n among.
             let at = among_from_any (λ b. data_start k.limits + b == n) renews.spare (renews.placed n among) in
-            let bitmap = subst (λ (x : Kept). is_marked x (bitmap_start k.limits) ≡ true) renews.parts renews.bitmap in (
+            let bitmap = subst (λ (x : Metadata). is_marked x (bitmap_start k.limits) ≡ true) renews.metadata renews.bitmap in (
               omega (arith, eqb-true (data_start k.limits + at.0) n at.2, ap data_start written_same),
               replaced_bitmap old mid.taken mid.marks q j goes (draft_of file) numbers sound sound_renewed again bitmap,
             );
         room =
             let some = replaced_marks old mid.taken mid.marks q j goes (draft_of file) numbers sound sound_renewed again in
-            omega (arith, some, sound.few unbroken, renews.few_staged, renews.marks.few, none_marked k (sound.clean unbroken), ap (λ (x : Kept). marked_count x) renews.parts, same_staged (renews.image ∙ sound.image));
+            omega (arith, some, sound.few unbroken, renews.few_staged, renews.marks.few, none_marked k (sound.clean unbroken), ap (λ (x : Metadata). marked_count x) renews.metadata, same_staged (renews.image ∙ sound.image));
       }
 
     -- from a state that memory told
@@ -208,7 +208,7 @@ module _ {old now : Stored} (same : old ≡ now) {mid : Kept} {j : Held} (slot :
       then_at = looked j.staged comes.lands.kept
 
       saved_at : IsSaved renewed at
-      saved_at = subst (λ (x : Kept). IsSaved x at) renews.parts (renews.marks.saved at (λ area n lt unmarked. holds.written area n lt))
+      saved_at = subst (λ (x : Metadata). IsSaved x at) renews.metadata (renews.marks.saved at (λ area n lt unmarked. holds.written area n lt))
 
       -- a file that goes stands in a slot
       gone_slot : (o : Option ℕ) (rec : FileRecord) → record_in k o ≡ Some rec → (n : ℕ) × (rec_at k.catalog n ≡ Some rec)
@@ -219,10 +219,10 @@ module _ {old now : Stored} (same : old ≡ now) {mid : Kept} {j : Held} (slot :
       housed = by goes refl comes.trades
         where
           by : (o : Option FileRecord) → goes ≡ o → Trades k.limits o k.taken mid.taken renews.blocks at then_at → IsHoused k.limits k.taken mid.taken (blocks_gone k.limits at o) renews.blocks bytes numbers at then_at
-          by None is trades = alone_housed k.limits k.taken mid.taken renews.blocks bytes numbers at then_at sound.parts.blocks renews.distinct comes.lands.holds comes.lands.same trades
+          by None is trades = alone_housed k.limits k.taken mid.taken renews.blocks bytes numbers at then_at sound.metadata.blocks renews.distinct comes.lands.holds comes.lands.same trades
           by (Some rec) is trades =
               let found = gone_slot slot rec is in
-              trades_housed k sound.parts at then_at s holds.tells (record { slot = found.0; rec = rec }) (filed_at_slot k.catalog sound.parts.catalog found.0 rec found.1) mid.taken renews.blocks bytes numbers renews.distinct
+              trades_housed k sound.metadata at then_at s holds.tells (record { slot = found.0; rec = rec }) (filed_at_slot k.catalog sound.metadata.catalog found.0 rec found.1) mid.taken renews.blocks bytes numbers renews.distinct
               comes.lands.holds comes.lands.same trades
 
       -- its blocks are enough
@@ -239,7 +239,7 @@ module _ {old now : Stored} (same : old ≡ now) {mid : Kept} {j : Held} (slot :
           by (Some rec) is free =
               let found = gone_slot slot rec is in
               room_without old s sound holds.tells found.0 rec found.1 (length bytes)
-              (written_enough old s sound fits rec.name found.0 rec (slot_of-rec_at k.catalog found.0 rec sound.parts.catalog found.1) found.1 (length bytes) free)
+              (written_enough old s sound fits rec.name found.0 rec (slot_of-rec_at k.catalog found.0 rec sound.metadata.catalog found.1) found.1 (length bytes) free)
 
       -- what is kept but for placed blocks stands for the base
       module _ (alone : is_large (length bytes) ≡ true → old.journal.staged ≡ []) where
@@ -252,7 +252,7 @@ module _ {old now : Stored} (same : old ≡ now) {mid : Kept} {j : Held} (slot :
             stands_old image (stands_same old.journal.layout j.placed comes.lands.kept holds.kept image comes.stays (subst (λ l. StandsBut l j.placed comes.lands.kept image) (same_layout renews.image) but))
 
         -- where its blocks are enough
-        replaces : {T : Type 0} (new : Stored) (after : Meaning) (result : Result T Change) → blocks_taken k.limits.version (length bytes) ≤ free_for k goes → Saves q j new placed after result
+        replaces : {T : Type 0} (new : Stored) (after : Meaning) (result : Result T ChangeFault) → blocks_taken k.limits.version (length bytes) ≤ free_for k goes → Saves q j new placed after result
             → Holds base was (changed was (file_added (file_gone s goes) file)) new before after result
         replaces new after result enough saves =
             let outcome = changed was (file_added (file_gone s goes) file) in
@@ -261,68 +261,68 @@ module _ {old now : Stored} (same : old ≡ now) {mid : Kept} {j : Held} (slot :
             (replaced_holds old mid.taken mid.marks q j goes file (derived_words name bytes) numbers sound sound_renewed again base was new placed after result outcome at comes.lands.kept renews.blocks
             holds.limits holds.tells refl saved_at housed comes.lands.fits stands_then (room enough) refl saves)
 
-    pub written_holds : {T : Type 0} (base : State) (was : Situation) → StoreHolds now before base was.state → blocks_taken now.parts.limits.version (length bytes) ≤ free_for now.parts (record_in now.parts slot)
-        → (is_large (length bytes) ≡ true → now.journal.staged ≡ []) → (new : Stored) (after : Meaning) (result : Result T Change) → Saves q j new placed after result
-        → Holds base was (changed was (file_added (file_gone was.state (record_in now.parts slot)) file)) new before after result
+    pub written_holds : {T : Type 0} (base : State) (was : Situation) → StoreHolds now before base was.state → blocks_taken now.metadata.limits.version (length bytes) ≤ free_for now.metadata (record_in now.metadata slot)
+        → (is_large (length bytes) ≡ true → now.journal.staged ≡ []) → (new : Stored) (after : Meaning) (result : Result T ChangeFault) → Saves q j new placed after result
+        → Holds base was (changed was (file_added (file_gone was.state (record_in now.metadata slot)) file)) new before after result
     written_holds base was holds_now enough_now alone_now new after result saves =
         let A : Stored → Type 0 = λ o. is_large (length bytes) ≡ true → o.journal.staged ≡ [] in
-        let E : Stored → Type 0 = λ o. blocks_taken o.parts.limits.version (length bytes) ≤ free_for o.parts (record_in o.parts slot) in
+        let E : Stored → Type 0 = λ o. blocks_taken o.metadata.limits.version (length bytes) ≤ free_for o.metadata (record_in o.metadata slot) in
         let holds : StoreHolds old before base was.state = subst (λ (o : Stored). StoreHolds o before base was.state) (sym same) holds_now in
-        subst (λ (o : Stored). Holds base was (changed was (file_added (file_gone was.state (record_in o.parts slot)) file)) new before after result) same
+        subst (λ (o : Stored). Holds base was (changed was (file_added (file_gone was.state (record_in o.metadata slot)) file)) new before after result) same
         (replaces base was holds (subst A (sym same) alone_now) new after result (subst E (sym same) enough_now) saves)
 
 -- ---- another name and other words, and the same bytes
 -- the blocks of a file are those of a record that has its size
-module _ {old now : Stored} (same : old ≡ now) (sound : IsSound old) (name : List ℕ) {slot : ℕ} (named : slot_of now.parts.catalog name ≡ Some slot) {numbers : List ℕ}
-    (numbers_are : (rec : FileRecord) → rec_at old.parts.catalog slot ≡ Some rec → numbers ≡ rec.blocks) where
-  there : (rec : FileRecord) × (rec_at old.parts.catalog slot ≡ Some rec) × (rec.name ≡ name)
+module _ {old now : Stored} (same : old ≡ now) (sound : IsSound old) (name : List ℕ) {slot : ℕ} (named : slot_of now.metadata.catalog name ≡ Some slot) {numbers : List ℕ}
+    (numbers_are : (rec : FileRecord) → rec_at old.metadata.catalog slot ≡ Some rec → numbers ≡ rec.blocks) where
+  there : (rec : FileRecord) × (rec_at old.metadata.catalog slot ≡ Some rec) × (rec.name ≡ name)
   there = found_there same sound name named
 
   blocks_are : numbers ≡ there.0.blocks
   blocks_are = numbers_are there.0 there.1
 
-  sound_rec : is_sound_record old.parts.limits.version old.parts.dict old.parts.limits.blocks there.0 ≡ true
-  sound_rec = sound.parts.records slot there.0 there.1
+  sound_rec : is_sound_record old.metadata.limits.version old.metadata.dict old.metadata.limits.blocks there.0 ≡ true
+  sound_rec = sound.metadata.records slot there.0 there.1
 
-  pub still_in_form : {size : ℕ} → ((rec : FileRecord) → rec_at old.parts.catalog slot ≡ Some rec → size ≡ rec.size) → are_blocks old.parts.limits.version size numbers ≡ true
+  pub still_in_form : {size : ℕ} → ((rec : FileRecord) → rec_at old.metadata.catalog slot ≡ Some rec → size ≡ rec.size) → are_blocks old.metadata.limits.version size numbers ≡ true
   still_in_form size = search (rules, there, blocks_are, record_in_form, sound_rec)
 
-  pub still_below : list_all (λ n. nat_lt n old.parts.limits.blocks) numbers ≡ true
+  pub still_below : list_all (λ n. nat_lt n old.metadata.limits.blocks) numbers ≡ true
   still_below =
-      ap (list_all (λ n. nat_lt n old.parts.limits.blocks)) blocks_are
-      ∙ (and_parts (is_record old.parts.limits.version there.0 && list_all (λ n. is_some (word_of old.parts.dict n)) there.0.tags) (list_all (λ n. nat_lt n old.parts.limits.blocks) there.0.blocks) sound_rec).1
+      ap (list_all (λ n. nat_lt n old.metadata.limits.blocks)) blocks_are
+      ∙ (and_parts (is_record old.metadata.limits.version there.0 && list_all (λ n. is_some (word_of old.metadata.dict n)) there.0.tags) (list_all (λ n. nat_lt n old.metadata.limits.blocks) there.0.blocks) sound_rec).1
 
-module _ {old now : Stored} (same : old ≡ now) (sound : IsSound old) (unbroken_now : now.is_broken ≡ false) {gone : Option FileRecord} {q : Kept} {draft : Draft} {numbers : List ℕ}
-    (refiled : RefilesIn gone draft numbers old.parts q) where
-  abbrev old_parts : Kept
-  old_parts = old.parts
+module _ {old now : Stored} (same : old ≡ now) (sound : IsSound old) (unbroken_now : now.is_broken ≡ false) {gone : Option FileRecord} {q : Metadata} {draft : Draft} {numbers : List ℕ}
+    (refiled : RefilesIn gone draft numbers old.metadata q) where
+  abbrev old_metadata : Metadata
+  old_metadata = old.metadata
 
   was_unbroken : old.is_broken ≡ false
   was_unbroken = ap (λ (k : Stored). k.is_broken) same ∙ unbroken_now
 
   pub refiled_change : IsChange old q
   refiled_change = record {
-    settles = replaced_sound old old_parts.taken old_parts.marks q old.journal gone draft numbers sound sound.parts refiled refl (sound.journal was_unbroken);
-    limits = limits_then old old_parts.taken old_parts.marks q old.journal gone draft numbers sound sound.parts refiled;
+    settles = replaced_sound old old_metadata.taken old_metadata.marks q old.journal gone draft numbers sound sound.metadata refiled refl (sound.journal was_unbroken);
+    limits = limits_then old old_metadata.taken old_metadata.marks q old.journal gone draft numbers sound sound.metadata refiled;
     room =
-        let some = replaced_marks old old_parts.taken old_parts.marks q old.journal gone draft numbers sound sound.parts refiled in
-        omega (arith, some, none_marked old_parts (sound.clean was_unbroken), sound.few was_unbroken);
-    edits = replaced_edits old old_parts.taken old_parts.marks q old.journal gone draft numbers sound sound.parts refiled;
+        let some = replaced_marks old old_metadata.taken old_metadata.marks q old.journal gone draft numbers sound sound.metadata refiled in
+        omega (arith, some, none_marked old_metadata (sound.clean was_unbroken), sound.few was_unbroken);
+    edits = replaced_edits old old_metadata.taken old_metadata.marks q old.journal gone draft numbers sound sound.metadata refiled;
   }
 
 -- where the bytes of the file that was there are these
-pub refiled_holds : (old : Stored) (q : Kept) (slot : ℕ) (file : File) (own : List (List ℕ)) (rec : FileRecord) (sound : IsSound old) → old.is_broken ≡ false → rec_at old.parts.catalog slot ≡ Some rec → RefilesIn (Some rec) (with_own file own) rec.blocks old.parts q
-    → {T : Type 0} (base : State) (now : Situation) (new : Stored) (before after : Meaning) (result : Result T Change) (outcome : Outcome) (holds : StoreHolds old before base now.state)
-    → AreOwnWords now.state.declared now.state.axioms own file → outcome ≡ changed now (file_replaced now.state rec.name file) → bytes_told old.parts.limits (looked old.journal.staged holds.kept) rec ≡ file.bytes
+pub refiled_holds : (old : Stored) (q : Metadata) (slot : ℕ) (file : File) (own : List (List ℕ)) (rec : FileRecord) (sound : IsSound old) → old.is_broken ≡ false → rec_at old.metadata.catalog slot ≡ Some rec → RefilesIn (Some rec) (with_own file own) rec.blocks old.metadata q
+    → {T : Type 0} (base : State) (now : Situation) (new : Stored) (before after : Meaning) (result : Result T ChangeFault) (outcome : Outcome) (holds : StoreHolds old before base now.state)
+    → AreOwnWords now.state.declared now.state.axioms own file → outcome ≡ changed now (file_replaced now.state rec.name file) → bytes_told old.metadata.limits (looked old.journal.staged holds.kept) rec ≡ file.bytes
     → Saves q old.journal new before after result → Holds base now outcome new before after result
 refiled_holds old q slot file own rec sound unbroken there again base now new before after result outcome holds are_own done told saves =
-    let parts = old.parts in
+    let metadata = old.metadata in
     let s = now.state in
     let filed : Filed = record { slot = slot; rec = rec } in
-    let of = filed_at_slot parts.catalog sound.parts.catalog slot rec there in
+    let of = filed_at_slot metadata.catalog sound.metadata.catalog slot rec there in
     let at : ℕ → List ℕ = looked old.journal.staged holds.kept in
     let size : rec.size ≡ length file.bytes = sym (size_of_filed old s sound (told_held old before base s sound holds) filed of) ∙ ap length told in
     let room = room_without old s sound holds.tells slot rec there (length file.bytes) (omega (arith, holds.tells.formed.few_blocks, ap (λ bs. blocks_taken s.limits.version (length bs)) told)) in
-    replaced_holds old parts.taken parts.marks q old.journal (Some rec) file own rec.blocks sound sound.parts again base now new before after result outcome at holds.kept (blocks_told parts.limits at rec)
-    holds.limits holds.tells are_own (λ area n lt unmarked. holds.written area n lt) (stay_housed parts at s holds.tells filed of file.bytes size told) holds.journal
+    replaced_holds old metadata.taken metadata.marks q old.journal (Some rec) file own rec.blocks sound sound.metadata again base now new before after result outcome at holds.kept (blocks_told metadata.limits at rec)
+    holds.limits holds.tells are_own (λ area n lt unmarked. holds.written area n lt) (stay_housed metadata at s holds.tells filed of file.bytes size told) holds.journal
     (unplaced_stands old sound unbroken base s before holds) room done saves

@@ -1,5 +1,5 @@
 -- The row of `mv`, told by what a store keeps, is the row of the state; and what holds where it refuses nothing.
-use Rattle.lis_store.proofs.Common.{◌≡◌, refl, sym, ap, ap₂, ◌∙◌, ℕ, ◌≤◌, nat_lt, Bool, true, false, not, cond, ◌&&◌, is_some, option_to_list, Some, None, List, [], ◌∷◌, ◌++◌, length, filter, arith, list_any, list_all, flat_map, ltb-false, not-false, IsStrictlySortedBy-filter, slot_of, rec_at, word_of, FileRecord, among_filter, Formula, resolved, text_words, word_cmp, has_word, is_file_name, is_built_in, is_head, Refusal, UnknownProperty, NoFileHere, State, File, is_assignable, place_words, new_file, file_replaced, Situation, refused, retagged, mv, word_order, sorted_set_of, sorted_with_words, rising_from_sorted, file_of_name, Kept, declared_of, and_from, both_ways, file_of, changed, tags_at, all_among, all_from, words_told}
+use Rattle.lis_store.proofs.Common.{◌≡◌, refl, sym, ap, ap₂, ◌∙◌, ℕ, ◌≤◌, nat_lt, Bool, true, false, not, cond, ◌&&◌, is_some, option_to_list, Some, None, List, [], ◌∷◌, ◌++◌, length, filter, arith, list_any, list_all, flat_map, ltb-false, not-false, IsStrictlySortedBy-filter, slot_of, rec_at, word_of, FileRecord, among_filter, Formula, resolved, text_words, word_cmp, has_word, is_file_name, is_built_in, is_head, Refusal, UnknownProperty, NoFileHere, State, File, is_assignable, place_words, new_file, file_replaced, Situation, refused, retagged, mv, word_order, sorted_set_of, sorted_with_words, rising_from_sorted, file_of_name, Metadata, declared_of, and_from, both_ways, file_of, changed, tags_at, all_among, all_from, words_told}
 use Rattle.lis_grammar.specs.Places.Resolution.{NewPlace}
 use Rattle.lis_model.specs.declared.refusal.Refusal.TheVariants.{NotAPlace, NotAssignable, TooManyAssigned, BuiltIn}
 use Rattle.lis_model.specs.Step.{here_checks, room_checks, mv_checks, mv_to, first_refusal}
@@ -28,15 +28,15 @@ moved_pass test given here next old new =
 
 -- ---- the row of the state
 module _ (k : Stored) (s : State) (sound : IsSound k) (fits : ToldBy k s) (place : List Formula) (name : List ℕ) (slot : ℕ) (rec : FileRecord)
-    (there : is_among k.parts place name ≡ true → (slot_of k.parts.catalog name ≡ Some slot) × (rec_at k.parts.catalog slot ≡ Some rec)) where
+    (there : is_among k.metadata place name ≡ true → (slot_of k.metadata.catalog name ≡ Some slot) × (rec_at k.metadata.catalog slot ≡ Some rec)) where
   abbrev now : Situation
   now = record { state = s; place = place }
 
   abbrev old : File
   old = file_of s.files name
 
-  abbrev kept : Kept
-  kept = k.parts
+  abbrev kept : Metadata
+  kept = k.metadata
 
   -- the file that the model makes of it
   abbrev pub new_of : List Formula → File
@@ -106,18 +106,18 @@ module _ (k : Stored) (s : State) (sound : IsSound k) (fits : ToldBy k s) (place
 
 -- ---- a file that is not here
 pub mv_nowhere : (k : Stored) (s : State) → IsSound k → ToldBy k s → (place next : List Formula) (name text : List ℕ)
-    → resolved place text ≡ NewPlace next → is_among k.parts place name ≡ false
+    → resolved place text ≡ NewPlace next → is_among k.metadata place name ≡ false
     → mv (record { state = s; place = place }) name text ≡ refused (record { state = s; place = place }) NoFileHere
 mv_nowhere k s sound fits place next name text leads none =
     let rec : FileRecord = record { name = []; size = 0; tags = []; blocks = [] } in
-    let rest = retag_checks k.parts place next (text_words text) 0 rec (moved_draft k.parts 0 rec place next name) in
-    mv_refused k s sound fits place name 0 rec (λ here. absurd (both_ways (is_among k.parts place name) none here)) text next NoFileHere leads
+    let rest = retag_checks k.metadata place next (text_words text) 0 rec (moved_draft k.metadata 0 rec place next name) in
+    mv_refused k s sound fits place name 0 rec (λ here. absurd (both_ways (is_among k.metadata place name) none here)) text next NoFileHere leads
     (ap (λ b. cond (not b) (Some NoFileHere) (first_refusal rest)) none)
 
 -- ---- a row that refuses nothing
-module _ (k : Stored) (sound : IsSound k) (slot : ℕ) (rec : FileRecord) (is_rec : rec_at k.parts.catalog slot ≡ Some rec) (here next : List Formula) where
-  abbrev p : Kept
-  p = k.parts
+module _ (k : Stored) (sound : IsSound k) (slot : ℕ) (rec : FileRecord) (is_rec : rec_at k.metadata.catalog slot ≡ Some rec) (here next : List Formula) where
+  abbrev p : Metadata
+  p = k.metadata
 
   pub mv_may : (name : List ℕ) (words : List (List ℕ)) → rec.name ≡ name → is_file_name name ≡ true → length (own_kept p slot) ≤ 128
       → first_refusal (retag_checks p here next words slot rec (moved_draft p slot rec here next name)) ≡ None → MayReplace p slot rec (moved_draft p slot rec here next name)

@@ -1,12 +1,12 @@
--- How parts are saved, and what is held back is committed.
+-- How metadata is saved, and what is held back is committed.
 use Rattle.std.proofs.Common.{rules}
-use Rattle.lis_store.proofs.Common.{◌≡◌, ◌⊎◌, ℕ, zero, suc, ◌+◌, ◌<◌, ◌≤◌, ◌||◌, Bool, true, false, List, [], ◌∷◌, length, Result, Ok, Err, refl, sym, ap, ◌∙◌, subst, inl, inr, IsTrue, arith, eq-eqb, false_from_ne_true, contains_from_among, Meaning, Leaves, Held, are_whole, Fits, KeepsPast, looked, bitmap_start, data_start, image_blocks, State, Situation, Outcome, Kept, IsWritten, AreSound, Tells, leaves_weaken, HomeBlock, StandsBut, is_among, changed}
+use Rattle.lis_store.proofs.Common.{◌≡◌, ◌⊎◌, ℕ, zero, suc, ◌+◌, ◌<◌, ◌≤◌, ◌||◌, Bool, true, false, List, [], ◌∷◌, length, Result, Ok, Err, refl, sym, ap, ◌∙◌, subst, inl, inr, IsTrue, arith, eq-eqb, false_from_ne_true, contains_from_among, Meaning, Leaves, Held, are_whole, Fits, KeepsPast, looked, bitmap_start, data_start, image_blocks, State, Situation, Outcome, Metadata, IsWritten, AreSound, Tells, leaves_weaken, HomeBlock, StandsBut, is_among, changed}
 use Rattle.lis_ports.proofs.Moments.{leaves_none}
 use Rattle.lis_journal.specs.Images.{StandsFor, StandsForAllOrNone}
 use Rattle.lis_model.specs.Image.{properties_start}
 use Rattle.lis_kept.specs.Staging.{Stages}
-use Rattle.lis_store.specs.declared.change.Change.{Change}
-use Rattle.lis_store.specs.declared.change.Change.TheVariants.{Refused, Disk}
+use Rattle.lis_store.specs.declared.change_fault.ChangeFault.{ChangeFault}
+use Rattle.lis_store.specs.declared.change_fault.ChangeFault.TheVariants.{Refused, Disk}
 use Rattle.lis_store.specs.Stands.{Stands}
 use Rattle.lis_store.specs.Stored.{Stored, IsSound, StoreHolds}
 use Rattle.lis_store.specs.Changes.{Holds, HeldEnded, Commits, CommitEnded}
@@ -20,20 +20,20 @@ use Rattle.lis_kept.specs.Image.{image_shape}
 use Rattle.lis_kept.proofs.Image.{same_layout, same_blocks}
 
 -- ---- what holds of the store afterwards
-module _ (p : Kept) (j x : Held) (settles : IsSound (settled p j)) (image : shape_of x ≡ shape_of j) where
-  pub sound_held : (q : Kept) (b : Bool) → q ≡ clean p → x.is_broken ≡ false → length x.staged ≤ 44 → IsTrue (are_whole x.staged) → x.placed ≡ [] → IsSound (record { parts = q; journal = x; is_broken = b })
+module _ (p : Metadata) (j x : Held) (settles : IsSound (settled p j)) (image : shape_of x ≡ shape_of j) where
+  pub sound_held : (q : Metadata) (b : Bool) → q ≡ clean p → x.is_broken ≡ false → length x.staged ≤ 44 → IsTrue (are_whole x.staged) → x.placed ≡ [] → IsSound (record { metadata = q; journal = x; is_broken = b })
   sound_held q b is unbroken few whole placed =
-      subst (λ (k : Kept). IsSound (record { parts = k; journal = x; is_broken = b })) (sym is)
+      subst (λ (k : Metadata). IsSound (record { metadata = k; journal = x; is_broken = b })) (sym is)
       (sound_at (clean p) x b (in_form (settled p j) settles) settles.pairs (image ∙ settles.image) unbroken few whole placed (settles.clean refl))
 
-  pub sound_broken : (q : Kept) (b : Bool) → q ≡ clean p → b ≡ true → IsSound (record { parts = q; journal = x; is_broken = b })
+  pub sound_broken : (q : Metadata) (b : Bool) → q ≡ clean p → b ≡ true → IsSound (record { metadata = q; journal = x; is_broken = b })
   sound_broken q b is broken =
-      subst (λ (k : Kept). IsSound (record { parts = k; journal = x; is_broken = b })) (sym is)
-      (subst (λ c. IsSound (record { parts = clean p; journal = x; is_broken = c })) (sym broken) (sound_lost (clean p) x (in_form (settled p j) settles) settles.pairs (image ∙ settles.image)))
+      subst (λ (k : Metadata). IsSound (record { metadata = k; journal = x; is_broken = b })) (sym is)
+      (subst (λ c. IsSound (record { metadata = clean p; journal = x; is_broken = c })) (sym broken) (sound_lost (clean p) x (in_form (settled p j) settles) settles.pairs (image ∙ settles.image)))
 
   -- behind a commit of more than nothing
-  pub sound_committed : {T : Type 0} (mid : Held) (before after : Meaning) (q : Kept) (b : Bool) (result : Result T Change) → q ≡ clean p → mid.is_broken ≡ false → 0 < length mid.staged
-      → KeepsStaged mid x before after result → SaveEnded b result → IsSound (record { parts = q; journal = x; is_broken = b })
+  pub sound_committed : {T : Type 0} (mid : Held) (before after : Meaning) (q : Metadata) (b : Bool) (result : Result T ChangeFault) → q ≡ clean p → mid.is_broken ≡ false → 0 < length mid.staged
+      → KeepsStaged mid x before after result → SaveEnded b result → IsSound (record { metadata = q; journal = x; is_broken = b })
   sound_committed mid before after q b (Ok done) is unbroken some keeps whole =
       let none : x.staged ≡ [] = ap (λ (h : Held). h.staged) keeps.done in
       sound_held q b is (ap (λ (h : Held). h.is_broken) keeps.done ∙ unbroken) (omega (arith, ap (λ (es : List HomeBlock). length es) none)) (ap are_whole none) (keeps.none_placed some)
@@ -42,15 +42,15 @@ module _ (p : Kept) (j x : Held) (settles : IsSound (settled p j)) (image : shap
 
 -- ---- placed blocks
 -- where none is, none is in the wrong place
-pub none_are_placed : (p : Kept) (j : Held) → j.placed ≡ [] → ArePlaced p j
+pub none_are_placed : (p : Metadata) (j : Held) → j.placed ≡ [] → ArePlaced p j
 none_are_placed p j none n among = absurd (let e : true ≡ false = sym among ∙ ap (λ ns. is_among ns n) none in cc)
 
 -- no block before the data blocks is placed
-pub not_placed : (p : Kept) (j : Held) → ArePlaced p j → (n : ℕ) → n < data_start p.limits → is_among j.placed n ≡ false
+pub not_placed : (p : Metadata) (j : Held) → ArePlaced p j → (n : ℕ) → n < data_start p.limits → is_among j.placed n ≡ false
 not_placed p j are n lt = false_from_ne_true (is_among j.placed n) (λ among. omega (arith, lt, (are n among).0))
 
 -- Where so few blocks are staged that none of them needs a commit, none is placed: where one is, the block of the bitmap is staged.
-pub none_placed : (p : Kept) (j mid : Held) (most : ℕ) → ArePlaced p j → Stages p j mid → (0 < most → j.placed ≡ []) → length mid.staged ≤ most → mid.placed ≡ []
+pub none_placed : (p : Metadata) (j mid : Held) (most : ℕ) → ArePlaced p j → Stages p j mid → (0 < most → j.placed ≡ []) → length mid.staged ≤ most → mid.placed ≡ []
 none_placed p j mid zero are stages some few = by j.placed refl
   where
     by : (ns : List ℕ) → j.placed ≡ ns → mid.placed ≡ []
@@ -61,15 +61,15 @@ none_placed p j mid zero are stages some few = by j.placed refl
         absurd (omega (arith, any, few))
 none_placed p j mid (suc most) are stages some few = stages.placed ∙ some (omega arith)
 
--- ---- what the parts tell and spell without their marks
-written_clean : (p : Kept) (at : ℕ → List ℕ) → IsWritten p at → IsWritten (clean p) at
+-- ---- what the metadata tells and spells without its marks
+written_clean : (p : Metadata) (at : ℕ → List ℕ) → IsWritten p at → IsWritten (clean p) at
 written_clean p at written area n lt = search (rules)
 
-tells_clean : (p : Kept) (at : ℕ → List ℕ) (s : State) → Tells p at s → Tells (clean p) at s
+tells_clean : (p : Metadata) (at : ℕ → List ℕ) (s : State) → Tells p at s → Tells (clean p) at s
 tells_clean p at s tells = search (rules, retold, contains_from_among)
 
 -- ---- what becomes of a change whose blocks are staged
-module _ (p : Kept) (j mid : Held) (before : Meaning) (stages : Stages p j mid) (sound : AreSound p) (settles : IsSound (settled p j)) (image_is : shape_of j ≡ image_shape p.limits)
+module _ (p : Metadata) (j mid : Held) (before : Meaning) (stages : Stages p j mid) (sound : AreSound p) (settles : IsSound (settled p j)) (image_is : shape_of j ≡ image_shape p.limits)
     (base : State) (now : Situation) (outcome : Outcome) (t : State) (kept : ℕ → List ℕ) (fits : Fits j before kept) (limits : p.limits ≡ base.limits)
     (stood : (image : List ℕ) → StandsBut j.layout j.placed kept image → Stands image base)
     (ready : IsReady p (looked j.staged kept) t) (is : outcome ≡ changed now t) where
@@ -103,14 +103,14 @@ module _ (p : Kept) (j mid : Held) (before : Meaning) (stages : Stages p j mid) 
 
   next_stands : (image : List ℕ) → StandsFor mid.layout there image → Stands image next
   next_stands image stands =
-      change_stands (settled p j) mid.layout there next settles.parts settles.free settles.pairs tells written (same_layout (stages.image ∙ image_is)) image stands
+      change_stands (settled p j) mid.layout there next settles.metadata settles.free settles.pairs tells written (same_layout (stages.image ∙ image_is)) image stands
 
   -- held back: the disk stays
-  pub change_held : {T : Type 0} (q : Kept) (b : Bool) (done : T) → q ≡ clean p → b ≡ false → Holds base now outcome (record { parts = q; journal = mid; is_broken = b }) before before (Ok done)
-  change_held {T = T} q b done parts whole = search (rules, journal_fits, base_stands, stands_all_but, tells, written, leaves_none)
+  pub change_held : {T : Type 0} (q : Metadata) (b : Bool) (done : T) → q ≡ clean p → b ≡ false → Holds base now outcome (record { metadata = q; journal = mid; is_broken = b }) before before (Ok done)
+  change_held {T = T} q b done metadata whole = search (rules, journal_fits, base_stands, stands_all_but, tells, written, leaves_none)
 
   -- or committed
-  module _ {T : Type 0} (x : Held) (after : Meaning) (result : Result T Change) (keeps : KeepsStaged mid x before after result) where
+  module _ {T : Type 0} (x : Held) (after : Meaning) (result : Result T ChangeFault) (keeps : KeepsStaged mid x before after result) where
     moments : Leaves before after (λ image. (Stands image base ⊎ Stands image now.state) ⊎ Stands image next)
     moments = leaves_weaken (λ image. (Stands image base ⊎ Stands image now.state) ⊎ Stands image next) (keeps.moments kept journal_fits) by
       where
@@ -121,11 +121,11 @@ module _ (p : Kept) (j mid : Held) (before : Meaning) (stages : Stages p j mid) 
     past_image : KeepsPast (image_blocks base.limits) before after
     past_image = subst (λ (n : ℕ). KeepsPast n before after) (same_blocks (stages.image ∙ (image_is ∙ ap image_shape limits))) (keeps.past kept journal_fits)
 
-    pub change_committed : (q : Kept) (b : Bool) → q ≡ clean p → SaveEnded b result → Holds base now outcome (record { parts = q; journal = x; is_broken = b }) before after result
-    change_committed q b parts ends =
-        subst (λ (k : Kept). Holds base now outcome (record { parts = k; journal = x; is_broken = b }) before after result) (sym parts) (record { moments = moments; past = past_image; ended = by result keeps ends })
+    pub change_committed : (q : Metadata) (b : Bool) → q ≡ clean p → SaveEnded b result → Holds base now outcome (record { metadata = q; journal = x; is_broken = b }) before after result
+    change_committed q b metadata ends =
+        subst (λ (k : Metadata). Holds base now outcome (record { metadata = k; journal = x; is_broken = b }) before after result) (sym metadata) (record { moments = moments; past = past_image; ended = by result keeps ends })
       where
-        by : (r : Result T Change) → KeepsStaged mid x before after r → SaveEnded b r → HeldEnded base now outcome (record { parts = clean p; journal = x; is_broken = b }) after r
+        by : (r : Result T ChangeFault) → KeepsStaged mid x before after r → SaveEnded b r → HeldEnded base now outcome (record { metadata = clean p; journal = x; is_broken = b }) after r
         by (Ok done) keeps whole =
             let staged : x.staged ≡ [] = ap (λ (h : Held). h.staged) keeps.done in
             let layout : x.layout ≡ mid.layout = ap (λ (h : Held). h.layout) keeps.done in (
@@ -144,7 +144,7 @@ module _ (p : Kept) (j mid : Held) (before : Meaning) (stages : Stages p j mid) 
         by (Err Disk) keeps broken = broken
 
 -- ---- a commit of what is held back
-module _ {T : Type 0} (old : Stored) (x : Held) (b : Bool) (before after : Meaning) (result : Result T Change) (sound : IsSound old) (unbroken : old.is_broken ≡ false)
+module _ {T : Type 0} (old : Stored) (x : Held) (b : Bool) (before after : Meaning) (result : Result T ChangeFault) (sound : IsSound old) (unbroken : old.is_broken ≡ false)
     (keeps : KeepsStaged old.journal x before after result) (idle : old.journal.staged ≡ [] → x ≡ old.journal) (ends : SaveEnded b result) where
   -- nothing is placed behind a commit, and where there was none
   none_after : (0 < length old.journal.staged → x.placed ≡ []) → x.placed ≡ []
@@ -154,10 +154,10 @@ module _ {T : Type 0} (old : Stored) (x : Held) (b : Bool) (before after : Meani
       by [] none some = ap (λ (h : Held). h.placed) (none refl) ∙ sound.placed unbroken
       by (e ∷ es) none some = some (omega arith)
 
-  pub committed_sound : IsSound (record { parts = old.parts; journal = x; is_broken = b })
+  pub committed_sound : IsSound (record { metadata = old.metadata; journal = x; is_broken = b })
   committed_sound = search (rules, sound_at, in_form, none_after, sound_lost)
 
-  pub committed : (base s : State) → StoreHolds old before base s → Commits base s (record { parts = old.parts; journal = x; is_broken = b }) before after result
+  pub committed : (base s : State) → StoreHolds old before base s → Commits base s (record { metadata = old.metadata; journal = x; is_broken = b }) before after result
   committed base s holds = record {
     moments = leaves_weaken (λ image. Stands image base ⊎ Stands image s) (keeps.moments kept holds.journal) one_of;
     past = subst (λ n. KeepsPast n before after) (same_blocks (sound.image ∙ ap image_shape holds.limits)) (keeps.past kept holds.journal);
@@ -170,9 +170,9 @@ module _ {T : Type 0} (old : Stored) (x : Held) (b : Bool) (before after : Meani
       one_of : (image : List ℕ) → StandsForAllOrNone old.journal.layout old.journal.placed kept old.journal.staged image → Stands image base ⊎ Stands image s
       one_of image (inl but) = inl (holds.stands image (stands_none_but old.journal.layout old.journal.placed kept image (sound.placed unbroken) but))
       one_of image (inr all) =
-          inr (change_stands old old.journal.layout (looked old.journal.staged kept) s sound.parts sound.free sound.pairs holds.tells holds.written (same_layout sound.image) image all)
+          inr (change_stands old old.journal.layout (looked old.journal.staged kept) s sound.metadata sound.free sound.pairs holds.tells holds.written (same_layout sound.image) image all)
 
-      by : (r : Result T Change) → KeepsStaged old.journal x before after r → SaveEnded b r → CommitEnded s (record { parts = old.parts; journal = x; is_broken = b }) after r
+      by : (r : Result T ChangeFault) → KeepsStaged old.journal x before after r → SaveEnded b r → CommitEnded s (record { metadata = old.metadata; journal = x; is_broken = b }) after r
       by (Ok done) keeps whole = record {
         kept = looked old.journal.staged kept;
         journal = keeps.kept kept holds.journal;

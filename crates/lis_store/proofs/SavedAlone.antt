@@ -1,7 +1,7 @@
 -- Calls that change memory alone before they are saved.
 use Rattle.std.proofs.Common.{arith}
-use Rattle.lis_store.proofs.Common.{◌≡◌, sym, ap, ◌∙◌, subst, ℕ, ◌+◌, ◌≤◌, false, List, length, Result, Meaning, looked, image_blocks, State, Situation, Outcome, Held, Kept, AreSound, marked_count, StandsBut, changed}
-use Rattle.lis_store.specs.declared.change.Change.{Change}
+use Rattle.lis_store.proofs.Common.{◌≡◌, sym, ap, ◌∙◌, subst, ℕ, ◌+◌, ◌≤◌, false, List, length, Result, Meaning, looked, image_blocks, State, Situation, Outcome, Held, Metadata, AreSound, marked_count, StandsBut, changed}
+use Rattle.lis_store.specs.declared.change_fault.ChangeFault.{ChangeFault}
 use Rattle.lis_store.specs.Stands.{Stands}
 use Rattle.lis_store.specs.Stored.{Stored, IsSound, StoreHolds}
 use Rattle.lis_store.specs.Changes.{Holds, AreEditsFew}
@@ -13,20 +13,20 @@ use Rattle.lis_kept.specs.Image.{image_capacity, image_shape}
 use Rattle.lis_kept.proofs.Image.{same_staged}
 
 -- What a change makes of the memory of a store, where the journal stays.
-pub record IsChange (old : Stored) (q : Kept) : Type 0 where
+pub record IsChange (old : Stored) (q : Metadata) : Type 0 where
   pub settles : AreSound q → IsSound (settled q old.journal)
-  pub limits : q.limits ≡ old.parts.limits
+  pub limits : q.limits ≡ old.metadata.limits
   pub room : length old.journal.staged + marked_count q ≤ (image_capacity q.limits).staged
-  pub edits : AreEditsFew old.parts.ext q.ext
+  pub edits : AreEditsFew old.metadata.ext q.ext
 
 -- What is asked of memory that is to be saved.
-pub record MayBeSaved (q : Kept) (j : Held) : Type 0 where
+pub record MayBeSaved (q : Metadata) (j : Held) : Type 0 where
   pub settles : AreSound q → IsSound (settled q j)
   pub image : shape_of j ≡ image_shape q.limits
   pub placed : ArePlaced q j
   pub room : length j.staged + marked_count q ≤ j.capacity.staged
 
-pub change_saves : {old : Stored} {q : Kept} → IsSound old → old.is_broken ≡ false → IsChange old q → MayBeSaved q old.journal
+pub change_saves : {old : Stored} {q : Metadata} → IsSound old → old.is_broken ≡ false → IsChange old q → MayBeSaved q old.journal
 change_saves {old} {q} sound unbroken change = record {
   settles = change.settles;
   image = sound.image ∙ ap image_shape (sym change.limits);
@@ -39,7 +39,7 @@ module _ (old : Stored) (sound : IsSound old) (unbroken : old.is_broken ≡ fals
   unplaced_stands base s before holds image but = holds.stands image (stands_none_but old.journal.layout old.journal.placed holds.kept image (sound.placed unbroken) but)
 
   -- what is kept by then as before, and tells the next state
-  pub saves_alone : {T : Type 0} {q : Kept} {new : Stored} {before after : Meaning} {result : Result T Change} {base : State} {outcome : Outcome} → IsChange old q → Saves q old.journal new before after result
+  pub saves_alone : {T : Type 0} {q : Metadata} {new : Stored} {before after : Meaning} {result : Result T ChangeFault} {base : State} {outcome : Outcome} → IsChange old q → Saves q old.journal new before after result
       → (now : Situation) (t : State) (holds : StoreHolds old before base now.state) → IsReady q (looked old.journal.staged holds.kept) t → outcome ≡ changed now t → Holds base now outcome new before after result
   saves_alone {before = before} {base = base} {outcome = outcome} change saves now t holds ready is =
       saves base now outcome t holds.kept holds.journal (change.limits ∙ holds.limits) (unplaced_stands base now.state before holds) (λ _. ready) is

@@ -1,6 +1,6 @@
 -- What memory keeps when a file has come into a vacant slot.
 use Rattle.std.proofs.Common.{rules}
-use Rattle.lis_store.proofs.Common.{◌≡◌, ◌⊎◌, refl, sym, ap, ap₂, ◌∙◌, subst, inl, inr, ℕ, zero, suc, if◌then◌else◌, Bool, true, false, List, [], length, get_or, set, Option, None, Some, is_some, arith, get_or-set_same, get_or-set_other, ◌++◌, cases_eq, ne_eqb, same_Some, Among, among_append, among_left, number_of, word_of, word_from_number, number_from_word, slot_of, rec_at, Ext, has, numbers_at, FileRecord, up, all_up, is_test, test_of, is_met, met_tests, up_from_entails, entailing, among_from_has_word, Kept, block_of, AreSound, FreeSlotsAreEmpty, KeepsInUse, emptied, declared_of, axioms_of, is_used, AreUsed, test_by, link_named, named_all, some_number, used_flagged, used_had, both_ways, eq-eqb, false_from_ne_true, has_number, up_trans, entailed_in, has_word_from_among, is_linked, used_left}
+use Rattle.lis_store.proofs.Common.{◌≡◌, ◌⊎◌, refl, sym, ap, ap₂, ◌∙◌, subst, inl, inr, ℕ, zero, suc, if◌then◌else◌, Bool, true, false, List, [], length, get_or, set, Option, None, Some, is_some, arith, get_or-set_same, get_or-set_other, ◌++◌, cases_eq, ne_eqb, same_Some, Among, among_append, among_left, number_of, word_of, word_from_number, number_from_word, slot_of, rec_at, Ext, has, numbers_at, FileRecord, up, all_up, is_test, test_of, is_met, met_tests, up_from_entails, entailing, among_from_has_word, Metadata, block_of, AreSound, FreeSlotsAreEmpty, KeepsInUse, emptied, declared_of, axioms_of, is_used, AreUsed, test_by, link_named, named_all, some_number, used_flagged, used_had, both_ways, eq-eqb, false_from_ne_true, has_number, up_trans, entailed_in, has_word_from_among, is_linked, used_left}
 use Rattle.lis_catalog.specs.Catalog.{with_filed}
 use Rattle.lis_catalog.proofs.Laws.{rec_at-with_filed}
 use Rattle.lis_kept.specs.Areas.Area.{Files as FileArea}
@@ -19,12 +19,12 @@ use Rattle.lis_store.proofs.MetTests.{met_numbered}
 use Rattle.lis_store.proofs.Naming.{one_of, of_one, named_has, named_few}
 use Rattle.lis_store.proofs.PutIn.{heads_described, entailed_is, own_numbered, behind_itself}
 
-module _ {slot : ℕ} {old : List ℕ} {draft : Draft} {blocks : List ℕ} {v q : Kept} (vacant : IsVacant slot old v) (may : MayComeIn v draft) (settles : SettlesIn slot draft blocks v q) where
+module _ {slot : ℕ} {old : List ℕ} {draft : Draft} {blocks : List ℕ} {v q : Metadata} (vacant : IsVacant slot old v) (may : MayComeIn v draft) (settles : SettlesIn slot draft blocks v q) where
   -- what was kept, but for the description in the slot
-  abbrev p : Kept
+  abbrev p : Metadata
   p = emptied v slot
 
-  abbrev l : Kept
+  abbrev l : Metadata
   l = settles.learnt
 
   abbrev words : List (List ℕ)
@@ -37,26 +37,26 @@ module _ {slot : ℕ} {old : List ℕ} {draft : Draft} {blocks : List ℕ} {v q 
   rec = record_of (numbers_named l.dict draft.assigned) draft blocks
 
   -- what is kept at the end
-  abbrev last : Ext → List Bool → Kept
+  abbrev last : Ext → List Bool → Metadata
   last ext marks = record v { dict = l.dict; catalog = with_filed v.catalog slot rec; ext = ext; marks = marks }
 
-  abbrev pub end : Kept
+  abbrev pub end : Metadata
   end = last q.ext q.marks
 
-  abbrev filed : Kept → Kept
+  abbrev filed : Metadata → Metadata
   filed k = record k { catalog = with_filed k.catalog slot rec; marks = set k.marks (block_of k.limits FileArea slot) true }
 
   pub described_is : settles.described ≡ record v { dict = l.dict; ext = settles.described.ext; marks = settles.described.marks }
-  described_is = settles.describes.parts ∙ ap (λ (x : Kept). record x { ext = settles.described.ext; marks = settles.described.marks }) settles.own.learns.parts
+  described_is = settles.describes.metadata ∙ ap (λ (x : Metadata). record x { ext = settles.described.ext; marks = settles.described.marks }) settles.own.learns.metadata
 
   last_is : q ≡ last settles.described.ext (set settles.described.marks (block_of v.limits FileArea slot) true)
-  last_is = settles.files.parts ∙ ap filed described_is
+  last_is = settles.files.metadata ∙ ap filed described_is
 
   pub end_is : q ≡ end
-  end_is = last_is ∙ ap₂ last (sym (ap (λ (x : Kept). x.ext) last_is)) (sym (ap (λ (x : Kept). x.marks) last_is))
+  end_is = last_is ∙ ap₂ last (sym (ap (λ (x : Metadata). x.ext) last_is)) (sym (ap (λ (x : Metadata). x.marks) last_is))
 
   pub limits_same : q.limits ≡ v.limits
-  limits_same = ap (λ (x : Kept). x.limits) end_is
+  limits_same = ap (λ (x : Metadata). x.limits) end_is
 
   -- ---- the slot
   absent : slot_of v.catalog draft.name ≡ None
@@ -73,7 +73,7 @@ module _ {slot : ℕ} {old : List ℕ} {draft : Draft} {blocks : List ℕ} {v q 
 
   -- ---- descriptions
   pub sets_are : q.ext.sets ≡ set v.ext.sets slot numbers
-  sets_are = ap (λ (x : Kept). x.ext.sets) last_is ∙ (settles.describes.sets ∙ ap (λ (x : Kept). set x.ext.sets slot numbers) settles.own.learns.parts)
+  sets_are = ap (λ (x : Metadata). x.ext.sets) last_is ∙ (settles.describes.sets ∙ ap (λ (x : Metadata). set x.ext.sets slot numbers) settles.own.learns.metadata)
 
   pub set_here : numbers_at q.ext slot ≡ numbers
   set_here = ap (λ ss. get_or ss slot []) sets_are ∙ get_or-set_same v.ext.sets slot numbers [] (omega (arith, vacant.below, vacant.sound.files))
@@ -90,7 +90,7 @@ module _ {slot : ℕ} {old : List ℕ} {draft : Draft} {blocks : List ℕ} {v q 
   learnt_described = heads_described vacant.sound may
 
   sound_end : AreSound end
-  sound_end = subst (λ (k : Kept). AreSound k) end_is settles.sound
+  sound_end = subst (λ (k : Metadata). AreSound k) end_is settles.sound
 
   has_here : (n : ℕ) → has q.ext n slot ≡ is_one_of words (word_of l.dict n)
   has_here n = ap (λ ns. has_number ns n) set_here ∙ named_has l.dict sound_end.dict words n
@@ -179,7 +179,7 @@ module _ {slot : ℕ} {old : List ℕ} {draft : Draft} {blocks : List ℕ} {v q 
   own = learnt_words draft ++ met_tests (declared_of end) draft.size
 
   entailed_end : all_up (declared_of end) (axioms_of end) own ≡ words
-  entailed_end = ap (λ (k : Kept). described_by k draft) (sym settles.own.learns.parts) ∙ entailed_is vacant.sound may settles.own.learns
+  entailed_end = ap (λ (k : Metadata). described_by k draft) (sym settles.own.learns.metadata) ∙ entailed_is vacant.sound may settles.own.learns
 
   -- of its own words the tests are declared, and the others are learnt
   own_has_number : (w : List ℕ) → Among own w → (n : ℕ) × (word_of l.dict n ≡ Some w)
@@ -219,7 +219,7 @@ module _ {slot : ℕ} {old : List ℕ} {draft : Draft} {blocks : List ℕ} {v q 
     | inr differ ↦
         let was : has p.ext a at ≡ true = sym (has_other a at differ) ∙ h in
         let before = link_before v l (with_heads (learnt_words draft)) settles.own.learns vacant.sound settles.own.sound a b (named_all p vacant.form.sound vacant.form.free a at was)
-        (subst (λ (k : Kept). is_linked k a b ≡ true) (sym settles.own.learns.parts) linked) in
+        (subst (λ (k : Metadata). is_linked k a b ≡ true) (sym settles.own.learns.metadata) linked) in
         has_other b at differ ∙ vacant.form.closed at a b was before
   ]
 

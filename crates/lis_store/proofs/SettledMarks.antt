@@ -1,6 +1,6 @@
 -- How much is marked when a file has come into a vacant slot, and how often rows are edited.
 use Rattle.std.proofs.Common.{rules}
-use Rattle.lis_store.proofs.Common.{◌≡◌, sym, ap, ◌∙◌, subst, ℕ, ◌+◌, ◌<◌, ◌≤◌, Bool, true, List, [], ◌∷◌, length, set, map, count_by, arith, sum_by-set, is_taken, stays_marked, Ext, numbers_at, differs, Kept, IsSaved, block_of, is_marked, marked_count, numbers_where, words, Files, Rows}
+use Rattle.lis_store.proofs.Common.{◌≡◌, sym, ap, ◌∙◌, subst, ℕ, ◌+◌, ◌<◌, ◌≤◌, Bool, true, List, [], ◌∷◌, length, set, map, count_by, arith, sum_by-set, is_taken, stays_marked, Ext, numbers_at, differs, Metadata, IsSaved, block_of, is_marked, marked_count, numbers_where, words, Files, Rows}
 use Rattle.lis_content.proofs.Numbers.{below_if_taken}
 use Rattle.lis_store.specs.Drafts.{Draft}
 use Rattle.lis_store.specs.Admitting.{described_by}
@@ -17,11 +17,11 @@ use Rattle.lis_store.proofs.Settled.{described_is, set_here}
 kept_true : (bits : List Bool) (n : ℕ) → is_taken bits n ≡ true → count_by (λ (b : Bool). b) (set bits n true) ≡ count_by (λ (b : Bool). b) bits
 kept_true bits n is = search (rules, sum_by-set, below_if_taken)
 
-module _ {slot : ℕ} {old : List ℕ} {draft : Draft} {blocks : List ℕ} {v q : Kept} (vacant : IsVacant slot old v) (may : MayComeIn v draft) (settles : SettlesIn slot draft blocks v q) where
-  abbrev l : Kept
+module _ {slot : ℕ} {old : List ℕ} {draft : Draft} {blocks : List ℕ} {v q : Metadata} (vacant : IsVacant slot old v) (may : MayComeIn v draft) (settles : SettlesIn slot draft blocks v q) where
+  abbrev l : Metadata
   l = settles.learnt
 
-  abbrev d : Kept
+  abbrev d : Metadata
   d = settles.described
 
   abbrev numbers : List ℕ
@@ -31,7 +31,7 @@ module _ {slot : ℕ} {old : List ℕ} {draft : Draft} {blocks : List ℕ} {v q 
   changed = length (numbers_where v.ext.props (differs old numbers))
 
   ext_before : l.ext ≡ v.ext
-  ext_before = ap (λ (x : Kept). x.ext) settles.own.learns.parts
+  ext_before = ap (λ (x : Metadata). x.ext) settles.own.learns.metadata
 
   was : old ≡ numbers_at l.ext slot
   was = sym (ap (λ (e : Ext). numbers_at e slot) ext_before ∙ vacant.was)
@@ -57,7 +57,7 @@ module _ {slot : ℕ} {old : List ℕ} {draft : Draft} {blocks : List ℕ} {v q 
 
   pub marked_settled : (block : ℕ) → is_marked v block ≡ true → is_marked q block ≡ true
   marked_settled block is =
-      ap (λ (x : Kept). is_marked x block) settles.files.parts ∙ stays_marked d.marks (block_of d.limits Files slot ∷ []) block (still_marked block is)
+      ap (λ (x : Metadata). is_marked x block) settles.files.metadata ∙ stays_marked d.marks (block_of d.limits Files slot ∷ []) block (still_marked block is)
 
   -- and the block of the slot is marked once
   pub few_again : is_marked v (block_of v.limits Files slot) ≡ true → marked_count q ≤ marked_count v + 384
@@ -65,7 +65,7 @@ module _ {slot : ℕ} {old : List ℕ} {draft : Draft} {blocks : List ℕ} {v q 
 
   pub edits_settled : AreEditsFew v.ext q.ext
   edits_settled =
-      let same = ap (λ (x : Kept). x.ext.edits) settles.files.parts in
+      let same = ap (λ (x : Metadata). x.ext.edits) settles.files.metadata in
       let made = subst (λ (e : Ext). d.ext.edits ≤ e.edits + length (numbers_where e.props (differs old numbers))) ext_before (settles.describes.edits old was) in
       let no_fewer = subst (λ (e : Ext). e.edits ≤ d.ext.edits) ext_before settles.describes.no_fewer in
       let slot_in : slot < length v.ext.sets = omega (arith, vacant.below, vacant.sound.files) in

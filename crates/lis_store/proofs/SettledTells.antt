@@ -1,6 +1,6 @@
 -- What memory tells when a file has come into a vacant slot.
 use Rattle.std.proofs.Common.{rules}
-use Rattle.lis_store.proofs.Common.{◌≡◌, ◌⊎◌, refl, sym, ap, ap₂, ◌∙◌, subst, inl, inr, ℕ, ◌+◌, ◌<◌, ◌≤◌, not, ◌&&◌, ◌||◌, Bool, true, false, List, [], ◌++◌, length, is_some, IsSome, arith, list_all, Contains, and_parts, or_cases, length-map, same_Some, Among, among_from_contains, contains_from_among, among_left, among_insert_key, insert_key_old, sorted_from_rising, is_taken, Filed, slot_of, rec_at, numbers_at, FileRecord, SpellsSuper, Limits, data_start, State, File, file_cmp, all_up, met_tests, description, is_assignable, file_limit, blocks_taken, used_blocks, new_file, file_added, word_order, sorted_all_up, among_from_has_word, Kept, AreSound, emptied, declared_of, axioms_of, bytes_told, blocks_told, state_of, HasIndex, Tells, filed_rec, filed_slot, filed_at_slot, words_known, both_ways, or_left, or_right, and_from, false_from_ne_true, map_among, has_number, are_distinct, known, has_word_from_among, words_told, file_told, number_from_among}
+use Rattle.lis_store.proofs.Common.{◌≡◌, ◌⊎◌, refl, sym, ap, ap₂, ◌∙◌, subst, inl, inr, ℕ, ◌+◌, ◌<◌, ◌≤◌, not, ◌&&◌, ◌||◌, Bool, true, false, List, [], ◌++◌, length, is_some, IsSome, arith, list_all, Contains, and_parts, or_cases, length-map, same_Some, Among, among_from_contains, contains_from_among, among_left, among_insert_key, insert_key_old, sorted_from_rising, is_taken, Filed, slot_of, rec_at, numbers_at, FileRecord, SpellsSuper, Limits, data_start, State, File, file_cmp, all_up, met_tests, description, is_assignable, file_limit, blocks_taken, used_blocks, new_file, file_added, word_order, sorted_all_up, among_from_has_word, Metadata, AreSound, emptied, declared_of, axioms_of, bytes_told, blocks_told, state_of, HasIndex, Tells, filed_rec, filed_slot, filed_at_slot, words_known, both_ways, or_left, or_right, and_from, false_from_ne_true, map_among, has_number, are_distinct, known, has_word_from_among, words_told, file_told, number_from_among}
 use Rattle.lis_content.proofs.Laying.{home_new}
 use Rattle.lis_catalog.specs.Catalog.{filed_cmp}
 use Rattle.lis_laws.specs.Changes.{FileFits}
@@ -19,13 +19,13 @@ use Rattle.lis_store.proofs.Told.{words_same}
 use Rattle.lis_laws.proofs.Forms as forms
 
 -- Memory without the description of the slot told s by what blocks hold. Then blocks hold the bytes of a file, which comes into the slot.
-module _ (file : File) (own : List (List ℕ)) {slot : ℕ} {old : List ℕ} {blocks : List ℕ} {v q : Kept} (vacant : IsVacant slot old v) (may : MayComeIn v (with_own file own))
+module _ (file : File) (own : List (List ℕ)) {slot : ℕ} {old : List ℕ} {blocks : List ℕ} {v q : Metadata} (vacant : IsVacant slot old v) (may : MayComeIn v (with_own file own))
     (settles : SettlesIn slot (with_own file own) blocks v q) (was : List Bool) (sound_o : AreSound (record (emptied v slot) { taken = was })) {at there : ℕ → List ℕ} {s : State} (tells : Tells (record (emptied v slot) { taken = was }) at s)
     (are_own : AreOwnWords s.declared s.axioms own file) {held : List ℕ} (housed : IsHoused v.limits was v.taken [] held file.bytes blocks at there) where
-  abbrev o : Kept
+  abbrev o : Metadata
   o = record (emptied v slot) { taken = was }
 
-  abbrev k : Kept
+  abbrev k : Metadata
   k = end vacant may settles
 
   abbrev filed : Filed
@@ -67,13 +67,13 @@ module _ (file : File) (own : List (List ℕ)) {slot : ℕ} {old : List ℕ} {bl
   state_then : state_of k there ≡ t
   state_then =
       let before = described_is vacant may settles in
-      ap (λ (x : Kept). state_of x there) (sym (end_is vacant may settles))
+      ap (λ (x : Metadata). state_of x there) (sym (end_is vacant may settles))
       ∙ (settles.files.state there
       ∙ (ap₂ (λ (ws : List (List ℕ)) (bs : List ℕ). file_added (state_of settles.described there) (new_file file.name ws bs))
-      (ap (λ (x : Kept). words_told x.dict filed.rec.tags) before ∙ tags_told)
-      (ap (λ (x : Kept). bytes_told x.limits there filed.rec) before ∙ housed.holds.reads)
+      (ap (λ (x : Metadata). words_told x.dict filed.rec.tags) before ∙ tags_told)
+      (ap (λ (x : Metadata). bytes_told x.limits there filed.rec) before ∙ housed.holds.reads)
       ∙ ap (λ (x : State). file_added x file)
-      (ap (λ (x : Kept). state_of x there) settles.describes.parts ∙ (settles.own.learns.state there ∙ (state_there o at there sound_o same_files ∙ tells.state)))))
+      (ap (λ (x : Metadata). state_of x there) settles.describes.metadata ∙ (settles.own.learns.state there ∙ (state_there o at there sound_o same_files ∙ tells.state)))))
 
   -- ---- its files
   abbrev told : Filed → File
@@ -217,7 +217,7 @@ module _ (file : File) (own : List (List ℕ)) {slot : ℕ} {old : List ℕ} {bl
             )
 
     pub tells_settled : Tells q there t
-    tells_settled = subst (λ (x : Kept). Tells x there t) (sym (end_is vacant may settles)) (record {
+    tells_settled = subst (λ (x : Metadata). Tells x there t) (sym (end_is vacant may settles)) (record {
       super = subst (λ (block : List ℕ). SpellsSuper s.limits block) (sym (housed.same 0 (no_home_before (data_start o.limits) 0 held (omega arith)))) tells.super;
       state = state_then;
       formed = forms.adds_file s tells.formed file fits;

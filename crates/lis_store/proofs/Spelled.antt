@@ -1,7 +1,7 @@
 -- What memory tells of a state, the slots and blocks that it spells tell too.
 use Rattle.std.proofs.Common.{rules}
 use Rattle.std.proofs.Common.{option_map}
-use Rattle.lis_store.proofs.Common.{◌≡◌, ◌⊎◌, refl, sym, ap, ap₂, ◌∙◌, subst, inl, inr, ℕ, suc, ◌+◌, ◌/◌, ◌<◌, ◌≤◌, ◌==◌, ◌&&◌, nat_lt, Bool, true, false, is_some, Option, Some, None, option_to_list, List, [], ◌∷◌, ◌++◌, length, get_or, map, drop, replicate, slice_get, IsTrue, arith, append-nil, insert_key, find, flat_map, list_all, range_with_len, and_parts, ltb-true, lt-ltb, cases_lt, get_or_past, length-map, slice_get_within, get_or_from_slice_get, Among, among_from_contains, contains_from_among, among_filter, among_flat_map, range_among, sorted_from_rising, is_taken, number_of, word_of, number_from_word, number_below, Filed, rec_at, has, numbers_at, FileRecord, is_prop, is_record, AxiomSlot, FreeAxiom, Pair, has_word, State, File, pair_cmp, file_cmp, description, file_limit, all_weaker, sorted_known, word_order, pair_exact, among_set_of, sorted_set_of, Kept, property_by, IsWritten, axiom_slots, Properties, Axioms, Bitmap, AreSound, FreeSlotsAreEmpty, bit_of, is_declared, declared_of, bytes_told, blocks_told, HasIndex, state_of, Tells, some_word, filed_rec, filed_at_slot, number_told, declared_word, declared_has_number, words_known, flat_all, and_from, false_from_ne_true, among_map, map_among, flat_map_among, marked, has_number, are_distinct, words, prop_bytes, axiom_bytes, file_bytes, set_of, known, all_among, all_from, set_of_among, same_words, same_tests, Files, Rows, words_told, file_told, among_from_number, one_number}
+use Rattle.lis_store.proofs.Common.{◌≡◌, ◌⊎◌, refl, sym, ap, ap₂, ◌∙◌, subst, inl, inr, ℕ, suc, ◌+◌, ◌/◌, ◌<◌, ◌≤◌, ◌==◌, ◌&&◌, nat_lt, Bool, true, false, is_some, Option, Some, None, option_to_list, List, [], ◌∷◌, ◌++◌, length, get_or, map, drop, replicate, slice_get, IsTrue, arith, append-nil, insert_key, find, flat_map, list_all, range_with_len, and_parts, ltb-true, lt-ltb, cases_lt, get_or_past, length-map, slice_get_within, get_or_from_slice_get, Among, among_from_contains, contains_from_among, among_filter, among_flat_map, range_among, sorted_from_rising, is_taken, number_of, word_of, number_from_word, number_below, Filed, rec_at, has, numbers_at, FileRecord, is_prop, is_record, AxiomSlot, FreeAxiom, Pair, has_word, State, File, pair_cmp, file_cmp, description, file_limit, all_weaker, sorted_known, word_order, pair_exact, among_set_of, sorted_set_of, Metadata, property_by, IsWritten, axiom_slots, Properties, Axioms, Bitmap, AreSound, FreeSlotsAreEmpty, bit_of, is_declared, declared_of, bytes_told, blocks_told, HasIndex, state_of, Tells, some_word, filed_rec, filed_at_slot, number_told, declared_word, declared_has_number, words_known, flat_all, and_from, false_from_ne_true, among_map, map_among, flat_map_among, marked, has_number, are_distinct, words, prop_bytes, axiom_bytes, file_bytes, set_of, known, all_among, all_from, set_of_among, same_words, same_tests, Files, Rows, words_told, file_told, among_from_number, one_number}
 use Rattle.std.specs.List.{fold}
 use Rattle.std.specs.List.Sorted.{IsPermutation}
 use Rattle.std.proofs.lemmas.List.{get_or-drop, length-drop}
@@ -23,7 +23,7 @@ use Rattle.lis_fields.specs.declared.slots.PropSlot.TheVariants.{Free as FreePro
 use Rattle.lis_fields.specs.declared.slots.FileSlot.{FileSlot}
 use Rattle.lis_fields.specs.declared.slots.FileSlot.TheVariants.{Free as FreeFile}
 use Rattle.lis_laws.proofs.Forms.{file_order}
-use Rattle.lis_kept.specs.Kept.{property_at, axiom_at, file_by, record_at}
+use Rattle.lis_kept.specs.Metadata.{property_at, axiom_at, file_by, record_at}
 use Rattle.lis_kept.specs.Areas.{property_slots, file_slots, row_slots}
 use Rattle.lis_kept.specs.Telling.{pair_by, pair_told, pairs_told}
 use Rattle.lis_kept.proofs.Formed.{axioms_formed, records_formed}
@@ -42,25 +42,25 @@ word_by o b = search (rules)
 pub declared_by : (o : Option (List ℕ)) (b : Bool) (w : List ℕ) → Among (option_to_list (declared_in (property_by o b))) w → (o ≡ Some w) × (b ≡ true)
 declared_by o b w m = search (rules)
 
-abbrev properties_told : Kept → List PropSlot
+abbrev properties_told : Metadata → List PropSlot
 properties_told k = map (property_at k.dict k.declared) (range_with_len 0 k.limits.props)
 
-abbrev files_told : Kept → List FileSlot
+abbrev files_told : Metadata → List FileSlot
 files_told k = map (record_at k.catalog) (range_with_len 0 k.limits.files)
 
 -- the slots that memory spells
-abbrev pub contents_of : Kept → Contents
+abbrev pub contents_of : Metadata → Contents
 contents_of k = record { properties = properties_told k; axioms = k.axioms; files = files_told k }
 
 -- what a sound record is
-pub record SoundParts (k : Kept) (rec : FileRecord) : Type 0 where
+pub record SoundParts (k : Metadata) (rec : FileRecord) : Type 0 where
   pub short : rec.size ≤ file_limit k.limits.version
   pub count : length rec.blocks ≡ slot_blocks k.limits.version rec.size
   pub apart : are_distinct rec.blocks ≡ true
   pub named : list_all (λ n. is_some (word_of k.dict n)) rec.tags ≡ true
   pub below : list_all (λ n. nat_lt n k.limits.blocks) rec.blocks ≡ true
 
-pub sound_parts : (k : Kept) → AreSound k → (f : Filed) → Among k.catalog.entries f → SoundParts k f.rec
+pub sound_parts : (k : Metadata) → AreSound k → (f : Filed) → Among k.catalog.entries f → SoundParts k f.rec
 sound_parts k sound f m =
     let rec = f.rec in
     let most = and_parts (is_record k.limits.version rec && list_all (λ n. is_some (word_of k.dict n)) rec.tags) (list_all (λ n. nat_lt n k.limits.blocks) rec.blocks) (sound.records f.slot rec (filed_rec k.catalog sound.catalog f m)) in
@@ -75,7 +75,7 @@ sound_parts k sound f m =
       below = most.1;
     }
 
-module _ (k : Kept) (sound : AreSound k) where
+module _ (k : Metadata) (sound : AreSound k) where
   abbrev property : ℕ → PropSlot
   property n = property_at k.dict k.declared n
 
@@ -242,7 +242,7 @@ module _ (k : Kept) (sound : AreSound k) where
       subst (λ xs. IsPermutation (used at) xs) (sym here) (slot_order (λ (f : Filed). f.slot) parts k.limits.files k.catalog.entries sound.catalog.apart filed_in)
 
 -- ---- what is told is spelled
-module _ (k : Kept) (at : ℕ → List ℕ) (sound : AreSound k) (free : FreeSlotsAreEmpty k) (pairs : PairsAreApart k) (written : IsWritten k at) (tells : Tells k at (state_of k at)) where
+module _ (k : Metadata) (at : ℕ → List ℕ) (sound : AreSound k) (free : FreeSlotsAreEmpty k) (pairs : PairsAreApart k) (written : IsWritten k at) (tells : Tells k at (state_of k at)) where
   abbrev s : State
   s = state_of k at
 
@@ -413,5 +413,5 @@ module _ (k : Kept) (at : ℕ → List ℕ) (sound : AreSound k) (free : FreeSlo
   }
 
 -- the same, at the state that is told
-pub tells_spells : (k : Kept) (at : ℕ → List ℕ) (s : State) → AreSound k → FreeSlotsAreEmpty k → PairsAreApart k → IsWritten k at → Tells k at s → Spells s.limits (contents_of k) at s
+pub tells_spells : (k : Metadata) (at : ℕ → List ℕ) (s : State) → AreSound k → FreeSlotsAreEmpty k → PairsAreApart k → IsWritten k at → Tells k at s → Spells s.limits (contents_of k) at s
 tells_spells k at s sound free pairs written tells = search (rules, spells_told)

@@ -1,6 +1,6 @@
 -- What home blocks spell, the images with these blocks stand for.
 use Rattle.std.proofs.Common.{rules}
-use Rattle.lis_store.proofs.Common.{◌≡◌, refl, ap, ◌∙◌, subst, ℕ, List, [], Option, Some, None, IsTrue, IsSomeAnd, arith, Meaning, block, replayed, are_free, homes_of, among_homes, SpellsSuper, data_start, image_blocks, State, Kept, IsWritten, AreSound, FreeSlotsAreEmpty, Tells}
+use Rattle.lis_store.proofs.Common.{◌≡◌, refl, ap, ◌∙◌, subst, ℕ, List, [], Option, Some, None, IsTrue, IsSomeAnd, arith, Meaning, block, replayed, are_free, homes_of, among_homes, SpellsSuper, data_start, image_blocks, State, Metadata, IsWritten, AreSound, FreeSlotsAreEmpty, Tells}
 use Rattle.lis_ports.specs.Runs.{Always}
 use Rattle.lis_ports.proofs.Always.{always_weaken}
 use Rattle.lis_journal.specs.Images.{KeepsBut, StandsFor as KeptBy, StandsBut}
@@ -14,7 +14,7 @@ use Rattle.lis_journal.specs.declared.layout.Layout.{Layout}
 use Rattle.lis_kept.proofs.Image.{same_layout}
 
 -- What memory tells by these blocks, each image stands for that has a replayed image with them, whatever it has in blocks that are free.
-module _ (k : Kept) (at : ℕ → List ℕ) (s : State) (sound : AreSound k) (empty : FreeSlotsAreEmpty k) (pairs : PairsAreApart k) (tells : Tells k at s) (written : IsWritten k at)
+module _ (k : Metadata) (at : ℕ → List ℕ) (s : State) (sound : AreSound k) (empty : FreeSlotsAreEmpty k) (pairs : PairsAreApart k) (tells : Tells k at s) (written : IsWritten k at)
     (blocks : List ℕ) (free : IsTrue (are_free k.taken blocks)) where
   abbrev placed : List ℕ
   placed = homes_of (data_start k.limits) blocks
@@ -59,17 +59,17 @@ unfolding StandsBut KeptBy
 stands_none_but layout ns at image none but = search (rules)
 
 -- ---- the laws
-pub placed_stand : (k : Stored) (kept : ℕ → List ℕ) (blocks : List ℕ) (s : State) → IsSound k → Tells k.parts kept s → IsWritten k.parts kept → IsTrue (are_free k.parts.taken blocks)
-    → (image : List ℕ) → StandsBut k.journal.layout (homes_of (data_start k.parts.limits) blocks) kept image → Stands image s
-placed_stand k kept blocks s sound tells written free image but = stands_but k.parts kept s sound.parts sound.free sound.pairs tells written blocks free k.journal.layout (same_layout sound.image) image but
+pub placed_stand : (k : Stored) (kept : ℕ → List ℕ) (blocks : List ℕ) (s : State) → IsSound k → Tells k.metadata kept s → IsWritten k.metadata kept → IsTrue (are_free k.metadata.taken blocks)
+    → (image : List ℕ) → StandsBut k.journal.layout (homes_of (data_start k.metadata.limits) blocks) kept image → Stands image s
+placed_stand k kept blocks s sound tells written free image but = stands_but k.metadata kept s sound.metadata sound.free sound.pairs tells written blocks free k.journal.layout (same_layout sound.image) image but
 
-pub change_stands : (new : Stored) (layout : Layout) (kept : ℕ → List ℕ) (t : State) → AreSound new.parts → FreeSlotsAreEmpty new.parts → PairsAreApart new.parts
-    → Tells new.parts kept t → IsWritten new.parts kept → layout ≡ image_layout new.parts.limits
+pub change_stands : (new : Stored) (layout : Layout) (kept : ℕ → List ℕ) (t : State) → AreSound new.metadata → FreeSlotsAreEmpty new.metadata → PairsAreApart new.metadata
+    → Tells new.metadata kept t → IsWritten new.metadata kept → layout ≡ image_layout new.metadata.limits
     → (image : List ℕ) → KeptBy layout kept image → Stands image t
 change_stands new layout kept t sound empty pairs tells written is image stands =
-    stands_but new.parts kept t sound empty pairs tells written [] refl layout is image (stands_all_but layout [] kept image stands)
+    stands_but new.metadata kept t sound empty pairs tells written [] refl layout is image (stands_all_but layout [] kept image stands)
 
 pub fitting_stands : (m : Meaning) (k : Stored) (s : State) → IsSound k → StoreFits k m s → Always m (λ image. Stands image s)
 fitting_stands m k s sound fits =
     always_weaken (λ image. Stands image s) (fits_stand k.journal (sound.placed fits.unbroken) fits.journal)
-    (λ image stands. change_stands k k.journal.layout fits.kept s sound.parts sound.free sound.pairs fits.tells fits.written (same_layout sound.image) image stands)
+    (λ image stands. change_stands k k.journal.layout fits.kept s sound.metadata sound.free sound.pairs fits.tells fits.written (same_layout sound.image) image stands)

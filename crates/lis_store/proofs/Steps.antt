@@ -1,10 +1,10 @@
 -- Contents that are put or given back before a change is saved: what is kept then, and what images stand for meanwhile.
 pub use Rattle.lis_store.proofs.Retaken.{sound_lost}
-use Rattle.lis_store.proofs.Common.{rules, ◌≡◌, ◌⊎◌, sym, ap, ◌∙◌, subst, inl, inr, ℕ, true, false, Bool, List, [], length, set, Result, Err, length-set, Meaning, Leaves, Held, KeepsPast, block, are_free, has_home, is_large, Asks, homes_of, among_homes, bitmap_start, data_start, image_blocks, State, Situation, Outcome, Kept, leaves_weaken, leaves_then, StandsBut, is_among}
+use Rattle.lis_store.proofs.Common.{rules, ◌≡◌, ◌⊎◌, sym, ap, ◌∙◌, subst, inl, inr, ℕ, true, false, Bool, List, [], length, set, Result, Err, length-set, Meaning, Leaves, Held, KeepsPast, block, are_free, has_home, is_large, Asks, homes_of, among_homes, bitmap_start, data_start, image_blocks, State, Situation, Outcome, Metadata, leaves_weaken, leaves_then, StandsBut, is_among}
 use Rattle.lis_journal.proofs.Fitting.{fits_stand}
 use Rattle.lis_kept.specs.Changes.{Takes}
-use Rattle.lis_store.specs.declared.change.Change.{Change}
-use Rattle.lis_store.specs.declared.change.Change.TheVariants.{Disk}
+use Rattle.lis_store.specs.declared.change_fault.ChangeFault.{ChangeFault}
+use Rattle.lis_store.specs.declared.change_fault.ChangeFault.TheVariants.{Disk}
 use Rattle.lis_store.specs.Stands.{Stands}
 use Rattle.lis_store.specs.Stored.{Stored, PairsAreApart, IsSound, StoreHolds}
 use Rattle.lis_store.specs.Changes.{Holds}
@@ -21,14 +21,14 @@ use Rattle.lis_kept.proofs.Image.{same_blocks}
 
 -- ---- memory
 -- it is in form where other blocks are taken
-pub form_taken : (o mid : Kept) (taken : List Bool) → Takes taken o mid → AreInForm o → AreInForm mid
+pub form_taken : (o mid : Metadata) (taken : List Bool) → Takes taken o mid → AreInForm o → AreInForm mid
 form_taken o mid taken takes form =
     let marks = set o.marks (bitmap_start o.limits) true in
-    subst (λ (k : Kept). AreInForm k) (sym takes.parts)
+    subst (λ (k : Metadata). AreInForm k) (sym takes.metadata)
     (form_retaken o taken marks (sound_retaken o taken marks form.sound takes.len (length-set o.marks (bitmap_start o.limits) true)) form)
 
 -- pairs stay apart where the axioms stay
-pub pairs_same : (o q : Kept) → q.axioms ≡ o.axioms → PairsAreApart o → PairsAreApart q
+pub pairs_same : (o q : Metadata) → q.axioms ≡ o.axioms → PairsAreApart o → PairsAreApart q
 pairs_same o q same pairs slot other left right is also = search (rules)
 
 -- a content is not large, or it is alone
@@ -37,12 +37,12 @@ small_or_alone size placed staged small large = search (rules)
 
 -- ---- images
 -- While the image stands for the base, a change is yet to begin.
-pub holds_behind : {T : Type 0} (base : State) (now : Situation) (outcome : Outcome) (new : Stored) (before mid after : Meaning) (result : Result T Change)
+pub holds_behind : {T : Type 0} (base : State) (now : Situation) (outcome : Outcome) (new : Stored) (before mid after : Meaning) (result : Result T ChangeFault)
     → Leaves before mid (λ image. Stands image base) → KeepsPast (image_blocks base.limits) before mid → Holds base now outcome new mid after result → Holds base now outcome new before after result
 holds_behind base now outcome new before mid after result first past holds = search (rules, leaves_then, leaves_weaken)
 
 -- A change that the disk fails before it begins.
-pub holds_lost : {T : Type 0} (base : State) (now : Situation) (outcome : Outcome) (new : Stored) (before after : Meaning) (result : Result T Change)
+pub holds_lost : {T : Type 0} (base : State) (now : Situation) (outcome : Outcome) (new : Stored) (before after : Meaning) (result : Result T ChangeFault)
     → Leaves before after (λ image. Stands image base) → KeepsPast (image_blocks base.limits) before after → new.is_broken ≡ true → result ≡ Err Disk → Holds base now outcome new before after result
 holds_lost base now outcome new before after result first past broken ends = search (rules, leaves_weaken)
 
@@ -61,7 +61,7 @@ module _ (old : Stored) (base s : State) (before : Meaning) (sound : IsSound old
     asks_past n le = ap (block n) (asks.reads.same holds.journal.honest).bytes
 
   -- What an image keeps but for spare blocks stands for the base, where none is placed or nothing is held back.
-  module _ (blocks spare : List ℕ) (free : are_free old.parts.taken spare ≡ true) (among : (n : ℕ) → is_among blocks n ≡ true → has_home (data_start old.parts.limits) spare n ≡ true)
+  module _ (blocks spare : List ℕ) (free : are_free old.metadata.taken spare ≡ true) (among : (n : ℕ) → is_among blocks n ≡ true → has_home (data_start old.metadata.limits) spare n ≡ true)
       (none : (blocks ≡ []) ⊎ (old.journal.staged ≡ [])) where
     pub but_stands : (image : List ℕ) → StandsBut old.journal.layout blocks holds.kept image → Stands image base
     but_stands image but = by none
@@ -73,15 +73,15 @@ module _ (old : Stored) (base s : State) (before : Meaning) (sound : IsSound old
             let reads = (fits_stand old.journal (sound.placed holds.unbroken) holds.journal).reads in
             let same : s ≡ base = one_state before.bytes s base ((fitting_stands before old s sound fits).reads) (holds.stands before.bytes reads) in
             subst (λ (t : State). Stands image t) same
-            (placed_stand old holds.kept spare s sound fits.tells fits.written free image (stands_homes old.journal.layout (data_start old.parts.limits) blocks spare holds.kept image among but))
+            (placed_stand old holds.kept spare s sound fits.tells fits.written free image (stands_homes old.journal.layout (data_start old.metadata.limits) blocks spare holds.kept image among but))
 
   -- where the disk fails while a content is put
-  module _ (bytes : List ℕ) (mid : Kept) (new : Held) (after : Meaning) (torn : ContentTorn bytes old.parts mid old.journal new before after) (alone : is_large (length bytes) ≡ true → old.journal.staged ≡ []) where
+  module _ (bytes : List ℕ) (mid : Metadata) (new : Held) (after : Meaning) (torn : ContentTorn bytes old.metadata mid old.journal new before after) (alone : is_large (length bytes) ≡ true → old.journal.staged ≡ []) where
     pub torn_stand : Leaves before after (λ image. Stands image base)
     torn_stand =
         leaves_weaken (λ image. Stands image base) (torn.moments holds.kept holds.journal)
-        (but_stands (homes_of (data_start old.parts.limits) torn.spare) torn.spare torn.were_free (λ n among. sym (among_homes (data_start old.parts.limits) torn.spare n) ∙ among)
-        (small_or_alone (length bytes) (homes_of (data_start old.parts.limits) torn.spare) old.journal.staged (λ small. ap (homes_of (data_start old.parts.limits)) (torn.small small)) alone))
+        (but_stands (homes_of (data_start old.metadata.limits) torn.spare) torn.spare torn.were_free (λ n among. sym (among_homes (data_start old.metadata.limits) torn.spare n) ∙ among)
+        (small_or_alone (length bytes) (homes_of (data_start old.metadata.limits) torn.spare) old.journal.staged (λ small. ap (homes_of (data_start old.metadata.limits)) (torn.small small)) alone))
 
     pub torn_past : KeepsPast (image_blocks base.limits) before after
     torn_past = subst (λ n. KeepsPast n before after) (same_blocks image_is) (torn.past holds.kept holds.journal)

@@ -1,7 +1,7 @@
 -- What a store says of the state that it tells, in other words.
 use Rattle.std.proofs.Common.{rules}
 use Rattle.std.proofs.Common.{option_map}
-use Rattle.lis_store.proofs.Common.{common_steps, ◌≡◌, refl, sym, ap, ap₂, ◌∙◌, subst, inl, inr, ℕ, ◌+◌, ◌*◌, ◌<◌, Bool, is_some, Option, Some, None, List, [], ◌∷◌, length, map, IsSomeAnd, arith, length-append, find, flat_map, list_any, Contains, length-map, length-take-le, same_Some, Among, contains_from_among, same_word, has_word, Formula, FileRecord, Dict, number_of, number_from_word, Filed, slot_of, rec_at, rec_at-slot_of, numbers_at, data_start, State, File, description, up, has_name, file_of_name, Placed, Kept, AreSound, FreeSlotsAreEmpty, declared_of, axioms_of, bytes_told, blocks_told, state_of, Tells, filed_rec, filed_slot, filed_at_slot, map_all, known_word, words_known, among_map, map_among, words, known, file_of, words_told, file_told, number_from_among}
+use Rattle.lis_store.proofs.Common.{common_steps, ◌≡◌, refl, sym, ap, ap₂, ◌∙◌, subst, inl, inr, ℕ, ◌+◌, ◌*◌, ◌<◌, Bool, is_some, Option, Some, None, List, [], ◌∷◌, length, map, IsSomeAnd, arith, length-append, find, flat_map, list_any, Contains, length-map, length-take-le, same_Some, Among, contains_from_among, same_word, has_word, Formula, FileRecord, Dict, number_of, number_from_word, Filed, slot_of, rec_at, rec_at-slot_of, numbers_at, data_start, State, File, description, up, has_name, file_of_name, Placed, Metadata, AreSound, FreeSlotsAreEmpty, declared_of, axioms_of, bytes_told, blocks_told, state_of, Tells, filed_rec, filed_slot, filed_at_slot, map_all, known_word, words_known, among_map, map_among, words, known, file_of, words_told, file_told, number_from_among}
 use Rattle.lis_catalog.proofs.Slots.{any_map}
 use Rattle.lis_model.specs.Table.{Entry, Table, entry_of, table}
 use Rattle.lis_model.specs.Listing.{extension}
@@ -40,14 +40,14 @@ file_found told named name [] f is = absurd cc
 file_found told named name (g ∷ fs) f is = grind (arith, common_steps, same_Some, file_found told named name fs f)
 
 -- ---- files by their slots
-module _ (k : Kept) (sound : AreSound k) where
+module _ (k : Metadata) (sound : AreSound k) where
   -- the record in the slot of a name has the name
   pub filed_named : (name : List ℕ) (slot : ℕ) (rec : FileRecord) → slot_of k.catalog name ≡ Some slot → rec_at k.catalog slot ≡ Some rec
       → Among k.catalog.entries (record { slot = slot; rec = rec }) × (rec.name ≡ name)
   filed_named name slot rec is_slot is_rec = search (rules, rec_at-slot_of, same_Some, filed_at_slot)
 
 -- ---- what is told
-module _ (k : Kept) (at : ℕ → List ℕ) (s : State) (sound : AreSound k) (free : FreeSlotsAreEmpty k) (tells : Tells k at s) where
+module _ (k : Metadata) (at : ℕ → List ℕ) (s : State) (sound : AreSound k) (free : FreeSlotsAreEmpty k) (tells : Tells k at s) where
   pub limits_told : k.limits ≡ s.limits
   limits_told = ap (λ (t : State). t.limits) tells.state
 
@@ -99,52 +99,52 @@ module _ (k : Kept) (at : ℕ → List ℕ) (s : State) (sound : AreSound k) (fr
 -- ---- what a store says by what a disk keeps
 module _ (k : Stored) (s : State) (sound : IsSound k) (fits : ToldBy k s) where
   -- the blocks of a file are blocks of the image
-  pub told_below : (f : Filed) → Among k.parts.catalog.entries f → (b : ℕ) → Among (blocks_told k.parts.limits fits.kept f.rec) b → b < k.parts.limits.blocks
+  pub told_below : (f : Filed) → Among k.metadata.catalog.entries f → (b : ℕ) → Among (blocks_told k.metadata.limits fits.kept f.rec) b → b < k.metadata.limits.blocks
   told_below f there b among =
-      (fits.tells.given f (contains_from_among k.parts.catalog.entries f there) b (number_from_among (blocks_told k.parts.limits fits.kept f.rec) b among)).0
+      (fits.tells.given f (contains_from_among k.metadata.catalog.entries f there) b (number_from_among (blocks_told k.metadata.limits fits.kept f.rec) b among)).0
 
   -- each file has as many bytes as its record says
-  pub size_of_filed : (f : Filed) → Among k.parts.catalog.entries f → length (bytes_told k.parts.limits fits.kept f.rec) ≡ f.rec.size
+  pub size_of_filed : (f : Filed) → Among k.metadata.catalog.entries f → length (bytes_told k.metadata.limits fits.kept f.rec) ≡ f.rec.size
   size_of_filed f there =
-      let numbers = content_told k.parts.limits fits.kept f.rec in
-      let counted = content_counted k.parts sound.parts f there fits.kept in
-      let whole = length-whole (λ b. fits.kept (data_start k.parts.limits + b)) numbers (λ b among. fits.whole b (told_below f there b (content_among k.parts.limits fits.kept f.rec b among))) in
-      length-take-le f.rec.size (flat_map (λ b. fits.kept (data_start k.parts.limits + b)) numbers) (omega (arith, whole, counted))
+      let numbers = content_told k.metadata.limits fits.kept f.rec in
+      let counted = content_counted k.metadata sound.metadata f there fits.kept in
+      let whole = length-whole (λ b. fits.kept (data_start k.metadata.limits + b)) numbers (λ b among. fits.whole b (told_below f there b (content_among k.metadata.limits fits.kept f.rec b among))) in
+      length-take-le f.rec.size (flat_map (λ b. fits.kept (data_start k.metadata.limits + b)) numbers) (omega (arith, whole, counted))
 
-  pub size_told : (name : List ℕ) (slot : ℕ) (rec : FileRecord) → slot_of k.parts.catalog name ≡ Some slot → rec_at k.parts.catalog slot ≡ Some rec → length (file_of s.files name).bytes ≡ rec.size
+  pub size_told : (name : List ℕ) (slot : ℕ) (rec : FileRecord) → slot_of k.metadata.catalog name ≡ Some slot → rec_at k.metadata.catalog slot ≡ Some rec → length (file_of s.files name).bytes ≡ rec.size
   size_told name slot rec is_slot is_rec =
-      ap (λ (file : File). length file.bytes) (file_in_slot k.parts fits.kept s sound.parts sound.free fits.tells name slot rec is_slot is_rec)
-      ∙ size_of_filed (record { slot = slot; rec = rec }) (filed_at_slot k.parts.catalog sound.parts.catalog slot rec is_rec)
+      ap (λ (file : File). length file.bytes) (file_in_slot k.metadata fits.kept s sound.metadata sound.free fits.tells name slot rec is_slot is_rec)
+      ∙ size_of_filed (record { slot = slot; rec = rec }) (filed_at_slot k.metadata.catalog sound.metadata.catalog slot rec is_rec)
 
-  pub sizes_told : (name : List ℕ) (slot : ℕ) → slot_of k.parts.catalog name ≡ Some slot → IsSomeAnd (rec_at k.parts.catalog slot) (λ (rec : FileRecord). length (file_of s.files name).bytes ≡ rec.size)
-  sizes_told name slot is = by (rec_at k.parts.catalog slot) refl
+  pub sizes_told : (name : List ℕ) (slot : ℕ) → slot_of k.metadata.catalog name ≡ Some slot → IsSomeAnd (rec_at k.metadata.catalog slot) (λ (rec : FileRecord). length (file_of s.files name).bytes ≡ rec.size)
+  sizes_told name slot is = by (rec_at k.metadata.catalog slot) refl
     where
-      by : (o : Option FileRecord) → rec_at k.parts.catalog slot ≡ o → IsSomeAnd o (λ (rec : FileRecord). length (file_of s.files name).bytes ≡ rec.size)
-      by None none = absurd (let found = rec_at-slot_of k.parts.catalog name slot sound.parts.catalog is in let some = found.1 in cc)
+      by : (o : Option FileRecord) → rec_at k.metadata.catalog slot ≡ o → IsSomeAnd o (λ (rec : FileRecord). length (file_of s.files name).bytes ≡ rec.size)
+      by None none = absurd (let found = rec_at-slot_of k.metadata.catalog name slot sound.metadata.catalog is in let some = found.1 in cc)
       by (Some rec) some = size_told name slot rec is some
 
   -- ---- the table
   abbrev told : Filed → File
-  told = file_told k.parts.limits k.parts.dict fits.kept
+  told = file_told k.metadata.limits k.metadata.dict fits.kept
 
-  entry_is : (f : Filed) → Among k.parts.catalog.entries f → (placed k.parts f).entry ≡ entry_of (declared_of k.parts) (axioms_of k.parts) (told f)
+  entry_is : (f : Filed) → Among k.metadata.catalog.entries f → (placed k.metadata f).entry ≡ entry_of (declared_of k.metadata) (axioms_of k.metadata) (told f)
   entry_is f there = search (rules, size_of_filed, described_told, contains_from_among)
 
-  entries_are : map (λ (f : Placed). f.entry) (map (placed k.parts) k.parts.catalog.entries) ≡ map (entry_of (declared_of k.parts) (axioms_of k.parts)) (map told k.parts.catalog.entries)
+  entries_are : map (λ (f : Placed). f.entry) (map (placed k.metadata) k.metadata.catalog.entries) ≡ map (entry_of (declared_of k.metadata) (axioms_of k.metadata)) (map told k.metadata.catalog.entries)
   entries_are = grind (arith, common_steps, map_map, map_all, entry_is)
 
   -- truth and listings see the store as they see the state
-  pub table_told : table_of k.parts ≡ table s
+  pub table_told : table_of k.metadata ≡ table s
   table_told =
       let of_parts : List (List ℕ) → List Entry → Table = λ ws files.
-      record { limits = k.parts.limits; known = ws; files = files; entailed = map (λ p. (p, up (declared_of k.parts) (axioms_of k.parts) p)) ws } in
-      let ws : words k.parts.dict ≡ known (state_of k.parts fits.kept) = words_known k.parts sound.parts sound.free fits.kept fits.tells.used (described_told k.parts fits.kept s sound.parts sound.free fits.tells) in
+      record { limits = k.metadata.limits; known = ws; files = files; entailed = map (λ p. (p, up (declared_of k.metadata) (axioms_of k.metadata) p)) ws } in
+      let ws : words k.metadata.dict ≡ known (state_of k.metadata fits.kept) = words_known k.metadata sound.metadata sound.free fits.kept fits.tells.used (described_told k.metadata fits.kept s sound.metadata sound.free fits.tells) in
       ap₂ of_parts ws entries_are ∙ ap table fits.tells.state
 
   -- and so does each place
   module _ (place : List Formula) (name : List ℕ) where
-    pub here_told : is_among k.parts place name ≡ is_here (record { state = s; place = place }) name
+    pub here_told : is_among k.metadata place name ≡ is_here (record { state = s; place = place }) name
     here_told = ap (λ (t : Table). list_any (λ (file : Entry). same_word file.name name) (extension t place)) table_told
 
-    pub among_told : is_among k.parts place name ≡ is_here (record { state = s; place = place }) (file_of s.files name).name
+    pub among_told : is_among k.metadata place name ≡ is_here (record { state = s; place = place }) (file_of s.files name).name
     among_told = here_told ∙ ap (is_here (record { state = s; place = place })) (sym (file_of_name s.files name))

@@ -1,6 +1,6 @@
 -- A word that is declared under others: the files that meet it have it, where it is a test, and all that the others entail.
 use Rattle.std.proofs.Common.{rules}
-use Rattle.lis_store.proofs.Common.{◌≡◌, ◌⊎◌, refl, sym, ap, ap₂, ◌∙◌, subst, inl, inr, ℕ, ◌+◌, ◌<◌, ◌≤◌, nat_lt, ◌&&◌, ◌||◌, Bool, true, false, List, [], ◌∷◌, ◌++◌, length, Option, Some, None, is_some, IsSome, arith, Result, list_any, range_with_len, or_cases, cases_eq, ltb-false, same_Some, Among, contains_from_among, range_among, word_of, rec_at, Filed, slot_is_below, Ext, has, numbers_at, differs, FileRecord, is_valued, is_test, test_of, plain_not_test, with_word, is_met, State, up, File, all_up, own_words, description, WellFormed, under, Kept, marked_count, IsSaved, AreSound, FreeSlotsAreEmpty, KeepsInUse, declared_of, axioms_of, bytes_told, state_of, AreUsed, Tells, test_by, among_where, where_among, sorted_where, filed_rec, named_all, some_word, among_axiom, among_word, word_among, declared_has_number, used_had, met_weaker, Meaning, Held, Formula, Refusal, image_blocks, declared_under, Situation, refused, words_at, mkdir, link_named, linked_up, Head, Weaker, fun_ext, or_right, both_ways, false_from_ne_true, among_from_any, any_from_among, has_number, numbers_where, known, all_among, is_linked, words_told, file_told, among_from_number, number_from_among, one_number, same_tests, changed, all_up_has, declarable_not_valued, link_cases}
+use Rattle.lis_store.proofs.Common.{◌≡◌, ◌⊎◌, refl, sym, ap, ap₂, ◌∙◌, subst, inl, inr, ℕ, ◌+◌, ◌<◌, ◌≤◌, nat_lt, ◌&&◌, ◌||◌, Bool, true, false, List, [], ◌∷◌, ◌++◌, length, Option, Some, None, is_some, IsSome, arith, Result, list_any, range_with_len, or_cases, cases_eq, ltb-false, same_Some, Among, contains_from_among, range_among, word_of, rec_at, Filed, slot_is_below, Ext, has, numbers_at, differs, FileRecord, is_valued, is_test, test_of, plain_not_test, with_word, is_met, State, up, File, all_up, own_words, description, WellFormed, under, Metadata, marked_count, IsSaved, AreSound, FreeSlotsAreEmpty, KeepsInUse, declared_of, axioms_of, bytes_told, state_of, AreUsed, Tells, test_by, among_where, where_among, sorted_where, filed_rec, named_all, some_word, among_axiom, among_word, word_among, declared_has_number, used_had, met_weaker, Meaning, Held, Formula, Refusal, image_blocks, declared_under, Situation, refused, words_at, mkdir, link_named, linked_up, Head, Weaker, fun_ext, or_right, both_ways, false_from_ne_true, among_from_any, any_from_among, has_number, numbers_where, known, all_among, is_linked, words_told, file_told, among_from_number, number_from_among, one_number, same_tests, changed, all_up_has, declarable_not_valued, link_cases}
 use Rattle.lis_words.specs.Words.{is_property}
 use Rattle.lis_model.specs.Tests.{are_weaker}
 use Rattle.lis_laws.proofs.Chains.{tests_by}
@@ -15,7 +15,7 @@ use Rattle.lis_model.specs.Step.{mkdir_checks, first_refusal}
 use Rattle.lis_store.specs.Saving.{settled, Saves}
 use Rattle.lis_store.specs.Judging.{word_checks}
 use Rattle.lis_store.specs.Changes.{Holds, AreEditsFew}
-use Rattle.lis_store.specs.declared.change.Change.{Change}
+use Rattle.lis_store.specs.declared.change_fault.ChangeFault.{ChangeFault}
 use Rattle.lis_store.proofs.Cleaned.{none_marked}
 use Rattle.lis_store.proofs.SavedAlone.{IsChange, saves_alone}
 use Rattle.lis_store.proofs.ToldBy.{told_held}
@@ -25,7 +25,7 @@ use Rattle.lis_store.proofs.Told.{words_same, retold}
 use Rattle.lis_store.specs.ReplacingIn.{AreInForm}
 use Rattle.lis_store.proofs.Rebuilt.{IsRebuilt, turned_cases, set_by, had_filed, free_made, short_made, closed_made, made_edits, few_made}
 use Rattle.lis_store.proofs.Under.{gained_up, unmet_closed, own_then, still_there, test_there, unmet_same}
-use Rattle.lis_store.proofs.Declared.{parts_are, word_new, word_other, named_other, word_kept, unnumbered, in_use_then, apart_then, marked_then, told_then, right_some, mkdir_alike}
+use Rattle.lis_store.proofs.Declared.{metadata_are, word_new, word_other, named_other, word_kept, unnumbered, in_use_then, apart_then, marked_then, told_then, right_some, mkdir_alike}
 use Rattle.lis_store.proofs.Crowded.{wider_told, unknown, full_at}
 use Rattle.lis_store.proofs.Entailment.{up_has_number, closed_up}
 use Rattle.lis_store.proofs.FileTests.{tested_word}
@@ -45,18 +45,18 @@ met_rec : (t : Option (Bool × ℕ)) (o : Option FileRecord) → is_met_by t o �
 met_rec t o h = search (rules, both_ways)
 
 -- ---- descriptions that are made anew
-pub base_is : (k : Kept) (test : Bool × ℕ) (number slot : ℕ) → base_at k (Meeting test number) slot ≡ number ∷ numbers_at k.ext slot
+pub base_is : (k : Metadata) (test : Bool × ℕ) (number slot : ℕ) → base_at k (Meeting test number) slot ≡ number ∷ numbers_at k.ext slot
 base_is k test number slot = ap (λ ns. number ∷ ns) (filter_all (λ n. true) (numbers_at k.ext slot) (λ n m. refl))
 
-pub tested_is : (k : Kept) (test : Bool × ℕ) (number : ℕ) → rebuilt k (Meeting test number) ≡ tested k (Some test) number
+pub tested_is : (k : Metadata) (test : Bool × ℕ) (number : ℕ) → rebuilt k (Meeting test number) ≡ tested k (Some test) number
 tested_is k test number = ap (anew k (is_met_at k (Some test))) (fun_ext (base_is k test number))
 
 -- a word that is no test changes nothing
-pub untested_same : (k : Kept) (word : List ℕ) (number : ℕ) → test_of word ≡ None → Redescribes (tested k (test_of word) number) k.limits.files k k
+pub untested_same : (k : Metadata) (word : List ℕ) (number : ℕ) → test_of word ≡ None → Redescribes (tested k (test_of word) number) k.limits.files k k
 untested_same k word number no_test = search (rules)
 
 -- ---- memory with the word
-module _ {p made : Kept} {word : List ℕ} {rights : List ℕ} (form : AreInForm p) (may : MayDeclare p word rights) (stands : DeclaresUnder word rights p made) (sound_made : AreSound made) where
+module _ {p made : Metadata} {word : List ℕ} {rights : List ℕ} (form : AreInForm p) (may : MayDeclare p word rights) (stands : DeclaresUnder word rights p made) (sound_made : AreSound made) where
   abbrev number : ℕ
   number = stands.declares.number
 
@@ -64,7 +64,7 @@ module _ {p made : Kept} {word : List ℕ} {rights : List ℕ} (form : AreInForm
   words = words_told p.dict rights
 
   made_is : made ≡ record p { dict = made.dict; declared = made.declared; axioms = made.axioms; marks = made.marks }
-  made_is = subst (λ (k : Kept). k ≡ record p { dict = k.dict; declared = k.declared; axioms = k.axioms; marks = k.marks }) (sym (parts_are form.sound may stands)) refl
+  made_is = subst (λ (k : Metadata). k ≡ record p { dict = k.dict; declared = k.declared; axioms = k.axioms; marks = k.marks }) (sym (metadata_are form.sound may stands)) refl
 
   abbrev meets : ℕ → Bool
   meets slot = is_met_at made (test_of word) slot
@@ -77,13 +77,13 @@ module _ {p made : Kept} {word : List ℕ} {rights : List ℕ} (form : AreInForm
   gained slot = closure made (base slot)
 
   ext_same : made.ext ≡ p.ext
-  ext_same = ap (λ (k : Kept). k.ext) made_is
+  ext_same = ap (λ (k : Metadata). k.ext) made_is
 
   meets_is : (slot : ℕ) (rec : FileRecord) → rec_at p.catalog slot ≡ Some rec → meets slot ≡ is_met (test_of word) rec.size
-  meets_is slot rec is = ap (λ (k : Kept). is_met_by (test_of word) (rec_at k.catalog slot)) made_is ∙ ap (is_met_by (test_of word)) is
+  meets_is slot rec is = ap (λ (k : Metadata). is_met_by (test_of word) (rec_at k.catalog slot)) made_is ∙ ap (is_met_by (test_of word)) is
 
   met_file : (slot : ℕ) → meets slot ≡ true → (rec : FileRecord) × (rec_at p.catalog slot ≡ Some rec) × (is_met (test_of word) rec.size ≡ true)
-  met_file slot met = met_rec (test_of word) (rec_at p.catalog slot) (ap (λ (k : Kept). is_met_by (test_of word) (rec_at k.catalog slot)) (sym made_is) ∙ met)
+  met_file slot met = met_rec (test_of word) (rec_at p.catalog slot) (ap (λ (k : Metadata). is_met_by (test_of word) (rec_at k.catalog slot)) (sym made_is) ∙ met)
 
   -- ---- words and numbers
   named_p : (n slot : ℕ) → has p.ext n slot ≡ true → IsSome (word_of p.dict n)
@@ -196,11 +196,11 @@ module _ {p made : Kept} {word : List ℕ} {rights : List ℕ} (form : AreInForm
         by n (inr more) = inr (among_from_number (wider p (is_gained p rights) slot) n more)
 
   -- ---- descriptions with the test
-  module _ {q : Kept} (gives : Redescribes (tested made (test_of word) number) made.limits.files made q) where
+  module _ {q : Metadata} (gives : Redescribes (tested made (test_of word) number) made.limits.files made q) where
     anew_is : IsRebuilt meets base made q
     anew_is = record {
       sound = sound_made;
-      filed = λ slot met. ap (λ (k : Kept). is_some (rec_at k.catalog slot)) made_is ∙ ap is_some (met_file slot met).1;
+      filed = λ slot met. ap (λ (k : Metadata). is_some (rec_at k.catalog slot)) made_is ∙ ap is_some (met_file slot met).1;
       redescribes = subst (λ (e : Ext). Redescribes (anew made meets (λ slot. number ∷ numbers_at e slot)) made.limits.files made q) ext_same gives;
     }
 
@@ -253,7 +253,7 @@ module _ {p made : Kept} {word : List ℕ} {rights : List ℕ} (form : AreInForm
             ap (λ ns. has_number ns n) here.1 ∙ same_tests (has_number (gained slot) n) (has p.ext n slot) (λ h. wide (gains slot here.0 n h)) (gained_has slot n)
         by (inr same) = ap (λ ns. has_number ns n) same.1
 
-    abbrev end : Kept
+    abbrev end : Metadata
     end = record made { ext = q.ext; marks = q.marks }
 
     tests_then : TestsAreMet end
@@ -265,7 +265,7 @@ module _ {p made : Kept} {word : List ℕ} {rights : List ℕ} (form : AreInForm
     }
       where
         rec_was : (slot : ℕ) (rec : FileRecord) → rec_at made.catalog slot ≡ Some rec → rec_at p.catalog slot ≡ Some rec
-        rec_was slot rec is = ap (λ (k : Kept). rec_at k.catalog slot) (sym made_is) ∙ is
+        rec_was slot rec is = ap (λ (k : Metadata). rec_at k.catalog slot) (sym made_is) ∙ is
 
         new : (slot : ℕ) (rec : FileRecord) → rec_at p.catalog slot ≡ Some rec → Sets slot → has q.ext number slot ≡ is_met (test_of word) rec.size
         new slot rec was (inl here) = ap (λ ns. has_number ns number) here.1 ∙ (gained_number slot ∙ (sym here.0 ∙ meets_is slot rec was))
@@ -294,18 +294,18 @@ module _ {p made : Kept} {word : List ℕ} {rights : List ℕ} (form : AreInForm
 
     sound_then : (j : Held) → PairsAreApart p → shape_of j ≡ image_shape p.limits → j.is_broken ≡ false → AreSound q → IsSound (settled q j)
     sound_then j pairs image unbroken after =
-        subst (λ (k : Kept). IsSound (settled k j)) (sym anew_is.redescribes.parts)
+        subst (λ (k : Metadata). IsSound (settled k j)) (sym anew_is.redescribes.metadata)
         (settled_sound end j (record {
-          sound = subst (λ (k : Kept). AreSound k) anew_is.redescribes.parts after;
-          free = free_made anew_is (subst (λ (k : Kept). FreeSlotsAreEmpty k) (sym made_is) form.free);
+          sound = subst (λ (k : Metadata). AreSound k) anew_is.redescribes.metadata after;
+          free = free_made anew_is (subst (λ (k : Metadata). FreeSlotsAreEmpty k) (sym made_is) form.free);
           closed = closed_made anew_is others_closed;
-          short = short_made anew_is few_gained (subst (λ (k : Kept). DescriptionsAreShort k) (sym made_is) form.short);
+          short = short_made anew_is few_gained (subst (λ (k : Metadata). DescriptionsAreShort k) (sym made_is) form.short);
           in_use = used_then;
           tests = tests_then;
-        }) (apart_then form.sound may stands pairs) (subst (λ (k : Kept). shape_of j ≡ image_shape k.limits) (sym made_is) image) unbroken)
+        }) (apart_then form.sound may stands pairs) (subst (λ (k : Metadata). shape_of j ≡ image_shape k.limits) (sym made_is) image) unbroken)
 
     limits_then : q.limits ≡ p.limits
-    limits_then = ap (λ (k : Kept). k.limits) anew_is.redescribes.parts ∙ ap (λ (k : Kept). k.limits) made_is
+    limits_then = ap (λ (k : Metadata). k.limits) anew_is.redescribes.metadata ∙ ap (λ (k : Metadata). k.limits) made_is
 
     edits_then : AreEditsFew p.ext q.ext
     edits_then = subst (λ (e : Ext). AreEditsFew e q.ext) ext_same (made_edits anew_is)
@@ -374,7 +374,7 @@ module _ {p made : Kept} {word : List ℕ} {rights : List ℕ} (form : AreInForm
         meets_file = meets_is f.slot f.rec (filed_rec p.catalog form.sound.catalog f m) ∙ sym (ap (is_met (test_of word)) (sizes f m))
 
         described : words_told q.dict (numbers_at q.ext f.slot) ≡ description t file
-        described = ap (λ (k : Kept). words_told k.dict (numbers_at q.ext f.slot)) anew_is.redescribes.parts ∙ by (sets f.slot)
+        described = ap (λ (k : Metadata). words_told k.dict (numbers_at q.ext f.slot)) anew_is.redescribes.metadata ∙ by (sets f.slot)
           where
             own : List (List ℕ)
             own = own_words t.declared file
@@ -409,18 +409,18 @@ module _ {p made : Kept} {word : List ℕ} {rights : List ℕ} (form : AreInForm
       tells_then : WellFormed t → Tells q at t
       tells_then formed =
           retold p q
-          (subst (λ (k : Kept). k ≡ record p { dict = k.dict; declared = k.declared; axioms = k.axioms; ext = k.ext; marks = k.marks })
-          (sym (anew_is.redescribes.parts ∙ ap (λ (k : Kept). record k { ext = q.ext; marks = q.marks }) (parts_are form.sound may stands))) refl)
-          (λ f m n tag. ap (λ (k : Kept). word_of k.dict n) anew_is.redescribes.parts
+          (subst (λ (k : Metadata). k ≡ record p { dict = k.dict; declared = k.declared; axioms = k.axioms; ext = k.ext; marks = k.marks })
+          (sym (anew_is.redescribes.metadata ∙ ap (λ (k : Metadata). record k { ext = q.ext; marks = q.marks }) (metadata_are form.sound may stands))) refl)
+          (λ f m n tag. ap (λ (k : Metadata). word_of k.dict n) anew_is.redescribes.metadata
           ∙ kept_word n (named_p n f.slot (form.in_use.tags f.slot f.rec (filed_rec p.catalog form.sound.catalog f m) n (number_from_among f.rec.tags n tag))))
-          at s t tells refl (ap (λ (k : Kept). state_of k at) anew_is.redescribes.parts ∙ state_made) formed
-          (subst (λ (k : Kept). AreUsed k) (sym anew_is.redescribes.parts) used_then.used) described
+          at s t tells refl (ap (λ (k : Metadata). state_of k at) anew_is.redescribes.metadata ∙ state_made) formed
+          (subst (λ (k : Metadata). AreUsed k) (sym anew_is.redescribes.metadata) used_then.used) described
 
 -- ---- a call that declares a word
-module _ {old : Stored} {word : List ℕ} {rights numbers : List ℕ} {q : Kept} (sound : IsSound old) (unbroken : old.is_broken ≡ false) (may_be : MayDeclare old.parts word numbers) (same : rights ≡ numbers)
-    (declares : DeclaresTested word rights old.parts q) where
-  may : MayDeclare old.parts word rights
-  may = subst (λ (ns : List ℕ). MayDeclare old.parts word ns) (sym same) may_be
+module _ {old : Stored} {word : List ℕ} {rights numbers : List ℕ} {q : Metadata} (sound : IsSound old) (unbroken : old.is_broken ≡ false) (may_be : MayDeclare old.metadata word numbers) (same : rights ≡ numbers)
+    (declares : DeclaresTested word rights old.metadata q) where
+  may : MayDeclare old.metadata word rights
+  may = subst (λ (ns : List ℕ). MayDeclare old.metadata word ns) (sym same) may_be
 
   pub declared_change : IsChange old q
   declared_change = record {
@@ -428,34 +428,34 @@ module _ {old : Stored} {word : List ℕ} {rights numbers : List ℕ} {q : Kept}
     limits = limits_then (in_form old sound) may declares.stands declares.sound declares.gives;
     room =
         let more = few_more (in_form old sound) may declares.stands declares.sound declares.gives in
-        omega (arith, (marked_then sound.parts may declares.stands).few, none_marked old.parts (sound.clean unbroken), may.short, more, sound.few unbroken);
+        omega (arith, (marked_then sound.metadata may declares.stands).few, none_marked old.metadata (sound.clean unbroken), may.short, more, sound.few unbroken);
     edits = edits_then (in_form old sound) may declares.stands declares.sound declares.gives;
   }
 
-  pub declared_holds : {T : Type 0} {new : Stored} {before after : Meaning} {result : Result T Change} {base : State} → Saves q old.journal new before after result → (place : List Formula) → is_property word ≡ true
-      → words_told old.parts.dict numbers ≡ words_at place → first_refusal (word_checks old.parts place word) ≡ None → (s : State) → StoreHolds old before base s
+  pub declared_holds : {T : Type 0} {new : Stored} {before after : Meaning} {result : Result T ChangeFault} {base : State} → Saves q old.journal new before after result → (place : List Formula) → is_property word ≡ true
+      → words_told old.metadata.dict numbers ≡ words_at place → first_refusal (word_checks old.metadata place word) ≡ None → (s : State) → StoreHolds old before base s
       → Holds base (record { state = s; place = place }) (mkdir (record { state = s; place = place }) word) new before after result
   declared_holds {before = before} {base = base} saves place kept named none s holds =
       let now : Situation = record { state = s; place = place } in
       let t : State = declared_under s word (words_at place) in
       let fits = told_held old before base s sound holds in
-      let told : words_told old.parts.dict rights ≡ words_at place = ap (words_told old.parts.dict) same ∙ named in
+      let told : words_told old.metadata.dict rights ≡ words_at place = ap (words_told old.metadata.dict) same ∙ named in
       let passes : first_refusal (mkdir_checks now word t) ≡ None = mkdir_alike sound fits place word kept ∙ none in
       let formed : WellFormed t = forms.declares s fits.tells.formed word (words_at place) (mkdir_fits now word kept (all_pass (mkdir_checks now word t) passes)) in
-      let saved : IsSaved old.parts fits.kept = λ area n lt unmarked. holds.written area n lt in
+      let saved : IsSaved old.metadata fits.kept = λ area n lt unmarked. holds.written area n lt in
       saves_alone old sound unbroken declared_change saves now t holds
       (record {
         tells = subst (λ ws. Tells q fits.kept (declared_under s word ws)) told
             (tells_then (in_form old sound) may declares.stands declares.sound declares.gives fits.kept fits.tells
-            (unknown sound fits (words_told old.parts.dict rights) rights refl word (declarable_not_valued word may.form) may.new) (size_of_filed old s sound fits)
+            (unknown sound fits (words_told old.metadata.dict rights) rights refl word (declarable_not_valued word may.form) may.new) (size_of_filed old s sound fits)
             (subst (λ ws. WellFormed (declared_under s word ws)) (sym told) formed));
-        saved = declares.gives.saved fits.kept ((marked_then sound.parts may declares.stands).saved fits.kept saved);
+        saved = declares.gives.saved fits.kept ((marked_then sound.metadata may declares.stands).saved fits.kept saved);
       })
       (judged_done now (mkdir_checks now word t) (changed now t) passes)
 
 -- one that is refused
 pub declared_refused : {old : Stored} {m : Meaning} {base : State} → IsSound old → (place : List Formula) (word : List ℕ) (refusal : Refusal) → is_property word ≡ true
-    → first_refusal (word_checks old.parts place word) ≡ Some refusal → (s : State) → StoreHolds old m base s → mkdir (record { state = s; place = place }) word ≡ refused (record { state = s; place = place }) refusal
+    → first_refusal (word_checks old.metadata place word) ≡ Some refusal → (s : State) → StoreHolds old m base s → mkdir (record { state = s; place = place }) word ≡ refused (record { state = s; place = place }) refusal
 declared_refused {old} {m} {base} sound place word refusal kept first s holds =
     let now : Situation = record { state = s; place = place } in
     let t : State = declared_under s word (words_at place) in

@@ -8,9 +8,9 @@ use Rattle.lis_kept.proofs.Image.{same_blocks, same_homes}
 -- by these blocks memory tells the state and is written, and each data block is whole
 pub record ToldBy (k : Stored) (s : State) : Type 0 where
   pub kept : ℕ → List ℕ
-  pub tells : Tells k.parts kept s
-  pub written : IsWritten k.parts kept
-  pub whole : (b : ℕ) → b < k.parts.limits.blocks → length (kept (data_start k.parts.limits + b)) ≡ 4096
+  pub tells : Tells k.metadata kept s
+  pub written : IsWritten k.metadata kept
+  pub whole : (b : ℕ) → b < k.metadata.limits.blocks → length (kept (data_start k.metadata.limits + b)) ≡ 4096
 
 -- whole blocks over whole blocks are whole
 pub look_whole : (es : List HomeBlock) (n : ℕ) (old : List ℕ) → are_whole es ≡ true → length old ≡ 4096 → length (look es n old) ≡ 4096
@@ -28,7 +28,7 @@ told_fits k m s sound fits = record {
   kept = fits.kept;
   tells = fits.tells;
   written = fits.written;
-  whole = λ b lt. kept_whole k.journal fits.journal (data_start k.parts.limits + b) (inr (omega (arith, same_homes sound.image))) (omega (arith, lt, same_blocks sound.image));
+  whole = λ b lt. kept_whole k.journal fits.journal (data_start k.metadata.limits + b) (inr (omega (arith, same_homes sound.image))) (omega (arith, lt, same_blocks sound.image));
 }
 
 abbrev pub told_held : (k : Stored) (m : Meaning) (base s : State) → IsSound k → StoreHolds k m base s → ToldBy k s
@@ -37,6 +37,6 @@ told_held k m base s sound holds = record {
   tells = holds.tells;
   written = holds.written;
   whole = λ b lt.
-      look_whole k.journal.staged (data_start k.parts.limits + b) (holds.kept (data_start k.parts.limits + b)) (sound.whole holds.unbroken)
-      (kept_whole k.journal holds.journal (data_start k.parts.limits + b) (inr (omega (arith, same_homes sound.image))) (omega (arith, lt, same_blocks sound.image)));
+      look_whole k.journal.staged (data_start k.metadata.limits + b) (holds.kept (data_start k.metadata.limits + b)) (sound.whole holds.unbroken)
+      (kept_whole k.journal holds.journal (data_start k.metadata.limits + b) (inr (omega (arith, same_homes sound.image))) (omega (arith, lt, same_blocks sound.image)));
 }

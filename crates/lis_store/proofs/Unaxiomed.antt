@@ -1,6 +1,6 @@
 -- What a store comes to when an axiom is taken away: the axiom is looked for by its words, it goes, and descriptions lose what they had by it alone.
 use Rattle.std.proofs.Common.{rules}
-use Rattle.lis_store.proofs.Common.{◌≡◌, refl, sym, ap, ◌∙◌, subst, ℕ, ◌==◌, true, false, List, Some, None, ◌⊎◌, inl, inr, not, ◌||◌, Bool, cond, length, slice_get, Option, is_some, IsSome, option_to_list, arith, ap₂, ◌≤◌, ◌&&◌, if◌then◌else◌, [], filter, slice_set, Result, and_parts, none-some, Among, number_of, word_from_number, number_from_word, FreeAxiom, Pair, same_word, same_pair, has_axiom, same_word_decides, Kept, AreSound, has_pair, axioms_of, among_axiom, or_cases, not-true, not_from_false, among_filter, filter_among, is_taken, Dict, IsDict, word_of, rec_at, has, numbers_at, FileRecord, is_plain_word, is_test, is_valued, has_word, test_of, plain_not_test, with_axiom, File, up, all_up, own_words, file_words, is_met, entails_from_up, derived_built_in, among_with_words, OwnWord, own_word, own_from, Assigned, Derived, Met, MayForget, FreeSlotsAreEmpty, bit_of, is_declared, declared_of, is_head_by, is_used, AreUsed, among_word, word_among, declared_word, declared_has_number, used_flagged, used_had, IsStrictlySortedBy, contains_from_among, sorted_from_rising, Filed, Ext, differs, State, pair_cmp, description, image_blocks, IsSaved, is_own_link, state_of, Tells, among_where, where_among, sorted_where, filed_rec, some_word, named_below, named_all, number_told, same_Some, Meaning, looked, Situation, refused, both_ways, false_from_ne_true, or_left, or_right, among_from_any, has_number, words, all_up_has, same_tests, is_linked, words_told, file_told, among_from_number, number_from_among, one_number, numbers_where, changed, built_in_not_plain}
+use Rattle.lis_store.proofs.Common.{◌≡◌, refl, sym, ap, ◌∙◌, subst, ℕ, ◌==◌, true, false, List, Some, None, ◌⊎◌, inl, inr, not, ◌||◌, Bool, cond, length, slice_get, Option, is_some, IsSome, option_to_list, arith, ap₂, ◌≤◌, ◌&&◌, if◌then◌else◌, [], filter, slice_set, Result, and_parts, none-some, Among, number_of, word_from_number, number_from_word, FreeAxiom, Pair, same_word, same_pair, has_axiom, same_word_decides, Metadata, AreSound, has_pair, axioms_of, among_axiom, or_cases, not-true, not_from_false, among_filter, filter_among, is_taken, Dict, IsDict, word_of, rec_at, has, numbers_at, FileRecord, is_plain_word, is_test, is_valued, has_word, test_of, plain_not_test, with_axiom, File, up, all_up, own_words, file_words, is_met, entails_from_up, derived_built_in, among_with_words, OwnWord, own_word, own_from, Assigned, Derived, Met, MayForget, FreeSlotsAreEmpty, bit_of, is_declared, declared_of, is_head_by, is_used, AreUsed, among_word, word_among, declared_word, declared_has_number, used_flagged, used_had, IsStrictlySortedBy, contains_from_among, sorted_from_rising, Filed, Ext, differs, State, pair_cmp, description, image_blocks, IsSaved, is_own_link, state_of, Tells, among_where, where_among, sorted_where, filed_rec, some_word, named_below, named_all, number_told, same_Some, Meaning, looked, Situation, refused, both_ways, false_from_ne_true, or_left, or_right, among_from_any, has_number, words, all_up_has, same_tests, is_linked, words_told, file_told, among_from_number, number_from_among, one_number, numbers_where, changed, built_in_not_plain}
 use Rattle.lis_kept.specs.Sound.{IsSoundAxiom}
 use Rattle.lis_kept.proofs.AxiomsTold.{axiom_told}
 use Rattle.lis_kept.proofs.OwnLinks.{pair_slot}
@@ -34,7 +34,7 @@ use Rattle.lis_store.proofs.OwnStay.{own_before}
 use Rattle.lis_store.proofs.Told.{words_same, retold}
 use Rattle.lis_model.specs.declared.refusal.Refusal.TheVariants.{NoAxiom}
 use Rattle.lis_model.specs.Step.{unaxiom}
-use Rattle.lis_store.specs.declared.change.Change.{Change}
+use Rattle.lis_store.specs.declared.change_fault.ChangeFault.{ChangeFault}
 use Rattle.lis_store.specs.Changes.{Holds, AreEditsFew}
 use Rattle.lis_store.proofs.SavedAlone.{IsChange, saves_alone}
 use Rattle.lis_store.proofs.Retaken.{settled_sound}
@@ -44,10 +44,10 @@ use Rattle.lis_kept.specs.Image.{image_shape}
 
 -- ---- an axiom that is looked for
 -- an axiom by its numbers is one that is kept
-pub pair_sound : (k : Kept) → AreSound k → (left right : ℕ) → has_pair k.axioms left right ≡ true → (slot : ℕ) × IsSoundAxiom k slot left right
+pub pair_sound : (k : Metadata) → AreSound k → (left right : ℕ) → has_pair k.axioms left right ≡ true → (slot : ℕ) × IsSoundAxiom k slot left right
 pair_sound k sound left right has = let at = pair_slot k.axioms left right has in (at.0, sound.axioms at.0 left right at.1)
 
-module _ (k : Kept) (sound : AreSound k) (l r : List ℕ) where
+module _ (k : Metadata) (sound : AreSound k) (l r : List ℕ) where
   -- its words have numbers
   numbered : has_axiom (axioms_of k) (l, r) ≡ true → (x : ℕ) × (y : ℕ) × (number_of k.dict l ≡ Some x) × (number_of k.dict r ≡ Some y)
   numbered has =
@@ -81,21 +81,21 @@ module _ (k : Kept) (sound : AreSound k) (l r : List ℕ) where
 
 -- ---- memory without it
 -- axioms lead to declared words
-abbrev pub RightsAreDeclared : Kept → Type 0
+abbrev pub RightsAreDeclared : Metadata → Type 0
 RightsAreDeclared k = (slot x y : ℕ) → slice_get k.axioms slot ≡ Some (Pair x y) → is_taken k.declared y ≡ true
 
 -- a file has what it was given
-abbrev pub TagsAreHad : Kept → Type 0
+abbrev pub TagsAreHad : Metadata → Type 0
 TagsAreHad k = (slot : ℕ) (rec : FileRecord) → rec_at k.catalog slot ≡ Some rec → (n : ℕ) → has_number rec.tags n ≡ true → has k.ext n slot ≡ true
 
 -- ---- without the axiom
-module _ {left right : ℕ} {p k : Kept} (unlinks : Unlinks left right p k) where
+module _ {left right : ℕ} {p k : Metadata} (unlinks : Unlinks left right p k) where
   -- each other axiom was there
   was_there : (at x y : ℕ) → slice_get k.axioms at ≡ Some (Pair x y) → slice_get p.axioms at ≡ Some (Pair x y)
   was_there at x y is = search (rules, set_cases)
 
   pub rights_unlinked : RightsAreDeclared p → RightsAreDeclared k
-  rights_unlinked rights slot x y is = ap (λ (u : Kept). is_taken u.declared y) unlinks.parts ∙ rights slot x y (was_there slot x y is)
+  rights_unlinked rights slot x y is = ap (λ (u : Metadata). is_taken u.declared y) unlinks.metadata ∙ rights slot x y (was_there slot x y is)
 
   pub pairs_unlinked : PairsAreApart p → PairsAreApart k
   pairs_unlinked apart slot other x y is_slot is_other = apart slot other x y (was_there slot x y is_slot) (was_there other x y is_other)
@@ -104,31 +104,31 @@ module _ {left right : ℕ} {p k : Kept} (unlinks : Unlinks left right p k) wher
   closed_unlinked closed slot a b had linked = search (rules, and_parts)
 
   pub tags_unlinked : TagsAreHad p → TagsAreHad k
-  tags_unlinked = subst TagsAreHad (sym unlinks.parts)
+  tags_unlinked = subst TagsAreHad (sym unlinks.metadata)
 
   pub right_flagged : RightsAreDeclared p → is_taken k.declared right ≡ true
-  right_flagged rights = ap (λ (u : Kept). is_taken u.declared right) unlinks.parts ∙ rights unlinks.slot left right unlinks.there
+  right_flagged rights = ap (λ (u : Metadata). is_taken u.declared right) unlinks.metadata ∙ rights unlinks.slot left right unlinks.there
 
 -- ---- descriptions
 -- The axiom between two numbers is gone, and descriptions that have the left one are made anew.
-pub record IsLessened (left right : ℕ) (k m : Kept) : Type 0 where
+pub record IsLessened (left right : ℕ) (k m : Metadata) : Type 0 where
   pub sound : AreSound k
   pub closed : AreClosed k
   pub free : FreeSlotsAreEmpty k
   pub lessens : Redescribes (rebuilt k (Losing left right)) k.limits.files k m
 
 -- of numbers that it has
-pub less_had : (k : Kept) (left right slot n : ℕ) → Among (base_at k (Losing left right) slot) n → has k.ext n slot ≡ true
+pub less_had : (k : Metadata) (left right slot n : ℕ) → Among (base_at k (Losing left right) slot) n → has k.ext n slot ≡ true
 less_had k left right slot n among = number_from_among (numbers_at k.ext slot) n (among_filter (stays k right (tags_at k slot)) (numbers_at k.ext slot) n among).0
 
-module _ {left right : ℕ} {k m : Kept} (l : IsLessened left right k m) where
+module _ {left right : ℕ} {k m : Metadata} (l : IsLessened left right k m) where
   abbrev pub base : ℕ → List ℕ
   base = base_at k (Losing left right)
 
   pub is_rebuilt : IsRebuilt (is_concerned k (Losing left right)) base k m
   is_rebuilt = record { sound = l.sound; filed = λ slot had. had_filed k l.free left slot had; redescribes = l.lessens }
 
-  abbrev pub less : Kept
+  abbrev pub less : Metadata
   less = record k { ext = m.ext; marks = m.marks }
 
   pub base_had : (slot n : ℕ) → Among (base slot) n → has k.ext n slot ≡ true
@@ -204,7 +204,7 @@ at_has o n is = search (rules, both_ways, or_left)
 head_has : (d : Dict) → IsDict d → (o : Option (List ℕ)) (n : ℕ) → is_head_by o (word_of d n) ≡ true → has_number (heads_by d o) n ≡ true
 head_has d dict o n is = search (rules, both_ways, at_has, head_by_number)
 
-module _ {left right : ℕ} {k m : Kept} (l : IsLessened left right k m) (p : Kept) (sound_before : AreSound p) (used : AreUsed p) (unlinks : Unlinks left right p k) (rights : RightsAreDeclared p) where
+module _ {left right : ℕ} {k m : Metadata} (l : IsLessened left right k m) (p : Metadata) (sound_before : AreSound p) (used : AreUsed p) (unlinks : Unlinks left right p k) (rights : RightsAreDeclared p) where
   -- a known word that is not in use is the left one, or its head
   pub unused_is : (n : ℕ) → is_some (word_of p.dict n) ≡ true → is_used (less l) n ≡ false → has_number (with_head p.dict left) n ≡ true
   unused_is n some unused = by (or_cases ((left == n) || is_head_by (word_of p.dict left) (word_of p.dict n)) (is_used k n) (sym (unlinks.used n) ∙ used n some))
@@ -220,19 +220,19 @@ module _ {left right : ℕ} {k m : Kept} (l : IsLessened left right k m) (p : Ke
       by (inl either) = front (or_cases (left == n) (is_head_by (word_of p.dict left) (word_of p.dict n)) either)
       by (inr still) =
           absurd (both_ways (is_used (less l) n) unused
-          (used_on l (rights_unlinked unlinks rights) (right_flagged unlinks rights) n (ap (λ (u : Kept). is_some (word_of u.dict n)) unlinks.parts ∙ some) still))
+          (used_on l (rights_unlinked unlinks rights) (right_flagged unlinks rights) n (ap (λ (u : Metadata). is_some (word_of u.dict n)) unlinks.metadata ∙ some) still))
 
   pub gone_may_forget : TagsAreHad p → AreSound m → MayForget (with_head p.dict left) m
   gone_may_forget tags sound_then =
-      subst (λ (u : Kept). MayForget (with_head p.dict left) u) (sym (made_is (is_rebuilt l))) (record {
-        given = λ n some unused. unused_is n (ap (λ (u : Kept). is_some (word_of u.dict n)) (sym unlinks.parts) ∙ some) unused;
+      subst (λ (u : Metadata). MayForget (with_head p.dict left) u) (sym (made_is (is_rebuilt l))) (record {
+        given = λ n some unused. unused_is n (ap (λ (u : Metadata). is_some (word_of u.dict n)) (sym unlinks.metadata) ∙ some) unused;
         tags = λ slot rec is n tag. used_had (less l) n slot (tags_less l (tags_unlinked unlinks tags) slot rec is n tag);
         rights = λ slot x y is. used_flagged (less l) y (rights_unlinked unlinks rights slot x y is);
-        heads = λ n head n_used is. head_used (less l) (subst (λ (u : Kept). AreSound u) (made_is (is_rebuilt l)) sound_then) (closed_less l) n head is n_used;
+        heads = λ n head n_used is. head_used (less l) (subst (λ (u : Metadata). AreSound u) (made_is (is_rebuilt l)) sound_then) (closed_less l) n head is n_used;
       })
 
 -- ---- what is left of a description
-module _ {left right : ℕ} {k m : Kept} (l : IsLessened left right k m) (slot : ℕ) (w r : List ℕ) (file : File) (is_right : word_of k.dict right ≡ Some r) (plain : is_plain_word r ≡ true)
+module _ {left right : ℕ} {k m : Metadata} (l : IsLessened left right k m) (slot : ℕ) (w r : List ℕ) (file : File) (is_right : word_of k.dict right ≡ Some r) (plain : is_plain_word r ≡ true)
     (given : file.assigned ≡ words_told k.dict (tags_at k slot)) (told : words_told k.dict (numbers_at k.ext slot) ≡ file_words (declared_of k) (with_axiom (axioms_of k) (w, r)) file) where
   abbrev D : List (List ℕ)
   D = declared_of k
@@ -286,11 +286,11 @@ module _ {left right : ℕ} {k m : Kept} (l : IsLessened left right k m) (slot :
 
 -- ---- the call
 -- an axiom that may go
-pub may_go : (k : Kept) → PairsAreApart k → (l r : List ℕ) (left right : ℕ) → IsAxiomAt k l r left right → MayUnlink left right k
+pub may_go : (k : Metadata) → PairsAreApart k → (l r : List ℕ) (left right : ℕ) → IsAxiomAt k l r left right → MayUnlink left right k
 may_go k apart l r left right found = search (rules, same_Some)
 
 -- what it answers
-pub unaxiom_is : {old : Stored} {m : Meaning} {base : State} (l r : List ℕ) (b : Bool) → has_axiom (axioms_of old.parts) (l, r) ≡ b → (now : Situation) → StoreHolds old m base now.state
+pub unaxiom_is : {old : Stored} {m : Meaning} {base : State} (l r : List ℕ) (b : Bool) → has_axiom (axioms_of old.metadata) (l, r) ≡ b → (now : Situation) → StoreHolds old m base now.state
     → unaxiom now (l, r) ≡ cond (not b) (refused now NoAxiom) (changed now (axiom_removed now.state (l, r)))
 unaxiom_is l r b has now fits = search (rules)
 
@@ -303,31 +303,31 @@ heads_few d (Some w) = by (head_number d w)
     by None = omega arith
     by (Some n) = omega arith
 
-module _ {left right : ℕ} {old : Stored} {q : Kept} (was : IsSound old) (takes : TakesAxiom left right old.parts q) where
+module _ {left right : ℕ} {old : Stored} {q : Metadata} (was : IsSound old) (takes : TakesAxiom left right old.metadata q) where
   -- memory at first, without the axiom, then with less in descriptions, and at the end
-  abbrev p : Kept
-  p = old.parts
+  abbrev p : Metadata
+  p = old.metadata
 
-  abbrev k : Kept
+  abbrev k : Metadata
   k = takes.unlinked
 
-  abbrev m : Kept
+  abbrev m : Metadata
   m = takes.made
 
-  abbrev fewer : Kept
+  abbrev fewer : Metadata
   fewer = record k { ext = m.ext; marks = m.marks }
 
-  abbrev end : Kept
+  abbrev end : Metadata
   end = record fewer { dict = q.dict; marks = q.marks }
 
   abbrev numbers : List ℕ
   numbers = with_head p.dict left
 
   end_is : q ≡ end
-  end_is = takes.forgets.parts ∙ ap (λ (u : Kept). record u { dict = q.dict; marks = q.marks }) takes.lessens.parts
+  end_is = takes.forgets.metadata ∙ ap (λ (u : Metadata). record u { dict = q.dict; marks = q.marks }) takes.lessens.metadata
 
   dict_is : k.dict ≡ p.dict
-  dict_is = ap (λ (u : Kept). u.dict) takes.unlinks.parts
+  dict_is = ap (λ (u : Metadata). u.dict) takes.unlinks.metadata
 
   lessened : IsLessened left right k m
   lessened = search (rules, closed_unlinked)
@@ -337,7 +337,7 @@ module _ {left right : ℕ} {old : Stored} {q : Kept} (was : IsSound old) (takes
 
   -- ---- words
   words_then : (n : ℕ) → word_of q.dict n ≡ (if has_number numbers n && not (is_used fewer n) then None else word_of k.dict n)
-  words_then n = subst (λ (u : Kept). word_of q.dict n ≡ (if has_number numbers n && not (is_used u n) then None else word_of u.dict n)) takes.lessens.parts (takes.forgets.words n)
+  words_then n = subst (λ (u : Metadata). word_of q.dict n ≡ (if has_number numbers n && not (is_used u n) then None else word_of u.dict n)) takes.lessens.metadata (takes.forgets.words n)
 
   was_word : (n : ℕ) (w : List ℕ) → word_of q.dict n ≡ Some w → word_of k.dict n ≡ Some w
   was_word = word_before k.dict q.dict numbers (is_used fewer) words_then
@@ -348,17 +348,17 @@ module _ {left right : ℕ} {old : Stored} {q : Kept} (was : IsSound old) (takes
   used_then : AreUsed q
   used_then n some =
       takes.forgets.used n some
-      ∙ (ap (λ (u : Kept). is_used u n) takes.lessens.parts ∙ known_used k.dict q.dict numbers (is_used fewer) words_then (λ i known. by i known (is_used fewer i) refl) n some)
+      ∙ (ap (λ (u : Metadata). is_used u n) takes.lessens.metadata ∙ known_used k.dict q.dict numbers (is_used fewer) words_then (λ i known. by i known (is_used fewer i) refl) n some)
     where
       by : (i : ℕ) → is_some (word_of k.dict i) ≡ true → (c : Bool) → is_used fewer i ≡ c → (is_used fewer i ≡ true) ⊎ (has_number numbers i ≡ true)
       by i known true used = inl used
       by i known false unused =
           let before = ap (λ d. is_some (word_of d i)) (sym dict_is) ∙ known in
-          inr (unused_is lessened p was.parts was.in_use.used takes.unlinks was.in_use.rights i before unused)
+          inr (unused_is lessened p was.metadata was.in_use.used takes.unlinks was.in_use.rights i before unused)
 
   -- ---- the store is in form again
   declared_same : declared_of end ≡ declared_of k
-  declared_same = ap declared_of (sym end_is) ∙ (ap (λ (s : State). s.declared) (takes.forgets.state (λ n. [])) ∙ ap declared_of takes.lessens.parts)
+  declared_same = ap declared_of (sym end_is) ∙ (ap (λ (s : State). s.declared) (takes.forgets.state (λ n. [])) ∙ ap declared_of takes.lessens.metadata)
 
   link_back : (x y : ℕ) → is_linked end x y ≡ true → is_linked k x y ≡ true
   link_back x y linked = by (or_cases (is_own_link (declared_of end) (word_of q.dict x) (word_of q.dict y)) (has_pair k.axioms x y) linked)
@@ -372,9 +372,9 @@ module _ {left right : ℕ} {old : Stored} {q : Kept} (was : IsSound old) (takes
 
   tests_end : TestsAreMet end
   tests_end =
-      let edge = was.parts.axioms takes.unlinks.slot left right takes.unlinks.there in
+      let edge = was.metadata.axioms takes.unlinks.slot left right takes.unlinks.there in
       let r = some_word (word_of p.dict right) edge.right in
-      let before : TestsAreMet k = subst (λ (u : Kept). TestsAreMet u) (sym takes.unlinks.parts) (record { given = was.tests.given; met = was.tests.met }) in
+      let before : TestsAreMet k = subst (λ (u : Metadata). TestsAreMet u) (sym takes.unlinks.metadata) (record { given = was.tests.given; met = was.tests.met }) in
       tests_stay fewer end (λ at rec there. there) (λ n w is test. was_word n w is) (λ n at rec w there is test. refl)
       (tests_less lessened r.0 (ap (λ d. word_of d right) dict_is ∙ r.1) (edge.plain r.0 r.1) before)
 
@@ -383,8 +383,8 @@ module _ {left right : ℕ} {old : Stored} {q : Kept} (was : IsSound old) (takes
     sound = sound;
     free = free_made (is_rebuilt lessened) lessened.free;
     closed = λ slot x y had linked. closed_less lessened slot x y had (link_back x y linked);
-    short = short_less lessened (subst (λ (u : Kept). DescriptionsAreShort u) (sym takes.unlinks.parts) was.short);
-    in_use = record { used = subst (λ (u : Kept). AreUsed u) end_is used_then; tags = tags_less lessened tags_k; rights = rights_unlinked takes.unlinks was.in_use.rights };
+    short = short_less lessened (subst (λ (u : Metadata). DescriptionsAreShort u) (sym takes.unlinks.metadata) was.short);
+    in_use = record { used = subst (λ (u : Metadata). AreUsed u) end_is used_then; tags = tags_less lessened tags_k; rights = rights_unlinked takes.unlinks was.in_use.rights };
     tests = tests_end;
   }
 
@@ -410,28 +410,28 @@ module _ {left right : ℕ} {old : Stored} {q : Kept} (was : IsSound old) (takes
   ups_had slot had =
       let few = few_within ups (numbers_at k.ext slot) (sorted_where k.limits.props (is_entailed k right)) (λ n of.
       among_from_number (numbers_at k.ext slot) n (led_had k takes.sound lessened.closed slot right n right_had (among_where k.limits.props (is_entailed k right) n of).1)) in
-      omega (arith, few, was.short slot, ap (λ (u : Kept). length (numbers_at u.ext slot)) takes.unlinks.parts)
+      omega (arith, few, was.short slot, ap (λ (u : Metadata). length (numbers_at u.ext slot)) takes.unlinks.metadata)
     where
       linked : is_linked p left right ≡ true
       linked = or_right (is_own_link (declared_of p) (word_of p.dict left) (word_of p.dict right)) (has_pair p.axioms left right) (slot_pair p.axioms takes.unlinks.slot left right takes.unlinks.there)
 
       right_had : has k.ext right slot ≡ true
       right_had =
-          ap (λ (u : Kept). has u.ext right slot) takes.unlinks.parts
-          ∙ was.closed slot left right (ap (λ (u : Kept). has u.ext left slot) (sym takes.unlinks.parts) ∙ had) linked
+          ap (λ (u : Metadata). has u.ext right slot) takes.unlinks.metadata
+          ∙ was.closed slot left right (ap (λ (u : Metadata). has u.ext left slot) (sym takes.unlinks.metadata) ∙ had) linked
 
   pub unaxiom_change : old.is_broken ≡ false → IsChange old q
   unaxiom_change unbroken = record {
     settles = λ after.
-        subst (λ (u : Kept). IsSound (settled u old.journal)) (sym end_is)
-        (settled_sound end old.journal (form_end (subst (λ (u : Kept). AreSound u) end_is after)) (pairs_unlinked takes.unlinks was.pairs) (was.image ∙ ap (λ (u : Kept). image_shape u.limits) (sym takes.unlinks.parts)) (was.journal unbroken));
-    limits = ap (λ (u : Kept). u.limits) end_is ∙ ap (λ (u : Kept). u.limits) takes.unlinks.parts;
+        subst (λ (u : Metadata). IsSound (settled u old.journal)) (sym end_is)
+        (settled_sound end old.journal (form_end (subst (λ (u : Metadata). AreSound u) end_is after)) (pairs_unlinked takes.unlinks was.pairs) (was.image ∙ ap (λ (u : Metadata). image_shape u.limits) (sym takes.unlinks.metadata)) (was.journal unbroken));
+    limits = ap (λ (u : Metadata). u.limits) end_is ∙ ap (λ (u : Metadata). u.limits) takes.unlinks.metadata;
     room =
         let few = few_made (is_rebuilt lessened) (some_had k.ext left) ups ups_had (λ slot n here turned. turned_up slot n turned) in
         omega (arith, none_marked p (was.clean unbroken), takes.unlinks.marks.few, few, takes.forgets.marks.few, heads_few p.dict (word_of p.dict left), was.few unbroken);
     edits =
-        subst (λ (a : Ext). AreEditsFew a q.ext) (ap (λ (u : Kept). u.ext) takes.unlinks.parts)
-        (subst (λ (c : Ext). AreEditsFew k.ext c) (sym (ap (λ (u : Kept). u.ext) end_is)) (made_edits (is_rebuilt lessened)));
+        subst (λ (a : Ext). AreEditsFew a q.ext) (ap (λ (u : Metadata). u.ext) takes.unlinks.metadata)
+        (subst (λ (c : Ext). AreEditsFew k.ext c) (sym (ap (λ (u : Metadata). u.ext) end_is)) (made_edits (is_rebuilt lessened)));
   }
 
   -- ---- the state that it tells
@@ -446,7 +446,7 @@ module _ {left right : ℕ} {old : Stored} {q : Kept} (was : IsSound old) (takes
     state_k = takes.unlinks.state at l r is_left is_right ∙ ap (λ (x : State). axiom_removed x pair) tells.state
 
     state_then : state_of q at ≡ t
-    state_then = takes.forgets.state at ∙ (ap (λ (u : Kept). state_of u at) takes.lessens.parts ∙ state_k)
+    state_then = takes.forgets.state at ∙ (ap (λ (u : Metadata). state_of u at) takes.lessens.metadata ∙ state_k)
 
     declared_is : declared_of k ≡ s.declared
     declared_is = ap (λ (x : State). x.declared) state_k
@@ -455,7 +455,7 @@ module _ {left right : ℕ} {old : Stored} {q : Kept} (was : IsSound old) (takes
     axioms_are = ap (λ (x : State). x.axioms) state_k
 
     there : Among s.axioms pair
-    there = subst (λ (x : State). Among x.axioms pair) tells.state (axiom_among p was.parts takes.unlinks.slot left right l r takes.unlinks.there is_left is_right)
+    there = subst (λ (x : State). Among x.axioms pair) tells.state (axiom_among p was.metadata takes.unlinks.slot left right l r takes.unlinks.there is_left is_right)
 
     sorted : IsStrictlySortedBy pair_cmp s.axioms
     sorted = sorted_from_rising pair_cmp pair_order s.axioms tells.formed.axiom_set
@@ -467,14 +467,14 @@ module _ {left right : ℕ} {old : Stored} {q : Kept} (was : IsSound old) (takes
     file_of f = file_told p.limits p.dict at f
 
     told_k : (f : Filed) → Among p.catalog.entries f → words_told k.dict (numbers_at k.ext f.slot) ≡ description s (file_of f)
-    told_k f of = ap (λ (u : Kept). words_told u.dict (numbers_at u.ext f.slot)) takes.unlinks.parts ∙ tells.described f (contains_from_among p.catalog.entries f of)
+    told_k f of = ap (λ (u : Metadata). words_told u.dict (numbers_at u.ext f.slot)) takes.unlinks.metadata ∙ tells.described f (contains_from_among p.catalog.entries f of)
 
     described_k : (f : Filed) → Among p.catalog.entries f → words_told k.dict (numbers_at m.ext f.slot) ≡ description t (file_of f)
     described_k f of =
         set_where (is_rebuilt lessened) (λ ns. words_told k.dict ns ≡ description t (file_of f)) f.slot
         (λ here.
         lessened_told lessened f.slot l r (file_of f) (ap (λ d. word_of d right) dict_is ∙ is_right) (right_plain s r (rights_are s tells.formed pair there))
-        (ap (λ o. words_told p.dict (tags_by o)) (sym (filed_rec p.catalog was.parts.catalog f of)) ∙ ap (λ (u : Kept). words_told u.dict (tags_at u f.slot)) (sym takes.unlinks.parts))
+        (ap (λ o. words_told p.dict (tags_by o)) (sym (filed_rec p.catalog was.metadata.catalog f of)) ∙ ap (λ (u : Metadata). words_told u.dict (tags_at u f.slot)) (sym takes.unlinks.metadata))
         (told_k f of ∙ ap₂ (λ D A. file_words D A (file_of f)) (sym declared_is) back)
         ∙ ap₂ (λ D A. file_words D A (file_of f)) declared_is axioms_are)
         (λ other.
@@ -485,26 +485,26 @@ module _ {left right : ℕ} {old : Stored} {q : Kept} (was : IsSound old) (takes
     described_then : (f : Filed) → Among p.catalog.entries f → words_told q.dict (numbers_at q.ext f.slot) ≡ description t (file_of f)
     described_then f of =
         let ns = numbers_at m.ext f.slot in
-        ap (λ (u : Kept). words_told q.dict (numbers_at u.ext f.slot)) end_is
+        ap (λ (u : Metadata). words_told q.dict (numbers_at u.ext f.slot)) end_is
         ∙ (words_same k.dict q.dict ns (λ n m_of. used_stays n (used_had fewer n f.slot (number_from_among ns n m_of))) ∙ described_k f of)
 
     tags_stay : (f : Filed) → Among p.catalog.entries f → (n : ℕ) → Among f.rec.tags n → word_of q.dict n ≡ word_of p.dict n
     tags_stay f of n tag =
-        let there_k = ap (λ (u : Kept). rec_at u.catalog f.slot) takes.unlinks.parts ∙ filed_rec p.catalog was.parts.catalog f of in
+        let there_k = ap (λ (u : Metadata). rec_at u.catalog f.slot) takes.unlinks.metadata ∙ filed_rec p.catalog was.metadata.catalog f of in
         used_stays n (used_had fewer n f.slot (tags_less lessened tags_k f.slot f.rec there_k n (number_from_among f.rec.tags n tag))) ∙ ap (λ d. word_of d n) dict_is
 
     told_is : q ≡ record p { dict = q.dict; axioms = slice_set p.axioms takes.unlinks.slot FreeAxiom; ext = m.ext; marks = q.marks }
-    told_is = end_is ∙ ap (λ (u : Kept). record u { dict = q.dict; ext = m.ext; marks = q.marks }) takes.unlinks.parts
+    told_is = end_is ∙ ap (λ (u : Metadata). record u { dict = q.dict; ext = m.ext; marks = q.marks }) takes.unlinks.metadata
 
     ready_gone : IsSaved p at → IsReady q at t
     ready_gone saved = record {
       tells =
-          retold p q (subst (λ (u : Kept). u ≡ record p { dict = u.dict; declared = u.declared; axioms = u.axioms; ext = u.ext; marks = u.marks }) (sym told_is) refl) tags_stay at s t tells refl
+          retold p q (subst (λ (u : Metadata). u ≡ record p { dict = u.dict; declared = u.declared; axioms = u.axioms; ext = u.ext; marks = u.marks }) (sym told_is) refl) tags_stay at s t tells refl
           state_then (forms.removes_axiom s tells.formed pair) used_then described_then;
       saved = takes.forgets.marks.saved at (takes.lessens.saved at (takes.unlinks.marks.saved at saved));
     }
 
-  pub unaxiom_holds : {T : Type 0} {l r : List ℕ} {new : Stored} {before after : Meaning} {result : Result T Change} {base : State} → IsAxiomAt p l r left right → has_axiom (axioms_of p) (l, r) ≡ true → old.is_broken ≡ false
+  pub unaxiom_holds : {T : Type 0} {l r : List ℕ} {new : Stored} {before after : Meaning} {result : Result T ChangeFault} {base : State} → IsAxiomAt p l r left right → has_axiom (axioms_of p) (l, r) ≡ true → old.is_broken ≡ false
       → Saves q old.journal new before after result → (now : Situation) → StoreHolds old before base now.state → Holds base now (unaxiom now (l, r)) new before after result
   unaxiom_holds {l = l} {r = r} found there unbroken saves now fits =
       saves_alone old was unbroken (unaxiom_change unbroken) saves now (axiom_removed now.state (l, r)) fits

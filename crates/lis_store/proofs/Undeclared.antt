@@ -1,7 +1,7 @@
 -- What a declaration that is taken back comes to.
 use Rattle.std.proofs.Common.{rules}
 use Rattle.std.proofs.Common.{eq-eqb}
-use Rattle.lis_store.proofs.Common.{◌≡◌, ◌⊎◌, refl, sym, ap, ap₂, ◌∙◌, subst, inl, inr, ℕ, ◌≤◌, ◌==◌, not, ◌&&◌, ◌||◌, Bool, true, false, if◌then◌else◌, List, [], ◌∷◌, length, slice_get, Option, Some, None, is_some, IsSome, Result, arith, get_or-set_other, list_any, and_parts, cases_eq, ne_eqb, not_from_false, not-true, not-false, same_Some, Among, contains_from_among, among_filter, filter_among, Meaning, looked, is_taken, number_of, word_of, word_from_number, Filed, rec_at, has, numbers_at, FileRecord, Pair, same_word, head_bytes, is_valued, is_test, has_word, Refusal, image_blocks, State, File, WellFormed, own_words, description, is_met, Situation, refused, rmdir, sorted_all_up, filter_le, same_word_decides, Kept, block_of, is_marked, marked_count, is_own_link, has_pair, AreSound, FreeSlotsAreEmpty, KeepsInUse, bit_of, is_declared, declared_of, state_of, is_head_by, is_left_of, is_left_head_of, is_had, is_named_left, Tells, test_by, filed_rec, among_word, word_among, among_slot, used_had, differs, or_left, both_ways, false_from_ne_true, any_from_among, has_number, changed, same_tests, Rows, is_linked, words_told, file_told, among_from_number, number_from_among, one_number}
+use Rattle.lis_store.proofs.Common.{◌≡◌, ◌⊎◌, refl, sym, ap, ap₂, ◌∙◌, subst, inl, inr, ℕ, ◌≤◌, ◌==◌, not, ◌&&◌, ◌||◌, Bool, true, false, if◌then◌else◌, List, [], ◌∷◌, length, slice_get, Option, Some, None, is_some, IsSome, Result, arith, get_or-set_other, list_any, and_parts, cases_eq, ne_eqb, not_from_false, not-true, not-false, same_Some, Among, contains_from_among, among_filter, filter_among, Meaning, looked, is_taken, number_of, word_of, word_from_number, Filed, rec_at, has, numbers_at, FileRecord, Pair, same_word, head_bytes, is_valued, is_test, has_word, Refusal, image_blocks, State, File, WellFormed, own_words, description, is_met, Situation, refused, rmdir, sorted_all_up, filter_le, same_word_decides, Metadata, block_of, is_marked, marked_count, is_own_link, has_pair, AreSound, FreeSlotsAreEmpty, KeepsInUse, bit_of, is_declared, declared_of, state_of, is_head_by, is_left_of, is_left_head_of, is_had, is_named_left, Tells, test_by, filed_rec, among_word, word_among, among_slot, used_had, differs, or_left, both_ways, false_from_ne_true, any_from_among, has_number, changed, same_tests, Rows, is_linked, words_told, file_told, among_from_number, number_from_among, one_number}
 use Rattle.lis_content.proofs.Numbers.{neither}
 use Rattle.lis_model.specs.Changes.{undeclared}
 use Rattle.lis_model.specs.Step.{is_in_use, rmdir_checks, first_refusal}
@@ -20,7 +20,7 @@ use Rattle.lis_store.specs.Redescribing.{IsTurnedRow}
 use Rattle.lis_store.specs.ReplacingIn.{AreInForm}
 use Rattle.lis_store.specs.Testing.{without_number, undescribed, UndeclaresUnmet}
 use Rattle.lis_store.specs.Changes.{Holds, AreEditsFew}
-use Rattle.lis_store.specs.declared.change.Change.{Change}
+use Rattle.lis_store.specs.declared.change_fault.ChangeFault.{ChangeFault}
 use Rattle.lis_store.proofs.SavedAlone.{IsChange, saves_alone}
 use Rattle.lis_store.proofs.StoreSays.{described_told, file_of_filed}
 use Rattle.lis_store.proofs.HeadsUsed.{use_stays}
@@ -38,7 +38,7 @@ use Rattle.lis_journal.specs.Journal.{shape_of}
 use Rattle.lis_kept.specs.Image.{image_shape}
 
 -- ---- a declared word
-module _ (k : Kept) (sound : AreSound k) (word : List ℕ) (n : ℕ) (numbered : number_of k.dict word ≡ Some n) (declared : is_declared k word ≡ true) where
+module _ (k : Metadata) (sound : AreSound k) (word : List ℕ) (n : ℕ) (numbered : number_of k.dict word ≡ Some n) (declared : is_declared k word ≡ true) where
   word_at_number : word_of k.dict n ≡ Some word
   word_at_number = word_from_number k.dict sound.dict word n numbered
 
@@ -122,7 +122,7 @@ module _ (s : State) (formed : WellFormed s) (word : List ℕ) (unused : not (is
       by (inr now) = now
 
 -- ---- the row of `rmdir`, asked of what memory keeps
-module _ (k : Kept) (sound : AreSound k) (at : ℕ → List ℕ) (now : Situation) (free : FreeSlotsAreEmpty k) (tells : Tells k at now.state) (word : List ℕ) where
+module _ (k : Metadata) (sound : AreSound k) (at : ℕ → List ℕ) (now : Situation) (free : FreeSlotsAreEmpty k) (tells : Tells k at now.state) (word : List ℕ) where
   -- what is in use is asked of a declared word alone
   used_same : is_declared k word ≡ true → (o : Option ℕ) → number_of k.dict word ≡ o → is_in_use now.state word ≡ is_needed_by k o
   used_same there None none = absurd (both_ways (is_declared k word) (ap (bit_of k.declared) none) there)
@@ -135,31 +135,31 @@ module _ (k : Kept) (sound : AreSound k) (at : ℕ → List ℕ) (now : Situatio
       same_first (rmdir_checks now.state word) (undeclare_checks k word) (refl, refl, λ own. (refl, refl, λ valued. (refl, ap not told, λ there. (refl, used there, λ _. tt))))
 
 -- ---- a declaration that is taken back
-module _ {old : Stored} {word : List ℕ} {number : ℕ} (sound : IsSound old) (may : IsUndeclarable old.parts word number) where
-  abbrev p : Kept
-  p = old.parts
+module _ {old : Stored} {word : List ℕ} {number : ℕ} (sound : IsSound old) (may : IsUndeclarable old.metadata word number) where
+  abbrev p : Metadata
+  p = old.metadata
 
   pub undeclared_may : MayUndeclare number (undescribed p)
-  undeclared_may = may_be_undeclared p sound.parts word number may.numbered may.declared sound.in_use sound.closed sound.tests may.unneeded
+  undeclared_may = may_be_undeclared p sound.metadata word number may.numbered may.declared sound.in_use sound.closed sound.tests may.unneeded
 
   pub undeclared_named : word_of p.dict number ≡ Some word
-  undeclared_named = word_at_number p sound.parts word number may.numbered may.declared
+  undeclared_named = word_at_number p sound.metadata word number may.numbered may.declared
 
-  module _ {q : Kept} (unbroken : old.is_broken ≡ false) (gone : UndeclaresUnmet number p q) where
-    abbrev made : Kept
+  module _ {q : Metadata} (unbroken : old.is_broken ≡ false) (gone : UndeclaresUnmet number p q) where
+    abbrev made : Metadata
     made = gone.made
 
     abbrev undeclares : Undeclares number made q
     undeclares = gone.undeclares
 
-    q_parts : q ≡ record made { dict = q.dict; declared = q.declared; marks = q.marks }
-    q_parts = subst (λ (k : Kept). k ≡ record made { dict = k.dict; declared = k.declared; marks = k.marks }) (sym undeclares.parts) refl
+    q_metadata : q ≡ record made { dict = q.dict; declared = q.declared; marks = q.marks }
+    q_metadata = subst (λ (k : Metadata). k ≡ record made { dict = k.dict; declared = k.declared; marks = k.marks }) (sym undeclares.metadata) refl
 
     q_is : q ≡ record p { dict = q.dict; declared = q.declared; ext = made.ext; marks = q.marks }
-    q_is = q_parts ∙ ap (λ (k : Kept). record k { dict = q.dict; declared = q.declared; marks = q.marks }) gone.takes.parts
+    q_is = q_metadata ∙ ap (λ (k : Metadata). record k { dict = q.dict; declared = q.declared; marks = q.marks }) gone.takes.metadata
 
     set_then : (slot : ℕ) → numbers_at q.ext slot ≡ without_number p number slot
-    set_then slot = ap (λ (k : Kept). numbers_at k.ext slot) q_parts ∙ given_then (without_number p number) p.limits.files p made gone.takes sound.parts.files (without_past p sound.parts number) slot
+    set_then slot = ap (λ (k : Metadata). numbers_at k.ext slot) q_metadata ∙ given_then (without_number p number) p.limits.files p made gone.takes sound.metadata.files (without_past p sound.metadata number) slot
 
     had_then : (n slot : ℕ) → has q.ext n slot ≡ true → (has p.ext n slot ≡ true) × (n ≡ number → ⊥)
     had_then n slot had =
@@ -176,7 +176,7 @@ module _ {old : Stored} {word : List ℕ} {number : ℕ} (sound : IsSound old) (
     has_same n slot differ = same_tests (has q.ext n slot) (has p.ext n slot) (λ h. (had_then n slot h).0) (λ h. then_had n slot h differ)
 
     rec_was : (slot : ℕ) (rec : FileRecord) → rec_at q.catalog slot ≡ Some rec → rec_at p.catalog slot ≡ Some rec
-    rec_was slot rec is = subst (λ (k : Kept). rec_at k.catalog slot ≡ Some rec) q_is is
+    rec_was slot rec is = subst (λ (k : Metadata). rec_at k.catalog slot ≡ Some rec) q_is is
 
     -- ---- words
     gone_word : word_of q.dict number ≡ None
@@ -192,35 +192,35 @@ module _ {old : Stored} {word : List ℕ} {number : ℕ} (sound : IsSound old) (
     not_tag slot rec is n tag same = both_ways (has_number rec.tags number) (undeclared_may.tags slot rec is) (subst (λ i. has_number rec.tags i ≡ true) same tag)
 
     tags_stay : (f : Filed) → Among p.catalog.entries f → (n : ℕ) → Among f.rec.tags n → word_of q.dict n ≡ word_of p.dict n
-    tags_stay f m n tag = stays n (not_tag f.slot f.rec (filed_rec p.catalog sound.parts.catalog f m) n (number_from_among f.rec.tags n tag))
+    tags_stay f m n tag = stays n (not_tag f.slot f.rec (filed_rec p.catalog sound.metadata.catalog f m) n (number_from_among f.rec.tags n tag))
 
     -- ---- the store is in form again
     closed_then : AreSound q → AreClosed q
     closed_then after slot a b had linked =
         let was = had_then a slot had in
         let differ : b ≡ number → ⊥ = λ same. both_ways (is_linked q a number) (unnamed_to q after number gone_word a) (subst (λ i. is_linked q a i ≡ true) same linked) in
-        then_had b slot (sound.closed slot a b was.0 (ap (λ (k : Kept). is_linked k a b) (sym gone.takes.parts) ∙ (sym (undeclares.linked a b was.1 differ) ∙ linked))) differ
+        then_had b slot (sound.closed slot a b was.0 (ap (λ (k : Metadata). is_linked k a b) (sym gone.takes.metadata) ∙ (sym (undeclares.linked a b was.1 differ) ∙ linked))) differ
 
     in_use_then : KeepsInUse q
     in_use_then = record {
       used = λ n some.
           let differ = word_before n some in
           undeclares.used n some
-          ∙ use_stays p made n (λ set. ap (λ (k : Kept). is_taken k.declared n) gone.takes.parts ∙ set) (λ lefts. ap (λ (k : Kept). is_named_left k n) gone.takes.parts ∙ lefts)
-          (λ slot was. used_had made n slot (ap (λ (k : Kept). has k.ext n slot) (sym q_parts) ∙ then_had n slot was differ)) (sound.in_use.used n (ap is_some (sym (stays n differ)) ∙ some));
+          ∙ use_stays p made n (λ set. ap (λ (k : Metadata). is_taken k.declared n) gone.takes.metadata ∙ set) (λ lefts. ap (λ (k : Metadata). is_named_left k n) gone.takes.metadata ∙ lefts)
+          (λ slot was. used_had made n slot (ap (λ (k : Metadata). has k.ext n slot) (sym q_metadata) ∙ then_had n slot was differ)) (sound.in_use.used n (ap is_some (sym (stays n differ)) ∙ some));
       tags = λ slot rec is n tag. let was = rec_was slot rec is in then_had n slot (sound.in_use.tags slot rec was n tag) (not_tag slot rec was n tag);
       rights = λ slot left right is.
-          let was = subst (λ (k : Kept). slice_get k.axioms slot ≡ Some (Pair left right)) q_is is in
-          ap (λ (k : Kept). is_taken k.declared right) undeclares.parts
+          let was = subst (λ (k : Metadata). slice_get k.axioms slot ≡ Some (Pair left right)) q_is is in
+          ap (λ (k : Metadata). is_taken k.declared right) undeclares.metadata
           ∙ (get_or-set_other made.declared number right false false (undeclared_may.rights slot left right was)
-          ∙ (ap (λ (k : Kept). is_taken k.declared right) gone.takes.parts ∙ sound.in_use.rights slot left right was));
+          ∙ (ap (λ (k : Metadata). is_taken k.declared right) gone.takes.metadata ∙ sound.in_use.rights slot left right was));
     }
 
     form_then : AreSound q → AreInForm q
     form_then after = record {
       sound = after;
       free = λ slot none n. false_from_ne_true (has q.ext n slot) (λ had.
-          both_ways (has p.ext n slot) (sound.free slot (subst (λ (k : Kept). rec_at k.catalog slot ≡ None) q_is none) n) (had_then n slot had).0);
+          both_ways (has p.ext n slot) (sound.free slot (subst (λ (k : Metadata). rec_at k.catalog slot ≡ None) q_is none) n) (had_then n slot had).0);
       closed = closed_then after;
       short = λ slot. omega (arith, ap length (set_then slot), filter_le (is_other number) (numbers_at p.ext slot), sound.short slot);
       in_use = in_use_then;
@@ -255,19 +255,19 @@ module _ {old : Stored} {word : List ℕ} {number : ℕ} (sound : IsSound old) (
     pub undeclared_change : IsChange old q
     undeclared_change = record {
       settles = λ after.
-          settled_sound q old.journal (form_then after) (subst (λ (k : Kept). PairsAreApart k) (sym q_is) sound.pairs) (subst (λ (k : Kept). shape_of old.journal ≡ image_shape k.limits) (sym q_is) sound.image) (sound.journal unbroken);
-      limits = ap (λ (k : Kept). k.limits) q_is;
+          settled_sound q old.journal (form_then after) (subst (λ (k : Metadata). PairsAreApart k) (sym q_is) sound.pairs) (subst (λ (k : Metadata). shape_of old.journal ≡ image_shape k.limits) (sym q_is) sound.image) (sound.journal unbroken);
+      limits = ap (λ (k : Metadata). k.limits) q_is;
       room = omega (arith, few_marked, sound.few unbroken);
-      edits = subst (λ (k : Kept). AreEditsFew p.ext k.ext) (sym q_parts) (redescribed_edits (without_number p number) p.limits.files p made gone.takes sound.parts.files (without_past p sound.parts number));
+      edits = subst (λ (k : Metadata). AreEditsFew p.ext k.ext) (sym q_metadata) (redescribed_edits (without_number p number) p.limits.files p made gone.takes sound.metadata.files (without_past p sound.metadata number));
     }
 
     -- ---- the state that it tells
     module _ (at : ℕ → List ℕ) (s : State) (tells : Tells p at s) where
       unused : not (is_in_use s word) ≡ true
-      unused = not_from_false (is_in_use s word) (in_use_told p sound.parts word number may.numbered may.declared at s sound.free tells ∙ may.unneeded)
+      unused = not_from_false (is_in_use s word) (in_use_told p sound.metadata word number may.numbered may.declared at s sound.free tells ∙ may.unneeded)
 
       same_word_gone : undeclares.word ≡ word
-      same_word_gone = same_Some undeclares.word word (sym undeclares.named ∙ (ap (λ (k : Kept). word_of k.dict number) gone.takes.parts ∙ undeclared_named))
+      same_word_gone = same_Some undeclares.word word (sym undeclares.named ∙ (ap (λ (k : Metadata). word_of k.dict number) gone.takes.metadata ∙ undeclared_named))
 
       abbrev t : State
       t = undeclared s word
@@ -277,7 +277,7 @@ module _ {old : Stored} {word : List ℕ} {number : ℕ} (sound : IsSound old) (
         file = file_told p.limits p.dict at f
 
         filed : Among s.files file
-        filed = file_of_filed p at s sound.parts sound.free tells f m
+        filed = file_of_filed p at s sound.metadata sound.free tells f m
 
         told : words_told p.dict (numbers_at p.ext f.slot) ≡ description s file
         told = tells.described f (contains_from_among p.catalog.entries f m)
@@ -285,38 +285,38 @@ module _ {old : Stored} {word : List ℕ} {number : ℕ} (sound : IsSound old) (
         fewer : Numbers p.dict (has_number (numbers_at q.ext f.slot)) (description t file)
         fewer = record {
           numbered = λ w inside.
-              let found = among_word p sound.parts (numbers_at p.ext f.slot) w (subst (λ ws. Among ws w) (sym told) (within_others s tells.formed word unused file filed w inside)) in
+              let found = among_word p sound.metadata (numbers_at p.ext f.slot) w (subst (λ ws. Among ws w) (sym told) (within_others s tells.formed word unused file filed w inside)) in
               let differ : found.0 ≡ number → ⊥ = λ same.
               not_there s tells.formed word unused file filed (subst (λ u. Among (description t file) u) (same_Some w word (sym found.1 ∙ (ap (word_of p.dict) same ∙ undeclared_named))) inside) in
               (found.0, found.1, then_had found.0 f.slot found.2 differ);
           worded = λ n w is had.
               let was = had_then n f.slot had in
-              let differ : w ≡ word → ⊥ = λ same. was.1 (one_number p sound.parts n number word (is ∙ ap Some same) undeclared_named) in
-              others_there s tells.formed word unused file filed w differ (subst (λ ws. Among ws w) told (word_among p sound.parts (numbers_at p.ext f.slot) n w is was.0));
+              let differ : w ≡ word → ⊥ = λ same. was.1 (one_number p sound.metadata n number word (is ∙ ap Some same) undeclared_named) in
+              others_there s tells.formed word unused file filed w differ (subst (λ ws. Among ws w) told (word_among p sound.metadata (numbers_at p.ext f.slot) n w is was.0));
         }
 
         described : words_told q.dict (numbers_at q.ext f.slot) ≡ description t file
         described =
             words_same p.dict q.dict (numbers_at q.ext f.slot) (λ n of. stays n (had_then n f.slot (number_from_among (numbers_at q.ext f.slot) n of)).1)
-            ∙ numbers_are p sound.parts (numbers_at q.ext f.slot) (description t file) (sorted_all_up t.declared t.axioms (own_words t.declared file)) fewer
+            ∙ numbers_are p sound.metadata (numbers_at q.ext f.slot) (description t file) (sorted_all_up t.declared t.axioms (own_words t.declared file)) fewer
 
       tells_undeclared : Tells q at t
       tells_undeclared =
-          retold p q (subst (λ (k : Kept). k ≡ record p { dict = k.dict; declared = k.declared; axioms = k.axioms; ext = k.ext; marks = k.marks }) (sym q_is) refl) tags_stay at s t tells refl
-          (undeclares.state at ∙ (ap₂ (λ (k : Kept) (w : List ℕ). undeclared (state_of k at) w) gone.takes.parts same_word_gone ∙ ap (λ (x : State). undeclared x word) tells.state))
+          retold p q (subst (λ (k : Metadata). k ≡ record p { dict = k.dict; declared = k.declared; axioms = k.axioms; ext = k.ext; marks = k.marks }) (sym q_is) refl) tags_stay at s t tells refl
+          (undeclares.state at ∙ (ap₂ (λ (k : Metadata) (w : List ℕ). undeclared (state_of k at) w) gone.takes.metadata same_word_gone ∙ ap (λ (x : State). undeclared x word) tells.state))
           (forms.undeclares s tells.formed word unused) in_use_then.used described
 
-    pub undeclared_holds : {T : Type 0} {new : Stored} {before after : Meaning} {result : Result T Change} {base : State} → Saves q old.journal new before after result → first_refusal (undeclare_checks p word) ≡ None
+    pub undeclared_holds : {T : Type 0} {new : Stored} {before after : Meaning} {result : Result T ChangeFault} {base : State} → Saves q old.journal new before after result → first_refusal (undeclare_checks p word) ≡ None
         → (now : Situation) → StoreHolds old before base now.state → Holds base now (rmdir now word) new before after result
     undeclared_holds saves none now fits =
         let at = looked old.journal.staged fits.kept in
         saves_alone old sound unbroken undeclared_change saves now (undeclared now.state word) fits
         (record { tells = tells_undeclared at now.state fits.tells; saved = undeclares.marks.saved at (gone.takes.saved at (λ area n lt unmarked. fits.written area n lt)) })
-        (judged_done now (rmdir_checks now.state word) (changed now (undeclared now.state word)) (rmdir_alike p sound.parts at now sound.free fits.tells word ∙ none))
+        (judged_done now (rmdir_checks now.state word) (changed now (undeclared now.state word)) (rmdir_alike p sound.metadata at now sound.free fits.tells word ∙ none))
 
 -- one that is refused
-pub undeclared_refused : {old : Stored} {m : Meaning} {base : State} → IsSound old → (word : List ℕ) (refusal : Refusal) → first_refusal (undeclare_checks old.parts word) ≡ Some refusal
+pub undeclared_refused : {old : Stored} {m : Meaning} {base : State} → IsSound old → (word : List ℕ) (refusal : Refusal) → first_refusal (undeclare_checks old.metadata word) ≡ Some refusal
     → (now : Situation) → StoreHolds old m base now.state → rmdir now word ≡ refused now refusal
 undeclared_refused {old} sound word refusal first now fits =
     judged_refused now (rmdir_checks now.state word) (changed now (undeclared now.state word)) refusal
-    (rmdir_alike old.parts sound.parts (looked old.journal.staged fits.kept) now sound.free fits.tells word ∙ first)
+    (rmdir_alike old.metadata sound.metadata (looked old.journal.staged fits.kept) now sound.free fits.tells word ∙ first)

@@ -1,6 +1,6 @@
 -- What memory keeps and tells when a file is gone with the words that nothing else used: its slot may be described anew.
 use Rattle.std.proofs.Common.{rules}
-use Rattle.lis_store.proofs.Common.{◌≡◌, ◌⊎◌, refl, sym, ap, ◌∙◌, subst, inl, inr, ℕ, ◌+◌, ◌<◌, ◌≤◌, ◌==◌, not, Bool, true, List, [], length, get_or, set, Some, is_some, arith, get_or-set_same, get_or-set_other, ap₂, ◌++◌, list_all, Contains, and_parts, or_cases, cases_eq, ne_eqb, not_from_false, same_Some, Among, among_from_contains, contains_from_among, among_filter, filter_among, members_le, sorted_from_rising, is_taken, Filed, rec_at, word_of, Ext, has, numbers_at, FileRecord, word_cmp, State, description, is_assignable, file_removed, word_order, among_with_words, with_words_new, sorted_with_words, Kept, is_own_link, has_pair, AreSound, FreeSlotsAreEmpty, declared_of, axioms_of, blocks_told, state_of, is_used, AreUsed, Tells, emptied, filed_rec, filed_at_slot, known_word, all_up, met_tests, and_from, or_left, or_right, both_ways, eq-eqb, false_from_ne_true, given, has_number, words, filter_drops, with_words_old, is_linked, words_told, file_told, number_from_among}
+use Rattle.lis_store.proofs.Common.{◌≡◌, ◌⊎◌, refl, sym, ap, ◌∙◌, subst, inl, inr, ℕ, ◌+◌, ◌<◌, ◌≤◌, ◌==◌, not, Bool, true, List, [], length, get_or, set, Some, is_some, arith, get_or-set_same, get_or-set_other, ap₂, ◌++◌, list_all, Contains, and_parts, or_cases, cases_eq, ne_eqb, not_from_false, same_Some, Among, among_from_contains, contains_from_among, among_filter, filter_among, members_le, sorted_from_rising, is_taken, Filed, rec_at, word_of, Ext, has, numbers_at, FileRecord, word_cmp, State, description, is_assignable, file_removed, word_order, among_with_words, with_words_new, sorted_with_words, Metadata, is_own_link, has_pair, AreSound, FreeSlotsAreEmpty, declared_of, axioms_of, blocks_told, state_of, is_used, AreUsed, Tells, emptied, filed_rec, filed_at_slot, known_word, all_up, met_tests, and_from, or_left, or_right, both_ways, eq-eqb, false_from_ne_true, given, has_number, words, filter_drops, with_words_old, is_linked, words_told, file_told, number_from_among}
 use Rattle.lis_catalog.specs.Catalog.{without_slot}
 use Rattle.lis_kept.proofs.Emptied.{emptied_before, emptied_stays}
 use Rattle.lis_store.specs.Stored.{DescriptionsAreShort}
@@ -18,15 +18,15 @@ use Rattle.lis_store.proofs.Told.{same_map, words_same}
 use Rattle.lis_store.proofs.Vacated.{name_vacant, used_or_here, used_elsewhere, slot_below, slot_vacant, none_before, rec_before, sound_emptied}
 use Rattle.lis_laws.proofs.Forms as forms
 
-module _ (p v : Kept) (slot : ℕ) (rec : FileRecord) (form : AreInForm p) (out : Vacates slot rec p v) where
-  abbrev pub left : Kept
+module _ (p v : Metadata) (slot : ℕ) (rec : FileRecord) (form : AreInForm p) (out : Vacates slot rec p v) where
+  abbrev pub left : Metadata
   left = record p { dict = v.dict; catalog = without_slot p.catalog slot; marks = v.marks }
 
   pub left_is : v ≡ left
-  left_is = out.parts
+  left_is = out.metadata
 
   pub sound_left : AreSound left
-  sound_left = subst (λ (k : Kept). AreSound k) left_is out.sound
+  sound_left = subst (λ (k : Metadata). AreSound k) left_is out.sound
 
   abbrev numbers : List ℕ
   numbers = numbers_at p.ext slot
@@ -42,14 +42,14 @@ module _ (p v : Kept) (slot : ℕ) (rec : FileRecord) (form : AreInForm p) (out 
       (λ m known. used_or_here p slot rec form out.there m (form.in_use.used m known)) n some
 
   pub still_used : (n : ℕ) → is_some (word_of left.dict n) ≡ true → is_used (emptied left slot) n ≡ true
-  still_used n some = ap (λ (k : Kept). is_used (emptied k slot) n) (sym left_is) ∙ (out.used n some ∙ used_left n some)
+  still_used n some = ap (λ (k : Metadata). is_used (emptied k slot) n) (sym left_is) ∙ (out.used n some ∙ used_left n some)
 
   pub word_is_still : (n at : ℕ) → (at ≡ slot → ⊥) → has p.ext n at ≡ true → word_of left.dict n ≡ word_of p.dict n
   word_is_still n at differ h = word_stays p.dict v.dict numbers (is_used (emptied p slot)) out.words n (used_elsewhere p slot rec form out.there n at differ h)
 
   -- ---- the state
   pub state_left : (at : ℕ → List ℕ) → state_of left at ≡ file_removed (state_of p at) rec.name
-  state_left at = ap (λ (k : Kept). state_of k at) (sym left_is) ∙ (out.told at ∙ out.state at)
+  state_left at = ap (λ (k : Metadata). state_of k at) (sym left_is) ∙ (out.told at ∙ out.state at)
 
   pub declared_left : declared_of left ≡ declared_of p
   declared_left = ap (λ (s : State). s.declared) (state_left (λ n. []))
@@ -60,7 +60,7 @@ module _ (p v : Kept) (slot : ℕ) (rec : FileRecord) (form : AreInForm p) (out 
   -- a file that stays is told as it was
   file_left : (at : ℕ → List ℕ) (f : Filed) → Among left.catalog.entries f → file_told p.limits v.dict at f ≡ file_told p.limits p.dict at f
   file_left at f m =
-      let states : state_of left at ≡ state_of (without_record p slot) at = ap (λ (k : Kept). state_of k at) (sym left_is) ∙ out.told at in
+      let states : state_of left at ≡ state_of (without_record p slot) at = ap (λ (k : Metadata). state_of k at) (sym left_is) ∙ out.told at in
       same_map (file_told p.limits v.dict at) (file_told p.limits p.dict at) left.catalog.entries (ap (λ (s : State). s.files) states) f m
 
   -- ---- links
@@ -95,7 +95,7 @@ module _ (p v : Kept) (slot : ℕ) (rec : FileRecord) (form : AreInForm p) (out 
         by w (inr m) = with_words_new (words_without p slot) (described_by p draft) w (subst (λ ws. Among ws w) described_is m)
 
     pub coming : MayComeIn v draft
-    coming = subst (λ (k : Kept). MayComeIn k draft) (sym left_is) (record {
+    coming = subst (λ (k : Metadata). MayComeIn k draft) (sym left_is) (record {
       name = may.name;
       new = name_vacant p slot rec form out.there draft may;
       set = may.set;
@@ -110,7 +110,7 @@ module _ (p v : Kept) (slot : ℕ) (rec : FileRecord) (form : AreInForm p) (out 
 
   -- ---- once the slot has no numbers
   module _ (e : Ext) (marks : List Bool) (sets : e.sets ≡ set p.ext.sets slot []) where
-    abbrev pub gone : Kept
+    abbrev pub gone : Metadata
     gone = record left { ext = e; marks = marks }
 
     slot_in : slot < length p.ext.sets
@@ -156,17 +156,17 @@ module _ (p v : Kept) (slot : ℕ) (rec : FileRecord) (form : AreInForm p) (out 
   pub vacant_left : IsVacant slot numbers v
   vacant_left = record {
     below = omega (arith, limits, slot_below p slot rec form out.there);
-    spare = omega (arith, limits, ap (λ (k : Kept). length k.catalog.entries) left_is, fewer, form.sound.catalog.few, form.sound.slots);
-    free = ap (λ (k : Kept). rec_at k.catalog slot) left_is ∙ slot_vacant p slot rec form out.there;
-    was = ap (λ (k : Kept). numbers_at k.ext slot) left_is;
+    spare = omega (arith, limits, ap (λ (k : Metadata). length k.catalog.entries) left_is, fewer, form.sound.catalog.few, form.sound.slots);
+    free = ap (λ (k : Metadata). rec_at k.catalog slot) left_is ∙ slot_vacant p slot rec form out.there;
+    was = ap (λ (k : Metadata). numbers_at k.ext slot) left_is;
     rising = out.rising;
     few = form.short slot;
     sound = out.sound;
-    form = subst (λ (k : Kept). AreInForm (emptied k slot)) (sym left_is) (form_gone (emptied p slot).ext v.marks refl (sound_emptied left slot sound_left));
+    form = subst (λ (k : Metadata). AreInForm (emptied k slot)) (sym left_is) (form_gone (emptied p slot).ext v.marks refl (sound_emptied left slot sound_left));
   }
     where
       limits : v.limits.files ≡ p.limits.files
-      limits = ap (λ (k : Kept). k.limits.files) left_is
+      limits = ap (λ (k : Metadata). k.limits.files) left_is
 
       fewer : length left.catalog.entries + 1 ≤ length p.catalog.entries
       fewer =
@@ -175,16 +175,16 @@ module _ (p v : Kept) (slot : ℕ) (rec : FileRecord) (form : AreInForm p) (out 
 
 -- ---- the state that it tells
 -- Memory told s, whatever blocks were taken, and the blocks of the file are given back.
-module _ (o : Kept) (taken marks : List Bool) (v : Kept) (slot : ℕ) (rec : FileRecord) (form : AreInForm (record o { taken = taken; marks = marks })) (out : Vacates slot rec (record o { taken = taken; marks = marks }) v)
+module _ (o : Metadata) (taken marks : List Bool) (v : Metadata) (slot : ℕ) (rec : FileRecord) (form : AreInForm (record o { taken = taken; marks = marks })) (out : Vacates slot rec (record o { taken = taken; marks = marks }) v)
     (sound : AreSound o) (at : ℕ → List ℕ) (s : State) (tells : Tells o at s) (e : Ext) (sets : e.sets ≡ set o.ext.sets slot []) (new : List Bool) where
-  abbrev p : Kept
+  abbrev p : Metadata
   p = record o { taken = taken; marks = marks }
 
   -- the blocks of the file
   abbrev before : List ℕ
   before = blocks_told o.limits at rec
 
-  abbrev pub without : Kept
+  abbrev pub without : Metadata
   without = record (gone p v slot rec form out e new sets) { taken = given o.taken before }
 
   abbrev filed : Filed

@@ -1,6 +1,6 @@
 -- What is in use where a file is gone whose slot is still described, and the words that may be forgotten then.
 use Rattle.std.proofs.Common.{rules}
-use Rattle.lis_store.proofs.Common.{◌≡◌, ◌⊎◌, refl, sym, ap, ◌∙◌, subst, inl, inr, ℕ, ◌<◌, ◌==◌, not, ◌&&◌, Bool, true, false, if◌then◌else◌, [], ◌∷◌, length, set, Option, Some, None, is_some, IsSome, slice_get, Pair, arith, length-set, get_or-set_same, IsStrictlyIncreasing, cases_eq, ne_eqb, is_taken, stays_marked, word_of, slot_of, rec_at, has, numbers_at, FileRecord, same_word, same_word_decides, Kept, block_of, AreSound, state_of, is_used, MayForget, emptied, among_slots, left_out, used_flagged, used_had, both_ways, eq-eqb, has_number, Files, used_left}
+use Rattle.lis_store.proofs.Common.{◌≡◌, ◌⊎◌, refl, sym, ap, ◌∙◌, subst, inl, inr, ℕ, ◌<◌, ◌==◌, not, ◌&&◌, Bool, true, false, if◌then◌else◌, [], ◌∷◌, length, set, Option, Some, None, is_some, IsSome, slice_get, Pair, arith, length-set, get_or-set_same, IsStrictlyIncreasing, cases_eq, ne_eqb, is_taken, stays_marked, word_of, slot_of, rec_at, has, numbers_at, FileRecord, same_word, same_word_decides, Metadata, block_of, AreSound, state_of, is_used, MayForget, emptied, among_slots, left_out, used_flagged, used_had, both_ways, eq-eqb, has_number, Files, used_left}
 use Rattle.std.proofs.lemmas.Map.Entries.{option_filter}
 use Rattle.lis_catalog.specs.Catalog.{without_slot}
 use Rattle.lis_catalog.proofs.Laws.{rec_at-without_slot, slot_of-without_slot, slot_of-rec_at, filtered_none, filtered_one}
@@ -18,7 +18,7 @@ use Rattle.lis_store.proofs.HeadsUsed.{IsUsedFor, used_for, head_used}
 use Rattle.lis_store.proofs.HeadsUsed.IsUsedFor.{Flagged, HadAt, NamedLeft}
 
 -- what is kept without the file, the slot described as before
-abbrev pub vacated : Kept → ℕ → Kept
+abbrev pub vacated : Metadata → ℕ → Metadata
 vacated p slot = record p {
   catalog = without_slot p.catalog slot;
   marks = set p.marks (block_of p.limits Files slot) true;
@@ -28,7 +28,7 @@ pub rec_there : (o : Option FileRecord) → is_some o ≡ true → (rec : FileRe
 rec_there o none = search (rules, both_ways)
 
 -- memory stays sound where a slot without a file is not described
-pub sound_emptied : (k : Kept) (slot : ℕ) → AreSound k → AreSound (emptied k slot)
+pub sound_emptied : (k : Metadata) (slot : ℕ) → AreSound k → AreSound (emptied k slot)
 sound_emptied k slot sound = assumption (axioms, length-set k.ext.sets slot [] ∙ sound.files, named)
   where
     axioms : (at left right : ℕ) → slice_get k.axioms at ≡ Some (Pair left right) → IsSoundAxiom (emptied k slot) at left right
@@ -40,7 +40,7 @@ sound_emptied k slot sound = assumption (axioms, length-set k.ext.sets slot [] �
     named : (n at : ℕ) → IsSome (rec_at k.catalog at) → has (left_out k.ext slot) n at ≡ true → IsSome (word_of k.dict n)
     named n at some h = sound.named n at some (sym (same_elsewhere k.ext slot n at (other_slot n at h)) ∙ h)
 
-module _ (p : Kept) (slot : ℕ) (rec : FileRecord) (form : AreInForm p) (there : rec_at p.catalog slot ≡ Some rec) where
+module _ (p : Metadata) (slot : ℕ) (rec : FileRecord) (form : AreInForm p) (there : rec_at p.catalog slot ≡ Some rec) where
   pub slot_below : slot < p.limits.files
   slot_below = file_slot_below p form.sound slot rec there
 
@@ -80,7 +80,7 @@ module _ (p : Kept) (slot : ℕ) (rec : FileRecord) (form : AreInForm p) (there 
       by (NamedLeft left) = inl (used_left (emptied p slot) n left)
 
   -- ---- words that may be forgotten
-  abbrev e : Kept
+  abbrev e : Metadata
   e = emptied (vacated p slot) slot
 
   may_forget : AreSound (vacated p slot) → MayForget (numbers_at p.ext slot) (emptied (vacated p slot) slot)
@@ -106,28 +106,28 @@ module _ (p : Kept) (slot : ℕ) (rec : FileRecord) (form : AreInForm p) (there 
   abbrev home : ℕ
   home = block_of p.limits Files slot
 
-  module _ (dropped : Kept) (drops : Drops slot rec p dropped) where
+  module _ (dropped : Metadata) (drops : Drops slot rec p dropped) where
     pub below_dropped : slot < dropped.limits.files
-    below_dropped = omega (arith, ap (λ (x : Kept). x.limits.files) drops.parts, slot_below)
+    below_dropped = omega (arith, ap (λ (x : Metadata). x.limits.files) drops.metadata, slot_below)
 
     pub free_dropped : rec_at dropped.catalog slot ≡ None
-    free_dropped = ap (λ (x : Kept). rec_at x.catalog slot) drops.parts ∙ slot_vacant
+    free_dropped = ap (λ (x : Metadata). rec_at x.catalog slot) drops.metadata ∙ slot_vacant
 
     pub may_forget_dropped : AreSound dropped → MayForget (numbers_at p.ext slot) (emptied dropped slot)
     may_forget_dropped sound = search (rules, may_forget)
 
-    pub vacates : (q : Kept) → IsStrictlyIncreasing (numbers_at p.ext slot) → ForgetsWithout slot (numbers_at p.ext slot) dropped q → AreSound q → Vacates slot rec p q
+    pub vacates : (q : Metadata) → IsStrictlyIncreasing (numbers_at p.ext slot) → ForgetsWithout slot (numbers_at p.ext slot) dropped q → AreSound q → Vacates slot rec p q
     vacates q rising forgets sound = record {
       there = there;
       rising = rising;
-      parts = forgets.parts ∙ ap (λ (x : Kept). record x { dict = q.dict; marks = q.marks }) drops.parts;
-      words = λ n. subst (λ (x : Kept). word_of q.dict n ≡ (if has_number (numbers_at p.ext slot) n && not (is_used (emptied x slot) n) then None else word_of x.dict n)) drops.parts (forgets.words n);
-      used = λ n some. forgets.used n some ∙ ap (λ (x : Kept). is_used (emptied x slot) n) drops.parts;
-      told = λ at. forgets.state at ∙ ap (λ (x : Kept). state_of x at) drops.parts;
-      state = λ at. ap (λ (x : Kept). state_of x at) (sym drops.parts) ∙ drops.state at;
+      metadata = forgets.metadata ∙ ap (λ (x : Metadata). record x { dict = q.dict; marks = q.marks }) drops.metadata;
+      words = λ n. subst (λ (x : Metadata). word_of q.dict n ≡ (if has_number (numbers_at p.ext slot) n && not (is_used (emptied x slot) n) then None else word_of x.dict n)) drops.metadata (forgets.words n);
+      used = λ n some. forgets.used n some ∙ ap (λ (x : Metadata). is_used (emptied x slot) n) drops.metadata;
+      told = λ at. forgets.state at ∙ ap (λ (x : Metadata). state_of x at) drops.metadata;
+      state = λ at. ap (λ (x : Metadata). state_of x at) (sym drops.metadata) ∙ drops.state at;
       marks = record { saved = λ at saved. forgets.marks.saved at (drops.marks.saved at saved); few = omega (arith, drops.marks.few, forgets.marks.few) };
       marked = λ block is. forgets.marked block (kept block is);
-      slot_marked = forgets.marked home (ap (λ (x : Kept). is_taken x.marks home) drops.parts ∙ get_or-set_same p.marks home true false in_marks);
+      slot_marked = forgets.marked home (ap (λ (x : Metadata). is_taken x.marks home) drops.metadata ∙ get_or-set_same p.marks home true false in_marks);
       sound = sound;
     }
       where
@@ -135,4 +135,4 @@ module _ (p : Kept) (slot : ℕ) (rec : FileRecord) (form : AreInForm p) (there 
         in_marks = omega (arith, (among_slots p.limits form.sound.range Files slot slot_below).1, form.sound.marks)
 
         kept : (block : ℕ) → is_taken p.marks block ≡ true → is_taken dropped.marks block ≡ true
-        kept block is = ap (λ (x : Kept). is_taken x.marks block) drops.parts ∙ stays_marked p.marks (home ∷ []) block is
+        kept block is = ap (λ (x : Metadata). is_taken x.marks block) drops.metadata ∙ stays_marked p.marks (home ∷ []) block is

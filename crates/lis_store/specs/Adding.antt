@@ -6,7 +6,7 @@ use Rattle.lis_ext.specs.Numbers.{numbers_where}
 use Rattle.lis_words.specs.Words.{has_word, is_valued, head_bytes, is_head, is_built_in}
 use Rattle.lis_model.specs.Sets.{with_words}
 use Rattle.lis_model.specs.State.{heads}
-use Rattle.lis_kept.specs.Kept.{Kept}
+use Rattle.lis_kept.specs.Metadata.{Metadata}
 use Rattle.lis_kept.specs.Areas.{is_marked, marked_count}
 use Rattle.lis_kept.specs.Telling.{state_of}
 use Rattle.lis_kept.specs.Changes.{Marks}
@@ -35,18 +35,18 @@ abbrev pub with_heads : List (List ℕ) → List (List ℕ)
 with_heads words = flat_map behind_head words
 
 -- a valued word whose head has a number or is built in, or another word that has a number or is a built-in head
-abbrev pub may_learn : Kept → List ℕ → Bool
+abbrev pub may_learn : Metadata → List ℕ → Bool
 may_learn k word =
     if is_valued word then is_some (number_of k.dict (head_bytes word)) || is_built_in (head_bytes word)
     else is_some (number_of k.dict word) || (is_head word && is_built_in word)
 
 -- with these words there are no more than there is room for
-abbrev pub HasWordRoom : Kept → List (List ℕ) → Type 0
+abbrev pub HasWordRoom : Metadata → List (List ℕ) → Type 0
 HasWordRoom k more = length (with_words (words k.dict) more) ≤ k.limits.props
 
 -- These words have numbers now, and each word that had one keeps it. No more blocks are marked than there are new words.
-pub record LearnsAll (more : List (List ℕ)) (p q : Kept) : Type 0 where
-  pub parts : q ≡ record p { dict = q.dict; marks = q.marks }
+pub record LearnsAll (more : List (List ℕ)) (p q : Metadata) : Type 0 where
+  pub metadata : q ≡ record p { dict = q.dict; marks = q.marks }
   pub marks : Marks (length more) p q
   pub few : marked_count q + length (words p.dict) ≤ marked_count p + length (words q.dict)
   pub marked : (block : ℕ) → is_marked p block ≡ true → is_marked q block ≡ true

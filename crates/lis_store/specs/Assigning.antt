@@ -1,5 +1,6 @@
 -- The words that a new file is given: those of its place, and those that are named.
 use Rattle.std.specs.Prelude.{◌≡◌, ℕ, nat_le, Bool, true, false, Option, Some, None, List, length, filter}
+use Rattle.lis_limits.specs.declared.TheConstants.{MAX_ASSIGNED}
 use Rattle.lis_words.specs.Words.{same_word}
 use Rattle.lis_place.specs.declared.node.Node.{Node}
 use Rattle.lis_place.specs.declared.node.Node.TheVariants.{Word, AtLeast, Below, Not, And, Or}
@@ -27,5 +28,5 @@ is_held (Some held) word = same_word held word
 
 -- More words are put into a set of 16 at most. `fits` tells whether there is room for them all.
 pub record Takes (more old new : List (List ℕ)) (fits : Bool) : Type 0 where
-  pub room : fits ≡ nat_le (length (with_words old more)) 16
+  pub room : fits ≡ nat_le (length (with_words old more)) MAX_ASSIGNED
   pub words : fits ≡ true → new ≡ with_words old more

@@ -14,8 +14,8 @@ use Rattle.lis_model.specs.Replies.{ok_line}
 use Rattle.lis_model.specs.Step.{Situation, Outcome, refused, first_refusal}
 use Rattle.lis_store.specs.Stands.{Stands}
 use Rattle.lis_store.specs.Stored.{Stored, IsSound, StoreFits, StoreHolds}
-use Rattle.lis_store.specs.declared.change.Change.{Change}
-use Rattle.lis_store.specs.declared.change.Change.TheVariants.{Refused, Disk}
+use Rattle.lis_store.specs.declared.change_fault.ChangeFault.{ChangeFault}
+use Rattle.lis_store.specs.declared.change_fault.ChangeFault.TheVariants.{Refused, Disk}
 use Rattle.lis_journal.specs.Journal.{shape_of}
 
 -- a judgement that answers the first refusal of a row, or that none holds
@@ -23,13 +23,13 @@ abbrev pub Judges : {T : Type 0} → List (Bool × Refusal) → Result T Refusal
 Judges checks result = MatchResult result (λ _. first_refusal checks ≡ None) (λ refusal. first_refusal checks ≡ Some refusal)
 
 -- At an answer that is no fault of the disk the store fits it: at the new state, or with a refusal at the old one.
-abbrev pub ChangeEnded : {T : Type 0} → Situation → Outcome → Stored → Meaning → Result T Change → Type 0
+abbrev pub ChangeEnded : {T : Type 0} → Situation → Outcome → Stored → Meaning → Result T ChangeFault → Type 0
 ChangeEnded now outcome new m (Ok done) = (outcome.reply ≡ ok_line) × StoreFits new m outcome.next.state
 ChangeEnded now outcome new m (Err (Refused refusal)) = (outcome ≡ refused now refusal) × StoreFits new m now.state
 ChangeEnded now outcome new m (Err Disk) = new.is_broken ≡ true
 
 -- At each moment in the call the image stands for the old state or for the new one, and blocks past the image stay.
-pub record Changes {T : Type 0} (now : Situation) (outcome : Outcome) (new : Stored) (before after : Meaning) (result : Result T Change) : Type 0 where
+pub record Changes {T : Type 0} (now : Situation) (outcome : Outcome) (new : Stored) (before after : Meaning) (result : Result T ChangeFault) : Type 0 where
   pub moments : Leaves before after (λ image. Stands image now.state ⊎ Stands image outcome.next.state)
   pub past : KeepsPast (image_blocks now.state.limits) before after
   pub ended : ChangeEnded now outcome new after result
@@ -37,64 +37,64 @@ pub record Changes {T : Type 0} (now : Situation) (outcome : Outcome) (new : Sto
 -- ---- changes that are held back
 -- At an answer that is no fault of the disk memory tells the new state, or with a refusal the old one, and the images stand for the base
 -- or, where so much was held back that it was committed, for the new state.
-abbrev pub HeldEnded : {T : Type 0} → State → Situation → Outcome → Stored → Meaning → Result T Change → Type 0
+abbrev pub HeldEnded : {T : Type 0} → State → Situation → Outcome → Stored → Meaning → Result T ChangeFault → Type 0
 HeldEnded base now outcome new m (Ok done) =
     (outcome.reply ≡ ok_line) × (StoreHolds new m base outcome.next.state ⊎ StoreHolds new m outcome.next.state outcome.next.state)
 HeldEnded base now outcome new m (Err (Refused refusal)) = (outcome ≡ refused now refusal) × StoreHolds new m base now.state
 HeldEnded base now outcome new m (Err Disk) = new.is_broken ≡ true
 
 -- At each moment in the call the image stands for the base, the old state or the new one, and blocks past the image stay.
-pub record Holds {T : Type 0} (base : State) (now : Situation) (outcome : Outcome) (new : Stored) (before after : Meaning) (result : Result T Change) : Type 0 where
+pub record Holds {T : Type 0} (base : State) (now : Situation) (outcome : Outcome) (new : Stored) (before after : Meaning) (result : Result T ChangeFault) : Type 0 where
   pub moments : Leaves before after (λ image. (Stands image base ⊎ Stands image now.state) ⊎ Stands image outcome.next.state)
   pub past : KeepsPast (image_blocks base.limits) before after
   pub ended : HeldEnded base now outcome new after result
 
 -- What a commit answers: it refuses nothing.
-abbrev pub CommitEnded : {T : Type 0} → State → Stored → Meaning → Result T Change → Type 0
+abbrev pub CommitEnded : {T : Type 0} → State → Stored → Meaning → Result T ChangeFault → Type 0
 CommitEnded s new m (Ok done) = StoreFits new m s
 CommitEnded s new m (Err (Refused refusal)) = false ≡ true
 CommitEnded s new m (Err Disk) = new.is_broken ≡ true
 
 -- All that is held back is committed: at each moment the image stands for the base or for the state that memory tells.
-pub record Commits {T : Type 0} (base s : State) (new : Stored) (before after : Meaning) (result : Result T Change) : Type 0 where
+pub record Commits {T : Type 0} (base s : State) (new : Stored) (before after : Meaning) (result : Result T ChangeFault) : Type 0 where
   pub moments : Leaves before after (λ image. Stands image base ⊎ Stands image s)
   pub past : KeepsPast (image_blocks base.limits) before after
   pub ended : CommitEnded s new after result
 
 -- At Ok the store fits the new state; a refusal leaves all that was held back as it was.
-abbrev pub AppliedEnded : {T : Type 0} → State → Situation → Outcome → Stored → Meaning → Result T Change → Type 0
+abbrev pub AppliedEnded : {T : Type 0} → State → Situation → Outcome → Stored → Meaning → Result T ChangeFault → Type 0
 AppliedEnded base now outcome new m (Ok done) = (outcome.reply ≡ ok_line) × StoreFits new m outcome.next.state
 AppliedEnded base now outcome new m (Err (Refused refusal)) = (outcome ≡ refused now refusal) × StoreHolds new m base now.state
 AppliedEnded base now outcome new m (Err Disk) = new.is_broken ≡ true
 
 -- A change is made, and committed with all that was held back: at each moment in the call the image stands for the base, the old state or
 -- the new one, and blocks past the image stay.
-pub record Applies {T : Type 0} (base : State) (now : Situation) (outcome : Outcome) (new : Stored) (before after : Meaning) (result : Result T Change) : Type 0 where
+pub record Applies {T : Type 0} (base : State) (now : Situation) (outcome : Outcome) (new : Stored) (before after : Meaning) (result : Result T ChangeFault) : Type 0 where
   pub moments : Leaves before after (λ image. (Stands image base ⊎ Stands image now.state) ⊎ Stands image outcome.next.state)
   pub past : KeepsPast (image_blocks base.limits) before after
   pub ended : AppliedEnded base now outcome new after result
 
 -- ---- on any disk
 -- What a commit says of a store on any disk.
-abbrev pub CommitLeft : {T : Type 0} → Stored → Result T Change → Type 0
+abbrev pub CommitLeft : {T : Type 0} → Stored → Result T ChangeFault → Type 0
 CommitLeft new (Ok done) = (new.is_broken ≡ false) × (new.journal.staged ≡ [])
 CommitLeft new (Err (Refused refusal)) = false ≡ true
 CommitLeft new (Err Disk) = new.is_broken ≡ true
 
 -- A fault of the disk comes only where the count rose, and at each other answer the count stays.
-abbrev pub HasChangeCause : {T : Type 0} → ℕ → ℕ → Result T Change → Type 0
+abbrev pub HasChangeCause : {T : Type 0} → ℕ → ℕ → Result T ChangeFault → Type 0
 HasChangeCause before now (Ok done) = now ≡ before
 HasChangeCause before now (Err (Refused refusal)) = now ≡ before
 HasChangeCause before now (Err Disk) = Rose before now
 
 -- What a change, or a part of one, does to a disk: a fault of the disk ends it.
-pub record ChangesDisk {T : Type 0} (old new : Meaning) (result : Result T Change) : Type 0 where
+pub record ChangesDisk {T : Type 0} (old new : Meaning) (result : Result T ChangeFault) : Type 0 where
   pub run : IsDiskRun old new
   pub cause : HasChangeCause old.disk_faults new.disk_faults result
   pub first_fault : DiskFaultEnds old new
 
 -- What an answer says of a store on any disk: a refusal changes nothing, and a fault of the disk breaks it.
-abbrev pub ChangeLeft : {T : Type 0} → Stored → Stored → Result T Change → Type 0
+abbrev pub ChangeLeft : {T : Type 0} → Stored → Stored → Result T ChangeFault → Type 0
 ChangeLeft old new (Ok done) = new.is_broken ≡ false
 ChangeLeft old new (Err (Refused refusal)) = new ≡ old
 ChangeLeft old new (Err Disk) = new.is_broken ≡ true
@@ -109,9 +109,9 @@ abbrev pub AreEditsFew : Ext → Ext → Type 0
 AreEditsFew old new = (old.edits ≤ new.edits) × (new.edits ≤ old.edits + differing_bits old new)
 
 -- What a change, or a part of one, keeps of a store on any disk, whatever it answers.
-pub record ChangeKeeps {T : Type 0} (old new : Stored) (result : Result T Change) : Type 0 where
-  pub limits : new.parts.limits ≡ old.parts.limits
+pub record ChangeKeeps {T : Type 0} (old new : Stored) (result : Result T ChangeFault) : Type 0 where
+  pub limits : new.metadata.limits ≡ old.metadata.limits
   pub image : shape_of new.journal ≡ shape_of old.journal
   pub left : ChangeLeft old new result
-  pub edits : AreEditsFew old.parts.ext new.parts.ext
+  pub edits : AreEditsFew old.metadata.ext new.metadata.ext
   pub sound : IsSound new

@@ -8,7 +8,7 @@ use Rattle.lis_ext.specs.Numbers.{numbers_where}
 use Rattle.lis_fields.specs.Records.{FileRecord}
 use Rattle.lis_model.specs.State.{up}
 use Rattle.lis_model.specs.Tests.{is_met}
-use Rattle.lis_kept.specs.Kept.{Kept}
+use Rattle.lis_kept.specs.Metadata.{Metadata}
 use Rattle.lis_kept.specs.Telling.{declared_of, axioms_of}
 use Rattle.lis_store.specs.Adding.{is_one_of}
 use Rattle.lis_store.specs.declared.closing.Rebuild.{Rebuild}
@@ -16,32 +16,32 @@ use Rattle.lis_store.specs.declared.closing.Rebuild.TheVariants.{Having, Losing,
 use Rattle.lis_model.specs.Sets.{has_number}
 
 -- ---- what numbers entail
-abbrev pub entails_by : Kept → Option (List ℕ) → Option (List ℕ) → Bool
+abbrev pub entails_by : Metadata → Option (List ℕ) → Option (List ℕ) → Bool
 entails_by k None q = false
 entails_by k (Some p) q = is_one_of (up (declared_of k) (axioms_of k) p) q
 
 -- the word of the one number entails that of the other
-abbrev pub is_entailed : Kept → ℕ → ℕ → Bool
+abbrev pub is_entailed : Metadata → ℕ → ℕ → Bool
 is_entailed k m n = entails_by k (word_of k.dict m) (word_of k.dict n)
 
 -- the word of one of the numbers entails that of this one
-abbrev pub is_gained : Kept → List ℕ → ℕ → Bool
+abbrev pub is_gained : Metadata → List ℕ → ℕ → Bool
 is_gained k numbers n = list_any (λ m. is_entailed k m n) numbers
 
 -- the numbers of all that the words of these entail, in rising order
-abbrev pub closure : Kept → List ℕ → List ℕ
+abbrev pub closure : Metadata → List ℕ → List ℕ
 closure k numbers = numbers_where k.limits.props (is_gained k numbers)
 
 -- the number is that of a word that this one entails
-abbrev pub entails_number : Kept → List ℕ → ℕ → Bool
+abbrev pub entails_number : Metadata → List ℕ → ℕ → Bool
 entails_number k word n = is_one_of (up (declared_of k) (axioms_of k) word) (word_of k.dict n)
 
 -- the word of one of these entails that of the number
-abbrev pub is_gained_by : Kept → List (List ℕ) → ℕ → Bool
+abbrev pub is_gained_by : Metadata → List (List ℕ) → ℕ → Bool
 is_gained_by k words n = list_any (λ word. entails_number k word n) words
 
 -- the numbers of the description in a slot with those that pass a test
-abbrev pub wider : Kept → (ℕ → Bool) → ℕ → List ℕ
+abbrev pub wider : Metadata → (ℕ → Bool) → ℕ → List ℕ
 wider k gains slot = numbers_where k.ext.props (λ n. has k.ext n slot || gains n)
 
 -- ---- which descriptions are made anew
@@ -50,10 +50,10 @@ is_met_by test None = false
 is_met_by test (Some rec) = is_met test rec.size
 
 -- there is a file in the slot, and its size meets the test
-abbrev pub is_met_at : Kept → Option (Bool × ℕ) → ℕ → Bool
+abbrev pub is_met_at : Metadata → Option (Bool × ℕ) → ℕ → Bool
 is_met_at k test slot = is_met_by test (rec_at k.catalog slot)
 
-abbrev pub is_concerned : Kept → Rebuild → ℕ → Bool
+abbrev pub is_concerned : Metadata → Rebuild → ℕ → Bool
 is_concerned k (Having number) slot = has k.ext number slot
 is_concerned k (Losing left right) slot = has k.ext left slot
 is_concerned k (Meeting test number) slot = is_met_at k (Some test) slot
@@ -64,15 +64,15 @@ tags_by None = []
 tags_by (Some rec) = rec.tags
 
 -- the numbers of what the file in a slot was given
-abbrev pub tags_at : Kept → ℕ → List ℕ
+abbrev pub tags_at : Metadata → ℕ → List ℕ
 tags_at k slot = tags_by (rec_at k.catalog slot)
 
 -- A number of a description needs no axiom that leads to the right word: the file was given it, or the right word does not entail it.
-abbrev pub stays : Kept → ℕ → List ℕ → ℕ → Bool
+abbrev pub stays : Metadata → ℕ → List ℕ → ℕ → Bool
 stays k right tags n = has_number tags n || not (is_entailed k right n)
 
 -- a number of the description in a slot is one of those of which it is made anew
-abbrev pub is_base : Kept → Rebuild → ℕ → ℕ → Bool
+abbrev pub is_base : Metadata → Rebuild → ℕ → ℕ → Bool
 is_base k (Having number) slot n = true
 is_base k (Losing left right) slot n = stays k right (tags_at k slot) n
 is_base k (Meeting test number) slot n = true
@@ -84,18 +84,18 @@ added (Losing left right) = []
 added (Meeting test number) = number ∷ []
 
 -- the numbers of which the description in a slot is made anew
-abbrev pub base_at : Kept → Rebuild → ℕ → List ℕ
+abbrev pub base_at : Metadata → Rebuild → ℕ → List ℕ
 base_at k how slot = added how ++ filter (is_base k how slot) (numbers_at k.ext slot)
 
 -- the numbers that it names have words
-abbrev pub has_words : Kept → Rebuild → Bool
+abbrev pub has_words : Metadata → Rebuild → Bool
 has_words k (Having number) = is_some (word_of k.dict number)
 has_words k (Losing left right) = is_some (word_of k.dict left) && is_some (word_of k.dict right)
 has_words k (Meeting test number) = is_some (word_of k.dict number)
 
 -- ---- what they are then
-abbrev pub anew : Kept → (ℕ → Bool) → (ℕ → List ℕ) → ℕ → List ℕ
+abbrev pub anew : Metadata → (ℕ → Bool) → (ℕ → List ℕ) → ℕ → List ℕ
 anew k concerned base slot = if concerned slot then closure k (base slot) else numbers_at k.ext slot
 
-abbrev pub rebuilt : Kept → Rebuild → ℕ → List ℕ
+abbrev pub rebuilt : Metadata → Rebuild → ℕ → List ℕ
 rebuilt k how = anew k (is_concerned k how) (base_at k how)

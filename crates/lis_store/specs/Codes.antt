@@ -11,7 +11,7 @@ use Rattle.lis_journal.specs.declared.layout.Layout.{Layout}
 use Rattle.lis_journal.specs.declared.layout.Capacity.{Capacity}
 use Rattle.lis_journal.specs.Journal.{OpenRecords, Held}
 use Rattle.lis_journal.specs.Record.{HomeBlock}
-use Rattle.lis_kept.specs.Kept.{Kept}
+use Rattle.lis_kept.specs.Metadata.{Metadata}
 use Rattle.lis_model.specs.declared.limits.Limits.{Limits}
 use Rattle.lis_model.specs.Codes.{word_code, limits_code}
 use Rattle.lis_store.specs.Stored.{Stored}
@@ -55,8 +55,8 @@ ext_code =
     code_by (ℕ × (List (List ℕ) × (List ℕ × ℕ))) (coded× coded_ℕ (coded× (coded_list word_code) (coded× word_code coded_ℕ)))
     (λ e. (e.props, (e.sets, (e.marks, e.edits)))) (λ p. record { props = p.0; sets = p.1.0; marks = p.1.1.0; edits = p.1.1.1 }) (λ _. refl)
 
-abbrev pub kept_code : Coded Kept
-kept_code =
+abbrev pub metadata_code : Coded Metadata
+metadata_code =
     code_by (Limits × (Dict × (List Bool × (List AxiomSlot × (Catalog × (List Bool × (Ext × List Bool)))))))
     (coded× limits_code (coded× dict_code (coded× (coded_list coded_bool) (coded× (coded_list axiom_slot_code) (coded× catalog_code
     (coded× (coded_list coded_bool) (coded× ext_code (coded_list coded_bool))))))))
@@ -99,5 +99,5 @@ held_code =
 -- ---- a store
 abbrev pub stored_code : Coded Stored
 stored_code =
-    code_by (Kept × (Held × Bool)) (coded× kept_code (coded× held_code coded_bool)) (λ s. (s.parts, (s.journal, s.is_broken)))
-    (λ p. record { parts = p.0; journal = p.1.0; is_broken = p.1.1 }) (λ _. refl)
+    code_by (Metadata × (Held × Bool)) (coded× metadata_code (coded× held_code coded_bool)) (λ s. (s.metadata, (s.journal, s.is_broken)))
+    (λ p. record { metadata = p.0; journal = p.1.0; is_broken = p.1.1 }) (λ _. refl)

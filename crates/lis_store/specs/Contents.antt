@@ -1,6 +1,7 @@
 -- How the contents of files are put on the disk, and given back.
 use Rattle.std.specs.Prelude.{◌≡◌, ℕ, ◌+◌, ◌≤◌, nat_lt, Bool, true, false, Option, None, Some, List, [], length, Result, Ok, Err, IsTrue}
 use Rattle.std.specs.List.{list_all}
+use Rattle.lis_limits.specs.declared.TheConstants.{SLOT_BLOCKS}
 use Rattle.arrayvec.specs.ArrayVec.{ArrayVec}
 use Rattle.lis_ports.specs.Meaning.{Meaning}
 use Rattle.lis_ports.specs.Runs.{Leaves}
@@ -14,12 +15,12 @@ use Rattle.lis_fields.specs.Records.{FileRecord}
 use Rattle.lis_fields.specs.Layouts.{are_blocks}
 use Rattle.lis_model.specs.declared.limits.Limits.{Limits}
 use Rattle.lis_model.specs.Image.{bitmap_start, data_start, image_blocks}
-use Rattle.lis_kept.specs.Kept.{Kept}
+use Rattle.lis_kept.specs.Metadata.{Metadata}
 use Rattle.lis_kept.specs.Areas.{is_marked}
 use Rattle.lis_kept.specs.Telling.{blocks_told}
 use Rattle.lis_kept.specs.Changes.{Marks, Lands, GivesBack, Puts}
-use Rattle.lis_store.specs.declared.change.Change.{Change}
-use Rattle.lis_store.specs.declared.change.Change.TheVariants.{Refused, Disk}
+use Rattle.lis_store.specs.declared.change_fault.ChangeFault.{ChangeFault}
+use Rattle.lis_store.specs.declared.change_fault.ChangeFault.TheVariants.{Refused, Disk}
 use Rattle.lis_model.specs.Sets.{are_distinct}
 use Rattle.lis_kept.specs.Image.{image_shape}
 
@@ -28,22 +29,22 @@ abbrev pub AreContentsWithin : Limits → (ℕ → List ℕ) → FileRecord → 
 AreContentsWithin limits at rec = IsTrue (list_all (λ n. nat_lt n limits.blocks) (blocks_told limits at rec))
 
 -- A content may be put: the journal is as long as the image and may be used, nothing is placed, and one more content can be staged.
-pub record IsReadyForContent (parts : Kept) (journal : Held) (m : Meaning) : Type 0 where
-  pub image : shape_of journal ≡ image_shape parts.limits
+pub record IsReadyForContent (metadata : Metadata) (journal : Held) (m : Meaning) : Type 0 where
+  pub image : shape_of journal ≡ image_shape metadata.limits
   pub usable : JournalIsUsable journal m
   pub unplaced : journal.placed ≡ []
-  pub room : length journal.staged + 16 ≤ journal.capacity.staged
+  pub room : length journal.staged + SLOT_BLOCKS ≤ journal.capacity.staged
 
 -- It breaks the store exactly at a fault of the disk, and refuses nothing.
-abbrev pub ContentEnded : {T : Type 0} → Bool → Result T Change → Type 0
+abbrev pub ContentEnded : {T : Type 0} → Bool → Result T ChangeFault → Type 0
 ContentEnded is_broken (Ok done) = is_broken ≡ false
 ContentEnded is_broken (Err (Refused refusal)) = false ≡ true
 ContentEnded is_broken (Err Disk) = is_broken ≡ true
 
 -- The disk failed while a content was put: only what is on it counts. At any moment a crash leaves all blocks as before but spare ones that
 -- were free, and for a content that is not large all blocks.
-pub record ContentTorn (bytes : List ℕ) (p q : Kept) (old new : Held) (before after : Meaning) : Type 0 where
-  pub parts : q ≡ record p { taken = q.taken; marks = q.marks }
+pub record ContentTorn (bytes : List ℕ) (p q : Metadata) (old new : Held) (before after : Meaning) : Type 0 where
+  pub metadata : q ≡ record p { taken = q.taken; marks = q.marks }
   pub image : shape_of new ≡ shape_of old
   pub spare : List ℕ
   pub were_free : IsTrue (are_free p.taken spare)
@@ -52,13 +53,13 @@ pub record ContentTorn (bytes : List ℕ) (p q : Kept) (old new : Held) (before 
   pub past : (kept : ℕ → List ℕ) → Fits old before kept → KeepsPast old.layout.blocks before after
 
 -- The bytes are put into free blocks, and the numbers that a slot has of them answered.
-abbrev pub ContentPut : List ℕ → Kept → Kept → Held → Held → Meaning → Meaning → Result (ArrayVec ℕ) Change → Type 0
+abbrev pub ContentPut : List ℕ → Metadata → Metadata → Held → Held → Meaning → Meaning → Result (ArrayVec ℕ) ChangeFault → Type 0
 ContentPut bytes p q old new before after (Ok numbers) = Puts bytes numbers.items p q old new before after
 ContentPut bytes p q old new before after (Err (Refused refusal)) = false ≡ true
 ContentPut bytes p q old new before after (Err Disk) = ContentTorn bytes p q old new before after
 
 -- The blocks of the file of a record are given back. The disk is asked alone, and at a fault none is.
-abbrev pub ContentGiven : {T : Type 0} → FileRecord → Kept → Kept → Held → Meaning → Meaning → Result T Change → Type 0
+abbrev pub ContentGiven : {T : Type 0} → FileRecord → Metadata → Metadata → Held → Meaning → Meaning → Result T ChangeFault → Type 0
 ContentGiven rec p q journal before after (Ok done) = GivesBack rec p q journal before × Asks journal before after
 ContentGiven rec p q journal before after (Err (Refused refusal)) = false ≡ true
 ContentGiven rec p q journal before after (Err Disk) = (q ≡ p) × Asks journal before after
@@ -76,22 +77,22 @@ pub data Trades (limits : Limits) (gone : Option FileRecord) (taken now : List B
   Last : IsTrue (are_free taken blocks) → now ≡ given (marked taken blocks) (blocks_gone limits there gone) → Trades limits gone taken now blocks at there
 
 -- By what the disk kept: these blocks hold the bytes, for which those of the file of a record are given back, if there is one.
-pub record IsRenewed (bytes numbers blocks : List ℕ) (gone : Option FileRecord) (p q : Kept) (was : ℕ → List ℕ) (old new : Held) (after : Meaning) : Type 0 where
+pub record IsRenewed (bytes numbers blocks : List ℕ) (gone : Option FileRecord) (p q : Metadata) (was : ℕ → List ℕ) (old new : Held) (after : Meaning) : Type 0 where
   pub lands : Lands p.limits bytes numbers blocks (looked old.staged was) new after
   pub stays : (n : ℕ) → is_among new.placed n ≡ false → lands.kept n ≡ was n
   pub trades : Trades p.limits gone p.taken q.taken blocks (looked old.staged was) (looked new.staged lands.kept)
 
 -- Bytes are put into blocks, in the place of those of the file of a record if there is one. At any moment a crash leaves all blocks as before but placed ones,
 -- which are among spare ones that were free.
-pub record Renews (bytes numbers : List ℕ) (gone : Option FileRecord) (p q : Kept) (old new : Held) (before after : Meaning) : Type 0 where
-  pub parts : q ≡ record p { taken = q.taken; marks = q.marks }
+pub record Renews (bytes numbers : List ℕ) (gone : Option FileRecord) (p q : Metadata) (old new : Held) (before after : Meaning) : Type 0 where
+  pub metadata : q ≡ record p { taken = q.taken; marks = q.marks }
   pub marks : Marks 2 p q
   pub bitmap : is_marked q (bitmap_start p.limits) ≡ true
   pub in_form : IsTrue (are_blocks p.limits.version (length bytes) numbers)
   pub below : IsTrue (list_all (λ n. nat_lt n p.limits.blocks) numbers)
   pub image : shape_of new ≡ shape_of old
   pub broken : new.is_broken ≡ old.is_broken
-  pub few_staged : length new.staged ≤ length old.staged + 16
+  pub few_staged : length new.staged ≤ length old.staged + SLOT_BLOCKS
   pub unplaced : is_large (length bytes) ≡ false → new.placed ≡ []
   pub spare : List ℕ
   pub were_free : IsTrue (are_free p.taken spare)
@@ -102,7 +103,7 @@ pub record Renews (bytes numbers : List ℕ) (gone : Option FileRecord) (p q : K
   pub distinct : IsTrue (are_distinct blocks)
   pub renewed : (kept : ℕ → List ℕ) → Fits old before kept → IsRenewed bytes numbers blocks gone p q kept old new after
 
-abbrev pub ContentRenewed : List ℕ → Option FileRecord → Kept → Kept → Held → Held → Meaning → Meaning → Result (ArrayVec ℕ) Change → Type 0
+abbrev pub ContentRenewed : List ℕ → Option FileRecord → Metadata → Metadata → Held → Held → Meaning → Meaning → Result (ArrayVec ℕ) ChangeFault → Type 0
 ContentRenewed bytes replaced p q old new before after (Ok numbers) = Renews bytes numbers.items replaced p q old new before after
 ContentRenewed bytes replaced p q old new before after (Err (Refused refusal)) = false ≡ true
 ContentRenewed bytes replaced p q old new before after (Err Disk) = ContentTorn bytes p q old new before after

@@ -3,11 +3,11 @@ use Rattle.std.specs.Prelude.{◌≡◌, length, count_by}
 use Rattle.lis_blockmap.specs.Bitmap.{free_count}
 use Rattle.lis_model.specs.State.{State, known}
 use Rattle.lis_model.specs.Step.{free_blocks}
-use Rattle.lis_kept.specs.Kept.{Kept}
+use Rattle.lis_kept.specs.Metadata.{Metadata}
 use Rattle.lis_kept.specs.Linking.{is_filled}
 
 -- what is kept has as many files, words, axioms and free blocks as the state
-pub record CountsState (k : Kept) (s : State) : Type 0 where
+pub record CountsState (k : Metadata) (s : State) : Type 0 where
   pub files : length k.catalog.entries ≡ length s.files
   pub known : length k.dict.entries ≡ length (known s)
   pub axioms : count_by is_filled k.axioms ≡ length s.axioms

@@ -8,7 +8,7 @@ use Rattle.lis_words.specs.Words.{is_built_in}
 use Rattle.lis_model.specs.Derived.{derived_words}
 use Rattle.lis_model.specs.State.{File, all_up, file_words}
 use Rattle.lis_model.specs.Tests.{met_tests}
-use Rattle.lis_kept.specs.Kept.{Kept}
+use Rattle.lis_kept.specs.Metadata.{Metadata}
 
 pub record Draft : Type 0 where
   pub name : List ℕ
@@ -33,10 +33,10 @@ AreOwnWords declared axioms own file = all_up declared axioms (file.assigned ++ 
 
 -- ---- the words that a description has kept
 -- the word of a number, if it is built in
-abbrev pub own_word : Kept → ℕ → List (List ℕ)
+abbrev pub own_word : Metadata → ℕ → List (List ℕ)
 own_word k n = filter is_built_in (option_to_list (word_of k.dict n))
 
 -- Those of the description in a slot: the words derived from its file, and their heads. A file can be given none of them, and no word that
 -- it can be given leads to one.
-abbrev pub own_kept : Kept → ℕ → List (List ℕ)
+abbrev pub own_kept : Metadata → ℕ → List (List ℕ)
 own_kept k slot = flat_map (own_word k) (set_of k.ext slot)

@@ -1,5 +1,6 @@
 -- Laws on images that stand for a state.
 use Rattle.std.specs.Prelude.{◌≡◌, ℕ, ◌≤◌, List, Some, length, IsTrue, IsSomeAnd}
+use Rattle.lis_limits.specs.declared.TheConstants.{BLOCK_LEN}
 use Rattle.lis_ports.specs.Meaning.{Meaning}
 use Rattle.lis_ports.specs.Runs.{Always, IsSettled}
 use Rattle.lis_ports.specs.Bytes.{part}
@@ -37,29 +38,29 @@ FittingStoresStand m = (k : Stored) (s : State) → IsSound k → StoreFits k m 
 
 -- where a store fits a disk at a state, truth and listings see of the store what they see of the state
 abbrev pub FittingStoresTell : Meaning → Type 0
-FittingStoresTell m = (k : Stored) (s : State) → IsSound k → StoreFits k m s → table_of k.parts ≡ table s
+FittingStoresTell m = (k : Stored) (s : State) → IsSound k → StoreFits k m s → table_of k.metadata ≡ table s
 
 -- and a file has as many bytes as its record says
 abbrev pub FittingStoresHold : Meaning → Type 0
 FittingStoresHold m =
-    (k : Stored) (s : State) → IsSound k → StoreFits k m s → (name : List ℕ) (slot : ℕ) → slot_of k.parts.catalog name ≡ Some slot
-    → IsSomeAnd (rec_at k.parts.catalog slot) (λ (rec : FileRecord). length (file_of s.files name).bytes ≡ rec.size)
+    (k : Stored) (s : State) → IsSound k → StoreFits k m s → (name : List ℕ) (slot : ℕ) → slot_of k.metadata.catalog name ≡ Some slot
+    → IsSomeAnd (rec_at k.metadata.catalog slot) (λ (rec : FileRecord). length (file_of s.files name).bytes ≡ rec.size)
 
 -- it has as many files, words, axioms and free blocks as the state
 abbrev pub FittingStoresCount : Meaning → Type 0
-FittingStoresCount m = (k : Stored) (s : State) → IsSound k → StoreFits k m s → CountsState k.parts s
+FittingStoresCount m = (k : Stored) (s : State) → IsSound k → StoreFits k m s → CountsState k.metadata s
 
 -- and its axioms are those of the state
 abbrev pub FittingStoresHaveAxioms : Meaning → Type 0
-FittingStoresHaveAxioms m = (k : Stored) (s : State) → IsSound k → StoreFits k m s → axioms_of k.parts ≡ s.axioms
+FittingStoresHaveAxioms m = (k : Stored) (s : State) → IsSound k → StoreFits k m s → axioms_of k.metadata ≡ s.axioms
 
 -- and each file was given the words that its record tells
 abbrev pub FittingStoresHaveTags : Meaning → Type 0
 FittingStoresHaveTags m =
-    (k : Stored) (s : State) → IsSound k → StoreFits k m s → (name : List ℕ) (slot : ℕ) → slot_of k.parts.catalog name ≡ Some slot
-    → IsSomeAnd (rec_at k.parts.catalog slot) (λ (rec : FileRecord). words_told k.parts.dict rec.tags ≡ (file_of s.files name).assigned)
+    (k : Stored) (s : State) → IsSound k → StoreFits k m s → (name : List ℕ) (slot : ℕ) → slot_of k.metadata.catalog name ≡ Some slot
+    → IsSomeAnd (rec_at k.metadata.catalog slot) (λ (rec : FileRecord). words_told k.metadata.dict rec.tags ≡ (file_of s.files name).assigned)
 
--- the parts of an empty store are in form
+-- the metadata of an empty store is in form
 abbrev pub EmptyStoresAreSound : Type 0
 EmptyStoresAreSound = (limits : Limits) (blocks : ℕ) → IsTrue (are_in_range limits) → data_start limits ≤ blocks → IsSound (empty_stored limits blocks)
 
@@ -67,20 +68,20 @@ EmptyStoresAreSound = (limits : Limits) (blocks : ℕ) → IsTrue (are_in_range 
 abbrev pub EmptyStoresFit : Meaning → Type 0
 EmptyStoresFit m =
     (limits : Limits) (blocks : ℕ) (image : List ℕ) → IsTrue (are_in_range limits) → data_start limits ≤ blocks → IsTrue m.is_honest → IsSettled m image
-    → SpellsSuper limits (part 0 4096 image) → IsBlank limits image → StoreFits (empty_stored limits blocks) m (empty_state limits)
+    → SpellsSuper limits (part 0 BLOCK_LEN image) → IsBlank limits image → StoreFits (empty_stored limits blocks) m (empty_state limits)
 
 -- While contents are placed in free blocks the image stands for the state as before, whatever these blocks hold.
 abbrev pub PlacedStand : Type 0
 PlacedStand =
-    (k : Stored) (kept : ℕ → List ℕ) (blocks : List ℕ) (s : State) → IsSound k → Tells k.parts kept s → IsWritten k.parts kept
-    → IsTrue (are_free k.parts.taken blocks)
-    → (image : List ℕ) → StandsBut k.journal.layout (homes_of (data_start k.parts.limits) blocks) kept image → Stands image s
+    (k : Stored) (kept : ℕ → List ℕ) (blocks : List ℕ) (s : State) → IsSound k → Tells k.metadata kept s → IsWritten k.metadata kept
+    → IsTrue (are_free k.metadata.taken blocks)
+    → (image : List ℕ) → StandsBut k.journal.layout (homes_of (data_start k.metadata.limits) blocks) kept image → Stands image s
 
 -- What is staged over blocks that tell t makes blocks of it: then each image that has all that is staged stands for t.
 abbrev pub ChangesStand : Type 0
 ChangesStand =
-    (new : Stored) (layout : Layout) (kept : ℕ → List ℕ) (t : State) → AreSound new.parts → FreeSlotsAreEmpty new.parts → PairsAreApart new.parts
-    → Tells new.parts kept t → IsWritten new.parts kept → layout ≡ image_layout new.parts.limits
+    (new : Stored) (layout : Layout) (kept : ℕ → List ℕ) (t : State) → AreSound new.metadata → FreeSlotsAreEmpty new.metadata → PairsAreApart new.metadata
+    → Tells new.metadata kept t → IsWritten new.metadata kept → layout ≡ image_layout new.metadata.limits
     → (image : List ℕ) → StandsFor layout kept image → Stands image t
 
 -- to create a file is to add one without bytes

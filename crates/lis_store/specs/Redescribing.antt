@@ -3,21 +3,21 @@ use Rattle.std.specs.Prelude.{◌≡◌, ◌⊎◌, ℕ, ◌+◌, ◌<◌, ◌�
 use Rattle.std.specs.List.{range_with_len}
 use Rattle.lis_ext.specs.Ext.{set_of as numbers_at}
 use Rattle.lis_ext.specs.Numbers.{differs, numbers_where}
-use Rattle.lis_kept.specs.Kept.{Kept}
+use Rattle.lis_kept.specs.Metadata.{Metadata}
 use Rattle.lis_kept.specs.Areas.{IsSaved, is_marked, block_of}
 use Rattle.lis_kept.specs.Areas.Area.{Rows}
 use Rattle.lis_kept.specs.Changes.{Describes}
 
 -- One slot has these numbers then: it is described anew, or it had them.
-abbrev pub SlotHas : ℕ → List ℕ → Kept → Kept → Type 0
+abbrev pub SlotHas : ℕ → List ℕ → Metadata → Metadata → Type 0
 SlotHas slot numbers p q = Describes slot numbers p q ⊎ ((numbers ≡ numbers_at p.ext slot) × (q ≡ p))
 
 -- which numbers differ at a slot that gets others
-abbrev pub turned_at : Kept → (ℕ → List ℕ) → ℕ → List ℕ
+abbrev pub turned_at : Metadata → (ℕ → List ℕ) → ℕ → List ℕ
 turned_at k sets slot = numbers_where k.ext.props (differs (numbers_at k.ext slot) (sets slot))
 
 -- the block is that of the row of a number that some slot gains or loses
-pub record IsTurnedRow (k : Kept) (sets : ℕ → List ℕ) (block : ℕ) : Type 0 where
+pub record IsTurnedRow (k : Metadata) (sets : ℕ → List ℕ) (block : ℕ) : Type 0 where
   pub slot : ℕ
   pub number : ℕ
   pub below : number < k.ext.props
@@ -25,8 +25,8 @@ pub record IsTurnedRow (k : Kept) (sets : ℕ → List ℕ) (block : ℕ) : Type
   pub is : block ≡ block_of k.limits Rows number
 
 -- The slots below the count have these numbers, and the others what they had. The count of edits does not fall.
-pub record Redescribes (sets : ℕ → List ℕ) (count : ℕ) (p q : Kept) : Type 0 where
-  pub parts : q ≡ record p { ext = q.ext; marks = q.marks }
+pub record Redescribes (sets : ℕ → List ℕ) (count : ℕ) (p q : Metadata) : Type 0 where
+  pub metadata : q ≡ record p { ext = q.ext; marks = q.marks }
   pub props : q.ext.props ≡ p.ext.props
   pub slots : length q.ext.sets ≡ length p.ext.sets
   pub done : (slot : ℕ) → slot < count → numbers_at q.ext slot ≡ sets slot

@@ -6,7 +6,7 @@ use Rattle.lis_dict.specs.Dict.{word_of}
 use Rattle.lis_ext.specs.Ext.{set_of}
 use Rattle.lis_fields.specs.Records.{FileRecord}
 use Rattle.lis_model.specs.Changes.{file_removed}
-use Rattle.lis_kept.specs.Kept.{Kept}
+use Rattle.lis_kept.specs.Metadata.{Metadata}
 use Rattle.lis_kept.specs.Areas.{block_of, is_marked}
 use Rattle.lis_kept.specs.Areas.Area.{Files}
 use Rattle.lis_kept.specs.Sound.{AreSound}
@@ -16,14 +16,14 @@ use Rattle.lis_kept.specs.Changes.{Marks, Describes}
 use Rattle.lis_model.specs.Sets.{has_number}
 
 -- what is kept without the record in the slot
-abbrev pub without_record : Kept → ℕ → Kept
+abbrev pub without_record : Metadata → ℕ → Metadata
 without_record k slot = record k { catalog = without_slot k.catalog slot }
 
 -- The record in the slot goes, and the words go that nothing uses but the description in the slot. The slot is described as before.
-pub record Vacates (slot : ℕ) (rec : FileRecord) (p q : Kept) : Type 0 where
+pub record Vacates (slot : ℕ) (rec : FileRecord) (p q : Metadata) : Type 0 where
   pub there : rec_at p.catalog slot ≡ Some rec
   pub rising : IsStrictlyIncreasing (set_of p.ext slot)
-  pub parts : q ≡ record p { dict = q.dict; catalog = without_slot p.catalog slot; marks = q.marks }
+  pub metadata : q ≡ record p { dict = q.dict; catalog = without_slot p.catalog slot; marks = q.marks }
   pub words : (n : ℕ) → word_of q.dict n ≡ (if has_number (set_of p.ext slot) n && not (is_used (emptied p slot) n) then None else word_of p.dict n)
   pub used : (n : ℕ) → is_some (word_of q.dict n) ≡ true → is_used (emptied q slot) n ≡ is_used (emptied p slot) n
   pub told : (at : ℕ → List ℕ) → state_of q at ≡ state_of (without_record p slot) at
@@ -34,8 +34,8 @@ pub record Vacates (slot : ℕ) (rec : FileRecord) (p q : Kept) : Type 0 where
   pub sound : AreSound q
 
 -- Its slot is vacated, and then its description goes.
-pub record TakesOut (slot : ℕ) (rec : FileRecord) (p q : Kept) : Type 0 where
-  pub vacated : Kept
+pub record TakesOut (slot : ℕ) (rec : FileRecord) (p q : Metadata) : Type 0 where
+  pub vacated : Metadata
   pub vacates : Vacates slot rec p vacated
   pub empties : Describes slot [] vacated q
   pub sound : AreSound q

@@ -3,6 +3,7 @@
 use Rattle.std.specs.Prelude.{◌≡◌, ℕ, ◌<◌, ◌≤◌, Option, None, Some, List, length, IsTrue, IsSomeAnd}
 use Rattle.std.specs.List.{list_all}
 use Rattle.std.specs.List.Sorted.{IsStrictlyIncreasing}
+use Rattle.lis_limits.specs.declared.TheConstants.{MAX_ASSIGNED, MAX_DESCRIPTION}
 use Rattle.lis_graph.specs.Graph.{is_rising}
 use Rattle.lis_catalog.specs.Catalog.{slot_of, rec_at}
 use Rattle.lis_ext.specs.Ext.{set_of}
@@ -10,7 +11,7 @@ use Rattle.lis_fields.specs.Records.{FileRecord}
 use Rattle.lis_words.specs.Words.{is_built_in, is_file_name, word_cmp}
 use Rattle.lis_model.specs.State.{File, State, is_assignable, file_limit, blocks_taken}
 use Rattle.lis_model.specs.Changes.{file_removed}
-use Rattle.lis_kept.specs.Kept.{Kept}
+use Rattle.lis_kept.specs.Metadata.{Metadata}
 use Rattle.lis_kept.specs.Telling.{declared_of}
 use Rattle.lis_kept.specs.Sound.{AreSound, FreeSlotsAreEmpty}
 use Rattle.lis_kept.specs.Forgetting.{KeepsInUse, emptied}
@@ -24,7 +25,7 @@ use Rattle.lis_store.specs.Replacing.{MayReplace}
 use Rattle.lis_store.specs.Adding.{numbers_named, with_heads, LearnsAll, learnt_words}
 
 -- what holds of what every store keeps, whatever is marked
-pub record AreInForm (k : Kept) : Type 0 where
+pub record AreInForm (k : Metadata) : Type 0 where
   pub sound : AreSound k
   pub free : FreeSlotsAreEmpty k
   pub closed : AreClosed k
@@ -34,7 +35,7 @@ pub record AreInForm (k : Kept) : Type 0 where
 
 -- ---- room for a file
 -- the record that goes where a file comes into the slot, if one is told
-abbrev pub record_in : Kept → Option ℕ → Option FileRecord
+abbrev pub record_in : Metadata → Option ℕ → Option FileRecord
 record_in k None = None
 record_in k (Some slot) = rec_at k.catalog slot
 
@@ -44,70 +45,70 @@ file_gone s None = s
 file_gone s (Some rec) = file_removed s rec.name
 
 -- A file that may be put into the slot, in the place of the file there, or into a free one where none is told.
-abbrev pub MayPut : Kept → Option ℕ → Draft → Type 0
+abbrev pub MayPut : Metadata → Option ℕ → Draft → Type 0
 MayPut k None draft = IsAdmitted k draft
 MayPut k (Some slot) draft = IsSomeAnd (rec_at k.catalog slot) (λ (rec : FileRecord). MayReplace k slot rec draft)
 
 -- And its blocks are enough.
-abbrev pub MayPutBytes : Kept → Option ℕ → File → Type 0
+abbrev pub MayPutBytes : Metadata → Option ℕ → File → Type 0
 MayPutBytes k slot file = MayPut k slot (draft_of file) × (blocks_taken k.limits.version (length file.bytes) ≤ free_for k (record_in k slot))
 
 -- A file whose words may be given, and that has a new name.
-pub record MayComeIn (k : Kept) (draft : Draft) : Type 0 where
+pub record MayComeIn (k : Metadata) (draft : Draft) : Type 0 where
   pub name : IsTrue (is_file_name draft.name)
   pub new : slot_of k.catalog draft.name ≡ None
   pub set : IsTrue (is_rising word_cmp draft.assigned)
   pub assignable : IsTrue (list_all (is_assignable (declared_of k)) draft.assigned)
-  pub few : length draft.assigned ≤ 16
+  pub few : length draft.assigned ≤ MAX_ASSIGNED
   pub own : IsTrue (list_all is_built_in draft.own)
-  pub few_own : length draft.own ≤ 128
-  pub short : length (described_by k draft) ≤ 128
+  pub few_own : length draft.own ≤ MAX_DESCRIPTION
+  pub short : length (described_by k draft) ≤ MAX_DESCRIPTION
   pub room : length (known_with k draft) ≤ k.limits.props
   pub small : draft.size ≤ file_limit k.limits.version
 
 -- The slot has no file, and is described by these numbers. Without them memory is in form.
-pub record IsVacant (slot : ℕ) (old : List ℕ) (k : Kept) : Type 0 where
+pub record IsVacant (slot : ℕ) (old : List ℕ) (k : Metadata) : Type 0 where
   pub below : slot < k.limits.files
   pub spare : length k.catalog.entries < k.limits.files
   pub free : rec_at k.catalog slot ≡ None
   pub was : set_of k.ext slot ≡ old
   pub rising : IsStrictlyIncreasing old
-  pub few : length old ≤ 128
+  pub few : length old ≤ MAX_DESCRIPTION
   pub sound : AreSound k
   pub form : AreInForm (emptied k slot)
 
 -- The file of the record goes, or where there is none the slot is free.
-abbrev pub MakesRoom : ℕ → Option FileRecord → Kept → Kept → Type 0
+abbrev pub MakesRoom : ℕ → Option FileRecord → Metadata → Metadata → Type 0
 MakesRoom slot None p q = q ≡ p
 MakesRoom slot (Some rec) p q = Vacates slot rec p q
 
 -- ---- a file that comes
 -- The words of a file are learnt. These are the numbers of those that it was given, and those of its description.
-pub record LearnsOwn (draft : Draft) (tags numbers : List ℕ) (p q : Kept) : Type 0 where
+pub record LearnsOwn (draft : Draft) (tags numbers : List ℕ) (p q : Metadata) : Type 0 where
   pub learns : LearnsAll (with_heads (learnt_words draft)) p q
   pub sound : AreSound q
   pub tagged : tags ≡ numbers_named q.dict draft.assigned
   pub numbered : numbers ≡ numbers_named q.dict (described_by p draft)
-  pub few : length numbers ≤ 128
+  pub few : length numbers ≤ MAX_DESCRIPTION
 
 -- the record of a file of these blocks
 abbrev pub record_of : List ℕ → Draft → List ℕ → FileRecord
 record_of tags draft blocks = record { name = draft.name; size = draft.size; tags = tags; blocks = blocks }
 
 -- Its words are learnt, then the slot is described by them, and last it is filed there.
-pub record SettlesIn (slot : ℕ) (draft : Draft) (blocks : List ℕ) (p q : Kept) : Type 0 where
-  pub learnt : Kept
+pub record SettlesIn (slot : ℕ) (draft : Draft) (blocks : List ℕ) (p q : Metadata) : Type 0 where
+  pub learnt : Metadata
   pub own : LearnsOwn draft (numbers_named learnt.dict draft.assigned) (numbers_named learnt.dict (described_by p draft)) p learnt
-  pub described : Kept
+  pub described : Metadata
   pub describes : Describes slot (numbers_named learnt.dict (described_by p draft)) learnt described
   pub files : Files slot (record_of (numbers_named learnt.dict draft.assigned) draft blocks) described q
   pub sound : AreSound q
 
 -- The file of the record goes, if there is one, and another comes into its slot or into a free one.
-pub record RefilesIn (gone : Option FileRecord) (draft : Draft) (blocks : List ℕ) (p q : Kept) : Type 0 where
+pub record RefilesIn (gone : Option FileRecord) (draft : Draft) (blocks : List ℕ) (p q : Metadata) : Type 0 where
   pub slot : ℕ
   pub old : List ℕ
-  pub vacated : Kept
+  pub vacated : Metadata
   pub makes : MakesRoom slot gone p vacated
   pub vacant : IsVacant slot old vacated
   pub may : MayComeIn vacated draft

@@ -1,6 +1,7 @@
 -- What a file is refused for that would move from one place to another, told by what a store keeps.
 use Rattle.std.specs.Prelude.{ℕ, nat_lt, Bool, not, ◌&&◌, is_some, List, [], ◌∷◌, ◌++◌, length, Result, Ok, Err}
 use Rattle.std.specs.List.{list_any, list_all}
+use Rattle.lis_limits.specs.declared.TheConstants.{MAX_ASSIGNED}
 use Rattle.lis_fields.specs.Records.{FileRecord}
 use Rattle.lis_words.specs.Words.{is_built_in, is_head}
 use Rattle.lis_grammar.specs.Formula.{Formula}
@@ -11,7 +12,7 @@ use Rattle.lis_model.specs.declared.refusal.Refusal.TheVariants.{BadFormula, Unk
 use Rattle.lis_model.specs.State.{is_assignable}
 use Rattle.lis_model.specs.Places.{place_words}
 use Rattle.lis_model.specs.Step.{tags_at, retagged}
-use Rattle.lis_kept.specs.Kept.{Kept}
+use Rattle.lis_kept.specs.Metadata.{Metadata}
 use Rattle.lis_kept.specs.Telling.{words_told, declared_of}
 use Rattle.lis_store.specs.Drafts.{Draft, drafted, own_kept}
 use Rattle.lis_store.specs.Instead.{instead_checks}
@@ -23,11 +24,11 @@ place_or_refusal BeyondLimits = Err LargeFormula
 place_or_refusal (NewPlace place) = Ok place
 
 -- the words of the file of a record, without the tags of one place and with those of another
-abbrev pub words_moved : Kept → FileRecord → List Formula → List Formula → List (List ℕ)
+abbrev pub words_moved : Metadata → FileRecord → List Formula → List Formula → List (List ℕ)
 words_moved k rec here there = retagged (words_told k.dict rec.tags) (tags_at here) (tags_at there)
 
 -- the file of a record, with the derived words and their heads that its description has kept
-abbrev pub moved_draft : Kept → ℕ → FileRecord → List Formula → List Formula → List ℕ → Draft
+abbrev pub moved_draft : Metadata → ℕ → FileRecord → List Formula → List Formula → List ℕ → Draft
 moved_draft k slot rec here there name = drafted name rec.size (words_moved k rec here there) (own_kept k slot)
 
 -- ---- rows
@@ -36,15 +37,15 @@ abbrev pub text_checks : List (List ℕ) → List (Bool × Refusal)
 text_checks words = (list_any is_built_in words, BuiltIn) ∷ (list_any is_head words, NotAssignable) ∷ []
 
 -- what both places are refused for, given the words of the text
-abbrev pub places_checks : Kept → List Formula → List Formula → List (List ℕ) → List (Bool × Refusal)
+abbrev pub places_checks : Metadata → List Formula → List Formula → List (List ℕ) → List (Bool × Refusal)
 places_checks k here there words =
     (not (is_some (place_words here) && is_some (place_words there)), NotAPlace)
     ∷ text_checks words
     ++ (not (list_all (is_assignable (declared_of k)) (tags_at there)), UnknownProperty) ∷ []
 
 -- what a file is refused for in the other place, whatever its bytes are
-abbrev pub moving_checks : Kept → List Formula → List Formula → List (List ℕ) → FileRecord → List (Bool × Refusal)
-moving_checks k here there words rec = places_checks k here there words ++ (nat_lt 16 (length (words_moved k rec here there)), TooManyAssigned) ∷ []
+abbrev pub moving_checks : Metadata → List Formula → List Formula → List (List ℕ) → FileRecord → List (Bool × Refusal)
+moving_checks k here there words rec = places_checks k here there words ++ (nat_lt MAX_ASSIGNED (length (words_moved k rec here there)), TooManyAssigned) ∷ []
 
-abbrev pub retag_checks : Kept → List Formula → List Formula → List (List ℕ) → ℕ → FileRecord → Draft → List (Bool × Refusal)
+abbrev pub retag_checks : Metadata → List Formula → List Formula → List (List ℕ) → ℕ → FileRecord → Draft → List (Bool × Refusal)
 retag_checks k here there words slot rec draft = moving_checks k here there words rec ++ instead_checks k slot draft

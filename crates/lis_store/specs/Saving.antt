@@ -8,35 +8,35 @@ use Rattle.lis_journal.specs.Phases.{looked}
 use Rattle.lis_model.specs.Image.{bitmap_start, data_start}
 use Rattle.lis_model.specs.State.{State}
 use Rattle.lis_model.specs.Step.{Situation, Outcome, changed}
-use Rattle.lis_kept.specs.Kept.{Kept}
+use Rattle.lis_kept.specs.Metadata.{Metadata}
 use Rattle.lis_kept.specs.Areas.{IsSaved, is_marked}
 use Rattle.lis_kept.specs.Sound.{AreSound}
 use Rattle.lis_kept.specs.Telling.{Tells}
-use Rattle.lis_store.specs.declared.change.Change.{Change}
-use Rattle.lis_store.specs.declared.change.Change.TheVariants.{Refused, Disk}
+use Rattle.lis_store.specs.declared.change_fault.ChangeFault.{ChangeFault}
+use Rattle.lis_store.specs.declared.change_fault.ChangeFault.TheVariants.{Refused, Disk}
 use Rattle.lis_store.specs.Stands.{Stands}
 use Rattle.lis_store.specs.Stored.{Stored}
 use Rattle.lis_store.specs.Changes.{Holds}
 
--- the parts without marks
-abbrev pub clean : Kept → Kept
+-- the metadata without marks
+abbrev pub clean : Metadata → Metadata
 clean k = record k { marks = replicate (length k.marks) false }
 
--- the store that these parts and this journal are once they are saved
-abbrev pub settled : Kept → Held → Stored
-settled k j = record { parts = clean k; journal = record j { staged = []; placed = [] }; is_broken = false }
+-- the store that this metadata and this journal are once they are saved
+abbrev pub settled : Metadata → Held → Stored
+settled k j = record { metadata = clean k; journal = record j { staged = []; placed = [] }; is_broken = false }
 
 -- Placed blocks are data blocks, and where there are any the block of the bitmap is marked.
-abbrev pub ArePlaced : Kept → Held → Type 0
+abbrev pub ArePlaced : Metadata → Held → Type 0
 ArePlaced k j = (n : ℕ) → is_among j.placed n ≡ true → (data_start k.limits ≤ n) × (is_marked k (bitmap_start k.limits) ≡ true)
 
 -- By these blocks memory tells a state, and what is not marked is written.
-pub record IsReady (k : Kept) (at : ℕ → List ℕ) (s : State) : Type 0 where
+pub record IsReady (k : Metadata) (at : ℕ → List ℕ) (s : State) : Type 0 where
   pub tells : Tells k at s
   pub saved : IsSaved k at
 
 -- What is staged is kept, all or none of it, as a commit of the journal says.
-pub record KeepsStaged {T : Type 0} (old new : Held) (before after : Meaning) (result : Result T Change) : Type 0 where
+pub record KeepsStaged {T : Type 0} (old new : Held) (before after : Meaning) (result : Result T ChangeFault) : Type 0 where
   pub moments : (kept : ℕ → List ℕ) → Fits old before kept → Leaves before after (StandsForAllOrNone old.layout old.placed kept old.staged)
   pub past : (kept : ℕ → List ℕ) → Fits old before kept → KeepsPast old.layout.blocks before after
   pub kept : OnOk result ((kept : ℕ → List ℕ) → Fits old before kept → Fits new after (looked old.staged kept))
@@ -44,16 +44,16 @@ pub record KeepsStaged {T : Type 0} (old new : Held) (before after : Meaning) (r
   pub none_placed : OnOk result (0 < length old.staged → new.placed ≡ [])
   pub broken : OnErr result (new ≡ record old { records = new.records; is_broken = true })
 
--- From any state for which each image stands that keeps all but the placed blocks, to any for which the parts are ready, this is a change
+-- From any state for which each image stands that keeps all but the placed blocks, to any for which the metadata is ready, this is a change
 -- that may be held back.
-abbrev pub Saves : {T : Type 0} → Kept → Held → Stored → Meaning → Meaning → Result T Change → Type 0
+abbrev pub Saves : {T : Type 0} → Metadata → Held → Stored → Meaning → Meaning → Result T ChangeFault → Type 0
 Saves k j new before after result =
     (base : State) (now : Situation) (outcome : Outcome) (t : State) (kept : ℕ → List ℕ) → Fits j before kept → k.limits ≡ base.limits
     → ((image : List ℕ) → StandsBut j.layout j.placed kept image → Stands image base)
     → (AreSound k → IsReady k (looked j.staged kept) t) → outcome ≡ changed now t → Holds base now outcome new before after result
 
 -- It breaks the store exactly at a fault of the disk, and refuses nothing.
-abbrev pub SaveEnded : {T : Type 0} → Bool → Result T Change → Type 0
+abbrev pub SaveEnded : {T : Type 0} → Bool → Result T ChangeFault → Type 0
 SaveEnded is_broken (Ok done) = is_broken ≡ false
 SaveEnded is_broken (Err (Refused refusal)) = false ≡ true
 SaveEnded is_broken (Err Disk) = is_broken ≡ true

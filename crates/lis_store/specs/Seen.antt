@@ -6,17 +6,17 @@ use Rattle.lis_ext.specs.Ext.{set_of}
 use Rattle.lis_model.specs.State.{up}
 use Rattle.lis_model.specs.Table.{Table}
 use Rattle.lis_eval.specs.View as view
-use Rattle.lis_kept.specs.Kept.{Kept}
+use Rattle.lis_kept.specs.Metadata.{Metadata}
 use Rattle.lis_kept.specs.Telling.{words_told, declared_of, axioms_of}
 
 -- a file with its description, in its slot
-abbrev pub placed : Kept → Filed → view.Placed
+abbrev pub placed : Metadata → Filed → view.Placed
 placed k f = record {
   slot = f.slot;
   entry = record { name = f.rec.name; size = f.rec.size; words = words_told k.dict (set_of k.ext f.slot) };
 }
 
-abbrev pub seen_of : Kept → view.Seen
+abbrev pub seen_of : Metadata → view.Seen
 seen_of k = record {
   limits = k.limits;
   words = k.dict.entries;
@@ -25,5 +25,5 @@ seen_of k = record {
 }
 
 -- the table of what is kept
-abbrev pub table_of : Kept → Table
+abbrev pub table_of : Metadata → Table
 table_of k = view.table_of (seen_of k)

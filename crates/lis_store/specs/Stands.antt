@@ -3,6 +3,7 @@ use Rattle.std.specs.Prelude.{◌≡◌, ℕ, ◌*◌, ◌/◌, ◌<◌, ◌≤�
 use Rattle.std.specs.Option.{option_to_list}
 use Rattle.std.specs.BTreeSet.{insert_key}
 use Rattle.std.specs.List.{fold, flat_map, list_all, Contains}
+use Rattle.lis_limits.specs.declared.TheConstants.{BLOCK_LEN}
 use Rattle.lis_ports.specs.Bytes.{part}
 use Rattle.lis_journal.specs.Record.{block, replayed}
 use Rattle.lis_slots.specs.Slots.{Slots, slot}
@@ -147,8 +148,8 @@ pub record Spells (limits : Limits) (contents : Contents) (at : ℕ → List ℕ
 -- past the image is not looked at.
 pub record StandsFor (image : List ℕ) (s : State) : Type 0 where
   pub range : IsTrue (are_in_range s.limits)
-  pub super : SpellsSuper s.limits (part 0 4096 image)
-  pub long : 4096 * image_blocks s.limits ≤ length image
+  pub super : SpellsSuper s.limits (part 0 BLOCK_LEN image)
+  pub long : BLOCK_LEN * image_blocks s.limits ≤ length image
   pub replay : List ℕ
   pub replays : replayed (image_layout s.limits) image ≡ Some replay
   pub contents : Contents

@@ -1,5 +1,6 @@
 -- A store: what memory keeps of an image, with its journal, and when it fits a disk.
 use Rattle.std.specs.Prelude.{◌≡◌, ℕ, ◌*◌, ◌≤◌, Bool, true, false, Some, is_some, List, [], length, replicate, slice_get, IsTrue}
+use Rattle.lis_limits.specs.declared.TheConstants.{BLOCK_LEN, MAX_DESCRIPTION}
 use Rattle.lis_ports.specs.Meaning.{Meaning}
 use Rattle.lis_journal.specs.Journal.{Held, no_records, shape_of}
 use Rattle.lis_journal.specs.Images.{StandsFor, Fits, held_in}
@@ -15,7 +16,7 @@ use Rattle.lis_model.specs.declared.limits.Limits.{Limits}
 use Rattle.lis_model.specs.Image.{data_start}
 use Rattle.lis_model.specs.State.{State}
 use Rattle.lis_model.specs.Tests.{is_met}
-use Rattle.lis_kept.specs.Kept.{Kept}
+use Rattle.lis_kept.specs.Metadata.{Metadata}
 use Rattle.lis_kept.specs.Areas.{IsWritten, axiom_slots}
 use Rattle.lis_kept.specs.Links.{is_linked}
 use Rattle.lis_kept.specs.Sound.{AreSound, FreeSlotsAreEmpty}
@@ -27,7 +28,7 @@ use Rattle.lis_model.specs.Sets.{has_number}
 use Rattle.lis_kept.specs.Image.{image_layout, image_capacity, image_shape}
 
 pub record Stored : Type 0 where
-  pub parts : Kept
+  pub metadata : Metadata
   pub journal : Held
   -- a call of the disk failed: only what is on the disk counts
   pub is_broken : Bool
@@ -35,23 +36,23 @@ pub record Stored : Type 0 where
 -- A store may be used on this disk: it is not broken, and the disk has all its blocks.
 pub record IsUsable (k : Stored) (m : Meaning) : Type 0 where
   pub unbroken : k.is_broken ≡ false
-  pub long : 4096 * k.journal.layout.blocks ≤ m.len
+  pub long : BLOCK_LEN * k.journal.layout.blocks ≤ m.len
 
 -- a file that has a number has all numbers to which it is linked
-abbrev pub AreClosed : Kept → Type 0
+abbrev pub AreClosed : Metadata → Type 0
 AreClosed k = (slot p q : ℕ) → has k.ext p slot ≡ true → is_linked k p q ≡ true → has k.ext q slot ≡ true
 
 -- No two axiom slots have the same two numbers.
-abbrev pub PairsAreApart : Kept → Type 0
+abbrev pub PairsAreApart : Metadata → Type 0
 PairsAreApart k =
     (slot other left right : ℕ) → slice_get k.axioms slot ≡ Some (Pair left right) → slice_get k.axioms other ≡ Some (Pair left right) → slot ≡ other
 
 -- No file's description has more numbers than a state allows it words.
-abbrev pub DescriptionsAreShort : Kept → Type 0
-DescriptionsAreShort k = (slot : ℕ) → length (numbers_at k.ext slot) ≤ 128
+abbrev pub DescriptionsAreShort : Metadata → Type 0
+DescriptionsAreShort k = (slot : ℕ) → length (numbers_at k.ext slot) ≤ MAX_DESCRIPTION
 
 -- Tests come into descriptions by sizes alone: no file was given one, and a file has a known one exactly where its size meets it.
-pub record TestsAreMet (k : Kept) : Type 0 where
+pub record TestsAreMet (k : Metadata) : Type 0 where
   pub given : (slot : ℕ) (rec : FileRecord) → rec_at k.catalog slot ≡ Some rec → (n : ℕ) → has_number rec.tags n ≡ true
       → is_some {T = Bool × ℕ} (test_by (word_of k.dict n)) ≡ false
   pub met : (slot : ℕ) (rec : FileRecord) → rec_at k.catalog slot ≡ Some rec → (n : ℕ) → is_some {T = Bool × ℕ} (test_by (word_of k.dict n)) ≡ true
@@ -60,19 +61,19 @@ pub record TestsAreMet (k : Kept) : Type 0 where
 -- What holds of every store. Where it is not broken nothing is placed or marked between calls, and of what is staged there are few blocks,
 -- each of them whole.
 pub record IsSound (k : Stored) : Type 0 where
-  pub parts : AreSound k.parts
-  pub free : FreeSlotsAreEmpty k.parts
-  pub pairs : PairsAreApart k.parts
-  pub closed : AreClosed k.parts
-  pub short : DescriptionsAreShort k.parts
-  pub tests : TestsAreMet k.parts
-  pub in_use : KeepsInUse k.parts
-  pub image : shape_of k.journal ≡ image_shape k.parts.limits
+  pub metadata : AreSound k.metadata
+  pub free : FreeSlotsAreEmpty k.metadata
+  pub pairs : PairsAreApart k.metadata
+  pub closed : AreClosed k.metadata
+  pub short : DescriptionsAreShort k.metadata
+  pub tests : TestsAreMet k.metadata
+  pub in_use : KeepsInUse k.metadata
+  pub image : shape_of k.journal ≡ image_shape k.metadata.limits
   pub journal : k.is_broken ≡ false → k.journal.is_broken ≡ false
   pub few : k.is_broken ≡ false → length k.journal.staged ≤ 44
   pub whole : k.is_broken ≡ false → IsTrue (are_whole k.journal.staged)
   pub placed : k.is_broken ≡ false → k.journal.placed ≡ []
-  pub clean : k.is_broken ≡ false → k.parts.marks ≡ replicate (length k.parts.marks) false
+  pub clean : k.is_broken ≡ false → k.metadata.marks ≡ replicate (length k.metadata.marks) false
 
 -- A store fits a disk at a state: its journal fits the disk, nothing is staged, and by the blocks that the disk keeps, what memory keeps is
 -- written there and tells the state. So every image of the disk stands for the state.
@@ -81,22 +82,22 @@ pub record StoreFits (k : Stored) (m : Meaning) (s : State) : Type 0 where
   pub journal : Fits k.journal m kept
   pub unbroken : k.is_broken ≡ false
   pub settled : k.journal.staged ≡ []
-  pub tells : Tells k.parts kept s
-  pub written : IsWritten k.parts kept
+  pub tells : Tells k.metadata kept s
+  pub written : IsWritten k.metadata kept
 
 -- Changes are held back: each image of the disk stands for the base, and by what the disk keeps under what is staged, memory tells the state.
 pub record StoreHolds (k : Stored) (m : Meaning) (base s : State) : Type 0 where
   pub kept : ℕ → List ℕ
   pub journal : Fits k.journal m kept
   pub unbroken : k.is_broken ≡ false
-  pub limits : k.parts.limits ≡ base.limits
+  pub limits : k.metadata.limits ≡ base.limits
   pub stands : (image : List ℕ) → StandsFor k.journal.layout kept image → Stands image base
-  pub tells : Tells k.parts (looked k.journal.staged kept) s
-  pub written : IsWritten k.parts (looked k.journal.staged kept)
+  pub tells : Tells k.metadata (looked k.journal.staged kept) s
+  pub written : IsWritten k.metadata (looked k.journal.staged kept)
 
 -- what is kept where there are no words, axioms and files
-abbrev pub empty_parts : Limits → ℕ → Kept
-empty_parts limits blocks = record {
+abbrev pub empty_metadata : Limits → ℕ → Metadata
+empty_metadata limits blocks = record {
   limits = limits;
   dict = record { props = limits.props; entries = [] };
   declared = replicate limits.props false;
@@ -110,7 +111,7 @@ empty_parts limits blocks = record {
 -- a store without words and files, with a journal that has no open record
 abbrev pub empty_stored : Limits → ℕ → Stored
 empty_stored limits blocks = record {
-  parts = empty_parts limits blocks;
+  metadata = empty_metadata limits blocks;
   journal = record { layout = image_layout limits; capacity = image_capacity limits; staged = []; records = no_records; placed = []; is_broken = false };
   is_broken = false;
 }
@@ -118,5 +119,5 @@ empty_stored limits blocks = record {
 -- Where the disk reads as these bytes, `index` is the index block of the file in the slot, if it has one.
 abbrev pub IsIndex : Stored → List ℕ → ℕ → List ℕ → Type 0
 IsIndex k bytes slot index =
-    (rec : FileRecord) → rec_at k.parts.catalog slot ≡ Some rec → is_large rec.size ≡ true
-    → index ≡ held_in k.journal bytes (index_home (data_start k.parts.limits) rec.blocks)
+    (rec : FileRecord) → rec_at k.metadata.catalog slot ≡ Some rec → is_large rec.size ≡ true
+    → index ≡ held_in k.journal bytes (index_home (data_start k.metadata.limits) rec.blocks)

@@ -1,9 +1,10 @@
 -- Tests that are declared and that go: what descriptions gain and lose.
-use Rattle.std.specs.Prelude.{ℕ, ◌==◌, nat_lt, Bool, false, not, ◌&&◌, Option, None, List, [], length, filter, ◌≡◌, ◌<◌, ◌≤◌, ◌∷◌, IsTrue}
+use Rattle.std.specs.Prelude.{◌-◌, ℕ, ◌==◌, nat_lt, Bool, false, not, ◌&&◌, Option, None, List, [], length, filter, ◌≡◌, ◌<◌, ◌≤◌, ◌∷◌, IsTrue}
 use Rattle.std.specs.List.{list_any, range_with_len}
+use Rattle.lis_limits.specs.declared.TheConstants.{MAX_DESCRIPTION, MAX_NODES}
 use Rattle.lis_ext.specs.Ext.{set_of as numbers_at}
 use Rattle.lis_words.specs.Words.{test_of}
-use Rattle.lis_kept.specs.Kept.{Kept}
+use Rattle.lis_kept.specs.Metadata.{Metadata}
 use Rattle.lis_kept.specs.Sound.{AreSound}
 use Rattle.lis_kept.specs.Under.{DeclaresUnder, MayStandUnder}
 use Rattle.lis_kept.specs.Undeclaring.{Undeclares}
@@ -16,45 +17,45 @@ use Rattle.lis_store.specs.Placing.{AreNumbersOf}
 
 -- ---- a new test
 -- a file meets the test, and would have too many words with it and with what it gains
-abbrev pub is_crowded : Kept → Option (Bool × ℕ) → List ℕ → ℕ → Bool
-is_crowded k test numbers slot = is_met_at k test slot && nat_lt 127 (length (wider k (is_gained k numbers) slot))
+abbrev pub is_crowded : Metadata → Option (Bool × ℕ) → List ℕ → ℕ → Bool
+is_crowded k test numbers slot = is_met_at k test slot && nat_lt (MAX_DESCRIPTION - 1) (length (wider k (is_gained k numbers) slot))
 
-abbrev pub has_crowded : Kept → Option (Bool × ℕ) → List ℕ → Bool
+abbrev pub has_crowded : Metadata → Option (Bool × ℕ) → List ℕ → Bool
 has_crowded k test numbers = list_any (is_crowded k test numbers) (range_with_len 0 k.limits.files)
 
 -- The word may be declared under the words of these numbers: it is a new one, and there is room for it.
-pub record MayDeclare (k : Kept) (word : List ℕ) (numbers : List ℕ) : Type 0 where
+pub record MayDeclare (k : Metadata) (word : List ℕ) (numbers : List ℕ) : Type 0 where
   pub form : IsTrue (is_declarable word)
   pub new : number_of k.dict word ≡ None
   pub room : length k.dict.entries < k.limits.props
   pub under : MayStandUnder numbers k
   pub are : AreNumbersOf k (words_told k.dict numbers) numbers
   pub few : has_crowded k (test_of word) numbers ≡ false
-  pub short : length numbers ≤ 64
+  pub short : length numbers ≤ MAX_NODES
 
 -- The description in a slot, where the number is that of a new test: a file that meets it has it, and all that its words entail then.
-abbrev pub tested : Kept → Option (Bool × ℕ) → ℕ → ℕ → List ℕ
+abbrev pub tested : Metadata → Option (Bool × ℕ) → ℕ → ℕ → List ℕ
 tested k test number = anew k (is_met_at k test) (λ slot. number ∷ numbers_at k.ext slot)
 
 -- The word is declared under others, and files that meet it have it.
-pub record DeclaresTested (word : List ℕ) (rights : List ℕ) (p q : Kept) : Type 0 where
-  pub made : Kept
+pub record DeclaresTested (word : List ℕ) (rights : List ℕ) (p q : Metadata) : Type 0 where
+  pub made : Metadata
   pub stands : DeclaresUnder word rights p made
   pub sound : AreSound made
   pub gives : Redescribes (tested made (test_of word) stands.declares.number) made.limits.files made q
 
 -- ---- a word that goes
 -- the description in a slot without a number
-abbrev pub without_number : Kept → ℕ → ℕ → List ℕ
+abbrev pub without_number : Metadata → ℕ → ℕ → List ℕ
 without_number k number slot = filter (λ n. not (n == number)) (numbers_at k.ext slot)
 
 -- what memory keeps, but for all descriptions
-abbrev pub undescribed : Kept → Kept
+abbrev pub undescribed : Metadata → Metadata
 undescribed k = record k { ext = record k.ext { sets = [] } }
 
 -- No description has the number, and then its word is not declared any more.
-pub record UndeclaresUnmet (number : ℕ) (p q : Kept) : Type 0 where
-  pub made : Kept
+pub record UndeclaresUnmet (number : ℕ) (p q : Metadata) : Type 0 where
+  pub made : Metadata
   pub takes : Redescribes (without_number p number) p.limits.files p made
   pub sound : AreSound made
   pub undeclares : Undeclares number made q

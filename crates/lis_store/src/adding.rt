@@ -14,46 +14,47 @@ ghost use Rattle.lis_store.specs.Adding.{is_one_of, numbers_named, AreNumbered, 
 use crate::meeting::leave_out_met;
 use arrayvec::ArrayVec;
 use lis_bits::{Rows, and_not_row};
-use lis_kept::Parts;
+use lis_kept::Metadata;
+use lis_limits::{MAX_ASSIGNED, MAX_DESCRIPTION, MAX_PROPS};
 use lis_words::{Word, head_of};
 
 // Gives the head of a valued word a number if it has none.
-fn learn_head(parts: &mut Parts, word: &Word)
-    requires form { IsTrue (may_learn parts.old word.now) }
-    requires room { HasWordRoom parts.old (behind_head word.now) }
-    ensures { LearnsAll (heads word.now) parts.old parts.new }
+fn learn_head(metadata: &mut Metadata, word: &Word)
+    requires form { IsTrue (may_learn metadata.old word.now) }
+    requires room { HasWordRoom metadata.old (behind_head word.now) }
+    ensures { LearnsAll (heads word.now) metadata.old metadata.new }
 {
     if let Some(head) = head_of(word) {
-        parts.learn(&head);
+        metadata.learn(&head);
     }
 }
 
 /// Gives a word a number if it has none, and its head before.
-pub(crate) fn learn_word(parts: &mut Parts, word: &Word)
-    requires form { IsTrue (may_learn parts.old word.now) }
-    requires room { HasWordRoom parts.old (behind_head word.now) }
-    ensures learns { LearnsAll (behind_head word.now) parts.old parts.new }
-    ensures sound { AreSound parts.new }
+pub(crate) fn learn_word(metadata: &mut Metadata, word: &Word)
+    requires form { IsTrue (may_learn metadata.old word.now) }
+    requires room { HasWordRoom metadata.old (behind_head word.now) }
+    ensures learns { LearnsAll (behind_head word.now) metadata.old metadata.new }
+    ensures sound { AreSound metadata.new }
 {
-    learn_head(parts, word);
-    parts.learn(word);
+    learn_head(metadata, word);
+    metadata.learn(word);
 }
 
 // Gives numbers to those words that have none.
-pub(crate) fn learn_words(parts: &mut Parts, words: &[Word])
-    requires form { IsTrue (list_all (may_learn parts.old) words.now) }
-    requires room { HasWordRoom parts.old (with_heads words.now) }
-    ensures { LearnsAll (with_heads words.now) parts.old parts.new }
+pub(crate) fn learn_words(metadata: &mut Metadata, words: &[Word])
+    requires form { IsTrue (list_all (may_learn metadata.old) words.now) }
+    requires room { HasWordRoom metadata.old (with_heads words.now) }
+    ensures { LearnsAll (with_heads words.now) metadata.old metadata.new }
 {
     for word in words {
-        learn_word(parts, word);
+        learn_word(metadata, word);
     }
 }
 
 // The numbers whose bits are set, in rising order.
 pub(crate) fn numbers_in<const MOST: usize>(row: &Rows, props: u32) -> ArrayVec<u16, MOST>
     requires shape { HasShape row.now 1 props }
-    requires small { props ≤ 8192 }
+    requires small { props ≤ MAX_PROPS }
     requires few { length (numbers_where props (get row.now 0)) ≤ MOST }
     ensures { result.items ≡ numbers_where props (get row.now 0) }
 {
@@ -67,17 +68,17 @@ pub(crate) fn numbers_in<const MOST: usize>(row: &Rows, props: u32) -> ArrayVec<
 }
 
 // The numbers of the words.
-pub(crate) fn numbers_of(parts: &Parts, words: &[Word], row: &mut Rows) -> ArrayVec<u16, 16>
-    requires shape { HasShape row.old 1 parts.now.limits.props }
-    requires few { length words.now ≤ 16 }
-    ensures numbers { result.items ≡ numbers_named parts.now.dict words.now }
-    ensures shape { HasShape row.new 1 parts.now.limits.props }
-    ensures sound { AreSound parts.now }
+pub(crate) fn numbers_of(metadata: &Metadata, words: &[Word], row: &mut Rows) -> ArrayVec<u16, 16>
+    requires shape { HasShape row.old 1 metadata.now.limits.props }
+    requires few { length words.now ≤ MAX_ASSIGNED }
+    ensures numbers { result.items ≡ numbers_named metadata.now.dict words.now }
+    ensures shape { HasShape row.new 1 metadata.now.limits.props }
+    ensures sound { AreSound metadata.now }
 {
-    let props = parts.limits().props;
+    let props = metadata.limits().props;
     row.fill(0, false);
     for word in words {
-        if let Some(number) = parts.number_of(word) {
+        if let Some(number) = metadata.number_of(word) {
             row.put(0, u32::from(number), true);
         }
     }
@@ -85,17 +86,17 @@ pub(crate) fn numbers_of(parts: &Parts, words: &[Word], row: &mut Rows) -> Array
 }
 
 // Takes from a row the numbers of all words that these entail.
-fn leave_out(parts: &Parts, words: &[Word], row: &mut Rows)
-    requires sound { AreSound parts.now }
-    requires shape { HasShape row.old 1 parts.now.limits.props }
-    requires numbered { AreNumbered parts.now.dict words.now }
-    ensures shape { HasShape row.new 1 parts.now.limits.props }
-    ensures bits { (n : ℕ) → n < parts.now.limits.props → get row.new 0 n
-        ≡ (get row.old 0 n && not (is_one_of (all_up (declared_of parts.now) (axioms_of parts.now) words.now) (word_of parts.now.dict n))) }
+fn leave_out(metadata: &Metadata, words: &[Word], row: &mut Rows)
+    requires sound { AreSound metadata.now }
+    requires shape { HasShape row.old 1 metadata.now.limits.props }
+    requires numbered { AreNumbered metadata.now.dict words.now }
+    ensures shape { HasShape row.new 1 metadata.now.limits.props }
+    ensures bits { (n : ℕ) → n < metadata.now.limits.props → get row.new 0 n
+        ≡ (get row.old 0 n && not (is_one_of (all_up (declared_of metadata.now) (axioms_of metadata.now) words.now) (word_of metadata.now.dict n))) }
 {
-    let entailed = parts.taxonomy().rows();
+    let entailed = metadata.taxonomy().rows();
     for word in words {
-        let Some(number) = parts.number_of(word) else {
+        let Some(number) = metadata.number_of(word) else {
             unreachable!()
         };
         and_not_row(entailed, u32::from(number), row, 0);
@@ -104,24 +105,24 @@ fn leave_out(parts: &Parts, words: &[Word], row: &mut Rows)
 
 // The numbers of all words that these entail, and the declared tests that so many bytes meet.
 pub(crate) fn numbers_entailed(
-    parts: &Parts,
+    metadata: &Metadata,
     assigned: &[Word],
     derived: &[Word],
     size: u64,
     row: &mut Rows,
-) -> ArrayVec<u16, 128>
-    requires shape { HasShape row.old 1 parts.now.limits.props }
-    requires numbered { AreNumbered parts.now.dict (assigned.now ++ derived.now) }
-    requires few { length (all_up (declared_of parts.now) (axioms_of parts.now) (assigned.now ++ derived.now ++ met_tests (declared_of parts.now) size)) ≤ 128 }
+) -> ArrayVec<u16, MAX_DESCRIPTION>
+    requires shape { HasShape row.old 1 metadata.now.limits.props }
+    requires numbered { AreNumbered metadata.now.dict (assigned.now ++ derived.now) }
+    requires few { length (all_up (declared_of metadata.now) (axioms_of metadata.now) (assigned.now ++ derived.now ++ met_tests (declared_of metadata.now) size)) ≤ MAX_DESCRIPTION }
     ensures numbers { result.items
-        ≡ numbers_named parts.now.dict (all_up (declared_of parts.now) (axioms_of parts.now) (assigned.now ++ derived.now ++ met_tests (declared_of parts.now) size)) }
-    ensures shape { HasShape row.new 1 parts.now.limits.props }
+        ≡ numbers_named metadata.now.dict (all_up (declared_of metadata.now) (axioms_of metadata.now) (assigned.now ++ derived.now ++ met_tests (declared_of metadata.now) size)) }
+    ensures shape { HasShape row.new 1 metadata.now.limits.props }
 {
-    let props = parts.limits().props;
+    let props = metadata.limits().props;
     row.fill(0, true);
-    leave_out(parts, assigned, row);
-    leave_out(parts, derived, row);
-    leave_out_met(parts, size, row);
+    leave_out(metadata, assigned, row);
+    leave_out(metadata, derived, row);
+    leave_out_met(metadata, size, row);
     row.negate(0);
     numbers_in(row, props)
 }

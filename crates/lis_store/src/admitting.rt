@@ -17,30 +17,29 @@ use crate::describing::{Draft, measure};
 use arrayvec::ArrayVec;
 use lis_derive::derive_words;
 use lis_eval::Scratch;
-use lis_kept::Parts;
+use lis_kept::Metadata;
+use lis_limits::{BLOCK_LEN, MAX_ASSIGNED, MAX_DESCRIPTION, MAX_FILE, MAX_LARGE_FILE};
 use lis_model::command::Tags;
 use lis_model::refusal::Refusal;
 use lis_place::Place;
 use lis_words::{Name, Word, is_builtin, is_head, test_of};
 
-/// How many bytes a data block has.
-const BLOCK_LEN: u64 = 4_096;
-
-/// The most words of a description.
-pub(crate) const MAX_DESCRIPTION: u32 = 128;
-
 /// How many bytes a file may have.
 pub(crate) fn file_limit(version: u32) -> u64
     ensures { result ≡ file_limit version }
 {
-    if version == 2 { 1_048_576 } else { 65_536 }
+    if version == 2 {
+        u64::from(MAX_LARGE_FILE)
+    } else {
+        u64::from(MAX_FILE)
+    }
 }
 
 /// How many blocks so many bytes take.
 pub(crate) fn blocks_taken(version: u32, size: u64) -> u64
     ensures { result ≡ blocks_taken version size }
 {
-    let blocks = size.div_ceil(BLOCK_LEN);
+    let blocks = size.div_ceil(BLOCK_LEN as u64);
     if version == 2 && blocks > 16 {
         blocks + 1
     } else {
@@ -82,18 +81,22 @@ fn has_head_or_test(words: &[Word]) -> bool
 }
 
 // The words that a new file would be given, or what its size, its name, its place and the named words are refused for.
-fn may_name(parts: &Parts, place: &Place, file: NewFile) -> Result<ArrayVec<Word, 16>, Refusal>
-    ensures row { Judges ((nat_lt (file_limit parts.now.limits.version) file.entry.size, LargeFile) ∷ named_checks parts.now place.now file.entry.tags.now
+fn may_name(
+    metadata: &Metadata,
+    place: &Place,
+    file: NewFile,
+) -> Result<ArrayVec<Word, 16>, Refusal>
+    ensures row { Judges ((nat_lt (file_limit metadata.now.limits.version) file.entry.size, LargeFile) ∷ named_checks metadata.now place.now file.entry.tags.now
         (new_file file.entry.name.now (assigned_at place.now file.entry.tags.now) file.entry.bytes.now)) result }
     ensures words { IfOk result (λ words. words.items ≡ assigned_at place.now file.entry.tags.now) }
-    ensures few { IfOk result (λ words. length words.items ≤ 16) }
+    ensures few { IfOk result (λ words. length words.items ≤ MAX_ASSIGNED) }
     ensures name { IfOk result (λ words. IsTrue (is_file_name file.entry.name.now)) }
 {
     let tags = file.tags;
-    if file.size > file_limit(parts.limits().version) {
+    if file.size > file_limit(metadata.limits().version) {
         return Err(Refusal::LargeFile);
     }
-    if parts.slot_of(file.name).is_some() {
+    if metadata.slot_of(file.name).is_some() {
         return Err(Refusal::NameTaken);
     }
     if !has_words(place) {
@@ -105,7 +108,7 @@ fn may_name(parts: &Parts, place: &Place, file: NewFile) -> Result<ArrayVec<Word
     if has_head_or_test(tags.as_slice()) {
         return Err(Refusal::NotAssignable);
     }
-    if !are_assignable(parts, place, tags) {
+    if !are_assignable(metadata, place, tags) {
         return Err(Refusal::UnknownProperty);
     }
     match assigned(place, tags) {
@@ -116,30 +119,30 @@ fn may_name(parts: &Parts, place: &Place, file: NewFile) -> Result<ArrayVec<Word
 
 // Whether there is room for a new file, of so many bytes.
 fn has_room_for(
-    parts: &Parts,
+    metadata: &Metadata,
     scratch: &mut Scratch,
     draft: Draft,
     size: u64,
 ) -> Result<(), Refusal>
-    requires few { length draft.assigned.now ≤ 16 }
-    requires few_own { length draft.own.now ≤ 128 }
-    requires room { HasRoom scratch.old parts.now.limits }
-    ensures room { HasRoom scratch.new parts.now.limits }
-    ensures row { Judges (room_checks parts.now
+    requires few { length draft.assigned.now ≤ MAX_ASSIGNED }
+    requires few_own { length draft.own.now ≤ MAX_DESCRIPTION }
+    requires room { HasRoom scratch.old metadata.now.limits }
+    ensures room { HasRoom scratch.new metadata.now.limits }
+    ensures row { Judges (room_checks metadata.now
         (drafted draft.entry.name.now draft.entry.size draft.entry.assigned.now draft.entry.own.now) size) result }
 {
-    let limits = parts.limits();
-    if parts.file_count() >= limits.files {
+    let limits = metadata.limits();
+    if metadata.file_count() >= limits.files {
         return Err(Refusal::NoFileRoom);
     }
-    let measure = measure(parts, &mut scratch.candidates, None, draft);
-    if measure.words > MAX_DESCRIPTION {
+    let measure = measure(metadata, &mut scratch.candidates, None, draft);
+    if measure.words > MAX_DESCRIPTION as u32 {
         return Err(Refusal::LargeDescription);
     }
     if measure.known > limits.props {
         return Err(Refusal::NoPropertyRoom);
     }
-    if blocks_taken(limits.version, size) > u64::from(parts.free_blocks()) {
+    if blocks_taken(limits.version, size) > u64::from(metadata.free_blocks()) {
         return Err(Refusal::NoSpace);
     }
     Ok(())
@@ -147,15 +150,15 @@ fn has_room_for(
 
 // As `has_room_for`, with the words that are derived from these bytes.
 fn has_room(
-    parts: &Parts,
+    metadata: &Metadata,
     scratch: &mut Scratch,
     file: NewFile,
     words: &[Word],
 ) -> Result<(), Refusal>
-    requires few { length words.now ≤ 16 }
-    requires room { HasRoom scratch.old parts.now.limits }
-    ensures room { HasRoom scratch.new parts.now.limits }
-    ensures row { Judges (room_checks parts.now (draft_of (new_file file.entry.name.now words.now file.entry.bytes.now)) file.entry.size) result }
+    requires few { length words.now ≤ MAX_ASSIGNED }
+    requires room { HasRoom scratch.old metadata.now.limits }
+    ensures room { HasRoom scratch.new metadata.now.limits }
+    ensures row { Judges (room_checks metadata.now (draft_of (new_file file.entry.name.now words.now file.entry.bytes.now)) file.entry.size) result }
 {
     let derived = derive_words(file.name, file.bytes);
     let draft = Draft {
@@ -164,24 +167,24 @@ fn has_room(
         assigned: words,
         own: derived.as_slice(),
     };
-    has_room_for(parts, scratch, draft, file.size)
+    has_room_for(metadata, scratch, draft, file.size)
 }
 
 /// The words that a new file is given, or what it is refused for. Where there are more bytes than a file may have, only their
 /// number counts.
 pub(crate) fn may_add(
-    parts: &Parts,
+    metadata: &Metadata,
     scratch: &mut Scratch,
     place: &Place,
     file: NewFile,
 ) -> Result<ArrayVec<Word, 16>, Refusal>
-    requires room { HasRoom scratch.old parts.now.limits }
-    ensures room { HasRoom scratch.new parts.now.limits }
-    ensures row { Judges (add_checks_of parts.now place.now file.entry.name.now file.entry.tags.now file.entry.bytes.now file.entry.size) result }
+    requires room { HasRoom scratch.old metadata.now.limits }
+    ensures room { HasRoom scratch.new metadata.now.limits }
+    ensures row { Judges (add_checks_of metadata.now place.now file.entry.name.now file.entry.tags.now file.entry.bytes.now file.entry.size) result }
     ensures words { IfOk result (λ words. words.items ≡ assigned_at place.now file.entry.tags.now) }
     ensures name { IfOk result (λ words. IsTrue (is_file_name file.entry.name.now)) }
 {
-    let words = may_name(parts, place, file)?;
-    has_room(parts, scratch, file, words.as_slice())?;
+    let words = may_name(metadata, place, file)?;
+    has_room(metadata, scratch, file, words.as_slice())?;
     Ok(words)
 }

@@ -13,7 +13,8 @@ ghost use Rattle.lis_kept.specs.Telling.{declared_of};
 ghost use Rattle.lis_store.specs.Assigning.{is_conjunct, node_tags, is_held, Takes};
 
 use arrayvec::ArrayVec;
-use lis_kept::Parts;
+use lis_kept::Metadata;
+use lis_limits::MAX_ASSIGNED;
 use lis_model::command::Tags;
 use lis_place::{Node, Place};
 use lis_words::{Word, head_of, is_builtin, is_head, is_plain_word};
@@ -57,28 +58,28 @@ pub(crate) fn is_tag(word: &Word) -> bool
 }
 
 // Whether the word is plain and declared, or valued with a declared head.
-fn is_assignable(parts: &Parts, word: &Word) -> bool
-    ensures { result ≡ is_assignable (declared_of parts.now) word.now }
+fn is_assignable(metadata: &Metadata, word: &Word) -> bool
+    ensures { result ≡ is_assignable (declared_of metadata.now) word.now }
 {
     if is_plain_word(word.bytes()) {
-        return parts.is_declared(word);
+        return metadata.is_declared(word);
     }
     match head_of(word) {
         None => false,
-        Some(head) => parts.is_declared(&head),
+        Some(head) => metadata.is_declared(&head),
     }
 }
 
 /// Whether a file can be given each of the words.
-pub(crate) fn all_assignable(parts: &Parts, words: &[Word]) -> bool
-    ensures { result ≡ list_all (is_assignable (declared_of parts.now)) words.now }
+pub(crate) fn all_assignable(metadata: &Metadata, words: &[Word]) -> bool
+    ensures { result ≡ list_all (is_assignable (declared_of metadata.now)) words.now }
 {
-    words.iter().all(|word| is_assignable(parts, word))
+    words.iter().all(|word| is_assignable(metadata, word))
 }
 
 // Whether a file can be given the word of a node, where it is a tag.
-fn is_assignable_node(parts: &Parts, node: &Node) -> bool
-    ensures { result ≡ list_all (is_assignable (declared_of parts.now)) (node_tags node.now) }
+fn is_assignable_node(metadata: &Metadata, node: &Node) -> bool
+    ensures { result ≡ list_all (is_assignable (declared_of metadata.now)) (node_tags node.now) }
 {
     let Node::Word(word) = node else {
         return true;
@@ -86,25 +87,25 @@ fn is_assignable_node(parts: &Parts, node: &Node) -> bool
     if !is_tag(word) {
         return true;
     }
-    is_assignable(parts, word)
+    is_assignable(metadata, word)
 }
 
 // Whether a file can be given the words of all nodes that are tags.
-fn all_assignable_nodes(parts: &Parts, nodes: &[Node]) -> bool
-    ensures { result ≡ list_all (λ node. list_all (is_assignable (declared_of parts.now)) (node_tags node)) nodes.now }
+fn all_assignable_nodes(metadata: &Metadata, nodes: &[Node]) -> bool
+    ensures { result ≡ list_all (λ node. list_all (is_assignable (declared_of metadata.now)) (node_tags node)) nodes.now }
 {
-    nodes.iter().all(|node| is_assignable_node(parts, node))
+    nodes.iter().all(|node| is_assignable_node(metadata, node))
 }
 
 /// Whether a file can be given all words that a new one is given at the place.
-pub(crate) fn are_assignable(parts: &Parts, place: &Place, tags: &Tags) -> bool
+pub(crate) fn are_assignable(metadata: &Metadata, place: &Place, tags: &Tags) -> bool
     requires { IsSome (place_words place.now) }
-    ensures { result ≡ list_all (is_assignable (declared_of parts.now)) (assigned_at place.now tags.now) }
+    ensures { result ≡ list_all (is_assignable (declared_of metadata.now)) (assigned_at place.now tags.now) }
 {
-    if !all_assignable_nodes(parts, place.nodes()) {
+    if !all_assignable_nodes(metadata, place.nodes()) {
         return false;
     }
-    all_assignable(parts, tags.as_slice())
+    all_assignable(metadata, tags.as_slice())
 }
 
 // How many of the words, up to the first other one, are lower.
@@ -143,7 +144,7 @@ fn find_place(words: &[Word], word: &Word) -> Result<usize, usize>
 
 /// Puts a word into a set of words. The answer tells whether there is room for it.
 pub(crate) fn put_word(words: &mut ArrayVec<Word, 16>, word: &Word) -> bool
-    requires { length words.old.items ≤ 16 }
+    requires { length words.old.items ≤ MAX_ASSIGNED }
     ensures { Takes (word.now ∷ []) words.old.items words.new.items result }
 {
     match find_place(words.as_slice(), word) {
@@ -160,7 +161,7 @@ pub(crate) fn put_word(words: &mut ArrayVec<Word, 16>, word: &Word) -> bool
 
 // Puts the word of a node into a set of words, if a file can be given it.
 fn put_node(words: &mut ArrayVec<Word, 16>, node: &Node) -> bool
-    requires { length words.old.items ≤ 16 }
+    requires { length words.old.items ≤ MAX_ASSIGNED }
     ensures { Takes (node_tags node.now) words.old.items words.new.items result }
 {
     let Node::Word(word) = node else {
@@ -174,7 +175,7 @@ fn put_node(words: &mut ArrayVec<Word, 16>, node: &Node) -> bool
 
 /// Puts the words of a place into a set of words.
 pub(crate) fn put_place(words: &mut ArrayVec<Word, 16>, place: &Place) -> bool
-    requires { length words.old.items ≤ 16 }
+    requires { length words.old.items ≤ MAX_ASSIGNED }
     ensures { Takes (flat_map node_tags (nodes_of place.now)) words.old.items words.new.items result }
 {
     for node in place.nodes() {
@@ -187,7 +188,7 @@ pub(crate) fn put_place(words: &mut ArrayVec<Word, 16>, place: &Place) -> bool
 
 // Puts more words into a set of words.
 fn put_words(words: &mut ArrayVec<Word, 16>, more: &[Word]) -> bool
-    requires { length words.old.items ≤ 16 }
+    requires { length words.old.items ≤ MAX_ASSIGNED }
     ensures { Takes more.now words.old.items words.new.items result }
 {
     for word in more {
@@ -201,8 +202,8 @@ fn put_words(words: &mut ArrayVec<Word, 16>, more: &[Word]) -> bool
 /// The words that a new file is given, a set. None comes exactly where they are more than 16.
 pub(crate) fn assigned(place: &Place, tags: &Tags) -> Option<ArrayVec<Word, 16>>
     requires { IsSome (place_words place.now) }
-    ensures words { MatchOption result (16 < length (assigned_at place.now tags.now)) (λ words. words.items ≡ assigned_at place.now tags.now) }
-    ensures few { IfSome result (λ words. length words.items ≤ 16) }
+    ensures words { MatchOption result (MAX_ASSIGNED < length (assigned_at place.now tags.now)) (λ words. words.items ≡ assigned_at place.now tags.now) }
+    ensures few { IfSome result (λ words. length words.items ≤ MAX_ASSIGNED) }
 {
     let mut words = ArrayVec::new();
     if !put_place(&mut words, place) {

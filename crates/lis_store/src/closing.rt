@@ -13,7 +13,8 @@ ghost use Rattle.lis_model.specs.Sets.{has_number};
 use crate::crowding::is_met_at;
 use crate::removing::numbers_at;
 use arrayvec::ArrayVec;
-use lis_kept::Parts;
+use lis_kept::Metadata;
+use lis_limits::MAX_DESCRIPTION;
 
 /// Which descriptions are made anew, and of which numbers.
 #[derive(Clone, Copy)]
@@ -27,13 +28,13 @@ pub(crate) enum Rebuild {
 }
 
 /// The numbers of all that the words of these numbers entail, in rising order.
-pub(crate) fn all_entailed(parts: &Parts, numbers: &[u16]) -> ArrayVec<u16, 128>
-    requires sound { AreSound parts.now }
-    requires named { IsTrue (list_all (λ n. is_some (word_of parts.now.dict n)) numbers.now) }
-    requires few { length (closure parts.now numbers.now) ≤ 128 }
-    ensures { result.items ≡ closure parts.now numbers.now }
+pub(crate) fn all_entailed(metadata: &Metadata, numbers: &[u16]) -> ArrayVec<u16, MAX_DESCRIPTION>
+    requires sound { AreSound metadata.now }
+    requires named { IsTrue (list_all (λ n. is_some (word_of metadata.now.dict n)) numbers.now) }
+    requires few { length (closure metadata.now numbers.now) ≤ MAX_DESCRIPTION }
+    ensures { result.items ≡ closure metadata.now numbers.now }
 {
-    let entailed = parts.taxonomy().rows();
+    let entailed = metadata.taxonomy().rows();
     let mut all = ArrayVec::new();
     let mut start = 0;
     while let Some(number) = entailed.next_of(numbers, start) {
@@ -44,51 +45,51 @@ pub(crate) fn all_entailed(parts: &Parts, numbers: &[u16]) -> ArrayVec<u16, 128>
 }
 
 // Whether the description in a slot is made anew.
-fn is_concerned(parts: &Parts, how: Rebuild, slot: u16) -> bool
-    requires sound { AreSound parts.now }
-    requires words { has_words parts.now how ≡ true }
-    requires slot { slot < parts.now.limits.files }
-    ensures { result ≡ is_concerned parts.now how slot }
+fn is_concerned(metadata: &Metadata, how: Rebuild, slot: u16) -> bool
+    requires sound { AreSound metadata.now }
+    requires words { has_words metadata.now how ≡ true }
+    requires slot { slot < metadata.now.limits.files }
+    ensures { result ≡ is_concerned metadata.now how slot }
 {
     match how {
-        Rebuild::Having(number) => parts.ext().has(u32::from(number), u32::from(slot)),
-        Rebuild::Losing(left, _) => parts.ext().has(u32::from(left), u32::from(slot)),
-        Rebuild::Meeting(test, _) => is_met_at(parts, test, slot),
+        Rebuild::Having(number) => metadata.ext().has(u32::from(number), u32::from(slot)),
+        Rebuild::Losing(left, _) => metadata.ext().has(u32::from(left), u32::from(slot)),
+        Rebuild::Meeting(test, _) => is_met_at(metadata, test, slot),
     }
 }
 
 // Whether the word of a number entails that of another one.
-fn entails(parts: &Parts, number: u16, other: u16) -> bool
-    requires sound { AreSound parts.now }
-    requires named { IsSome (word_of parts.now.dict number) }
-    requires other { IsSome (word_of parts.now.dict other) }
-    ensures { result ≡ is_entailed parts.now number other }
+fn entails(metadata: &Metadata, number: u16, other: u16) -> bool
+    requires sound { AreSound metadata.now }
+    requires named { IsSome (word_of metadata.now.dict number) }
+    requires other { IsSome (word_of metadata.now.dict other) }
+    ensures { result ≡ is_entailed metadata.now number other }
 {
-    parts
+    metadata
         .taxonomy()
         .entails(u32::from(number), u32::from(other))
 }
 
 // Whether the file in a slot was given the word of a number.
-fn is_given(parts: &Parts, slot: u16, number: u16) -> bool
-    ensures { result ≡ has_number (tags_at parts.now slot) number }
+fn is_given(metadata: &Metadata, slot: u16, number: u16) -> bool
+    ensures { result ≡ has_number (tags_at metadata.now slot) number }
 {
-    match parts.rec(slot) {
+    match metadata.rec(slot) {
         None => false,
         Some(rec) => rec.tags.as_slice().iter().any(|held| *held == number),
     }
 }
 
 // Whether a number of the description in a slot is one of those of which it is made anew.
-fn is_base(parts: &Parts, how: Rebuild, slot: u16, number: u16) -> bool
-    requires sound { AreSound parts.now }
-    requires named { has_words parts.now how ≡ true }
-    requires number { IsSome (word_of parts.now.dict number) }
-    ensures { result ≡ is_base parts.now how slot number }
+fn is_base(metadata: &Metadata, how: Rebuild, slot: u16, number: u16) -> bool
+    requires sound { AreSound metadata.now }
+    requires named { has_words metadata.now how ≡ true }
+    requires number { IsSome (word_of metadata.now.dict number) }
+    ensures { result ≡ is_base metadata.now how slot number }
 {
     match how {
         Rebuild::Losing(_, right) => {
-            is_given(parts, slot, number) || !entails(parts, right, number)
+            is_given(metadata, slot, number) || !entails(metadata, right, number)
         }
         Rebuild::Having(_) | Rebuild::Meeting(_, _) => true,
     }
@@ -109,17 +110,17 @@ fn added(how: Rebuild) -> ArrayVec<u16, 129>
 }
 
 // The numbers of which the description in a slot, which has these, is made anew.
-fn base_at(parts: &Parts, how: Rebuild, slot: u16, numbers: &[u16]) -> ArrayVec<u16, 129>
-    requires sound { AreSound parts.now }
-    requires named { has_words parts.now how ≡ true }
-    requires numbers { IsTrue (list_all (λ n. is_some (word_of parts.now.dict n)) numbers.now) }
-    requires few { length numbers.now ≤ 128 }
-    requires are { numbers.now ≡ set_of parts.now.ext slot }
-    ensures { result.items ≡ base_at parts.now how slot }
+fn base_at(metadata: &Metadata, how: Rebuild, slot: u16, numbers: &[u16]) -> ArrayVec<u16, 129>
+    requires sound { AreSound metadata.now }
+    requires named { has_words metadata.now how ≡ true }
+    requires numbers { IsTrue (list_all (λ n. is_some (word_of metadata.now.dict n)) numbers.now) }
+    requires few { length numbers.now ≤ MAX_DESCRIPTION }
+    requires are { numbers.now ≡ set_of metadata.now.ext slot }
+    ensures { result.items ≡ base_at metadata.now how slot }
 {
     let mut base = added(how);
     for number in numbers {
-        if is_base(parts, how, slot, *number) {
+        if is_base(metadata, how, slot, *number) {
             base.push(*number);
         }
     }
@@ -127,36 +128,36 @@ fn base_at(parts: &Parts, how: Rebuild, slot: u16, numbers: &[u16]) -> ArrayVec<
 }
 
 // Makes the description in a slot anew, if it is concerned.
-fn rebuild_slot(parts: &mut Parts, how: Rebuild, slot: u16)
-    requires words { has_words parts.old how ≡ true }
-    requires slot { slot < parts.old.limits.files }
-    requires named { (n : ℕ) → has parts.old.ext n slot ≡ true → IsSome (word_of parts.old.dict n) }
-    requires short { length (set_of parts.old.ext slot) ≤ 128 }
-    requires few { is_concerned parts.old how slot ≡ true → length (closure parts.old (base_at parts.old how slot)) ≤ 128 }
-    ensures gives { SlotHas slot (rebuilt parts.old how slot) parts.old parts.new }
-    ensures sound { AreSound parts.new }
+fn rebuild_slot(metadata: &mut Metadata, how: Rebuild, slot: u16)
+    requires words { has_words metadata.old how ≡ true }
+    requires slot { slot < metadata.old.limits.files }
+    requires named { (n : ℕ) → has metadata.old.ext n slot ≡ true → IsSome (word_of metadata.old.dict n) }
+    requires short { length (set_of metadata.old.ext slot) ≤ MAX_DESCRIPTION }
+    requires few { is_concerned metadata.old how slot ≡ true → length (closure metadata.old (base_at metadata.old how slot)) ≤ MAX_DESCRIPTION }
+    ensures gives { SlotHas slot (rebuilt metadata.old how slot) metadata.old metadata.new }
+    ensures sound { AreSound metadata.new }
 {
-    let props = parts.limits().props;
-    if !is_concerned(parts, how, slot) {
+    let props = metadata.limits().props;
+    if !is_concerned(metadata, how, slot) {
         return;
     }
-    let old = numbers_at(parts.ext(), props, slot);
-    let base = base_at(parts, how, slot, old.as_slice());
-    let new = all_entailed(parts, base.as_slice());
-    parts.describe(slot, old.as_slice(), new.as_slice());
+    let old = numbers_at(metadata.ext(), props, slot);
+    let base = base_at(metadata, how, slot, old.as_slice());
+    let new = all_entailed(metadata, base.as_slice());
+    metadata.describe(slot, old.as_slice(), new.as_slice());
 }
 
 /// Makes all descriptions anew that are concerned.
-pub(crate) fn rebuild_all(parts: &mut Parts, how: Rebuild)
-    requires words { has_words parts.old how ≡ true }
-    requires free { FreeSlotsAreEmpty parts.old }
-    requires short { DescriptionsAreShort parts.old }
-    requires few { (slot : ℕ) → is_concerned parts.old how slot ≡ true → length (closure parts.old (base_at parts.old how slot)) ≤ 128 }
-    ensures rebuilt { Redescribes (rebuilt parts.old how) parts.old.limits.files parts.old parts.new }
-    ensures sound { AreSound parts.new }
+pub(crate) fn rebuild_all(metadata: &mut Metadata, how: Rebuild)
+    requires words { has_words metadata.old how ≡ true }
+    requires free { FreeSlotsAreEmpty metadata.old }
+    requires short { DescriptionsAreShort metadata.old }
+    requires few { (slot : ℕ) → is_concerned metadata.old how slot ≡ true → length (closure metadata.old (base_at metadata.old how slot)) ≤ MAX_DESCRIPTION }
+    ensures rebuilt { Redescribes (rebuilt metadata.old how) metadata.old.limits.files metadata.old metadata.new }
+    ensures sound { AreSound metadata.new }
 {
-    let files = parts.limits().files;
+    let files = metadata.limits().files;
     for slot in 0..files {
-        rebuild_slot(parts, how, slot as u16);
+        rebuild_slot(metadata, how, slot as u16);
     }
 }

@@ -16,73 +16,73 @@ ghost use Rattle.lis_store.specs.Contents.{IsReadyForContent, ContentPut, Conten
 ghost use Rattle.lis_journal.specs.Journal.{shape_of};
 ghost use Rattle.lis_kept.specs.Image.{image_shape};
 
-use crate::change::Change;
+use crate::change_fault::ChangeFault;
 use arrayvec::ArrayVec;
 use lis_journal::Journal;
-use lis_kept::Parts;
+use lis_kept::Metadata;
 use lis_ports::Disk;
 
 // Puts bytes into free blocks, and answers the numbers that a slot has of them.
 fn put_content<D: Disk>(
-    parts: &mut Parts,
+    metadata: &mut Metadata,
     journal: &mut Journal,
     is_broken: &mut bool,
     disk: &mut D,
     payload: &[u8],
-) -> Result<ArrayVec<u16, 16>, Change>
-    requires short { length payload.now ≤ file_limit parts.old.limits.version }
-    requires enough { blocks_taken parts.old.limits.version (length payload.now) ≤ free_count parts.old.taken }
-    requires ready { IsReadyForContent parts.old journal.old (D.meaning disk.old) }
+) -> Result<ArrayVec<u16, 16>, ChangeFault>
+    requires short { length payload.now ≤ file_limit metadata.old.limits.version }
+    requires enough { blocks_taken metadata.old.limits.version (length payload.now) ≤ free_count metadata.old.taken }
+    requires ready { IsReadyForContent metadata.old journal.old (D.meaning disk.old) }
     requires whole { is_broken.old ≡ false }
     requires unstaged { is_large (length payload.now) ≡ true → journal.old.staged ≡ [] }
-    ensures put { ContentPut payload.now parts.old parts.new journal.old journal.new (D.meaning disk.old) (D.meaning disk.new) result }
+    ensures put { ContentPut payload.now metadata.old metadata.new journal.old journal.new (D.meaning disk.old) (D.meaning disk.new) result }
     ensures ended { ContentEnded is_broken.new result }
-    ensures sound { AreSound parts.new }
+    ensures sound { AreSound metadata.new }
     ensures torn { OnErr result (is_large (length payload.now) ≡ true) }
     ensures disk { ChangesDisk (D.meaning disk.old) (D.meaning disk.new) result }
 {
-    match parts.put_content(journal, disk, payload) {
+    match metadata.put_content(journal, disk, payload) {
         Ok(numbers) => Ok(numbers),
         Err(fault) => {
             *is_broken = true;
-            Err(Change::from(fault))
+            Err(ChangeFault::from(fault))
         }
     }
 }
 
 /// Gives the blocks of the file in a slot back.
 pub(crate) fn free_content<D: Disk>(
-    parts: &mut Parts,
+    metadata: &mut Metadata,
     journal: &Journal,
     is_broken: &mut bool,
     disk: &mut D,
     slot: u16,
-) -> Result<(), Change>
-    requires there { IsSome (rec_at parts.old.catalog slot) }
-    requires image { shape_of journal.now ≡ image_shape parts.old.limits }
+) -> Result<(), ChangeFault>
+    requires there { IsSome (rec_at metadata.old.catalog slot) }
+    requires image { shape_of journal.now ≡ image_shape metadata.old.limits }
     requires usable { JournalIsUsable journal.now (D.meaning disk.old) }
     requires whole { is_broken.old ≡ false }
-    ensures given { (rec : FileRecord) → rec_at parts.old.catalog slot ≡ Some rec
-        → ContentGiven rec parts.old parts.new journal.now (D.meaning disk.old) (D.meaning disk.new) result }
+    ensures given { (rec : FileRecord) → rec_at metadata.old.catalog slot ≡ Some rec
+        → ContentGiven rec metadata.old metadata.new journal.now (D.meaning disk.old) (D.meaning disk.new) result }
     ensures ended { ContentEnded is_broken.new result }
-    ensures sound { AreSound parts.new }
+    ensures sound { AreSound metadata.new }
     ensures disk { ChangesDisk (D.meaning disk.old) (D.meaning disk.new) result }
 {
-    match parts.give_blocks(journal, disk, slot) {
+    match metadata.give_blocks(journal, disk, slot) {
         Ok(()) => Ok(()),
         Err(fault) => {
             *is_broken = true;
-            Err(Change::from(fault))
+            Err(ChangeFault::from(fault))
         }
     }
 }
 
 /// The numbers of blocks that the slot of a file has.
-pub(crate) fn blocks_in(parts: &Parts, slot: u16) -> ArrayVec<u16, 16>
-    requires { IsSome (rec_at parts.now.catalog slot) }
-    ensures { (rec : FileRecord) → rec_at parts.now.catalog slot ≡ Some rec → result.items ≡ rec.blocks }
+pub(crate) fn blocks_in(metadata: &Metadata, slot: u16) -> ArrayVec<u16, 16>
+    requires { IsSome (rec_at metadata.now.catalog slot) }
+    ensures { (rec : FileRecord) → rec_at metadata.now.catalog slot ≡ Some rec → result.items ≡ rec.blocks }
 {
-    let Some(rec) = parts.rec(slot) else {
+    let Some(rec) = metadata.rec(slot) else {
         unreachable!()
     };
     let mut numbers = ArrayVec::new();
@@ -95,59 +95,59 @@ pub(crate) fn blocks_in(parts: &Parts, slot: u16) -> ArrayVec<u16, 16>
 // Puts bytes into blocks in the place of those of the file in a slot, and answers the numbers that a slot has of them. In version 1 the
 // blocks of that file may be used again; in version 2 they stay until the command is done.
 fn put_instead<D: Disk>(
-    parts: &mut Parts,
+    metadata: &mut Metadata,
     journal: &mut Journal,
     is_broken: &mut bool,
     disk: &mut D,
     slot: u16,
     payload: &[u8],
-) -> Result<ArrayVec<u16, 16>, Change>
-    requires there { IsSome (rec_at parts.old.catalog slot) }
-    requires short { length payload.now ≤ file_limit parts.old.limits.version }
-    requires enough { (rec : FileRecord) → rec_at parts.old.catalog slot ≡ Some rec
-        → blocks_taken parts.old.limits.version (length payload.now) ≤ free_instead parts.old rec }
-    requires ready { IsReadyForContent parts.old journal.old (D.meaning disk.old) }
+) -> Result<ArrayVec<u16, 16>, ChangeFault>
+    requires there { IsSome (rec_at metadata.old.catalog slot) }
+    requires short { length payload.now ≤ file_limit metadata.old.limits.version }
+    requires enough { (rec : FileRecord) → rec_at metadata.old.catalog slot ≡ Some rec
+        → blocks_taken metadata.old.limits.version (length payload.now) ≤ free_instead metadata.old rec }
+    requires ready { IsReadyForContent metadata.old journal.old (D.meaning disk.old) }
     requires whole { is_broken.old ≡ false }
     requires unstaged { is_large (length payload.now) ≡ true → journal.old.staged ≡ [] }
-    ensures renewed { (rec : FileRecord) → rec_at parts.old.catalog slot ≡ Some rec
-        → ContentRenewed payload.now (Some rec) parts.old parts.new journal.old journal.new (D.meaning disk.old) (D.meaning disk.new) result }
+    ensures renewed { (rec : FileRecord) → rec_at metadata.old.catalog slot ≡ Some rec
+        → ContentRenewed payload.now (Some rec) metadata.old metadata.new journal.old journal.new (D.meaning disk.old) (D.meaning disk.new) result }
     ensures ended { ContentEnded is_broken.new result }
-    ensures sound { AreSound parts.new }
+    ensures sound { AreSound metadata.new }
     ensures disk { ChangesDisk (D.meaning disk.old) (D.meaning disk.new) result }
 {
-    if parts.limits().version == 2 {
-        let numbers = put_content(parts, journal, is_broken, disk, payload)?;
-        free_content(parts, journal, is_broken, disk, slot)?;
+    if metadata.limits().version == 2 {
+        let numbers = put_content(metadata, journal, is_broken, disk, payload)?;
+        free_content(metadata, journal, is_broken, disk, slot)?;
         return Ok(numbers);
     }
-    free_content(parts, journal, is_broken, disk, slot)?;
-    put_content(parts, journal, is_broken, disk, payload)
+    free_content(metadata, journal, is_broken, disk, slot)?;
+    put_content(metadata, journal, is_broken, disk, payload)
 }
 
 /// Puts bytes into blocks, in the place of those of the file in the slot if one is told, and answers the numbers that a slot has of them.
 pub(crate) fn put_anew<D: Disk>(
-    parts: &mut Parts,
+    metadata: &mut Metadata,
     journal: &mut Journal,
     is_broken: &mut bool,
     disk: &mut D,
     slot: Option<u16>,
     payload: &[u8],
-) -> Result<ArrayVec<u16, 16>, Change>
-    requires sound { AreSound parts.old }
-    requires there { IfSome slot (λ slot. IsSome (rec_at parts.old.catalog slot)) }
-    requires short { length payload.now ≤ file_limit parts.old.limits.version }
-    requires enough { blocks_taken parts.old.limits.version (length payload.now) ≤ free_for parts.old (record_in parts.old slot) }
-    requires ready { IsReadyForContent parts.old journal.old (D.meaning disk.old) }
+) -> Result<ArrayVec<u16, 16>, ChangeFault>
+    requires sound { AreSound metadata.old }
+    requires there { IfSome slot (λ slot. IsSome (rec_at metadata.old.catalog slot)) }
+    requires short { length payload.now ≤ file_limit metadata.old.limits.version }
+    requires enough { blocks_taken metadata.old.limits.version (length payload.now) ≤ free_for metadata.old (record_in metadata.old slot) }
+    requires ready { IsReadyForContent metadata.old journal.old (D.meaning disk.old) }
     requires whole { is_broken.old ≡ false }
     requires unstaged { is_large (length payload.now) ≡ true → journal.old.staged ≡ [] }
-    ensures renewed { ContentRenewed payload.now (record_in parts.old slot) parts.old parts.new journal.old journal.new
+    ensures renewed { ContentRenewed payload.now (record_in metadata.old slot) metadata.old metadata.new journal.old journal.new
         (D.meaning disk.old) (D.meaning disk.new) result }
     ensures ended { ContentEnded is_broken.new result }
-    ensures sound { AreSound parts.new }
+    ensures sound { AreSound metadata.new }
     ensures disk { ChangesDisk (D.meaning disk.old) (D.meaning disk.new) result }
 {
     match slot {
-        None => put_content(parts, journal, is_broken, disk, payload),
-        Some(slot) => put_instead(parts, journal, is_broken, disk, slot, payload),
+        None => put_content(metadata, journal, is_broken, disk, payload),
+        Some(slot) => put_instead(metadata, journal, is_broken, disk, slot, payload),
     }
 }

@@ -24,26 +24,26 @@ pub struct Counts {
 impl Store {
     /// How much there is. The axioms are counted slot by slot.
     pub fn counts(&self) -> Counts
-        ensures files { result.files ≡ length self.now.parts.catalog.entries }
-        ensures known { result.known ≡ length self.now.parts.dict.entries }
-        ensures axioms { result.axioms ≡ count_by is_filled self.now.parts.axioms }
-        ensures free { result.free ≡ free_count self.now.parts.taken }
+        ensures files { result.files ≡ length self.now.metadata.catalog.entries }
+        ensures known { result.known ≡ length self.now.metadata.dict.entries }
+        ensures axioms { result.axioms ≡ count_by is_filled self.now.metadata.axioms }
+        ensures free { result.free ≡ free_count self.now.metadata.taken }
         ensures sound { IsSound self.now }
     {
-        let parts = self.parts();
+        let metadata = self.metadata();
         Counts {
-            files: parts.file_count(),
-            known: parts.word_count(),
-            axioms: parts.axiom_count(),
-            free: parts.free_blocks(),
+            files: metadata.file_count(),
+            known: metadata.word_count(),
+            axioms: metadata.axiom_count(),
+            free: metadata.free_blocks(),
         }
     }
 
     /// Of the words to which axioms lead from a word, the first in byte order that comes behind the last one, where one is given: so
     /// a loop takes the axioms of a word in order. It looks once at each slot of an axiom.
     pub fn axiom_behind(&self, left: &Word, last: Option<&Word>) -> Option<Word>
-        ensures { result ≡ find (is_behind (option_map (λ w. w.now) last.entry)) (rights_of (axioms_of self.now.parts) left.now) }
+        ensures { result ≡ find (is_behind (option_map (λ w. w.now) last.entry)) (rights_of (axioms_of self.now.metadata) left.now) }
     {
-        self.parts().axiom_behind(left, last)
+        self.metadata().axiom_behind(left, last)
     }
 }

@@ -8,71 +8,69 @@ ghost use Rattle.lis_kept.specs.Sound.{AreSound};
 ghost use Rattle.lis_store.specs.Closing.{is_gained, is_met_at, wider};
 ghost use Rattle.lis_store.specs.Testing.{is_crowded, has_crowded};
 
-use lis_kept::Parts;
+use lis_kept::Metadata;
+use lis_limits::MAX_DESCRIPTION;
 use lis_model::met::is_met;
 use lis_words::{Word, test_of};
 
-/// The most words that a file may have before it gets one more.
-const MOST: u32 = 127;
-
 /// Whether there is a file in the slot, and its size meets the test.
-pub(crate) fn is_met_at(parts: &Parts, test: (bool, u64), slot: u16) -> bool
-    ensures { result ≡ is_met_at parts.now (Some test) slot }
+pub(crate) fn is_met_at(metadata: &Metadata, test: (bool, u64), slot: u16) -> bool
+    ensures { result ≡ is_met_at metadata.now (Some test) slot }
 {
-    match parts.rec(slot) {
+    match metadata.rec(slot) {
         None => false,
         Some(rec) => is_met(Some(test), u64::from(rec.size)),
     }
 }
 
 // How many numbers the description in a slot would have with all that the words of the numbers entail.
-fn wider_count(parts: &Parts, numbers: &[u16], slot: u16) -> u32
-    requires sound { AreSound parts.now }
-    requires named { IsTrue (list_all (λ n. is_some (word_of parts.now.dict n)) numbers.now) }
-    requires slot { slot < parts.now.limits.files }
-    ensures { result ≡ length (wider parts.now (is_gained parts.now numbers.now) slot) }
+fn wider_count(metadata: &Metadata, numbers: &[u16], slot: u16) -> u32
+    requires sound { AreSound metadata.now }
+    requires named { IsTrue (list_all (λ n. is_some (word_of metadata.now.dict n)) numbers.now) }
+    requires slot { slot < metadata.now.limits.files }
+    ensures { result ≡ length (wider metadata.now (is_gained metadata.now numbers.now) slot) }
 {
-    let entailed = parts.taxonomy().rows();
-    parts
+    let entailed = metadata.taxonomy().rows();
+    metadata
         .ext()
         .sets()
         .count_with(u32::from(slot), entailed, numbers)
 }
 
 /// Whether it would have more than so many.
-pub(crate) fn is_full(parts: &Parts, numbers: &[u16], slot: u16, most: u32) -> bool
-    requires sound { AreSound parts.now }
-    requires named { IsTrue (list_all (λ n. is_some (word_of parts.now.dict n)) numbers.now) }
-    requires slot { slot < parts.now.limits.files }
-    ensures { result ≡ nat_lt most (length (wider parts.now (is_gained parts.now numbers.now) slot)) }
+pub(crate) fn is_full(metadata: &Metadata, numbers: &[u16], slot: u16, most: u32) -> bool
+    requires sound { AreSound metadata.now }
+    requires named { IsTrue (list_all (λ n. is_some (word_of metadata.now.dict n)) numbers.now) }
+    requires slot { slot < metadata.now.limits.files }
+    ensures { result ≡ nat_lt most (length (wider metadata.now (is_gained metadata.now numbers.now) slot)) }
 {
-    wider_count(parts, numbers, slot) > most
+    wider_count(metadata, numbers, slot) > most
 }
 
 // Whether a file meets the test, and would have too many words with it and with what it gains.
-fn is_crowded(parts: &Parts, test: (bool, u64), numbers: &[u16], slot: u16) -> bool
-    requires sound { AreSound parts.now }
-    requires named { IsTrue (list_all (λ n. is_some (word_of parts.now.dict n)) numbers.now) }
-    requires slot { slot < parts.now.limits.files }
-    ensures { result ≡ is_crowded parts.now (Some test) numbers.now slot }
+fn is_crowded(metadata: &Metadata, test: (bool, u64), numbers: &[u16], slot: u16) -> bool
+    requires sound { AreSound metadata.now }
+    requires named { IsTrue (list_all (λ n. is_some (word_of metadata.now.dict n)) numbers.now) }
+    requires slot { slot < metadata.now.limits.files }
+    ensures { result ≡ is_crowded metadata.now (Some test) numbers.now slot }
 {
-    if !is_met_at(parts, test, slot) {
+    if !is_met_at(metadata, test, slot) {
         return false;
     }
-    is_full(parts, numbers, slot, MOST)
+    is_full(metadata, numbers, slot, MAX_DESCRIPTION as u32 - 1)
 }
 
 /// Whether some file does, where the word is a test.
-pub(crate) fn has_crowded(parts: &Parts, word: &Word, numbers: &[u16]) -> bool
-    requires named { IsTrue (list_all (λ n. is_some (word_of parts.now.dict n)) numbers.now) }
-    ensures { result ≡ has_crowded parts.now (test_of word.now) numbers.now }
+pub(crate) fn has_crowded(metadata: &Metadata, word: &Word, numbers: &[u16]) -> bool
+    requires named { IsTrue (list_all (λ n. is_some (word_of metadata.now.dict n)) numbers.now) }
+    ensures { result ≡ has_crowded metadata.now (test_of word.now) numbers.now }
 {
     let Some(test) = test_of(word) else {
         return false;
     };
-    let files = parts.limits().files;
+    let files = metadata.limits().files;
     for slot in 0..files {
-        if is_crowded(parts, test, numbers, slot as u16) {
+        if is_crowded(metadata, test, numbers, slot as u16) {
             return true;
         }
     }

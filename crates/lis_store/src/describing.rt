@@ -15,7 +15,8 @@ ghost use Rattle.lis_store.specs.Describing.{with_heads, Gathers, IsTold};
 use crate::meeting::leave_out_met;
 use arrayvec::ArrayVec;
 use lis_bits::{Rows, and_not_row};
-use lis_kept::Parts;
+use lis_kept::Metadata;
+use lis_limits::{MAX_ASSIGNED, MAX_DESCRIPTION};
 use lis_words::{Name, Word, head_of};
 
 /// A file as a change tells it: of its bytes only how many they are, and which words are derived from them and its name.
@@ -45,14 +46,14 @@ fn has(words: &[Word], word: &Word) -> bool
 }
 
 // Gathers a word: takes the numbers of all that it entails from the row, or notes it where it has no number.
-fn gather(parts: &Parts, lacked: &mut Rows, fresh: &mut Fresh, word: &Word)
-    requires sound { AreSound parts.now }
-    requires shape { HasShape lacked.old 1 parts.now.limits.props }
-    requires room { length fresh.old.items < 288 }
-    ensures { Gathers parts.now (word.now ∷ []) lacked.old lacked.new fresh.old.items fresh.new.items }
+fn gather(metadata: &Metadata, lacked: &mut Rows, fresh: &mut Fresh, word: &Word)
+    requires sound { AreSound metadata.now }
+    requires shape { HasShape lacked.old 1 metadata.now.limits.props }
+    requires room { length fresh.old.items < 2 * (MAX_ASSIGNED + MAX_DESCRIPTION) }
+    ensures { Gathers metadata.now (word.now ∷ []) lacked.old lacked.new fresh.old.items fresh.new.items }
 {
-    if let Some(number) = parts.number_of(word) {
-        let entailed = parts.taxonomy().rows();
+    if let Some(number) = metadata.number_of(word) {
+        let entailed = metadata.taxonomy().rows();
         and_not_row(entailed, u32::from(number), lacked, 0);
         return;
     }
@@ -62,80 +63,84 @@ fn gather(parts: &Parts, lacked: &mut Rows, fresh: &mut Fresh, word: &Word)
 }
 
 // Gathers a word and its head, if it has one.
-fn gather_with_head(parts: &Parts, lacked: &mut Rows, fresh: &mut Fresh, word: &Word)
-    requires sound { AreSound parts.now }
-    requires shape { HasShape lacked.old 1 parts.now.limits.props }
-    requires room { length fresh.old.items + 1 < 288 }
-    ensures { Gathers parts.now (word.now ∷ heads word.now) lacked.old lacked.new fresh.old.items fresh.new.items }
+fn gather_with_head(metadata: &Metadata, lacked: &mut Rows, fresh: &mut Fresh, word: &Word)
+    requires sound { AreSound metadata.now }
+    requires shape { HasShape lacked.old 1 metadata.now.limits.props }
+    requires room { length fresh.old.items + 1 < 2 * (MAX_ASSIGNED + MAX_DESCRIPTION) }
+    ensures { Gathers metadata.now (word.now ∷ heads word.now) lacked.old lacked.new fresh.old.items fresh.new.items }
 {
-    gather(parts, lacked, fresh, word);
+    gather(metadata, lacked, fresh, word);
     if let Some(head) = head_of(word) {
-        gather(parts, lacked, fresh, &head);
+        gather(metadata, lacked, fresh, &head);
     }
 }
 
 // Gathers the words and their heads.
-fn gather_all(parts: &Parts, lacked: &mut Rows, fresh: &mut Fresh, words: &[Word])
-    requires sound { AreSound parts.now }
-    requires shape { HasShape lacked.old 1 parts.now.limits.props }
-    requires room { length fresh.old.items + 2 * length words.now ≤ 288 }
-    ensures { Gathers parts.now (with_heads words.now) lacked.old lacked.new fresh.old.items fresh.new.items }
+fn gather_all(metadata: &Metadata, lacked: &mut Rows, fresh: &mut Fresh, words: &[Word])
+    requires sound { AreSound metadata.now }
+    requires shape { HasShape lacked.old 1 metadata.now.limits.props }
+    requires room { length fresh.old.items + 2 * length words.now ≤ 2 * (MAX_ASSIGNED + MAX_DESCRIPTION) }
+    ensures { Gathers metadata.now (with_heads words.now) lacked.old lacked.new fresh.old.items fresh.new.items }
 {
     for word in words {
-        gather_with_head(parts, lacked, fresh, word);
+        gather_with_head(metadata, lacked, fresh, word);
     }
 }
 
 // Tells the description of a file: `row`, a row of words to work in, has then the numbers of its words. The answer is those that
 // have none.
-fn tell(parts: &Parts, row: &mut Rows, draft: Draft) -> Fresh
-    requires sound { AreSound parts.now }
-    requires shape { HasShape row.old 1 parts.now.limits.props }
-    requires few { length draft.assigned.now ≤ 16 }
-    requires few_own { length draft.own.now ≤ 128 }
-    ensures { IsTold parts.now (drafted draft.entry.name.now draft.entry.size draft.entry.assigned.now draft.entry.own.now) row.new result.items }
+fn tell(metadata: &Metadata, row: &mut Rows, draft: Draft) -> Fresh
+    requires sound { AreSound metadata.now }
+    requires shape { HasShape row.old 1 metadata.now.limits.props }
+    requires few { length draft.assigned.now ≤ MAX_ASSIGNED }
+    requires few_own { length draft.own.now ≤ MAX_DESCRIPTION }
+    ensures { IsTold metadata.now (drafted draft.entry.name.now draft.entry.size draft.entry.assigned.now draft.entry.own.now) row.new result.items }
 {
     // Rows of other rows are taken from a row, so it has at first what the file lacks.
     let mut fresh = ArrayVec::new();
     row.fill(0, true);
-    gather_all(parts, row, &mut fresh, draft.assigned);
-    gather_all(parts, row, &mut fresh, draft.own);
-    leave_out_met(parts, draft.size, row);
+    gather_all(metadata, row, &mut fresh, draft.assigned);
+    gather_all(metadata, row, &mut fresh, draft.own);
+    leave_out_met(metadata, draft.size, row);
     row.negate(0);
     fresh
 }
 
 // Whether the description in a slot has a number which is not in the row, and which nothing else uses.
-fn is_leaving(parts: &Parts, row: &Rows, slot: u16, number: u16) -> bool
-    requires sound { AreSound parts.now }
-    requires there { IsSome (rec_at parts.now.catalog slot) }
-    requires slot { slot < length parts.now.ext.sets }
-    requires number { number < parts.now.limits.props }
-    requires shape { HasShape row.now 1 parts.now.limits.props }
-    ensures { result ≡ is_leaving parts.now row.now slot number }
+fn is_leaving(metadata: &Metadata, row: &Rows, slot: u16, number: u16) -> bool
+    requires sound { AreSound metadata.now }
+    requires there { IsSome (rec_at metadata.now.catalog slot) }
+    requires slot { slot < length metadata.now.ext.sets }
+    requires number { number < metadata.now.limits.props }
+    requires shape { HasShape row.now 1 metadata.now.limits.props }
+    ensures { result ≡ is_leaving metadata.now row.now slot number }
 {
-    if !parts.ext().rows().get(u32::from(number), u32::from(slot)) {
+    if !metadata
+        .ext()
+        .rows()
+        .get(u32::from(number), u32::from(slot))
+    {
         return false;
     }
     if row.get(0, u32::from(number)) {
         return false;
     }
-    !parts.is_used_without(slot, number)
+    !metadata.is_used_without(slot, number)
 }
 
 // How many numbers of the description in a slot are not in the row, and nothing else uses them. Where no slot is given, none leave.
-fn leaving(parts: &Parts, row: &Rows, beside: Option<u16>) -> u32
-    requires there { IfSome beside (λ slot. IsSome (rec_at parts.now.catalog slot)) }
-    requires shape { HasShape row.now 1 parts.now.limits.props }
-    ensures { result ≡ length (leaving parts.now row.now beside) }
+fn leaving(metadata: &Metadata, row: &Rows, beside: Option<u16>) -> u32
+    requires there { IfSome beside (λ slot. IsSome (rec_at metadata.now.catalog slot)) }
+    requires shape { HasShape row.now 1 metadata.now.limits.props }
+    ensures { result ≡ length (leaving metadata.now row.now beside) }
 {
     let Some(slot) = beside else {
         return 0;
     };
-    let props = parts.limits().props;
+    let props = metadata.limits().props;
     let mut count = 0;
     for number in 0..props {
-        if is_leaving(parts, row, slot, number as u16) {
+        if is_leaving(metadata, row, slot, number as u16) {
             count += 1;
         }
     }
@@ -143,22 +148,27 @@ fn leaving(parts: &Parts, row: &Rows, beside: Option<u16>) -> u32
 }
 
 /// Measures what there would be with a file, in the place of that in a slot, if one is given. `row` is a row of words to work in.
-pub(crate) fn measure(parts: &Parts, row: &mut Rows, beside: Option<u16>, draft: Draft) -> Extent
-    requires sound { AreSound parts.now }
-    requires there { IfSome beside (λ slot. IsSome (rec_at parts.now.catalog slot)) }
-    requires used { IfSome beside (λ slot. AreUsed parts.now) }
-    requires shape { HasShape row.old 1 parts.now.limits.props }
-    requires few { length draft.assigned.now ≤ 16 }
-    requires few_own { length draft.own.now ≤ 128 }
-    ensures shape { HasShape row.new 1 parts.now.limits.props }
+pub(crate) fn measure(
+    metadata: &Metadata,
+    row: &mut Rows,
+    beside: Option<u16>,
+    draft: Draft,
+) -> Extent
+    requires sound { AreSound metadata.now }
+    requires there { IfSome beside (λ slot. IsSome (rec_at metadata.now.catalog slot)) }
+    requires used { IfSome beside (λ slot. AreUsed metadata.now) }
+    requires shape { HasShape row.old 1 metadata.now.limits.props }
+    requires few { length draft.assigned.now ≤ MAX_ASSIGNED }
+    requires few_own { length draft.own.now ≤ MAX_DESCRIPTION }
+    ensures shape { HasShape row.new 1 metadata.now.limits.props }
     ensures words { result.words
-        ≡ length (described_by parts.now (drafted draft.entry.name.now draft.entry.size draft.entry.assigned.now draft.entry.own.now)) }
+        ≡ length (described_by metadata.now (drafted draft.entry.name.now draft.entry.size draft.entry.assigned.now draft.entry.own.now)) }
     ensures known { result.known
-        ≡ length (known_beside parts.now beside (drafted draft.entry.name.now draft.entry.size draft.entry.assigned.now draft.entry.own.now)) }
+        ≡ length (known_beside metadata.now beside (drafted draft.entry.name.now draft.entry.size draft.entry.assigned.now draft.entry.own.now)) }
 {
-    let fresh = tell(parts, row, draft).len() as u32;
+    let fresh = tell(metadata, row, draft).len() as u32;
     Extent {
         words: row.count(0) + fresh,
-        known: parts.word_count() + fresh - leaving(parts, row, beside),
+        known: metadata.word_count() + fresh - leaving(metadata, row, beside),
     }
 }

@@ -14,28 +14,28 @@ ghost use Rattle.lis_kept.specs.Image.{image_shape};
 
 use lis_content::Buffer;
 use lis_journal::Journal;
-use lis_kept::{Parts, data_start};
+use lis_kept::{Metadata, data_start};
 use lis_ports::{Disk, Failed};
 
 /// Reads the bytes of the file in a slot.
 pub(crate) fn read_file<D: Disk>(
-    parts: &Parts,
+    metadata: &Metadata,
     journal: &Journal,
     disk: &mut D,
     bytes: &mut Buffer,
     slot: u16,
 ) -> Result<(), Failed>
-    requires there { IsSome (rec_at parts.now.catalog slot) }
-    requires image { shape_of journal.now ≡ image_shape parts.now.limits }
+    requires there { IsSome (rec_at metadata.now.catalog slot) }
+    requires image { shape_of journal.now ≡ image_shape metadata.now.limits }
     requires usable { JournalIsUsable journal.now (D.meaning disk.old) }
-    ensures read { OnOk result ((rec : FileRecord) (kept : ℕ → List ℕ) → rec_at parts.now.catalog slot ≡ Some rec
-        → Fits journal.now (D.meaning disk.old) kept → AreContentsWithin parts.now.limits (looked journal.now.staged kept) rec → bytes.new ≡ bytes_told parts.now.limits (looked journal.now.staged kept) rec) }
-    ensures size { OnOk result ((rec : FileRecord) → rec_at parts.now.catalog slot ≡ Some rec → length bytes.new ≡ rec.size) }
+    ensures read { OnOk result ((rec : FileRecord) (kept : ℕ → List ℕ) → rec_at metadata.now.catalog slot ≡ Some rec
+        → Fits journal.now (D.meaning disk.old) kept → AreContentsWithin metadata.now.limits (looked journal.now.staged kept) rec → bytes.new ≡ bytes_told metadata.now.limits (looked journal.now.staged kept) rec) }
+    ensures size { OnOk result ((rec : FileRecord) → rec_at metadata.now.catalog slot ≡ Some rec → length bytes.new ≡ rec.size) }
     ensures disk { ReadsDisk (D.meaning disk.old) (D.meaning disk.new) result }
     ensures fits { (kept : ℕ → List ℕ) → Fits journal.now (D.meaning disk.old) kept → Fits journal.now (D.meaning disk.new) kept }
 {
-    let base = data_start(parts.limits());
-    let Some(rec) = parts.rec(slot) else {
+    let base = data_start(metadata.limits());
+    let Some(rec) = metadata.rec(slot) else {
         unreachable!()
     };
     bytes.read(journal, disk, base, rec.blocks.as_slice(), rec.size)

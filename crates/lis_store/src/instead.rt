@@ -15,69 +15,70 @@ ghost use Rattle.lis_store.specs.Changes.{Judges};
 ghost use Rattle.lis_store.specs.Stored.{DescriptionsAreShort};
 ghost use Rattle.lis_store.specs.Instead.{given_before, free_instead, instead_checks, overwriting_checks, renaming_checks};
 
-use crate::admitting::{MAX_DESCRIPTION, blocks_taken};
+use crate::admitting::blocks_taken;
 use crate::assigning::{all_assignable, put_word};
 use crate::describing::{Draft, measure};
 use crate::removing::numbers_at;
 use arrayvec::ArrayVec;
 use lis_derive::derive_words;
 use lis_eval::Scratch;
-use lis_kept::Parts;
+use lis_kept::Metadata;
+use lis_limits::{MAX_ASSIGNED, MAX_DESCRIPTION};
 use lis_model::refusal::Refusal;
 use lis_words::{Name, Word, is_builtin};
 
 // Puts the word of a number into a set of words, if there is one.
-fn put_number(parts: &Parts, words: &mut ArrayVec<Word, 16>, number: u16) -> bool
-    requires { length words.old.items ≤ 16 }
-    ensures { Takes (option_to_list (word_of parts.now.dict number)) words.old.items words.new.items result }
+fn put_number(metadata: &Metadata, words: &mut ArrayVec<Word, 16>, number: u16) -> bool
+    requires { length words.old.items ≤ MAX_ASSIGNED }
+    ensures { Takes (option_to_list (word_of metadata.now.dict number)) words.old.items words.new.items result }
 {
-    let Some(word) = parts.word_of(number) else {
+    let Some(word) = metadata.word_of(number) else {
         return true;
     };
     put_word(words, &word)
 }
 
 // The words that have these numbers.
-fn words_of(parts: &Parts, numbers: &[u16]) -> ArrayVec<Word, 16>
-    requires { length numbers.now ≤ 16 }
-    ensures words { result.items ≡ words_told parts.now.dict numbers.now }
-    ensures few { length result.items ≤ 16 }
+fn words_of(metadata: &Metadata, numbers: &[u16]) -> ArrayVec<Word, 16>
+    requires { length numbers.now ≤ MAX_ASSIGNED }
+    ensures words { result.items ≡ words_told metadata.now.dict numbers.now }
+    ensures few { length result.items ≤ MAX_ASSIGNED }
 {
     let mut words = ArrayVec::new();
     for number in numbers {
-        put_number(parts, &mut words, *number);
+        put_number(metadata, &mut words, *number);
     }
     words
 }
 
 /// The words that the file in a slot was given.
-pub(crate) fn assigned_in(parts: &Parts, slot: u16) -> ArrayVec<Word, 16>
-    requires { IsSome (rec_at parts.now.catalog slot) }
-    ensures words { (rec : FileRecord) → rec_at parts.now.catalog slot ≡ Some rec → result.items ≡ words_told parts.now.dict rec.tags }
-    ensures few { length result.items ≤ 16 }
+pub(crate) fn assigned_in(metadata: &Metadata, slot: u16) -> ArrayVec<Word, 16>
+    requires { IsSome (rec_at metadata.now.catalog slot) }
+    ensures words { (rec : FileRecord) → rec_at metadata.now.catalog slot ≡ Some rec → result.items ≡ words_told metadata.now.dict rec.tags }
+    ensures few { length result.items ≤ MAX_ASSIGNED }
 {
-    let Some(rec) = parts.rec(slot) else {
+    let Some(rec) = metadata.rec(slot) else {
         unreachable!()
     };
-    words_of(parts, rec.tags.as_slice())
+    words_of(metadata, rec.tags.as_slice())
 }
 
 /// How many bytes the file in a slot has.
-pub(crate) fn size_in(parts: &Parts, slot: u16) -> u64
-    requires { IsSome (rec_at parts.now.catalog slot) }
-    ensures { (rec : FileRecord) → rec_at parts.now.catalog slot ≡ Some rec → result ≡ rec.size }
+pub(crate) fn size_in(metadata: &Metadata, slot: u16) -> u64
+    requires { IsSome (rec_at metadata.now.catalog slot) }
+    ensures { (rec : FileRecord) → rec_at metadata.now.catalog slot ≡ Some rec → result ≡ rec.size }
 {
-    let Some(rec) = parts.rec(slot) else {
+    let Some(rec) = metadata.rec(slot) else {
         unreachable!()
     };
     u64::from(rec.size)
 }
 
 // The word of a number, if it is built in.
-fn own_word(parts: &Parts, number: u16) -> Option<Word>
-    ensures { option_to_list result ≡ own_word parts.now number }
+fn own_word(metadata: &Metadata, number: u16) -> Option<Word>
+    ensures { option_to_list result ≡ own_word metadata.now number }
 {
-    let Some(word) = parts.word_of(number) else {
+    let Some(word) = metadata.word_of(number) else {
         return None;
     };
     if is_builtin(&word) {
@@ -87,14 +88,14 @@ fn own_word(parts: &Parts, number: u16) -> Option<Word>
 }
 
 // The built-in words that have these numbers.
-fn own_among(parts: &Parts, numbers: &[u16]) -> ArrayVec<Word, 128>
-    requires { length numbers.now ≤ 128 }
-    ensures words { result.items ≡ flat_map (own_word parts.now) numbers.now }
-    ensures few { length result.items ≤ 128 }
+fn own_among(metadata: &Metadata, numbers: &[u16]) -> ArrayVec<Word, MAX_DESCRIPTION>
+    requires { length numbers.now ≤ MAX_DESCRIPTION }
+    ensures words { result.items ≡ flat_map (own_word metadata.now) numbers.now }
+    ensures few { length result.items ≤ MAX_DESCRIPTION }
 {
     let mut words = ArrayVec::new();
     for number in numbers {
-        if let Some(word) = own_word(parts, *number) {
+        if let Some(word) = own_word(metadata, *number) {
             words.push(word);
         }
     }
@@ -102,51 +103,51 @@ fn own_among(parts: &Parts, numbers: &[u16]) -> ArrayVec<Word, 128>
 }
 
 /// The derived words of the file in a slot and their heads, as its description has kept them.
-pub(crate) fn own_in(parts: &Parts, slot: u16) -> ArrayVec<Word, 128>
-    requires there { IsSome (rec_at parts.now.catalog slot) }
-    requires short { DescriptionsAreShort parts.now }
-    ensures own { result.items ≡ own_kept parts.now slot }
-    ensures few { length result.items ≤ 128 }
+pub(crate) fn own_in(metadata: &Metadata, slot: u16) -> ArrayVec<Word, MAX_DESCRIPTION>
+    requires there { IsSome (rec_at metadata.now.catalog slot) }
+    requires short { DescriptionsAreShort metadata.now }
+    ensures own { result.items ≡ own_kept metadata.now slot }
+    ensures few { length result.items ≤ MAX_DESCRIPTION }
 {
-    let numbers = numbers_at(parts.ext(), parts.limits().props, slot);
-    own_among(parts, numbers.as_slice())
+    let numbers = numbers_at(metadata.ext(), metadata.limits().props, slot);
+    own_among(metadata, numbers.as_slice())
 }
 
 // How many blocks are free for other bytes of the file in a slot.
-fn free_instead(parts: &Parts, slot: u16) -> u64
-    requires { IsSome (rec_at parts.now.catalog slot) }
-    ensures { (rec : FileRecord) → rec_at parts.now.catalog slot ≡ Some rec → result ≡ free_instead parts.now rec }
+fn free_instead(metadata: &Metadata, slot: u16) -> u64
+    requires { IsSome (rec_at metadata.now.catalog slot) }
+    ensures { (rec : FileRecord) → rec_at metadata.now.catalog slot ≡ Some rec → result ≡ free_instead metadata.now rec }
 {
-    let free = u64::from(parts.free_blocks());
-    if parts.limits().version == 2 {
+    let free = u64::from(metadata.free_blocks());
+    if metadata.limits().version == 2 {
         return free;
     }
-    free + parts.taken_blocks(slot) as u64
+    free + metadata.taken_blocks(slot) as u64
 }
 
 /// Whether the words of a file may stand in the place of those of the file in a slot.
 pub(crate) fn may_stand_instead(
-    parts: &Parts,
+    metadata: &Metadata,
     scratch: &mut Scratch,
     slot: u16,
     draft: Draft,
 ) -> Result<(), Refusal>
-    requires there { IsSome (rec_at parts.now.catalog slot) }
-    requires used { AreUsed parts.now }
-    requires few { length draft.assigned.now ≤ 16 }
-    requires few_own { length draft.own.now ≤ 128 }
-    requires room { HasRoom scratch.old parts.now.limits }
-    ensures room { HasRoom scratch.new parts.now.limits }
-    ensures row { Judges (instead_checks parts.now slot
+    requires there { IsSome (rec_at metadata.now.catalog slot) }
+    requires used { AreUsed metadata.now }
+    requires few { length draft.assigned.now ≤ MAX_ASSIGNED }
+    requires few_own { length draft.own.now ≤ MAX_DESCRIPTION }
+    requires room { HasRoom scratch.old metadata.now.limits }
+    ensures room { HasRoom scratch.new metadata.now.limits }
+    ensures row { Judges (instead_checks metadata.now slot
         (drafted draft.entry.name.now draft.entry.size draft.entry.assigned.now draft.entry.own.now)) result }
 {
-    let limits = parts.limits();
+    let limits = metadata.limits();
     // The words of a told file may be given. Memory alone does not tell so.
-    if !all_assignable(parts, draft.assigned) {
+    if !all_assignable(metadata, draft.assigned) {
         return Err(Refusal::UnknownProperty);
     }
-    let measure = measure(parts, &mut scratch.candidates, Some(slot), draft);
-    if measure.words > MAX_DESCRIPTION {
+    let measure = measure(metadata, &mut scratch.candidates, Some(slot), draft);
+    if measure.words > MAX_DESCRIPTION as u32 {
         return Err(Refusal::LargeDescription);
     }
     if measure.known > limits.props {
@@ -157,19 +158,19 @@ pub(crate) fn may_stand_instead(
 
 // As `may_stand_instead`, with the words that are derived from these bytes.
 fn has_room_instead(
-    parts: &Parts,
+    metadata: &Metadata,
     scratch: &mut Scratch,
     slot: u16,
     name: &Name,
     words: &[Word],
     payload: &[u8],
 ) -> Result<(), Refusal>
-    requires there { IsSome (rec_at parts.now.catalog slot) }
-    requires used { AreUsed parts.now }
-    requires few { length words.now ≤ 16 }
-    requires room { HasRoom scratch.old parts.now.limits }
-    ensures room { HasRoom scratch.new parts.now.limits }
-    ensures row { Judges (instead_checks parts.now slot (draft_of (new_file name.now words.now payload.now))) result }
+    requires there { IsSome (rec_at metadata.now.catalog slot) }
+    requires used { AreUsed metadata.now }
+    requires few { length words.now ≤ MAX_ASSIGNED }
+    requires room { HasRoom scratch.old metadata.now.limits }
+    ensures room { HasRoom scratch.new metadata.now.limits }
+    ensures row { Judges (instead_checks metadata.now slot (draft_of (new_file name.now words.now payload.now))) result }
 {
     let derived = derive_words(name, payload);
     let draft = Draft {
@@ -178,31 +179,31 @@ fn has_room_instead(
         assigned: words,
         own: derived.as_slice(),
     };
-    may_stand_instead(parts, scratch, slot, draft)
+    may_stand_instead(metadata, scratch, slot, draft)
 }
 
 /// The words that the file in a slot was given, or what it is refused for with these bytes in the place of its own. `name` is its name.
 /// Where there are more bytes than a file may have, only their number counts.
 pub(crate) fn may_write(
-    parts: &Parts,
+    metadata: &Metadata,
     scratch: &mut Scratch,
     slot: u16,
     name: &Name,
     payload: &[u8],
     size: u64,
 ) -> Result<ArrayVec<Word, 16>, Refusal>
-    requires there { IsSome (rec_at parts.now.catalog slot) }
-    requires used { AreUsed parts.now }
-    requires room { HasRoom scratch.old parts.now.limits }
-    ensures room { HasRoom scratch.new parts.now.limits }
-    ensures row { (rec : FileRecord) → rec_at parts.now.catalog slot ≡ Some rec
-        → Judges (overwriting_checks parts.now slot rec (given_before parts.now rec name.now payload.now) size) result }
-    ensures words { IfOk result (λ words. (rec : FileRecord) → rec_at parts.now.catalog slot ≡ Some rec
-        → words.items ≡ words_told parts.now.dict rec.tags) }
+    requires there { IsSome (rec_at metadata.now.catalog slot) }
+    requires used { AreUsed metadata.now }
+    requires room { HasRoom scratch.old metadata.now.limits }
+    ensures room { HasRoom scratch.new metadata.now.limits }
+    ensures row { (rec : FileRecord) → rec_at metadata.now.catalog slot ≡ Some rec
+        → Judges (overwriting_checks metadata.now slot rec (given_before metadata.now rec name.now payload.now) size) result }
+    ensures words { IfOk result (λ words. (rec : FileRecord) → rec_at metadata.now.catalog slot ≡ Some rec
+        → words.items ≡ words_told metadata.now.dict rec.tags) }
 {
-    let words = assigned_in(parts, slot);
-    has_room_instead(parts, scratch, slot, name, words.as_slice(), payload)?;
-    if blocks_taken(parts.limits().version, size) > free_instead(parts, slot) {
+    let words = assigned_in(metadata, slot);
+    has_room_instead(metadata, scratch, slot, name, words.as_slice(), payload)?;
+    if blocks_taken(metadata.limits().version, size) > free_instead(metadata, slot) {
         return Err(Refusal::NoSpace);
     }
     Ok(words)
@@ -211,23 +212,23 @@ pub(crate) fn may_write(
 /// The words that the file in a slot was given, or what it is refused for under another name, which no file has. `payload` are
 /// its bytes.
 pub(crate) fn may_rename(
-    parts: &Parts,
+    metadata: &Metadata,
     scratch: &mut Scratch,
     slot: u16,
     other: &Name,
     payload: &[u8],
 ) -> Result<ArrayVec<Word, 16>, Refusal>
-    requires there { IsSome (rec_at parts.now.catalog slot) }
-    requires used { AreUsed parts.now }
-    requires new { slot_of parts.now.catalog other.now ≡ None }
-    requires room { HasRoom scratch.old parts.now.limits }
-    ensures room { HasRoom scratch.new parts.now.limits }
-    ensures row { (rec : FileRecord) → rec_at parts.now.catalog slot ≡ Some rec
-        → Judges (renaming_checks parts.now slot (given_before parts.now rec other.now payload.now)) result }
-    ensures words { IfOk result (λ words. (rec : FileRecord) → rec_at parts.now.catalog slot ≡ Some rec
-        → words.items ≡ words_told parts.now.dict rec.tags) }
+    requires there { IsSome (rec_at metadata.now.catalog slot) }
+    requires used { AreUsed metadata.now }
+    requires new { slot_of metadata.now.catalog other.now ≡ None }
+    requires room { HasRoom scratch.old metadata.now.limits }
+    ensures room { HasRoom scratch.new metadata.now.limits }
+    ensures row { (rec : FileRecord) → rec_at metadata.now.catalog slot ≡ Some rec
+        → Judges (renaming_checks metadata.now slot (given_before metadata.now rec other.now payload.now)) result }
+    ensures words { IfOk result (λ words. (rec : FileRecord) → rec_at metadata.now.catalog slot ≡ Some rec
+        → words.items ≡ words_told metadata.now.dict rec.tags) }
 {
-    let words = assigned_in(parts, slot);
-    has_room_instead(parts, scratch, slot, other, words.as_slice(), payload)?;
+    let words = assigned_in(metadata, slot);
+    has_room_instead(metadata, scratch, slot, other, words.as_slice(), payload)?;
     Ok(words)
 }

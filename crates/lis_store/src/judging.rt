@@ -16,19 +16,20 @@ ghost use Rattle.lis_store.specs.Testing.{MayDeclare};
 use crate::crowding::has_crowded;
 use crate::placing::{has_plain_words, place_numbers};
 use arrayvec::ArrayVec;
-use lis_kept::Parts;
+use lis_kept::Metadata;
+use lis_limits::MAX_NODES;
 use lis_model::refusal::Refusal;
 use lis_place::Place;
 use lis_words::{Word, is_builtin, is_valued};
 
 // The numbers of the place's words, where the word is a new one, and these are plain words that are declared.
-fn may_place(parts: &Parts, place: &Place, word: &Word) -> Result<ArrayVec<u16, 64>, Refusal>
-    requires sound { AreSound parts.now }
-    ensures row { Judges (place_checks parts.now place.now word.now) result }
+fn may_place(metadata: &Metadata, place: &Place, word: &Word) -> Result<ArrayVec<u16, 64>, Refusal>
+    requires sound { AreSound metadata.now }
+    ensures row { Judges (place_checks metadata.now place.now word.now) result }
     ensures form { OnOk result (IsTrue (is_declarable word.now)) }
     ensures word { IsTrue (is_property word.now) }
-    ensures numbers { IfOk result (λ numbers. AreNumbersOf parts.now (words_at place.now) numbers.items) }
-    ensures few { IfOk result (λ numbers. length numbers.items ≤ 64) }
+    ensures numbers { IfOk result (λ numbers. AreNumbersOf metadata.now (words_at place.now) numbers.items) }
+    ensures few { IfOk result (λ numbers. length numbers.items ≤ MAX_NODES) }
 {
     let bytes = word.bytes();
     if is_builtin(word) {
@@ -37,32 +38,32 @@ fn may_place(parts: &Parts, place: &Place, word: &Word) -> Result<ArrayVec<u16, 
     if is_valued(bytes) {
         return Err(Refusal::NotAssignable);
     }
-    if parts.is_declared(word) {
+    if metadata.is_declared(word) {
         return Err(Refusal::AlreadyDeclared);
     }
     if !has_plain_words(place) {
         return Err(Refusal::NotAPlace);
     }
-    match place_numbers(parts, place) {
+    match place_numbers(metadata, place) {
         None => Err(Refusal::UnknownProperty),
         Some(numbers) => Ok(numbers),
     }
 }
 
 // Whether there is room for the word, and for axioms from it to the words of these numbers.
-fn has_room(parts: &Parts, word: &Word, numbers: &[u16]) -> Result<(), Refusal>
-    requires named { IsTrue (list_all (λ n. is_some (word_of parts.now.dict n)) numbers.now) }
-    requires few { length numbers.now ≤ 64 }
-    ensures { Judges (room_checks parts.now word.now (length numbers.now) numbers.now) result }
+fn has_room(metadata: &Metadata, word: &Word, numbers: &[u16]) -> Result<(), Refusal>
+    requires named { IsTrue (list_all (λ n. is_some (word_of metadata.now.dict n)) numbers.now) }
+    requires few { length numbers.now ≤ MAX_NODES }
+    ensures { Judges (room_checks metadata.now word.now (length numbers.now) numbers.now) result }
 {
-    let props = parts.limits().props;
-    if parts.axiom_count() + numbers.len() as u32 > props {
+    let props = metadata.limits().props;
+    if metadata.axiom_count() + numbers.len() as u32 > props {
         return Err(Refusal::NoAxiomRoom);
     }
-    if parts.word_count() >= props {
+    if metadata.word_count() >= props {
         return Err(Refusal::NoPropertyRoom);
     }
-    if has_crowded(parts, word, numbers) {
+    if has_crowded(metadata, word, numbers) {
         return Err(Refusal::LargeDescription);
     }
     Ok(())
@@ -70,26 +71,26 @@ fn has_room(parts: &Parts, word: &Word, numbers: &[u16]) -> Result<(), Refusal>
 
 /// The numbers of the place's words, where a word may be declared at the place.
 pub(crate) fn may_declare(
-    parts: &Parts,
+    metadata: &Metadata,
     place: &Place,
     word: &Word,
 ) -> Result<ArrayVec<u16, 64>, Refusal>
-    requires sound { AreSound parts.now }
-    ensures row { Judges (word_checks parts.now place.now word.now) result }
+    requires sound { AreSound metadata.now }
+    ensures row { Judges (word_checks metadata.now place.now word.now) result }
     ensures word { IsTrue (is_property word.now) }
-    ensures may { IfOk result (λ numbers. MayDeclare parts.now word.now numbers.items) }
-    ensures told { IfOk result (λ numbers. words_told parts.now.dict numbers.items ≡ words_at place.now) }
+    ensures may { IfOk result (λ numbers. MayDeclare metadata.now word.now numbers.items) }
+    ensures told { IfOk result (λ numbers. words_told metadata.now.dict numbers.items ≡ words_at place.now) }
 {
-    let numbers = may_place(parts, place, word)?;
-    has_room(parts, word, numbers.as_slice())?;
+    let numbers = may_place(metadata, place, word)?;
+    has_room(metadata, word, numbers.as_slice())?;
     Ok(numbers)
 }
 
 /// The number of a word whose declaration may be taken back.
-pub(crate) fn may_undeclare(parts: &Parts, word: &Word) -> Result<u16, Refusal>
-    requires sound { AreSound parts.now }
-    ensures row { Judges (undeclare_checks parts.now word.now) result }
-    ensures may { IfOk result (λ number. IsUndeclarable parts.now word.now number) }
+pub(crate) fn may_undeclare(metadata: &Metadata, word: &Word) -> Result<u16, Refusal>
+    requires sound { AreSound metadata.now }
+    ensures row { Judges (undeclare_checks metadata.now word.now) result }
+    ensures may { IfOk result (λ number. IsUndeclarable metadata.now word.now number) }
 {
     if is_builtin(word) {
         return Err(Refusal::BuiltIn);
@@ -97,13 +98,13 @@ pub(crate) fn may_undeclare(parts: &Parts, word: &Word) -> Result<u16, Refusal>
     if is_valued(word.bytes()) {
         return Err(Refusal::NotAssignable);
     }
-    if !parts.is_declared(word) {
+    if !metadata.is_declared(word) {
         return Err(Refusal::NotDeclared);
     }
-    let Some(number) = parts.number_of(word) else {
+    let Some(number) = metadata.number_of(word) else {
         unreachable!()
     };
-    if parts.is_needed(number) {
+    if metadata.is_needed(number) {
         return Err(Refusal::InUse);
     }
     Ok(number)

@@ -39,7 +39,7 @@ pub fn fitting_stores_have_tags<D: Disk>(disk: &D)
     ensures { FittingStoresHaveTags (D.meaning disk.now) }
 {}
 
-/// The parts of an empty store are in form.
+/// The metadata of an empty store is in form.
 pub fn empty_stores_are_sound()
     ensures { EmptyStoresAreSound }
 {}

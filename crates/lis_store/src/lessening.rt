@@ -10,40 +10,40 @@ ghost use Rattle.lis_store.specs.Unlinking.{with_head, TakesAxiom};
 
 use crate::closing::{Rebuild, rebuild_all};
 use arrayvec::ArrayVec;
-use lis_kept::Parts;
+use lis_kept::Metadata;
 use lis_words::head_of;
 
 // A left side, and its head.
-fn with_head(parts: &Parts, left: u16) -> ArrayVec<u16, 2>
-    requires { IsSome (word_of parts.now.dict left) }
-    ensures { result.items ≡ with_head parts.now.dict left }
+fn with_head(metadata: &Metadata, left: u16) -> ArrayVec<u16, 2>
+    requires { IsSome (word_of metadata.now.dict left) }
+    ensures { result.items ≡ with_head metadata.now.dict left }
 {
     let mut numbers = ArrayVec::new();
     numbers.push(left);
-    let Some(word) = parts.word_of(left) else {
+    let Some(word) = metadata.word_of(left) else {
         unreachable!()
     };
     let Some(head) = head_of(&word) else {
         return numbers;
     };
-    if let Some(number) = parts.number_of(&head) {
+    if let Some(number) = metadata.number_of(&head) {
         numbers.push(number);
     }
     numbers
 }
 
 /// Takes an axiom away, with all that descriptions have by it alone, and with the words that nothing uses any more.
-pub(crate) fn take_axiom(parts: &mut Parts, left: u16, right: u16)
-    requires sound { AreSound parts.old }
-    requires may { MayUnlink left right parts.old }
-    requires free { FreeSlotsAreEmpty parts.old }
-    requires closed { AreClosed parts.old }
-    requires short { DescriptionsAreShort parts.old }
-    requires in_use { KeepsInUse parts.old }
-    ensures { TakesAxiom left right parts.old parts.new }
+pub(crate) fn take_axiom(metadata: &mut Metadata, left: u16, right: u16)
+    requires sound { AreSound metadata.old }
+    requires may { MayUnlink left right metadata.old }
+    requires free { FreeSlotsAreEmpty metadata.old }
+    requires closed { AreClosed metadata.old }
+    requires short { DescriptionsAreShort metadata.old }
+    requires in_use { KeepsInUse metadata.old }
+    ensures { TakesAxiom left right metadata.old metadata.new }
 {
-    let numbers = with_head(parts, left);
-    parts.unlink(left, right);
-    rebuild_all(parts, Rebuild::Losing(left, right));
-    parts.forget_unused(numbers.as_slice());
+    let numbers = with_head(metadata, left);
+    metadata.unlink(left, right);
+    rebuild_all(metadata, Rebuild::Losing(left, right));
+    metadata.forget_unused(numbers.as_slice());
 }

@@ -6,7 +6,7 @@
 mod adding;
 mod admitting;
 mod assigning;
-mod change;
+mod change_fault;
 mod closing;
 mod contents;
 mod counting;
@@ -32,7 +32,7 @@ mod testing;
 mod write;
 
 pub use admitting::NewFile;
-pub use change::Change;
+pub use change_fault::ChangeFault;
 pub use counting::Counts;
 pub use store::{Built, Store};
 pub use write::Write;

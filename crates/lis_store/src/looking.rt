@@ -10,11 +10,11 @@ use crate::store::Store;
 impl Store {
     /// How many bytes the file in the slot of a name has.
     pub fn file_size(&self, slot: u16) -> u32
-        requires { (name : List ℕ) × (slot_of self.now.parts.catalog name ≡ Some slot) }
-        ensures size { IsSomeAnd (rec_at self.now.parts.catalog slot) (λ (rec : FileRecord). result ≡ rec.size) }
+        requires { (name : List ℕ) × (slot_of self.now.metadata.catalog name ≡ Some slot) }
+        ensures size { IsSomeAnd (rec_at self.now.metadata.catalog slot) (λ (rec : FileRecord). result ≡ rec.size) }
         ensures sound { IsSound self.now }
     {
-        let Some(rec) = self.parts().rec(slot) else {
+        let Some(rec) = self.metadata().rec(slot) else {
             unreachable!()
         };
         rec.size

@@ -11,7 +11,8 @@ ghost use Rattle.lis_store.specs.Placing.{is_plain_conjunct, declared_number, Ar
 ghost use Rattle.lis_model.specs.Sets.{has_number};
 
 use arrayvec::ArrayVec;
-use lis_kept::Parts;
+use lis_kept::Metadata;
+use lis_limits::MAX_NODES;
 use lis_place::{Node, Place};
 use lis_words::{Word, is_plain_word};
 
@@ -44,13 +45,13 @@ pub(crate) fn has_plain_words(place: &Place) -> bool
 }
 
 // The number of a word that is declared.
-fn declared_number(parts: &Parts, word: &Word) -> Option<u16>
-    ensures { result ≡ declared_number parts.now word.now }
+fn declared_number(metadata: &Metadata, word: &Word) -> Option<u16>
+    ensures { result ≡ declared_number metadata.now word.now }
 {
-    if !parts.is_declared(word) {
+    if !metadata.is_declared(word) {
         return None;
     }
-    parts.number_of(word)
+    metadata.number_of(word)
 }
 
 // Whether the number is one of these.
@@ -61,12 +62,12 @@ fn has_number(numbers: &[u16], number: u16) -> bool
 }
 
 // Puts the number of a word to others, if it is declared.
-fn take_number(parts: &Parts, numbers: &mut ArrayVec<u16, 64>, word: &Word) -> bool
-    requires sound { AreSound parts.now }
-    requires room { length numbers.old.items < 64 }
-    ensures { TakesNumbers parts.now (word.now ∷ []) numbers.old.items numbers.new.items result }
+fn take_number(metadata: &Metadata, numbers: &mut ArrayVec<u16, 64>, word: &Word) -> bool
+    requires sound { AreSound metadata.now }
+    requires room { length numbers.old.items < MAX_NODES }
+    ensures { TakesNumbers metadata.now (word.now ∷ []) numbers.old.items numbers.new.items result }
 {
-    let Some(number) = declared_number(parts, word) else {
+    let Some(number) = declared_number(metadata, word) else {
         return false;
     };
     if has_number(numbers.as_slice(), number) {
@@ -77,28 +78,28 @@ fn take_number(parts: &Parts, numbers: &mut ArrayVec<u16, 64>, word: &Word) -> b
 }
 
 // Puts the number of a node's word to others, if it is declared.
-fn take_node(parts: &Parts, numbers: &mut ArrayVec<u16, 64>, node: &Node) -> bool
-    requires sound { AreSound parts.now }
-    requires room { length numbers.old.items < 64 }
-    ensures { TakesNumbers parts.now (node_words node.now) numbers.old.items numbers.new.items result }
+fn take_node(metadata: &Metadata, numbers: &mut ArrayVec<u16, 64>, node: &Node) -> bool
+    requires sound { AreSound metadata.now }
+    requires room { length numbers.old.items < MAX_NODES }
+    ensures { TakesNumbers metadata.now (node_words node.now) numbers.old.items numbers.new.items result }
 {
     let Node::Word(word) = node else {
         return true;
     };
-    take_number(parts, numbers, word)
+    take_number(metadata, numbers, word)
 }
 
 /// The numbers of the words of the place, each once. None comes exactly where some word is not declared.
-pub(crate) fn place_numbers(parts: &Parts, place: &Place) -> Option<ArrayVec<u16, 64>>
-    requires sound { AreSound parts.now }
+pub(crate) fn place_numbers(metadata: &Metadata, place: &Place) -> Option<ArrayVec<u16, 64>>
+    requires sound { AreSound metadata.now }
     requires place { IsSome (place_words place.now) }
-    ensures numbers { MatchOption result (list_all (is_declared parts.now) (words_at place.now) ≡ false)
-        (λ numbers. AreNumbersOf parts.now (words_at place.now) numbers.items) }
-    ensures few { IfSome result (λ numbers. length numbers.items ≤ 64) }
+    ensures numbers { MatchOption result (list_all (is_declared metadata.now) (words_at place.now) ≡ false)
+        (λ numbers. AreNumbersOf metadata.now (words_at place.now) numbers.items) }
+    ensures few { IfSome result (λ numbers. length numbers.items ≤ MAX_NODES) }
 {
     let mut numbers = ArrayVec::new();
     for node in place.nodes() {
-        if !take_node(parts, &mut numbers, node) {
+        if !take_node(metadata, &mut numbers, node) {
             return None;
         }
     }

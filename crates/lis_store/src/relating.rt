@@ -16,12 +16,10 @@ ghost use Rattle.lis_store.specs.Unlinking.{IsAxiomAt};
 ghost use Rattle.lis_store.specs.Relating.{entails_word, has_overfull, pair_checks, axiom_room_checks, axiom_checks_of};
 
 use crate::crowding::is_full;
-use lis_kept::Parts;
+use lis_kept::Metadata;
+use lis_limits::MAX_DESCRIPTION;
 use lis_model::refusal::Refusal;
 use lis_words::{Word, head_of, is_builtin, is_head, is_plain_word, test_of};
-
-/// The most words of a description.
-const MAX_DESCRIPTION: u32 = 128;
 
 fn is_plain_or_test(word: &Word) -> bool
     ensures { result ≡ (is_plain_word word.now || is_test word.now) }
@@ -33,129 +31,131 @@ fn is_plain_or_test(word: &Word) -> bool
 }
 
 // Whether the word is a declared one that is plain or a test.
-fn is_named(parts: &Parts, word: &Word) -> bool
-    ensures { result ≡ ((is_plain_word word.now || is_test word.now) && has_word (declared_of parts.now) word.now) }
+fn is_named(metadata: &Metadata, word: &Word) -> bool
+    ensures { result ≡ ((is_plain_word word.now || is_test word.now) && has_word (declared_of metadata.now) word.now) }
 {
     if !is_plain_or_test(word) {
         return false;
     }
-    parts.is_declared(word)
+    metadata.is_declared(word)
 }
 
 // Whether the word is a head that is declared or built in.
-fn is_known_head(parts: &Parts, word: &Word) -> bool
-    ensures { result ≡ is_known_head (declared_of parts.now) word.now }
+fn is_known_head(metadata: &Metadata, word: &Word) -> bool
+    ensures { result ≡ is_known_head (declared_of metadata.now) word.now }
 {
     if !is_head(word.bytes()) {
         return false;
     }
-    if parts.is_declared(word) {
+    if metadata.is_declared(word) {
         return true;
     }
     is_builtin(word)
 }
 
 // Whether the word is valued, and its head is declared or built in.
-fn has_known_head(parts: &Parts, word: &Word) -> bool
-    ensures { result ≡ (is_valued word.now && is_known_head (declared_of parts.now) (head_bytes word.now)) }
+fn has_known_head(metadata: &Metadata, word: &Word) -> bool
+    ensures { result ≡ (is_valued word.now && is_known_head (declared_of metadata.now) (head_bytes word.now)) }
 {
     match head_of(word) {
         None => false,
-        Some(head) => is_known_head(parts, &head),
+        Some(head) => is_known_head(metadata, &head),
     }
 }
 
 // Whether an axiom may have the word as its left side.
-fn is_nameable(parts: &Parts, word: &Word) -> bool
-    ensures { result ≡ is_nameable (declared_of parts.now) word.now }
+fn is_nameable(metadata: &Metadata, word: &Word) -> bool
+    ensures { result ≡ is_nameable (declared_of metadata.now) word.now }
 {
-    if is_named(parts, word) {
+    if is_named(metadata, word) {
         return true;
     }
-    if is_known_head(parts, word) {
+    if is_known_head(metadata, word) {
         return true;
     }
-    has_known_head(parts, word)
+    has_known_head(metadata, word)
 }
 
 /// The numbers of the two words of an axiom, if it is kept.
-pub(crate) fn axiom_numbers(parts: &Parts, left: &Word, right: &Word) -> Option<(u16, u16)>
-    requires sound { AreSound parts.now }
-    ensures there { is_some result ≡ has_axiom (axioms_of parts.now) (left.now, right.now) }
-    ensures numbers { IfSome result (λ pair. IsAxiomAt parts.now left.now right.now pair.0 pair.1) }
+pub(crate) fn axiom_numbers(metadata: &Metadata, left: &Word, right: &Word) -> Option<(u16, u16)>
+    requires sound { AreSound metadata.now }
+    ensures there { is_some result ≡ has_axiom (axioms_of metadata.now) (left.now, right.now) }
+    ensures numbers { IfSome result (λ pair. IsAxiomAt metadata.now left.now right.now pair.0 pair.1) }
 {
-    let Some(from) = parts.number_of(left) else {
+    let Some(from) = metadata.number_of(left) else {
         return None;
     };
-    let Some(to) = parts.number_of(right) else {
+    let Some(to) = metadata.number_of(right) else {
         return None;
     };
-    if !parts.has_axiom(from, to) {
+    if !metadata.has_axiom(from, to) {
         return None;
     }
     Some((from, to))
 }
 
 // Whether a word that has a number entails the other word.
-fn leads(parts: &Parts, number: u16, word: &Word, other: &Word) -> bool
-    requires sound { AreSound parts.now }
-    requires number { number_of parts.now.dict word.now ≡ Some number }
-    ensures { result ≡ entails_word parts.now word.now other.now }
+fn leads(metadata: &Metadata, number: u16, word: &Word, other: &Word) -> bool
+    requires sound { AreSound metadata.now }
+    requires number { number_of metadata.now.dict word.now ≡ Some number }
+    ensures { result ≡ entails_word metadata.now word.now other.now }
 {
-    let Some(to) = parts.number_of(other) else {
+    let Some(to) = metadata.number_of(other) else {
         return false;
     };
-    parts.taxonomy().entails(u32::from(number), u32::from(to))
+    metadata
+        .taxonomy()
+        .entails(u32::from(number), u32::from(to))
 }
 
 // How many numbers a word still needs.
-fn lacked(parts: &Parts, word: &Word) -> u32
-    ensures { result ≡ (if is_some (number_of parts.now.dict word.now) then 0 else 1) }
+fn lacked(metadata: &Metadata, word: &Word) -> u32
+    ensures { result ≡ (if is_some (number_of metadata.now.dict word.now) then 0 else 1) }
 {
-    match parts.number_of(word) {
+    match metadata.number_of(word) {
         None => 1,
         Some(_) => 0,
     }
 }
 
 // How many numbers a word and its head still need.
-fn lacked_with_head(parts: &Parts, word: &Word) -> u32
-    requires sound { AreSound parts.now }
-    ensures count { length (with_words (words parts.now.dict) (behind_head word.now)) ≡ length parts.now.dict.entries + result }
+fn lacked_with_head(metadata: &Metadata, word: &Word) -> u32
+    requires sound { AreSound metadata.now }
+    ensures count { length (with_words (words metadata.now.dict) (behind_head word.now)) ≡ length metadata.now.dict.entries + result }
     ensures few { result ≤ 2 }
 {
     match head_of(word) {
-        None => lacked(parts, word),
-        Some(head) => lacked(parts, &head) + lacked(parts, word),
+        None => lacked(metadata, word),
+        Some(head) => lacked(metadata, &head) + lacked(metadata, word),
     }
 }
 
 // Whether the description in a slot has the left number, and would have more words than it may with all that the right one entails.
-fn is_overfull(parts: &Parts, slot: u16, left: u16, right: u16) -> bool
-    requires sound { AreSound parts.now }
-    requires slot { slot < parts.now.limits.files }
-    requires left { IsSome (word_of parts.now.dict left) }
-    requires right { IsSome (word_of parts.now.dict right) }
-    ensures { result ≡ (has parts.now.ext left slot && nat_lt 128 (length (wider parts.now (is_gained parts.now (right ∷ [])) slot))) }
+fn is_overfull(metadata: &Metadata, slot: u16, left: u16, right: u16) -> bool
+    requires sound { AreSound metadata.now }
+    requires slot { slot < metadata.now.limits.files }
+    requires left { IsSome (word_of metadata.now.dict left) }
+    requires right { IsSome (word_of metadata.now.dict right) }
+    ensures { result ≡ (has metadata.now.ext left slot && nat_lt MAX_DESCRIPTION (length (wider metadata.now (is_gained metadata.now (right ∷ [])) slot))) }
 {
-    if !parts.ext().has(u32::from(left), u32::from(slot)) {
+    if !metadata.ext().has(u32::from(left), u32::from(slot)) {
         return false;
     }
-    is_full(parts, &[right], slot, MAX_DESCRIPTION)
+    is_full(metadata, &[right], slot, MAX_DESCRIPTION as u32)
 }
 
 // Whether a description that has the left word would have more words than it may.
-fn has_overfull(parts: &Parts, left: &Word, right: &Word, number: u16) -> bool
-    requires sound { AreSound parts.now }
-    requires number { number_of parts.now.dict right.now ≡ Some number }
-    ensures { result ≡ has_overfull parts.now left.now right.now }
+fn has_overfull(metadata: &Metadata, left: &Word, right: &Word, number: u16) -> bool
+    requires sound { AreSound metadata.now }
+    requires number { number_of metadata.now.dict right.now ≡ Some number }
+    ensures { result ≡ has_overfull metadata.now left.now right.now }
 {
-    let Some(from) = parts.number_of(left) else {
+    let Some(from) = metadata.number_of(left) else {
         return false;
     };
-    let files = parts.limits().files;
+    let files = metadata.limits().files;
     for slot in 0..files {
-        if is_overfull(parts, slot as u16, from, number) {
+        if is_overfull(metadata, slot as u16, from, number) {
             return true;
         }
     }
@@ -163,53 +163,53 @@ fn has_overfull(parts: &Parts, left: &Word, right: &Word, number: u16) -> bool
 }
 
 // The number of the right word, or what the two words are refused for.
-fn may_pair(parts: &Parts, left: &Word, right: &Word) -> Result<u16, Refusal>
-    requires sound { AreSound parts.now }
-    ensures row { Judges (pair_checks parts.now left.now right.now) result }
-    ensures number { IfOk result (λ number. number_of parts.now.dict right.now ≡ Some number) }
+fn may_pair(metadata: &Metadata, left: &Word, right: &Word) -> Result<u16, Refusal>
+    requires sound { AreSound metadata.now }
+    ensures row { Judges (pair_checks metadata.now left.now right.now) result }
+    ensures number { IfOk result (λ number. number_of metadata.now.dict right.now ≡ Some number) }
 {
     if !is_plain_word(right.bytes()) {
         return Err(Refusal::NotAssignable);
     }
-    if !parts.is_declared(right) || !is_nameable(parts, left) {
+    if !metadata.is_declared(right) || !is_nameable(metadata, left) {
         return Err(Refusal::UnknownProperty);
     }
-    if axiom_numbers(parts, left, right).is_some() {
+    if axiom_numbers(metadata, left, right).is_some() {
         return Err(Refusal::AxiomThere);
     }
-    let Some(number) = parts.number_of(right) else {
+    let Some(number) = metadata.number_of(right) else {
         unreachable!()
     };
-    if leads(parts, number, right, left) {
+    if leads(metadata, number, right, left) {
         return Err(Refusal::Cycle);
     }
     Ok(number)
 }
 
 // Whether there is room for an axiom between the two words.
-fn has_room(parts: &Parts, left: &Word, right: &Word, number: u16) -> Result<(), Refusal>
-    requires sound { AreSound parts.now }
-    requires number { number_of parts.now.dict right.now ≡ Some number }
-    ensures row { Judges (axiom_room_checks parts.now left.now right.now) result }
+fn has_room(metadata: &Metadata, left: &Word, right: &Word, number: u16) -> Result<(), Refusal>
+    requires sound { AreSound metadata.now }
+    requires number { number_of metadata.now.dict right.now ≡ Some number }
+    ensures row { Judges (axiom_room_checks metadata.now left.now right.now) result }
 {
-    let props = parts.limits().props;
-    if parts.axiom_count() >= props {
+    let props = metadata.limits().props;
+    if metadata.axiom_count() >= props {
         return Err(Refusal::NoAxiomRoom);
     }
-    if parts.word_count() + lacked_with_head(parts, left) > props {
+    if metadata.word_count() + lacked_with_head(metadata, left) > props {
         return Err(Refusal::NoPropertyRoom);
     }
-    if has_overfull(parts, left, right, number) {
+    if has_overfull(metadata, left, right, number) {
         return Err(Refusal::LargeDescription);
     }
     Ok(())
 }
 
 /// What an axiom from the left word to the right one is refused for.
-pub(crate) fn may_relate(parts: &Parts, left: &Word, right: &Word) -> Result<(), Refusal>
-    requires sound { AreSound parts.now }
-    ensures row { Judges (axiom_checks_of parts.now left.now right.now) result }
+pub(crate) fn may_relate(metadata: &Metadata, left: &Word, right: &Word) -> Result<(), Refusal>
+    requires sound { AreSound metadata.now }
+    ensures row { Judges (axiom_checks_of metadata.now left.now right.now) result }
 {
-    let number = may_pair(parts, left, right)?;
-    has_room(parts, left, right, number)
+    let number = may_pair(metadata, left, right)?;
+    has_room(metadata, left, right, number)
 }

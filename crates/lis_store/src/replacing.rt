@@ -17,37 +17,38 @@ use arrayvec::ArrayVec;
 use lis_derive::derive_words;
 use lis_eval::Scratch;
 use lis_fields::FileRec;
-use lis_kept::Parts;
+use lis_kept::Metadata;
+use lis_limits::MAX_DESCRIPTION;
 use lis_words::{Name, Word};
 
 // The numbers of the words that a file is given, and those of its description.
 #[derive(Drop)]
 struct Numbers {
     tags: ArrayVec<u16, 16>,
-    all: ArrayVec<u16, 128>,
+    all: ArrayVec<u16, MAX_DESCRIPTION>,
 }
 
 // A slot without a file, and the numbers by which it is described.
 #[derive(Drop)]
-struct Room {
+struct NewSlot {
     slot: u16,
-    numbers: ArrayVec<u16, 128>,
+    numbers: ArrayVec<u16, MAX_DESCRIPTION>,
 }
 
 // Gives numbers to those words of a file that have none, and answers the numbers of its words.
-fn learn_own(parts: &mut Parts, scratch: &mut Scratch, draft: Draft) -> Numbers
-    requires sound { AreSound parts.old }
-    requires may { MayComeIn parts.old (drafted draft.name.now draft.size draft.assigned.now draft.own.now) }
-    requires scratch { HasRoom scratch.old parts.old.limits }
-    ensures scratch { HasRoom scratch.new parts.old.limits }
+fn learn_own(metadata: &mut Metadata, scratch: &mut Scratch, draft: Draft) -> Numbers
+    requires sound { AreSound metadata.old }
+    requires may { MayComeIn metadata.old (drafted draft.name.now draft.size draft.assigned.now draft.own.now) }
+    requires scratch { HasRoom scratch.old metadata.old.limits }
+    ensures scratch { HasRoom scratch.new metadata.old.limits }
     ensures learnt { LearnsOwn (drafted draft.entry.name.now draft.entry.size draft.entry.assigned.now draft.entry.own.now)
-        result.tags.items result.all.items parts.old parts.new }
+        result.tags.items result.all.items metadata.old metadata.new }
 {
-    learn_words(parts, draft.assigned);
-    learn_words(parts, draft.own);
-    let tags = numbers_of(parts, draft.assigned, &mut scratch.candidates);
+    learn_words(metadata, draft.assigned);
+    learn_words(metadata, draft.own);
+    let tags = numbers_of(metadata, draft.assigned, &mut scratch.candidates);
     let all = numbers_entailed(
-        parts,
+        metadata,
         draft.assigned,
         draft.own,
         draft.size,
@@ -57,15 +58,15 @@ fn learn_own(parts: &mut Parts, scratch: &mut Scratch, draft: Draft) -> Numbers
 }
 
 // A slot without a file.
-fn free_slot(parts: &Parts) -> u16
-    requires sound { AreSound parts.now }
-    requires room { length parts.now.catalog.entries < parts.now.limits.files }
-    ensures below { result < parts.now.limits.files }
-    ensures free { rec_at parts.now.catalog result ≡ None }
+fn free_slot(metadata: &Metadata) -> u16
+    requires sound { AreSound metadata.now }
+    requires room { length metadata.now.catalog.entries < metadata.now.limits.files }
+    ensures below { result < metadata.now.limits.files }
+    ensures free { rec_at metadata.now.catalog result ≡ None }
 {
-    let files = parts.limits().files;
+    let files = metadata.limits().files;
     for slot in 0..files {
-        if parts.rec(slot as u16).is_none() {
+        if metadata.rec(slot as u16).is_none() {
             return slot as u16;
         }
     }
@@ -73,22 +74,22 @@ fn free_slot(parts: &Parts) -> u16
 }
 
 // Makes room for a file in the slot, whose file goes, or in a free one.
-fn make_room(parts: &mut Parts, slot: Option<u16>) -> Room
-    requires form { AreInForm parts.old }
-    requires free { slot ≡ None → length parts.old.catalog.entries < parts.old.limits.files }
-    requires there { IfSome slot (λ slot. IsSome (rec_at parts.old.catalog slot)) }
-    ensures room { MakesRoom result.slot (record_in parts.old slot) parts.old parts.new }
+fn make_room(metadata: &mut Metadata, slot: Option<u16>) -> NewSlot
+    requires form { AreInForm metadata.old }
+    requires free { slot ≡ None → length metadata.old.catalog.entries < metadata.old.limits.files }
+    requires there { IfSome slot (λ slot. IsSome (rec_at metadata.old.catalog slot)) }
+    ensures room { MakesRoom result.slot (record_in metadata.old slot) metadata.old metadata.new }
     ensures asked { IfSome slot (λ slot. result.slot ≡ slot) }
-    ensures vacant { IsVacant result.slot result.numbers.items parts.new }
+    ensures vacant { IsVacant result.slot result.numbers.items metadata.new }
 {
     match slot {
-        None => Room {
-            slot: free_slot(parts),
+        None => NewSlot {
+            slot: free_slot(metadata),
             numbers: ArrayVec::new(),
         },
-        Some(slot) => Room {
+        Some(slot) => NewSlot {
             slot,
-            numbers: unfile(parts, slot),
+            numbers: unfile(metadata, slot),
         },
     }
 }
@@ -96,25 +97,29 @@ fn make_room(parts: &mut Parts, slot: Option<u16>) -> Room
 // Files a file in a slot without one: their words come first, then the numbers of the description in the place of the old ones, and last
 // the record.
 fn settle_in(
-    parts: &mut Parts,
+    metadata: &mut Metadata,
     scratch: &mut Scratch,
-    room: &Room,
+    new_slot: &NewSlot,
     draft: Draft,
     blocks: ArrayVec<u16, 16>,
 )
-    requires vacant { IsVacant room.now.slot room.now.numbers.items parts.old }
-    requires may { MayComeIn parts.old (drafted draft.name.now draft.size draft.assigned.now draft.own.now) }
-    requires in_form { IsTrue (are_blocks parts.old.limits.version draft.size blocks.items) }
-    requires below { IsTrue (list_all (λ n. nat_lt n parts.old.limits.blocks) blocks.items) }
-    requires scratch { HasRoom scratch.old parts.old.limits }
-    ensures scratch { HasRoom scratch.new parts.old.limits }
-    ensures settles { SettlesIn room.now.slot
-        (drafted draft.entry.name.now draft.entry.size draft.entry.assigned.now draft.entry.own.now) blocks.items parts.old parts.new }
+    requires vacant { IsVacant new_slot.now.slot new_slot.now.numbers.items metadata.old }
+    requires may { MayComeIn metadata.old (drafted draft.name.now draft.size draft.assigned.now draft.own.now) }
+    requires in_form { IsTrue (are_blocks metadata.old.limits.version draft.size blocks.items) }
+    requires below { IsTrue (list_all (λ n. nat_lt n metadata.old.limits.blocks) blocks.items) }
+    requires scratch { HasRoom scratch.old metadata.old.limits }
+    ensures scratch { HasRoom scratch.new metadata.old.limits }
+    ensures settles { SettlesIn new_slot.now.slot
+        (drafted draft.entry.name.now draft.entry.size draft.entry.assigned.now draft.entry.own.now) blocks.items metadata.old metadata.new }
 {
-    let numbers = learn_own(parts, scratch, draft);
-    parts.describe(room.slot, room.numbers.as_slice(), numbers.all.as_slice());
-    parts.place_record(
-        room.slot,
+    let numbers = learn_own(metadata, scratch, draft);
+    metadata.describe(
+        new_slot.slot,
+        new_slot.numbers.as_slice(),
+        numbers.all.as_slice(),
+    );
+    metadata.place_record(
+        new_slot.slot,
         FileRec {
             name: draft.name.copied(),
             size: draft.size as u32,
@@ -126,28 +131,28 @@ fn settle_in(
 
 /// Files a file, in the place of the one in the slot if one is told. Its bytes stand in these blocks, which are taken already.
 pub(crate) fn replace_draft(
-    parts: &mut Parts,
+    metadata: &mut Metadata,
     scratch: &mut Scratch,
     slot: Option<u16>,
     draft: Draft,
     blocks: ArrayVec<u16, 16>,
 )
-    requires form { AreInForm parts.old }
-    requires may { MayPut parts.old slot (drafted draft.name.now draft.size draft.assigned.now draft.own.now) }
-    requires in_form { IsTrue (are_blocks parts.old.limits.version draft.size blocks.items) }
-    requires below { IsTrue (list_all (λ n. nat_lt n parts.old.limits.blocks) blocks.items) }
-    requires scratch { HasRoom scratch.old parts.old.limits }
-    ensures scratch { HasRoom scratch.new parts.old.limits }
-    ensures refiles { RefilesIn (record_in parts.old slot)
-        (drafted draft.entry.name.now draft.entry.size draft.entry.assigned.now draft.entry.own.now) blocks.items parts.old parts.new }
+    requires form { AreInForm metadata.old }
+    requires may { MayPut metadata.old slot (drafted draft.name.now draft.size draft.assigned.now draft.own.now) }
+    requires in_form { IsTrue (are_blocks metadata.old.limits.version draft.size blocks.items) }
+    requires below { IsTrue (list_all (λ n. nat_lt n metadata.old.limits.blocks) blocks.items) }
+    requires scratch { HasRoom scratch.old metadata.old.limits }
+    ensures scratch { HasRoom scratch.new metadata.old.limits }
+    ensures refiles { RefilesIn (record_in metadata.old slot)
+        (drafted draft.entry.name.now draft.entry.size draft.entry.assigned.now draft.entry.own.now) blocks.items metadata.old metadata.new }
 {
-    let room = make_room(parts, slot);
-    settle_in(parts, scratch, &room, draft, blocks);
+    let new_slot = make_room(metadata, slot);
+    settle_in(metadata, scratch, &new_slot, draft, blocks);
 }
 
 /// As `replace_draft`, with the words that are derived from the file's bytes.
 pub(crate) fn replace_record(
-    parts: &mut Parts,
+    metadata: &mut Metadata,
     scratch: &mut Scratch,
     slot: Option<u16>,
     name: &Name,
@@ -155,13 +160,13 @@ pub(crate) fn replace_record(
     payload: &[u8],
     blocks: ArrayVec<u16, 16>,
 )
-    requires form { AreInForm parts.old }
-    requires may { MayPut parts.old slot (draft_of (new_file name.now assigned.now payload.now)) }
-    requires in_form { IsTrue (are_blocks parts.old.limits.version (length payload.now) blocks.items) }
-    requires below { IsTrue (list_all (λ n. nat_lt n parts.old.limits.blocks) blocks.items) }
-    requires scratch { HasRoom scratch.old parts.old.limits }
-    ensures scratch { HasRoom scratch.new parts.old.limits }
-    ensures refiles { RefilesIn (record_in parts.old slot) (draft_of (new_file name.now assigned.now payload.now)) blocks.items parts.old parts.new }
+    requires form { AreInForm metadata.old }
+    requires may { MayPut metadata.old slot (draft_of (new_file name.now assigned.now payload.now)) }
+    requires in_form { IsTrue (are_blocks metadata.old.limits.version (length payload.now) blocks.items) }
+    requires below { IsTrue (list_all (λ n. nat_lt n metadata.old.limits.blocks) blocks.items) }
+    requires scratch { HasRoom scratch.old metadata.old.limits }
+    ensures scratch { HasRoom scratch.new metadata.old.limits }
+    ensures refiles { RefilesIn (record_in metadata.old slot) (draft_of (new_file name.now assigned.now payload.now)) blocks.items metadata.old metadata.new }
 {
     let derived = derive_words(name, payload);
     let draft = Draft {
@@ -170,5 +175,5 @@ pub(crate) fn replace_record(
         assigned,
         own: derived.as_slice(),
     };
-    replace_draft(parts, scratch, slot, draft, blocks);
+    replace_draft(metadata, scratch, slot, draft, blocks);
 }

@@ -20,7 +20,8 @@ use crate::assigning::{are_assignable, has_words, is_tag, put_place};
 use crate::instead::assigned_in;
 use arrayvec::ArrayVec;
 use lis_formula::{FormulaFault, read_formula, resolve};
-use lis_kept::Parts;
+use lis_kept::Metadata;
+use lis_limits::MAX_ASSIGNED;
 use lis_model::command::Tags;
 use lis_model::refusal::Refusal;
 use lis_place::{Node, Place, Text};
@@ -120,9 +121,9 @@ fn has_tag(nodes: &[Node], word: &Word) -> bool
 
 // The words without those of the nodes that a file can be given.
 fn without_tags(words: &[Word], nodes: &[Node]) -> ArrayVec<Word, 16>
-    requires { length words.now ≤ 16 }
+    requires { length words.now ≤ MAX_ASSIGNED }
     ensures words { result.items ≡ filter (λ word. not (list_any (λ node. has_word (node_tags node) word) nodes.now)) words.now }
-    ensures few { length result.items ≤ 16 }
+    ensures few { length result.items ≤ MAX_ASSIGNED }
 {
     let mut kept = ArrayVec::new();
     for word in words {
@@ -138,10 +139,10 @@ fn without_tags(words: &[Word], nodes: &[Node]) -> ArrayVec<Word, 16>
 fn retagged(words: &[Word], here: &Place, there: &Place) -> Option<ArrayVec<Word, 16>>
     requires here { IsSome (place_words here.now) }
     requires there { IsSome (place_words there.now) }
-    requires few { length words.now ≤ 16 }
-    ensures words { IsStrictlySortedBy word_cmp words.now → MatchOption result (16 < length (retagged words.now (tags_at here.now) (tags_at there.now)))
+    requires few { length words.now ≤ MAX_ASSIGNED }
+    ensures words { IsStrictlySortedBy word_cmp words.now → MatchOption result (MAX_ASSIGNED < length (retagged words.now (tags_at here.now) (tags_at there.now)))
         (λ moved. moved.items ≡ retagged words.now (tags_at here.now) (tags_at there.now)) }
-    ensures few { IfSome result (λ moved. length moved.items ≤ 16) }
+    ensures few { IfSome result (λ moved. length moved.items ≤ MAX_ASSIGNED) }
 {
     let mut moved = without_tags(words, here.nodes());
     if !put_place(&mut moved, there) {
@@ -152,24 +153,29 @@ fn retagged(words: &[Word], here: &Place, there: &Place) -> Option<ArrayVec<Word
 
 // The words of the file in a slot, without the tags of one place and with those of another. None comes exactly where they are more
 // than 16.
-fn words_moved(parts: &Parts, slot: u16, here: &Place, there: &Place) -> Option<ArrayVec<Word, 16>>
-    requires rec { IsSome (rec_at parts.now.catalog slot) }
+fn words_moved(
+    metadata: &Metadata,
+    slot: u16,
+    here: &Place,
+    there: &Place,
+) -> Option<ArrayVec<Word, 16>>
+    requires rec { IsSome (rec_at metadata.now.catalog slot) }
     requires here { IsSome (place_words here.now) }
     requires there { IsSome (place_words there.now) }
-    ensures words { (rec : FileRecord) → rec_at parts.now.catalog slot ≡ Some rec
-        → MatchOption result (16 < length (words_moved parts.now rec here.now there.now)) (λ moved. moved.items ≡ words_moved parts.now rec here.now there.now) }
-    ensures few { IfSome result (λ moved. length moved.items ≤ 16) }
+    ensures words { (rec : FileRecord) → rec_at metadata.now.catalog slot ≡ Some rec
+        → MatchOption result (MAX_ASSIGNED < length (words_moved metadata.now rec here.now there.now)) (λ moved. moved.items ≡ words_moved metadata.now rec here.now there.now) }
+    ensures few { IfSome result (λ moved. length moved.items ≤ MAX_ASSIGNED) }
 {
-    let words = assigned_in(parts, slot);
+    let words = assigned_in(metadata, slot);
     retagged(words.as_slice(), here, there)
 }
 
 // ---- the row
 
 // What both places are refused for, and the words of the text that leads from one to the other.
-fn may_lead(parts: &Parts, here: &Place, there: &Place, text: &Text) -> Result<(), Refusal>
+fn may_lead(metadata: &Metadata, here: &Place, there: &Place, text: &Text) -> Result<(), Refusal>
     requires { resolved here.now text.now ≡ NewPlace there.now }
-    ensures row { Judges (places_checks parts.now here.now there.now (text_words text.now)) result }
+    ensures row { Judges (places_checks metadata.now here.now there.now (text_words text.now)) result }
     ensures here { OnOk result (IsSome (place_words here.now)) }
     ensures there { OnOk result (IsSome (place_words there.now)) }
 {
@@ -180,7 +186,7 @@ fn may_lead(parts: &Parts, here: &Place, there: &Place, text: &Text) -> Result<(
         return Err(Refusal::NotAPlace);
     }
     may_name_text(text.bytes())?;
-    if !are_assignable(parts, there, &Tags::new()) {
+    if !are_assignable(metadata, there, &Tags::new()) {
         return Err(Refusal::UnknownProperty);
     }
     Ok(())
@@ -189,21 +195,21 @@ fn may_lead(parts: &Parts, here: &Place, there: &Place, text: &Text) -> Result<(
 /// The words that the file in a slot is given in the place to which a text leads, or what it is refused for whatever its bytes
 /// are.
 pub(crate) fn may_move(
-    parts: &Parts,
+    metadata: &Metadata,
     slot: u16,
     here: &Place,
     there: &Place,
     text: &Text,
 ) -> Result<ArrayVec<Word, 16>, Refusal>
-    requires rec { IsSome (rec_at parts.now.catalog slot) }
+    requires rec { IsSome (rec_at metadata.now.catalog slot) }
     requires leads { resolved here.now text.now ≡ NewPlace there.now }
-    ensures row { (rec : FileRecord) → rec_at parts.now.catalog slot ≡ Some rec
-        → Judges (moving_checks parts.now here.now there.now (text_words text.now) rec) result }
-    ensures words { IfOk result (λ words. (rec : FileRecord) → rec_at parts.now.catalog slot ≡ Some rec
-        → words.items ≡ words_moved parts.now rec here.now there.now) }
+    ensures row { (rec : FileRecord) → rec_at metadata.now.catalog slot ≡ Some rec
+        → Judges (moving_checks metadata.now here.now there.now (text_words text.now) rec) result }
+    ensures words { IfOk result (λ words. (rec : FileRecord) → rec_at metadata.now.catalog slot ≡ Some rec
+        → words.items ≡ words_moved metadata.now rec here.now there.now) }
 {
-    may_lead(parts, here, there, text)?;
-    let Some(moved) = words_moved(parts, slot, here, there) else {
+    may_lead(metadata, here, there, text)?;
+    let Some(moved) = words_moved(metadata, slot, here, there) else {
         return Err(Refusal::TooManyAssigned);
     };
     Ok(moved)

@@ -13,10 +13,11 @@ ghost use Rattle.lis_store.specs.Saving.{clean, settled, ArePlaced, KeepsStaged,
 ghost use Rattle.lis_journal.specs.Journal.{shape_of};
 ghost use Rattle.lis_kept.specs.Image.{image_shape};
 
-use crate::change::Change;
+use crate::change_fault::ChangeFault;
 use lis_content::is_large;
 use lis_journal::Journal;
-use lis_kept::Parts;
+use lis_kept::Metadata;
+use lis_limits::MAX_PAYLOAD;
 use lis_ports::Disk;
 
 /// The most blocks that are held back between two calls.
@@ -24,7 +25,7 @@ pub(crate) const MOST_HELD: u32 = 44;
 
 /// The most blocks that are held back behind a change with this content: none where it is large, and so was placed.
 pub(crate) fn most_held(payload: &[u8]) -> u32
-    requires { length payload.now ≤ 1048576 }
+    requires { length payload.now ≤ MAX_PAYLOAD }
     ensures few { result ≤ 44 }
     ensures large { 0 < result → is_large (length payload.now) ≡ false }
 {
@@ -35,17 +36,17 @@ pub(crate) fn most_held(payload: &[u8]) -> u32
 }
 
 // Stages all marked blocks, with those that are staged at most as many as can be. Then nothing is marked.
-fn stage(parts: &mut Parts, journal: &mut Journal)
-    requires image { shape_of journal.old ≡ image_shape parts.old.limits }
+fn stage(metadata: &mut Metadata, journal: &mut Journal)
+    requires image { shape_of journal.old ≡ image_shape metadata.old.limits }
     requires unbroken { journal.old.is_broken ≡ false }
-    requires placed { ArePlaced parts.old journal.old }
-    requires room { length journal.old.staged + marked_count parts.old ≤ journal.old.capacity.staged }
-    ensures parts { parts.new ≡ clean parts.old }
-    ensures staged { Stages parts.old journal.old journal.new }
-    ensures sound { AreSound parts.old }
+    requires placed { ArePlaced metadata.old journal.old }
+    requires room { length journal.old.staged + marked_count metadata.old ≤ journal.old.capacity.staged }
+    ensures metadata { metadata.new ≡ clean metadata.old }
+    ensures staged { Stages metadata.old journal.old journal.new }
+    ensures sound { AreSound metadata.old }
 {
-    parts.stage(journal);
-    parts.settle();
+    metadata.stage(journal);
+    metadata.settle();
 }
 
 /// Commits what is staged. A fault of the disk breaks the store.
@@ -53,7 +54,7 @@ pub(crate) fn commit<D: Disk>(
     journal: &mut Journal,
     is_broken: &mut bool,
     disk: &mut D,
-) -> Result<(), Change>
+) -> Result<(), ChangeFault>
     requires usable { JournalIsUsable journal.old (D.meaning disk.old) }
     requires whole { is_broken.old ≡ false }
     ensures keeps { KeepsStaged journal.old journal.new (D.meaning disk.old) (D.meaning disk.new) result }
@@ -64,37 +65,37 @@ pub(crate) fn commit<D: Disk>(
 {
     if let Err(fault) = journal.commit(disk) {
         *is_broken = true;
-        return Err(Change::from(fault));
+        return Err(ChangeFault::from(fault));
     }
     Ok(())
 }
 
 /// Stages all marked blocks, and commits what is staged where it is more than `most` blocks. Where something is placed, `most` is 0.
 pub(crate) fn hold<D: Disk>(
-    parts: &mut Parts,
+    metadata: &mut Metadata,
     journal: &mut Journal,
     is_broken: &mut bool,
     disk: &mut D,
     most: u32,
-) -> Result<(), Change>
-    requires sound { AreSound parts.old → IsSound (settled parts.old journal.old) }
-    requires image { shape_of journal.old ≡ image_shape parts.old.limits }
+) -> Result<(), ChangeFault>
+    requires sound { AreSound metadata.old → IsSound (settled metadata.old journal.old) }
+    requires image { shape_of journal.old ≡ image_shape metadata.old.limits }
     requires usable { JournalIsUsable journal.old (D.meaning disk.old) }
     requires whole { is_broken.old ≡ false }
-    requires placed { ArePlaced parts.old journal.old }
+    requires placed { ArePlaced metadata.old journal.old }
     requires unplaced { 0 < most → journal.old.placed ≡ [] }
     requires few { most ≤ 44 }
-    requires room { length journal.old.staged + marked_count parts.old ≤ journal.old.capacity.staged }
-    ensures sound { IsSound (record { parts = parts.new; journal = journal.new; is_broken = is_broken.new }) }
-    ensures saves { Saves parts.old journal.old (record { parts = parts.new; journal = journal.new; is_broken = is_broken.new })
+    requires room { length journal.old.staged + marked_count metadata.old ≤ journal.old.capacity.staged }
+    ensures sound { IsSound (record { metadata = metadata.new; journal = journal.new; is_broken = is_broken.new }) }
+    ensures saves { Saves metadata.old journal.old (record { metadata = metadata.new; journal = journal.new; is_broken = is_broken.new })
         (D.meaning disk.old) (D.meaning disk.new) result }
     ensures ended { SaveEnded is_broken.new result }
     ensures few { OnOk result (length journal.new.staged ≤ most) }
-    ensures parts { parts.new ≡ record parts.old { marks = parts.new.marks } }
+    ensures metadata { metadata.new ≡ record metadata.old { marks = metadata.new.marks } }
     ensures image { shape_of journal.new ≡ shape_of journal.old }
     ensures disk { ChangesDisk (D.meaning disk.old) (D.meaning disk.new) result }
 {
-    stage(parts, journal);
+    stage(metadata, journal);
     if journal.staged() > most {
         return commit(journal, is_broken, disk);
     }

@@ -10,7 +10,7 @@ ghost use Rattle.lis_model.specs.Changes.{file_of};
 ghost use Rattle.lis_model.specs.State.{State};
 ghost use Rattle.lis_eval.specs.Room.{HasRoom};
 ghost use Rattle.lis_kept.specs.Telling.{is_declared};
-ghost use Rattle.lis_store.specs.declared.change.Change.TheVariants.{Refused};
+ghost use Rattle.lis_store.specs.declared.change_fault.ChangeFault.TheVariants.{Refused};
 ghost use Rattle.lis_store.specs.Stored.{IsSound, StoreFits, StoreHolds, IsIndex, IsUsable};
 ghost use Rattle.lis_store.specs.Judging.{is_among};
 ghost use Rattle.lis_store.specs.Changes.{Applies, Changes, Holds, Commits, CommitLeft, ChangeKeeps, ChangesDisk};
@@ -25,14 +25,15 @@ mod replacing;
 mod undeclaring;
 mod unlinking;
 
-use crate::change::Change;
+use crate::change_fault::ChangeFault;
 use crate::saving::commit;
 use crate::write::Write;
 use lis_content::{Buffer, Laid, read_block, read_block_by, read_index_block};
 use lis_eval::{Scratch, View, evaluate, found};
 use lis_ext::Ext;
 use lis_journal::Journal;
-use lis_kept::{Parts, data_start};
+use lis_kept::{Metadata, data_start};
+use lis_limits::BLOCK_LEN;
 use lis_model::limits::Limits;
 use lis_place::Place;
 use lis_ports::{Disk, Failed};
@@ -43,7 +44,7 @@ use std::marker::Model;
 /// What opening has read of an image.
 #[derive(Drop)]
 pub struct Built {
-    pub parts: Parts,
+    pub metadata: Metadata,
     pub journal: Journal,
     /// Memory for the bytes of a file.
     pub bytes: Buffer,
@@ -53,7 +54,7 @@ pub struct Built {
 /// was read last, and no call takes memory.
 #[derive(Drop)]
 pub struct Store {
-    parts: Parts,
+    metadata: Metadata,
     journal: Journal,
     bytes: Buffer,
     // A call of the disk failed.
@@ -65,19 +66,19 @@ impl Model for Store {
 
     ghost Value = { Stored };
 
-    ghost view = { λ s. record { parts = s.parts; journal = s.journal; is_broken = s.is_broken } };
+    ghost view = { λ s. record { metadata = s.metadata; journal = s.journal; is_broken = s.is_broken } };
 
-    ghost invariant = { λ s. IsSound (record { parts = s.parts; journal = s.journal; is_broken = s.is_broken }) };
+    ghost invariant = { λ s. IsSound (record { metadata = s.metadata; journal = s.journal; is_broken = s.is_broken }) };
 }
 
 impl Store {
     /// The store of these parts.
     pub fn join(built: Built) -> Store
-        requires { IsSound (record { parts = built.parts; journal = built.journal; is_broken = false }) }
-        ensures { result ≡ record { parts = built.parts; journal = built.journal; is_broken = false } }
+        requires { IsSound (record { metadata = built.metadata; journal = built.journal; is_broken = false }) }
+        ensures { result ≡ record { metadata = built.metadata; journal = built.journal; is_broken = false } }
     {
         Store {
-            parts: built.parts,
+            metadata: built.metadata,
             journal: built.journal,
             bytes: built.bytes,
             is_broken: false,
@@ -95,11 +96,11 @@ impl Store {
         scratch: &mut Scratch,
         place: &Place,
         write: Write,
-    ) -> Result<(), Change>
-        requires whole { IsWhole self.old.parts.limits.version write }
-        requires scratch { HasRoom scratch.old self.old.parts.limits }
+    ) -> Result<(), ChangeFault>
+        requires whole { IsWhole self.old.metadata.limits.version write }
+        requires scratch { HasRoom scratch.old self.old.metadata.limits }
         requires usable { IsUsable self.old (D.meaning disk.old) }
-        ensures scratch { HasRoom scratch.new self.old.parts.limits }
+        ensures scratch { HasRoom scratch.new self.old.metadata.limits }
         ensures changes { (s : State) → StoreFits self.old (D.meaning disk.old) s
             → Changes (record { state = s; place = place.now }) (written (record { state = s; place = place.now }) write.entry)
             self.new (D.meaning disk.old) (D.meaning disk.new) result }
@@ -122,11 +123,11 @@ impl Store {
         scratch: &mut Scratch,
         place: &Place,
         write: Write,
-    ) -> Result<(), Change>
-        requires whole { IsWhole self.old.parts.limits.version write }
-        requires scratch { HasRoom scratch.old self.old.parts.limits }
+    ) -> Result<(), ChangeFault>
+        requires whole { IsWhole self.old.metadata.limits.version write }
+        requires scratch { HasRoom scratch.old self.old.metadata.limits }
         requires usable { IsUsable self.old (D.meaning disk.old) }
-        ensures scratch { HasRoom scratch.new self.old.parts.limits }
+        ensures scratch { HasRoom scratch.new self.old.metadata.limits }
         ensures holds { (base : State) (s : State) → StoreHolds self.old (D.meaning disk.old) base s
             → Holds base (record { state = s; place = place.now }) (written (record { state = s; place = place.now }) write.entry)
             self.new (D.meaning disk.old) (D.meaning disk.new) result }
@@ -149,12 +150,12 @@ impl Store {
     }
 
     /// Commits all changes that are held back. Where there are none it makes no call of the disk.
-    pub fn commit<D: Disk>(&mut self, disk: &mut D) -> Result<(), Change>
+    pub fn commit<D: Disk>(&mut self, disk: &mut D) -> Result<(), ChangeFault>
         requires usable { IsUsable self.old (D.meaning disk.old) }
         ensures commits { (base s : State) → StoreHolds self.old (D.meaning disk.old) base s
             → Commits base s self.new (D.meaning disk.old) (D.meaning disk.new) result }
         ensures idle { self.old.journal.staged ≡ [] → (result ≡ Ok _) × (disk.new ≡ disk.old) × (self.new ≡ self.old) }
-        ensures parts { self.new.parts ≡ self.old.parts }
+        ensures metadata { self.new.metadata ≡ self.old.metadata }
         ensures image { shape_of self.new.journal ≡ shape_of self.old.journal }
         ensures left { CommitLeft self.new result }
         ensures sound { IsSound self.new }
@@ -165,18 +166,18 @@ impl Store {
 
     /// The limits of the image.
     pub fn limits(&self) -> Limits
-        ensures value { result ≡ self.now.parts.limits }
+        ensures value { result ≡ self.now.metadata.limits }
         ensures sound { IsSound self.now }
     {
-        *self.parts.limits()
+        *self.metadata.limits()
     }
 
     /// What memory keeps of the image.
-    pub(crate) fn parts(&self) -> &Parts
-        ensures value { result.now ≡ self.now.parts }
+    pub(crate) fn metadata(&self) -> &Metadata
+        ensures value { result.now ≡ self.now.metadata }
         ensures sound { IsSound self.now }
     {
-        &self.parts
+        &self.metadata
     }
 
     /// Whether a call of the disk failed. Then only what is on the disk counts.
@@ -189,17 +190,17 @@ impl Store {
     /// For each file slot the numbers of its file's description, as rows of bits. These are the rows that listings look at, and
     /// their edits are counted.
     pub fn descriptions(&self) -> &Ext
-        ensures { result.now ≡ self.now.parts.ext }
+        ensures { result.now ≡ self.now.metadata.ext }
     {
-        self.parts.ext()
+        self.metadata.ext()
     }
 
     /// Whether the word is declared.
     pub fn is_declared(&self, word: &Word) -> bool
-        ensures value { result ≡ is_declared self.now.parts word.now }
+        ensures value { result ≡ is_declared self.now.metadata word.now }
         ensures sound { IsSound self.now }
     {
-        self.parts.is_declared(word)
+        self.metadata.is_declared(word)
     }
 
     /// The n-th block of a file's bytes. At its end the last block holds any bytes.
@@ -210,18 +211,18 @@ impl Store {
         n: u32,
         buf: &mut [u8],
     ) -> Result<(), Failed>
-        requires within { IsSomeAnd (rec_at self.now.parts.catalog slot) (λ (rec : FileRecord). 4096 * n < rec.size) }
-        requires whole { length buf.old ≡ 4096 }
+        requires within { IsSomeAnd (rec_at self.now.metadata.catalog slot) (λ (rec : FileRecord). BLOCK_LEN * n < rec.size) }
+        requires whole { length buf.old ≡ BLOCK_LEN }
         requires usable { IsUsable self.now (D.meaning disk.old) }
-        ensures read { OnOk result ((s : State) (name : List ℕ) → StoreFits self.now (D.meaning disk.old) s → slot_of self.now.parts.catalog name ≡ Some slot
-            → take (length (part (4096 * n) 4096 (file_of s.files name).bytes)) buf.new ≡ part (4096 * n) 4096 (file_of s.files name).bytes) }
-        ensures len { length buf.new ≡ 4096 }
+        ensures read { OnOk result ((s : State) (name : List ℕ) → StoreFits self.now (D.meaning disk.old) s → slot_of self.now.metadata.catalog name ≡ Some slot
+            → take (length (part (BLOCK_LEN * n) BLOCK_LEN (file_of s.files name).bytes)) buf.new ≡ part (BLOCK_LEN * n) BLOCK_LEN (file_of s.files name).bytes) }
+        ensures len { length buf.new ≡ BLOCK_LEN }
         ensures disk { ReadsDisk (D.meaning disk.old) (D.meaning disk.new) result }
         ensures fits { (s : State) → StoreFits self.now (D.meaning disk.old) s → StoreFits self.now (D.meaning disk.new) s }
         ensures sound { IsSound self.now }
     {
-        let base = data_start(self.parts.limits());
-        let Some(rec) = self.parts.rec(slot) else {
+        let base = data_start(self.metadata.limits());
+        let Some(rec) = self.metadata.rec(slot) else {
             unreachable!()
         };
         let laid = Laid {
@@ -234,17 +235,17 @@ impl Store {
 
     /// Reads the index block of a file, where it has one, to be handed to `content_by`.
     pub fn index<D: Disk>(&self, disk: &mut D, slot: u16, index: &mut [u8]) -> Result<(), Failed>
-        requires some { IsSomeAnd (rec_at self.now.parts.catalog slot) (λ (rec : FileRecord). 0 < rec.size) }
-        requires whole { length index.old ≡ 4096 }
+        requires some { IsSomeAnd (rec_at self.now.metadata.catalog slot) (λ (rec : FileRecord). 0 < rec.size) }
+        requires whole { length index.old ≡ BLOCK_LEN }
         requires usable { IsUsable self.now (D.meaning disk.old) }
         ensures held { OnOk result (IsTrue (D.meaning disk.old).is_honest → IsIndex self.now (D.meaning disk.old).bytes slot index.new) }
-        ensures len { length index.new ≡ 4096 }
+        ensures len { length index.new ≡ BLOCK_LEN }
         ensures disk { ReadsDisk (D.meaning disk.old) (D.meaning disk.new) result }
         ensures fits { (s : State) → StoreFits self.now (D.meaning disk.old) s → StoreFits self.now (D.meaning disk.new) s }
         ensures sound { IsSound self.now }
     {
-        let base = data_start(self.parts.limits());
-        let Some(rec) = self.parts.rec(slot) else {
+        let base = data_start(self.metadata.limits());
+        let Some(rec) = self.metadata.rec(slot) else {
             unreachable!()
         };
         let laid = Laid {
@@ -264,20 +265,20 @@ impl Store {
         n: u32,
         buf: &mut [u8],
     ) -> Result<(), Failed>
-        requires within { IsSomeAnd (rec_at self.now.parts.catalog slot) (λ (rec : FileRecord). 4096 * n < rec.size) }
-        requires index { length index.now ≡ 4096 }
-        requires whole { length buf.old ≡ 4096 }
+        requires within { IsSomeAnd (rec_at self.now.metadata.catalog slot) (λ (rec : FileRecord). BLOCK_LEN * n < rec.size) }
+        requires index { length index.now ≡ BLOCK_LEN }
+        requires whole { length buf.old ≡ BLOCK_LEN }
         requires usable { IsUsable self.now (D.meaning disk.old) }
-        ensures read { OnOk result ((s : State) (name : List ℕ) → StoreFits self.now (D.meaning disk.old) s → slot_of self.now.parts.catalog name ≡ Some slot
+        ensures read { OnOk result ((s : State) (name : List ℕ) → StoreFits self.now (D.meaning disk.old) s → slot_of self.now.metadata.catalog name ≡ Some slot
             → IsIndex self.now (D.meaning disk.old).bytes slot index.now
-            → take (length (part (4096 * n) 4096 (file_of s.files name).bytes)) buf.new ≡ part (4096 * n) 4096 (file_of s.files name).bytes) }
-        ensures len { length buf.new ≡ 4096 }
+            → take (length (part (BLOCK_LEN * n) BLOCK_LEN (file_of s.files name).bytes)) buf.new ≡ part (BLOCK_LEN * n) BLOCK_LEN (file_of s.files name).bytes) }
+        ensures len { length buf.new ≡ BLOCK_LEN }
         ensures disk { ReadsDisk (D.meaning disk.old) (D.meaning disk.new) result }
         ensures fits { (s : State) → StoreFits self.now (D.meaning disk.old) s → StoreFits self.now (D.meaning disk.new) s }
         ensures sound { IsSound self.now }
     {
-        let base = data_start(self.parts.limits());
-        let Some(rec) = self.parts.rec(slot) else {
+        let base = data_start(self.metadata.limits());
+        let Some(rec) = self.metadata.rec(slot) else {
             unreachable!()
         };
         let laid = Laid {
@@ -290,13 +291,13 @@ impl Store {
 
     /// The slot of the file of that name, where the file is in the extension of the place.
     pub fn slot_here(&self, scratch: &mut Scratch, place: &Place, name: &Name) -> Option<u16>
-        requires { HasRoom scratch.old self.now.parts.limits }
-        ensures room { HasRoom scratch.new self.now.parts.limits }
-        ensures here { is_some result ≡ is_among self.now.parts place.now name.now }
-        ensures slot { IfSome result (λ slot. slot_of self.now.parts.catalog name.now ≡ Some slot) }
+        requires { HasRoom scratch.old self.now.metadata.limits }
+        ensures room { HasRoom scratch.new self.now.metadata.limits }
+        ensures here { is_some result ≡ is_among self.now.metadata place.now name.now }
+        ensures slot { IfSome result (λ slot. slot_of self.now.metadata.catalog name.now ≡ Some slot) }
         ensures sound { IsSound self.now }
     {
-        let Some(slot) = self.parts.slot_of(name) else {
+        let Some(slot) = self.metadata.slot_of(name) else {
             return None;
         };
         evaluate(self, scratch, place);
@@ -311,38 +312,38 @@ impl View for Store {
     ghost use Rattle.lis_store.specs.Stored.{Stored};
     ghost use Rattle.lis_store.specs.Seen.{seen_of};
 
-    ghost seen = { λ s. seen_of s.parts };
+    ghost seen = { λ s. seen_of s.metadata };
 
-    ghost rows = { λ s. s.parts.ext };
+    ghost rows = { λ s. s.metadata.ext };
 
     fn id_of(&self, word: &Word) -> Option<u16> {
-        self.parts.number_of(word)
+        self.metadata.number_of(word)
     }
 
     fn word_at(&self, k: u32) -> Option<(Word, u16)> {
-        self.parts.word_at(k)
+        self.metadata.word_at(k)
     }
 
     fn slot_of(&self, name: &Name) -> Option<u16> {
-        self.parts.slot_of(name)
+        self.metadata.slot_of(name)
     }
 
     fn file_at(&self, k: u32) -> Option<(Name, u16)> {
-        self.parts.file_at(k)
+        self.metadata.file_at(k)
     }
 
     fn size_of(&self, slot: u16) -> u64 {
-        match self.parts.rec(slot) {
+        match self.metadata.rec(slot) {
             None => 0,
             Some(rec) => u64::from(rec.size),
         }
     }
 
     fn ext(&self) -> &Ext {
-        self.parts.ext()
+        self.metadata.ext()
     }
 
     fn taxonomy(&self) -> &Taxonomy {
-        self.parts.taxonomy()
+        self.metadata.taxonomy()
     }
 }

@@ -13,10 +13,10 @@ use lis_words::Word;
 impl Store {
     /// The words, in byte order, that the file in a slot was given.
     pub fn tags(&self, slot: u16) -> ArrayVec<Word, 16>
-        requires { IsSome (rec_at self.now.parts.catalog slot) }
-        ensures { IsSomeAnd (rec_at self.now.parts.catalog slot)
-            (λ (rec : FileRecord). result.items ≡ words_told self.now.parts.dict rec.tags) }
+        requires { IsSome (rec_at self.now.metadata.catalog slot) }
+        ensures { IsSomeAnd (rec_at self.now.metadata.catalog slot)
+            (λ (rec : FileRecord). result.items ≡ words_told self.now.metadata.dict rec.tags) }
     {
-        assigned_in(self.parts(), slot)
+        assigned_in(self.metadata(), slot)
     }
 }

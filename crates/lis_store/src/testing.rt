@@ -13,29 +13,30 @@ ghost use Rattle.lis_store.specs.Testing.{MayDeclare, DeclaresTested, without_nu
 use crate::closing::{Rebuild, rebuild_all};
 use crate::removing::numbers_at;
 use arrayvec::ArrayVec;
-use lis_kept::Parts;
+use lis_kept::Metadata;
+use lis_limits::MAX_DESCRIPTION;
 use lis_words::{Word, test_of};
 
 /// Declares a new word, with an axiom from it to the word of each of these numbers. A test comes into the descriptions of the
 /// files that meet it.
-pub(crate) fn declare_tested(parts: &mut Parts, word: &Word, places: &[u16])
-    requires form { AreInForm parts.old }
-    requires may { MayDeclare parts.old word.now places.now }
-    ensures { DeclaresTested word.now places.now parts.old parts.new }
+pub(crate) fn declare_tested(metadata: &mut Metadata, word: &Word, places: &[u16])
+    requires form { AreInForm metadata.old }
+    requires may { MayDeclare metadata.old word.now places.now }
+    ensures { DeclaresTested word.now places.now metadata.old metadata.new }
 {
-    parts.declare_under(word, places);
+    metadata.declare_under(word, places);
     let Some(test) = test_of(word) else {
         return;
     };
-    let Some(number) = parts.number_of(word) else {
+    let Some(number) = metadata.number_of(word) else {
         unreachable!()
     };
-    rebuild_all(parts, Rebuild::Meeting(test, number));
+    rebuild_all(metadata, Rebuild::Meeting(test, number));
 }
 
 // The numbers but for one.
-fn numbers_without(numbers: &[u16], number: u16) -> ArrayVec<u16, 128>
-    requires { length numbers.now ≤ 128 }
+fn numbers_without(numbers: &[u16], number: u16) -> ArrayVec<u16, MAX_DESCRIPTION>
+    requires { length numbers.now ≤ MAX_DESCRIPTION }
     ensures { result.items ≡ filter (λ n. not (n == number)) numbers.now }
 {
     let mut rest = ArrayVec::new();
@@ -48,46 +49,46 @@ fn numbers_without(numbers: &[u16], number: u16) -> ArrayVec<u16, 128>
 }
 
 // Takes a number out of the description in a slot.
-fn describe_without(parts: &mut Parts, number: u16, slot: u16)
-    requires number { IsSome (word_of parts.old.dict number) }
-    requires slot { slot < parts.old.limits.files }
-    requires had { (n : ℕ) → has parts.old.ext n slot ≡ true → IsSome (word_of parts.old.dict n) }
-    requires short { length (set_of parts.old.ext slot) ≤ 128 }
-    ensures gives { SlotHas slot (without_number parts.old number slot) parts.old parts.new }
-    ensures sound { AreSound parts.new }
+fn describe_without(metadata: &mut Metadata, number: u16, slot: u16)
+    requires number { IsSome (word_of metadata.old.dict number) }
+    requires slot { slot < metadata.old.limits.files }
+    requires had { (n : ℕ) → has metadata.old.ext n slot ≡ true → IsSome (word_of metadata.old.dict n) }
+    requires short { length (set_of metadata.old.ext slot) ≤ MAX_DESCRIPTION }
+    ensures gives { SlotHas slot (without_number metadata.old number slot) metadata.old metadata.new }
+    ensures sound { AreSound metadata.new }
 {
-    let props = parts.limits().props;
-    if !parts.ext().has(u32::from(number), u32::from(slot)) {
+    let props = metadata.limits().props;
+    if !metadata.ext().has(u32::from(number), u32::from(slot)) {
         return;
     }
-    let old = numbers_at(parts.ext(), props, slot);
+    let old = numbers_at(metadata.ext(), props, slot);
     let new = numbers_without(old.as_slice(), number);
-    parts.describe(slot, old.as_slice(), new.as_slice());
+    metadata.describe(slot, old.as_slice(), new.as_slice());
 }
 
 // Takes a number out of all descriptions.
-fn describe_all_without(parts: &mut Parts, number: u16)
-    requires number { IsSome (word_of parts.old.dict number) }
-    requires free { FreeSlotsAreEmpty parts.old }
-    requires short { DescriptionsAreShort parts.old }
-    ensures redescribes { Redescribes (without_number parts.old number) parts.old.limits.files parts.old parts.new }
-    ensures sound { AreSound parts.new }
+fn describe_all_without(metadata: &mut Metadata, number: u16)
+    requires number { IsSome (word_of metadata.old.dict number) }
+    requires free { FreeSlotsAreEmpty metadata.old }
+    requires short { DescriptionsAreShort metadata.old }
+    ensures redescribes { Redescribes (without_number metadata.old number) metadata.old.limits.files metadata.old metadata.new }
+    ensures sound { AreSound metadata.new }
 {
-    let files = parts.limits().files;
+    let files = metadata.limits().files;
     for slot in 0..files {
-        describe_without(parts, number, slot as u16);
+        describe_without(metadata, number, slot as u16);
     }
 }
 
 /// Takes the declaration of a word back, and its number out of all descriptions.
-pub(crate) fn undeclare_unmet(parts: &mut Parts, number: u16)
-    requires sound { AreSound parts.old }
-    requires number { IsSome (word_of parts.old.dict number) }
-    requires may { MayUndeclare number (undescribed parts.old) }
-    requires free { FreeSlotsAreEmpty parts.old }
-    requires short { DescriptionsAreShort parts.old }
-    ensures { UndeclaresUnmet number parts.old parts.new }
+pub(crate) fn undeclare_unmet(metadata: &mut Metadata, number: u16)
+    requires sound { AreSound metadata.old }
+    requires number { IsSome (word_of metadata.old.dict number) }
+    requires may { MayUndeclare number (undescribed metadata.old) }
+    requires free { FreeSlotsAreEmpty metadata.old }
+    requires short { DescriptionsAreShort metadata.old }
+    ensures { UndeclaresUnmet number metadata.old metadata.new }
 {
-    describe_all_without(parts, number);
-    parts.undeclare(number);
+    describe_all_without(metadata, number);
+    metadata.undeclare(number);
 }

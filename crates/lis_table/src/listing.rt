@@ -5,7 +5,7 @@ ghost use Rattle.std.specs.List.{list_any, flat_map};
 ghost use Rattle.lis_words.specs.Words.{same_word, has_word};
 ghost use Rattle.lis_model.specs.Table.{Entry, entails};
 ghost use Rattle.lis_model.specs.Listing.{is_candidate, is_above, is_increment, is_local};
-ghost use Rattle.lis_model.specs.Replies.{body_line, ok_line, listing_lines};
+ghost use Rattle.lis_model.specs.Replies.{body_line, ok_line, listing_lines, word_letter, file_letter};
 
 use crate::entry::Entry;
 use crate::table::Table;
@@ -123,7 +123,7 @@ pub fn push_increments(
     files: &[Entry],
 ) -> Result<(), AllocError>
     ensures { OnOk result (reply.new.items ≡ reply.old.items
-        ++ flat_map (body_line 100) (filter (is_increment table.now files.now) table.now.known)) }
+        ++ flat_map (body_line word_letter) (filter (is_increment table.now files.now) table.now.known)) }
 {
     for word in &table.known {
         if is_increment(table, files, word) {
@@ -136,7 +136,7 @@ pub fn push_increments(
 /// Puts a line for each local file behind the reply.
 pub fn push_locals(reply: &mut Vec<u8>, files: &[Entry]) -> Result<(), AllocError>
     ensures { OnOk result (reply.new.items ≡ reply.old.items
-        ++ flat_map (λ (file : Entry). body_line 102 file.name) (filter (is_local files.now) files.now)) }
+        ++ flat_map (λ (file : Entry). body_line file_letter file.name) (filter (is_local files.now) files.now)) }
 {
     for file in files {
         if is_local(files, file) {

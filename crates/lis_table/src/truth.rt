@@ -10,6 +10,7 @@ ghost use Rattle.lis_table.specs.Truth.{last_value, below_last, with_value};
 use crate::entry::Entry;
 use crate::words::has_word;
 use arrayvec::ArrayVec;
+use lis_limits::MAX_NODES;
 use lis_place::{Node, Place};
 use lis_words::Word;
 use std::alloc::{AllocError, Global};
@@ -71,7 +72,7 @@ impl Values {
     }
 
     fn push(&mut self, value: bool)
-        requires { length self.old < 64 }
+        requires { length self.old < MAX_NODES }
         ensures { self.new ≡ value ∷ self.old }
     {
         self.held.push(value);
@@ -93,7 +94,7 @@ impl Values {
 
     // The truth of one more node.
     fn put<D: Described>(&mut self, node: &Node, described: &D)
-        requires { length self.old < 64 }
+        requires { length self.old < MAX_NODES }
         ensures value { self.new ≡ with_value (D.entry described.now) self.old node.now }
         ensures count { length self.new ≤ length self.old + 1 }
     {
@@ -120,7 +121,7 @@ impl Values {
 }
 
 fn values_of<D: Described>(nodes: &[Node], described: &D) -> Values
-    requires { length nodes.now ≤ 64 }
+    requires { length nodes.now ≤ MAX_NODES }
     ensures { result ≡ fold (with_value (D.entry described.now)) [] nodes.now }
 {
     let mut values = Values::new();

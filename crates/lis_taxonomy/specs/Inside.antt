@@ -3,6 +3,7 @@ use Rattle.std.specs.Prelude.{◌≡◌, ◌≢◌, ℕ, ◌<◌, ◌≤◌, Boo
 use Rattle.std.specs.List.{range_with_len, flat_map}
 use Rattle.std.specs.Ordering.{nat_cmp}
 use Rattle.std.specs.FinSet as set
+use Rattle.lis_limits.specs.declared.TheConstants.{MAX_PROPS}
 use Rattle.lis_bits.specs.Rows.{Rows, HasShape, get}
 use Rattle.lis_graph.specs.Graph as graph
 use Rattle.lis_taxonomy.specs.Taxonomy.{Taxonomy, no_links}
@@ -38,7 +39,7 @@ IsAcyclicTable linked props = graph.is_acyclic nat_eq nat_cmp no_links (edge_lis
 
 -- the rows tell edges without a circle, and what chains of them lead to
 pub record IsSoundTaxonomy (linked reached stale : Rows) (props : ℕ) : Type 0 where
-  pub few : props ≤ 8192
+  pub few : props ≤ MAX_PROPS
   pub linked_shape : HasShape linked props props
   pub reached_shape : HasShape reached props props
   pub stale_shape : HasShape stale 1 props

@@ -3,6 +3,7 @@ ghost use Rattle.lis_bits.specs.Rows.{HasShape, get};
 ghost use Rattle.lis_taxonomy.specs.Inside.{IsWidened, Gathers, IsPartlyRight, IsAcyclicTable, reach};
 
 use lis_bits::Rows;
+use lis_limits::MAX_PROPS;
 
 // Gives each word that has the left one in its row all of the right one's row too.
 pub(crate) fn widen(reached: &mut Rows, props: u32, left: u32, right: u32)
@@ -24,7 +25,7 @@ fn gather(linked: &Rows, reached: &mut Rows, props: u32, word: u32)
     requires linked_shape { HasShape linked.now props props }
     requires shape { HasShape reached.old props props }
     requires word { word < props }
-    requires few { props ≤ 8192 }
+    requires few { props ≤ MAX_PROPS }
     requires no_loop { get linked.now word word ≡ false }
     ensures { Gathers linked.now reached.old reached.new props word }
 {
@@ -40,7 +41,7 @@ fn gather(linked: &Rows, reached: &mut Rows, props: u32, word: u32)
 // Makes the row of a stale word anew, after those of the stale words that it is linked to.
 fn remake(linked: &Rows, reached: &mut Rows, stale: &mut Rows, props: u32, word: u32)
     requires linked_shape { HasShape linked.now props props }
-    requires few { props ≤ 8192 }
+    requires few { props ≤ MAX_PROPS }
     requires acyclic { IsAcyclicTable linked.now props }
     requires partly { IsPartlyRight linked.now reached.old stale.old props }
     requires word { word < props }
@@ -62,7 +63,7 @@ fn remake(linked: &Rows, reached: &mut Rows, stale: &mut Rows, props: u32, word:
 // Makes the rows of all stale words anew.
 pub(crate) fn remake_all(linked: &Rows, reached: &mut Rows, stale: &mut Rows, props: u32)
     requires linked_shape { HasShape linked.now props props }
-    requires few { props ≤ 8192 }
+    requires few { props ≤ MAX_PROPS }
     requires acyclic { IsAcyclicTable linked.now props }
     requires partly { IsPartlyRight linked.now reached.old stale.old props }
     ensures shape { HasShape reached.new props props }

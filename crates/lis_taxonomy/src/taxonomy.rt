@@ -3,6 +3,7 @@ ghost use Rattle.lis_bits.specs.Rows.{HasShape, get, with_row};
 
 use crate::tables;
 use lis_bits::{Rows, copy_row};
+use lis_limits::MAX_PROPS;
 use std::alloc::{AllocError, Global};
 use std::marker::Model;
 
@@ -50,7 +51,7 @@ impl Taxonomy {
     /// A taxonomy of so many numbers, with no edge.
     pub fn new(alloc: Global, props: u32) -> Result<Taxonomy, AllocError>
         requires whole_words { props % 64 ≡ 0 }
-        requires few { props ≤ 8192 }
+        requires few { props ≤ MAX_PROPS }
         ensures { IfOk result (λ made. made ≡ empty_taxonomy props) }
     {
         let linked = Rows::new(alloc, props, props)?;
@@ -146,7 +147,7 @@ impl Taxonomy {
             → get result.now p q ≡ entails self.now p q }
         ensures acyclic { IsAcyclic self.now }
         ensures in_range { (p q : ℕ) → IsTrue (has_edge self.now p q) → (p < self.now.props) × (q < self.now.props) }
-        ensures few { self.now.props ≤ 8192 }
+        ensures few { self.now.props ≤ MAX_PROPS }
     {
         &self.reached
     }

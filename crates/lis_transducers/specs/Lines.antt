@@ -1,7 +1,7 @@
 -- The lines and the fields of a mail's header.
 use Rattle.std.specs.Prelude.{ℕ, nat_le, Bool, false, not, ◌&&◌, if◌then◌else◌, List, [], ◌∷◌, ◌++◌, map}
 use Rattle.std.specs.List.{slice_split, take_while, concat, list_any, list_all, before_first, after_first}
-use Rattle.lis_words.specs.Bytes.{is_feed, is_blank, is_colon, is_some_bytes, without_return}
+use Rattle.lis_words.specs.Bytes.{is_feed, is_blank, is_colon, is_some_bytes, without_return, tilde}
 
 -- The header: the lines before the first empty one (RFC 5322, section 2.1), or all of them. A line ends with CR and LF (the same section), or
 -- with LF alone (this project's own); what stands behind the last line feed is one too.
@@ -10,7 +10,7 @@ header bytes = take_while is_some_bytes (map without_return (slice_split is_feed
 
 -- A field's name: printable US-ASCII, but no colon (RFC 5322, section 2.2).
 abbrev pub is_name_byte : ℕ → Bool
-is_name_byte b = nat_le 33 b && nat_le b 126 && not (is_colon b)
+is_name_byte b = nat_le 33 b && nat_le b tilde && not (is_colon b)
 
 abbrev pub is_field_name : List ℕ → Bool
 is_field_name name = is_some_bytes name && list_all is_name_byte name

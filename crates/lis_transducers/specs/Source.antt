@@ -1,5 +1,6 @@
 -- The words that a C source gives. Which words it gives is this project's own.
 use Rattle.std.specs.Prelude.{ℕ, ◌+◌, ◌-◌, ◌==◌, Bool, true, false, not, ◌&&◌, if◌then◌else◌, List, [], ◌∷◌, ◌++◌, filter, codes}
+use Rattle.lis_words.specs.Bytes.{opening_brace, closing_brace}
 use Rattle.lis_words.specs.Words.{is_word, has_word}
 use Rattle.lis_transducers.specs.Joined.{joined}
 use Rattle.lis_transducers.specs.Pieces.{Piece, pieces}
@@ -20,7 +21,7 @@ depth_after opening closing depth kind =
 
 -- { and }
 abbrev pub braces_after : ℕ → Kind → ℕ
-braces_after depth kind = depth_after 123 125 depth kind
+braces_after depth kind = depth_after opening_brace closing_brace depth kind
 
 -- ( and )
 abbrev pub parens_after : ℕ → Kind → ℕ
@@ -38,7 +39,7 @@ behind_call depth (kind ∷ kinds) =
 
 -- whether the tokens behind an identifier make it a definition: ( first, and { behind the ) that closes it
 abbrev pub is_defined : List Kind → Bool
-is_defined kinds = begins_with_byte 40 kinds && begins_with_byte 123 (behind_call 0 kinds)
+is_defined kinds = begins_with_byte 40 kinds && begins_with_byte opening_brace (behind_call 0 kinds)
 
 -- the words of C that stand before ( and are no functions
 abbrev pub keywords : List (List ℕ)

@@ -63,14 +63,14 @@ fn carried_on(
 
 /// A row of the table.
 #[derive(Clone, Copy)]
-struct Part<'a> {
+struct PartCase<'a> {
     words: &'a str,
     row: &'a str,
     wanted: &'a str,
     left: &'a str,
 }
 
-impl Part<'_> {
+impl PartCase<'_> {
     // `view` takes nothing of its input, and `put` all of it.
     fn taken(&self) -> usize {
         if self.words.starts_with("put") {
@@ -81,10 +81,10 @@ impl Part<'_> {
     }
 }
 
-fn part_of(line: &str) -> Result<Part<'_>, Fail> {
+fn part_of(line: &str) -> Result<PartCase<'_>, Fail> {
     let mut fields = line.split(" => ");
     match (fields.next(), fields.next(), fields.next()) {
-        (Some(words), Some(row), Some(wanted)) => Ok(Part {
+        (Some(words), Some(row), Some(wanted)) => Ok(PartCase {
             words,
             row,
             wanted,

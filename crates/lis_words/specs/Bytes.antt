@@ -4,6 +4,19 @@ use Rattle.std.specs.Prelude.{ℕ, ◌-◌, ◌==◌, Bool, true, false, ◌||�
 abbrev pub is_feed : ℕ → Bool
 is_feed b = b == 10
 
+abbrev pub bar_byte : ℕ
+bar_byte = 124
+
+abbrev pub opening_brace : ℕ
+opening_brace = 123
+
+abbrev pub closing_brace : ℕ
+closing_brace = 125
+
+-- the last visible byte
+abbrev pub tilde : ℕ
+tilde = 126
+
 -- space or tab
 abbrev pub is_blank : ℕ → Bool
 is_blank b = (b == 32) || (b == 9)

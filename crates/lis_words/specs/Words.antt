@@ -5,6 +5,7 @@ use Rattle.std.specs.Cmp.Lexicographic.{pointwise, slice_cmp}
 use Rattle.std.specs.Ordering.{nat_cmp}
 use Rattle.std.specs.declared.cmp.Ordering.{Ordering}
 use Rattle.std.specs.List.{list_any, list_all, fold}
+use Rattle.lis_limits.specs.declared.TheConstants.{MAX_WORD}
 use Rattle.lis_words.specs.Bytes.{is_colon}
 
 -- an ASCII letter, a digit, or one of _ - . + @
@@ -26,7 +27,7 @@ begins_with_stop (b ∷ bytes) = b == 46
 -- 1 to 60 plain bytes, the first no full stop
 abbrev pub is_plain_word : List ℕ → Bool
 is_plain_word bytes =
-    nat_lt 0 (length bytes) && nat_le (length bytes) 60 && not (begins_with_stop bytes) && list_all is_plain_byte bytes
+    nat_lt 0 (length bytes) && nat_le (length bytes) MAX_WORD && not (begins_with_stop bytes) && list_all is_plain_byte bytes
 
 -- what stands before the first colon
 abbrev pub stem : List ℕ → List ℕ
@@ -40,7 +41,7 @@ value (b ∷ bytes) = if is_colon b then bytes else value bytes
 
 -- at most 60 bytes, and a plain word before the first colon
 abbrev pub has_stem : List ℕ → Bool
-has_stem bytes = nat_le (length bytes) 60 && list_any is_colon bytes && is_plain_word (stem bytes)
+has_stem bytes = nat_le (length bytes) MAX_WORD && list_any is_colon bytes && is_plain_word (stem bytes)
 
 -- a plain word of at most 59 bytes, and a colon
 abbrev pub is_head : List ℕ → Bool
@@ -113,4 +114,4 @@ is_stops bytes = same_word bytes (codes ".") || same_word bytes (codes "..")
 -- 1 to 60 plain bytes, other than . and ..
 abbrev pub is_file_name : List ℕ → Bool
 is_file_name bytes =
-    nat_lt 0 (length bytes) && nat_le (length bytes) 60 && not (is_stops bytes) && list_all is_plain_byte bytes
+    nat_lt 0 (length bytes) && nat_le (length bytes) MAX_WORD && not (is_stops bytes) && list_all is_plain_byte bytes

@@ -5,6 +5,7 @@ ghost use Rattle.lis_words.specs.Words.{is_file_name};
 
 use crate::forms::is_file_name;
 use arrayvec::ArrayVec;
+use lis_limits::MAX_WORD;
 use std::marker::Model;
 
 /// A file name: 1 to 60 plain bytes, other than `.` and `..`. Names are ordered by their bytes.
@@ -44,7 +45,7 @@ impl Name {
     pub fn bytes(&self) -> &[u8]
         ensures bytes { result.now ≡ self.now }
         ensures name { IsTrue (is_file_name self.now) }
-        ensures short { length result.now ≤ 60 }
+        ensures short { length result.now ≤ MAX_WORD }
     {
         self.held.as_slice()
     }
@@ -52,7 +53,7 @@ impl Name {
     /// How many bytes the name has; a name is never empty.
     pub fn len(&self) -> usize
         ensures value { result ≡ length self.now }
-        ensures short { result ≤ 60 }
+        ensures short { result ≤ MAX_WORD }
     {
         self.held.len()
     }

@@ -8,6 +8,7 @@ use crate::forms::{
     is_head, is_plain_word, is_property, is_valued, is_word, split_at_colon, test_in,
 };
 use arrayvec::ArrayVec;
+use lis_limits::MAX_WORD;
 use std::marker::Model;
 
 /// The kind of a word.
@@ -54,7 +55,7 @@ impl Default for Word {
 }
 
 fn held(bytes: &[u8]) -> ArrayVec<u8, 60>
-    requires { length bytes.now ≤ 60 }
+    requires { length bytes.now ≤ MAX_WORD }
     ensures { result.items ≡ bytes.now }
 {
     let mut held = ArrayVec::new();
@@ -91,7 +92,7 @@ impl Word {
     pub fn bytes(&self) -> &[u8]
         ensures bytes { result.now ≡ self.now }
         ensures word { IsTrue (is_property self.now) }
-        ensures short { length result.now ≤ 60 }
+        ensures short { length result.now ≤ MAX_WORD }
     {
         self.held.as_slice()
     }
@@ -99,7 +100,7 @@ impl Word {
     /// How many bytes the word has; a word is never empty.
     pub fn len(&self) -> usize
         ensures value { result ≡ length self.now }
-        ensures short { result ≤ 60 }
+        ensures short { result ≤ MAX_WORD }
     {
         self.held.len()
     }
@@ -138,7 +139,7 @@ pub fn test_of(word: &Word) -> Option<(bool, u64)>
 }
 
 fn with_colon(stem: &[u8]) -> ArrayVec<u8, 60>
-    requires { length stem.now < 60 }
+    requires { length stem.now < MAX_WORD }
     ensures { result.items ≡ stem.now ++ 58 ∷ [] }
 {
     let mut held = ArrayVec::new();

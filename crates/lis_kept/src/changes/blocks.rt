@@ -15,12 +15,13 @@ ghost use Rattle.lis_kept.specs.Sound.{AreSound};
 ghost use Rattle.lis_journal.specs.Journal.{shape_of};
 ghost use Rattle.lis_kept.specs.Image.{image_shape};
 
-use crate::parts::Parts;
+use crate::metadata::Metadata;
 use crate::places::{bitmap_start, data_start};
 use arrayvec::ArrayVec;
 use lis_bits::Flags;
 use lis_content::{PutFault, drop_large, is_large, place_file, put};
 use lis_journal::Journal;
+use lis_limits::SLOT_BLOCKS;
 use lis_model::limits::Limits;
 use lis_ports::{Disk, Failed};
 
@@ -33,7 +34,7 @@ fn mark_bitmap(marks: &mut Flags, limits: &Limits)
     marks.put(bitmap_start(limits), true);
 }
 
-impl Parts {
+impl Metadata {
     /// Puts bytes into free blocks, which it takes, and answers the numbers that a slot has of them. They are staged; where they are
     /// large, they are placed, with an index block, and then nothing may be staged. After a fault of the disk the journal is broken.
     pub fn put_content<D: Disk>(
@@ -48,7 +49,7 @@ impl Parts {
         requires usable { JournalIsUsable journal.old (D.meaning disk.old) }
         requires unplaced { journal.old.placed ≡ [] }
         requires unstaged { is_large (length bytes.now) ≡ true → journal.old.staged ≡ [] }
-        requires room { length journal.old.staged + 16 ≤ journal.old.capacity.staged }
+        requires room { length journal.old.staged + SLOT_BLOCKS ≤ journal.old.capacity.staged }
         ensures ended { MatchResult result
             (λ numbers. Puts bytes.now numbers.items self.old self.new journal.old journal.new (D.meaning disk.old) (D.meaning disk.new))
             (λ _. PutTorn self.old self.new journal.old journal.new (D.meaning disk.old) (D.meaning disk.new)) }

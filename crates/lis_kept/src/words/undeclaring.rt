@@ -8,7 +8,7 @@ ghost use Rattle.lis_kept.specs.Sound.{AreSound};
 ghost use Rattle.lis_kept.specs.TestEdges.{test_by};
 ghost use Rattle.lis_kept.specs.Undeclaring.{is_right_of, is_named_by, is_needed, MayUndeclare, Undeclares};
 
-use crate::parts::Parts;
+use crate::metadata::Metadata;
 use crate::test_edges::unlink_all;
 use crate::words::{is_had, is_on_left, mark_property};
 use lis_dict::Dict;
@@ -51,7 +51,7 @@ fn is_test(dict: &Dict, number: u16) -> bool
     }
 }
 
-impl Parts {
+impl Metadata {
     /// Whether a number's word may not go, if it is declared: it is no test and some description has it, or an axiom names it.
     pub fn is_needed(&self, number: u16) -> bool
         requires { IsSome (word_of self.now.dict number) }

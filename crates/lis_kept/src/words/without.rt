@@ -7,7 +7,7 @@ ghost use Rattle.lis_kept.specs.Forgetting.{emptied, MayForget, ForgetsWithout};
 ghost use Rattle.lis_kept.specs.Sound.{AreSound};
 ghost use Rattle.lis_kept.specs.Telling.{is_had, is_used};
 
-use crate::parts::Parts;
+use crate::metadata::Metadata;
 use lis_ext::Ext;
 
 // Whether the description of a file in another slot has a number.
@@ -25,7 +25,7 @@ pub(crate) fn is_had_without(ext: &Ext, slot: u16, number: u16) -> bool
     rows.next(u32::from(number), first + 1).is_some()
 }
 
-impl Parts {
+impl Metadata {
     /// Whether a number is in use without the description in a slot.
     pub fn is_used_without(&self, slot: u16, number: u16) -> bool
         requires { IsSome (word_of self.now.dict number) }

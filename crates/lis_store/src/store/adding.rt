@@ -7,14 +7,14 @@ ghost use Rattle.lis_model.specs.Changes.{new_file, file_added};
 ghost use Rattle.lis_model.specs.State.{State, file_limit};
 ghost use Rattle.lis_model.specs.Step.{Situation, changed, add};
 ghost use Rattle.lis_eval.specs.Room.{HasRoom};
-ghost use Rattle.lis_store.specs.declared.change.Change.TheVariants.{Refused};
+ghost use Rattle.lis_store.specs.declared.change_fault.ChangeFault.TheVariants.{Refused};
 ghost use Rattle.lis_store.specs.Stored.{IsSound, StoreHolds, IsUsable};
 ghost use Rattle.lis_store.specs.Changes.{Holds, ChangeKeeps, ChangesDisk};
 ghost use Rattle.lis_store.specs.Saving.{SaveEnded};
 ghost use Rattle.lis_store.specs.ReplacingIn.{MayPutBytes, record_in, file_gone};
 
 use crate::admitting::{NewFile, may_add};
-use crate::change::Change;
+use crate::change_fault::ChangeFault;
 use crate::contents::put_anew;
 use crate::replacing::replace_record;
 use crate::saving::{hold, most_held};
@@ -33,11 +33,11 @@ impl Store {
         scratch: &mut Scratch,
         place: &Place,
         file: NewFile,
-    ) -> Result<(), Change>
-        requires whole { file.size ≤ file_limit self.old.parts.limits.version → length file.bytes.now ≡ file.size }
-        requires scratch { HasRoom scratch.old self.old.parts.limits }
+    ) -> Result<(), ChangeFault>
+        requires whole { file.size ≤ file_limit self.old.metadata.limits.version → length file.bytes.now ≡ file.size }
+        requires scratch { HasRoom scratch.old self.old.metadata.limits }
         requires usable { IsUsable self.old (D.meaning disk.old) }
-        ensures scratch { HasRoom scratch.new self.old.parts.limits }
+        ensures scratch { HasRoom scratch.new self.old.metadata.limits }
         ensures holds { (base : State) (s : State) → StoreHolds self.old (D.meaning disk.old) base s
             → Holds base (record { state = s; place = place.now })
             (add (record { state = s; place = place.now }) file.entry.name.now file.entry.tags.now (record { size = file.entry.size; bytes = file.entry.bytes.now }))
@@ -47,7 +47,7 @@ impl Store {
         ensures keeps { ChangeKeeps self.old self.new result }
         ensures disk { ChangesDisk (D.meaning disk.old) (D.meaning disk.new) result }
     {
-        let assigned = may_add(&self.parts, scratch, place, file)?;
+        let assigned = may_add(&self.metadata, scratch, place, file)?;
         if is_large(file.bytes.len() as u32) {
             self.commit(disk)?;
         }
@@ -70,14 +70,14 @@ impl Store {
         name: &Name,
         assigned: &[Word],
         payload: &[u8],
-    ) -> Result<(), Change>
-        requires may { MayPutBytes self.old.parts slot (new_file name.now assigned.now payload.now) }
+    ) -> Result<(), ChangeFault>
+        requires may { MayPutBytes self.old.metadata slot (new_file name.now assigned.now payload.now) }
         requires alone { is_large (length payload.now) ≡ true → self.old.journal.staged ≡ [] }
-        requires scratch { HasRoom scratch.old self.old.parts.limits }
+        requires scratch { HasRoom scratch.old self.old.metadata.limits }
         requires usable { IsUsable self.old (D.meaning disk.old) }
-        ensures scratch { HasRoom scratch.new self.old.parts.limits }
+        ensures scratch { HasRoom scratch.new self.old.metadata.limits }
         ensures holds { (base : State) (now : Situation) → StoreHolds self.old (D.meaning disk.old) base now.state
-            → Holds base now (changed now (file_added (file_gone now.state (record_in self.old.parts slot)) (new_file name.now assigned.now payload.now)))
+            → Holds base now (changed now (file_added (file_gone now.state (record_in self.old.metadata slot)) (new_file name.now assigned.now payload.now)))
             self.new (D.meaning disk.old) (D.meaning disk.new) result }
         ensures settled { is_large (length payload.now) ≡ true → OnOk result (self.new.journal.staged ≡ []) }
         ensures ended { SaveEnded self.new.is_broken result }
@@ -85,7 +85,7 @@ impl Store {
         ensures disk { ChangesDisk (D.meaning disk.old) (D.meaning disk.new) result }
     {
         let blocks = put_anew(
-            &mut self.parts,
+            &mut self.metadata,
             &mut self.journal,
             &mut self.is_broken,
             disk,
@@ -93,7 +93,7 @@ impl Store {
             payload,
         )?;
         replace_record(
-            &mut self.parts,
+            &mut self.metadata,
             scratch,
             slot,
             name,
@@ -102,7 +102,7 @@ impl Store {
             blocks,
         );
         hold(
-            &mut self.parts,
+            &mut self.metadata,
             &mut self.journal,
             &mut self.is_broken,
             disk,

@@ -4,11 +4,11 @@ ghost use Rattle.std.specs.Prelude.{◌≡◌, Err};
 ghost use Rattle.lis_model.specs.declared.refusal.Refusal.{Refusal};
 ghost use Rattle.lis_model.specs.State.{State};
 ghost use Rattle.lis_model.specs.Step.{mkdir};
-ghost use Rattle.lis_store.specs.declared.change.Change.TheVariants.{Refused};
+ghost use Rattle.lis_store.specs.declared.change_fault.ChangeFault.TheVariants.{Refused};
 ghost use Rattle.lis_store.specs.Stored.{IsSound, StoreHolds, IsUsable};
 ghost use Rattle.lis_store.specs.Changes.{Holds, ChangeKeeps, ChangesDisk};
 
-use crate::change::Change;
+use crate::change_fault::ChangeFault;
 use crate::judging::may_declare;
 use crate::saving::{MOST_HELD, hold};
 use crate::store::Store;
@@ -24,7 +24,7 @@ impl Store {
         disk: &mut D,
         place: &Place,
         word: &Word,
-    ) -> Result<(), Change>
+    ) -> Result<(), ChangeFault>
         requires usable { IsUsable self.old (D.meaning disk.old) }
         ensures holds { (base : State) (s : State) → StoreHolds self.old (D.meaning disk.old) base s
             → Holds base (record { state = s; place = place.now }) (mkdir (record { state = s; place = place.now }) word.now)
@@ -34,10 +34,10 @@ impl Store {
         ensures keeps { ChangeKeeps self.old self.new result }
         ensures disk { ChangesDisk (D.meaning disk.old) (D.meaning disk.new) result }
     {
-        let places = may_declare(&self.parts, place, word)?;
-        declare_tested(&mut self.parts, word, places.as_slice());
+        let places = may_declare(&self.metadata, place, word)?;
+        declare_tested(&mut self.metadata, word, places.as_slice());
         hold(
-            &mut self.parts,
+            &mut self.metadata,
             &mut self.journal,
             &mut self.is_broken,
             disk,

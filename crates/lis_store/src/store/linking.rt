@@ -4,11 +4,11 @@ ghost use Rattle.std.specs.Prelude.{◌≡◌, Err};
 ghost use Rattle.lis_model.specs.declared.refusal.Refusal.{Refusal};
 ghost use Rattle.lis_model.specs.Step.{Situation, add_axiom};
 ghost use Rattle.lis_model.specs.State.{State};
-ghost use Rattle.lis_store.specs.declared.change.Change.TheVariants.{Refused};
+ghost use Rattle.lis_store.specs.declared.change_fault.ChangeFault.TheVariants.{Refused};
 ghost use Rattle.lis_store.specs.Stored.{IsSound, StoreHolds, IsUsable};
 ghost use Rattle.lis_store.specs.Changes.{Holds, ChangeKeeps, ChangesDisk};
 
-use crate::change::Change;
+use crate::change_fault::ChangeFault;
 use crate::relating::may_relate;
 use crate::relating_in::relate;
 use crate::saving::{MOST_HELD, hold};
@@ -23,7 +23,7 @@ impl Store {
         disk: &mut D,
         left: &Word,
         right: &Word,
-    ) -> Result<(), Change>
+    ) -> Result<(), ChangeFault>
         requires usable { IsUsable self.old (D.meaning disk.old) }
         ensures holds { (base : State) (now : Situation) → StoreHolds self.old (D.meaning disk.old) base now.state
             → Holds base now (add_axiom now (left.now, right.now)) self.new (D.meaning disk.old) (D.meaning disk.new) result }
@@ -32,10 +32,10 @@ impl Store {
         ensures keeps { ChangeKeeps self.old self.new result }
         ensures disk { ChangesDisk (D.meaning disk.old) (D.meaning disk.new) result }
     {
-        may_relate(&self.parts, left, right)?;
-        relate(&mut self.parts, left, right);
+        may_relate(&self.metadata, left, right)?;
+        relate(&mut self.metadata, left, right);
         hold(
-            &mut self.parts,
+            &mut self.metadata,
             &mut self.journal,
             &mut self.is_broken,
             disk,

@@ -5,11 +5,11 @@ ghost use Rattle.lis_model.specs.declared.refusal.Refusal.{Refusal};
 ghost use Rattle.lis_model.specs.State.{State};
 ghost use Rattle.lis_model.specs.Step.{rm};
 ghost use Rattle.lis_eval.specs.Room.{HasRoom};
-ghost use Rattle.lis_store.specs.declared.change.Change.TheVariants.{Refused};
+ghost use Rattle.lis_store.specs.declared.change_fault.ChangeFault.TheVariants.{Refused};
 ghost use Rattle.lis_store.specs.Stored.{IsSound, StoreHolds, IsUsable};
 ghost use Rattle.lis_store.specs.Changes.{Holds, ChangeKeeps, ChangesDisk};
 
-use crate::change::Change;
+use crate::change_fault::ChangeFault;
 use crate::contents::free_content;
 use crate::removing::take_out;
 use crate::saving::{MOST_HELD, hold};
@@ -28,10 +28,10 @@ impl Store {
         scratch: &mut Scratch,
         place: &Place,
         name: &Name,
-    ) -> Result<(), Change>
-        requires scratch { HasRoom scratch.old self.old.parts.limits }
+    ) -> Result<(), ChangeFault>
+        requires scratch { HasRoom scratch.old self.old.metadata.limits }
         requires usable { IsUsable self.old (D.meaning disk.old) }
-        ensures scratch { HasRoom scratch.new self.old.parts.limits }
+        ensures scratch { HasRoom scratch.new self.old.metadata.limits }
         ensures holds { (base : State) (s : State) → StoreHolds self.old (D.meaning disk.old) base s
             → Holds base (record { state = s; place = place.now }) (rm (record { state = s; place = place.now }) name.now)
             self.new (D.meaning disk.old) (D.meaning disk.new) result }
@@ -41,18 +41,18 @@ impl Store {
         ensures disk { ChangesDisk (D.meaning disk.old) (D.meaning disk.new) result }
     {
         let Some(slot) = self.slot_here(scratch, place, name) else {
-            return Err(Change::Refused(Refusal::NoFileHere));
+            return Err(ChangeFault::Refused(Refusal::NoFileHere));
         };
         free_content(
-            &mut self.parts,
+            &mut self.metadata,
             &self.journal,
             &mut self.is_broken,
             disk,
             slot,
         )?;
-        take_out(&mut self.parts, slot);
+        take_out(&mut self.metadata, slot);
         hold(
-            &mut self.parts,
+            &mut self.metadata,
             &mut self.journal,
             &mut self.is_broken,
             disk,

@@ -6,12 +6,12 @@ ghost use Rattle.lis_model.specs.declared.refusal.Refusal.{Refusal};
 ghost use Rattle.lis_model.specs.State.{State, file_limit};
 ghost use Rattle.lis_model.specs.Step.{write, rename, mv};
 ghost use Rattle.lis_eval.specs.Room.{HasRoom};
-ghost use Rattle.lis_store.specs.declared.change.Change.TheVariants.{Refused};
+ghost use Rattle.lis_store.specs.declared.change_fault.ChangeFault.TheVariants.{Refused};
 ghost use Rattle.lis_store.specs.Stored.{IsSound, StoreHolds, IsUsable};
 ghost use Rattle.lis_store.specs.Changes.{Holds, ChangeKeeps, ChangesDisk};
 
 use crate::admitting::file_limit;
-use crate::change::Change;
+use crate::change_fault::ChangeFault;
 use crate::contents::blocks_in;
 use crate::describing::Draft;
 use crate::file_bytes::read_file;
@@ -37,11 +37,11 @@ impl Store {
         name: &Name,
         payload: &[u8],
         size: u64,
-    ) -> Result<(), Change>
-        requires whole { size ≤ file_limit self.old.parts.limits.version → length payload.now ≡ size }
-        requires scratch { HasRoom scratch.old self.old.parts.limits }
+    ) -> Result<(), ChangeFault>
+        requires whole { size ≤ file_limit self.old.metadata.limits.version → length payload.now ≡ size }
+        requires scratch { HasRoom scratch.old self.old.metadata.limits }
         requires usable { IsUsable self.old (D.meaning disk.old) }
-        ensures scratch { HasRoom scratch.new self.old.parts.limits }
+        ensures scratch { HasRoom scratch.new self.old.metadata.limits }
         ensures holds { (base : State) (s : State) → StoreHolds self.old (D.meaning disk.old) base s
             → Holds base (record { state = s; place = place.now })
             (write (record { state = s; place = place.now }) name.now (record { size = size; bytes = payload.now }))
@@ -51,13 +51,13 @@ impl Store {
         ensures keeps { ChangeKeeps self.old self.new result }
         ensures disk { ChangesDisk (D.meaning disk.old) (D.meaning disk.new) result }
     {
-        if size > file_limit(self.parts.limits().version) {
-            return Err(Change::Refused(Refusal::LargeFile));
+        if size > file_limit(self.metadata.limits().version) {
+            return Err(ChangeFault::Refused(Refusal::LargeFile));
         }
         let Some(slot) = self.slot_here(scratch, place, name) else {
-            return Err(Change::Refused(Refusal::NoFileHere));
+            return Err(ChangeFault::Refused(Refusal::NoFileHere));
         };
-        let words = may_write(&self.parts, scratch, slot, name, payload, size)?;
+        let words = may_write(&self.metadata, scratch, slot, name, payload, size)?;
         if is_large(payload.len() as u32) {
             self.commit(disk)?;
         }
@@ -72,10 +72,10 @@ impl Store {
         place: &Place,
         name: &Name,
         new: &Name,
-    ) -> Result<(), Change>
-        requires scratch { HasRoom scratch.old self.old.parts.limits }
+    ) -> Result<(), ChangeFault>
+        requires scratch { HasRoom scratch.old self.old.metadata.limits }
         requires usable { IsUsable self.old (D.meaning disk.old) }
-        ensures scratch { HasRoom scratch.new self.old.parts.limits }
+        ensures scratch { HasRoom scratch.new self.old.metadata.limits }
         ensures holds { (base : State) (s : State) → StoreHolds self.old (D.meaning disk.old) base s
             → Holds base (record { state = s; place = place.now }) (rename (record { state = s; place = place.now }) name.now new.now)
             self.new (D.meaning disk.old) (D.meaning disk.new) result }
@@ -86,19 +86,19 @@ impl Store {
         ensures disk { ChangesDisk (D.meaning disk.old) (D.meaning disk.new) result }
     {
         let Some(slot) = self.slot_here(scratch, place, name) else {
-            return Err(Change::Refused(Refusal::NoFileHere));
+            return Err(ChangeFault::Refused(Refusal::NoFileHere));
         };
-        if self.parts.slot_of(new).is_some() {
-            return Err(Change::Refused(Refusal::NameTaken));
+        if self.metadata.slot_of(new).is_some() {
+            return Err(ChangeFault::Refused(Refusal::NameTaken));
         }
-        if let Err(fault) = read_file(&self.parts, &self.journal, disk, &mut self.bytes, slot) {
+        if let Err(fault) = read_file(&self.metadata, &self.journal, disk, &mut self.bytes, slot) {
             self.is_broken = true;
-            return Err(Change::from(fault));
+            return Err(ChangeFault::from(fault));
         }
-        let words = may_rename(&self.parts, scratch, slot, new, self.bytes.bytes())?;
-        let blocks = blocks_in(&self.parts, slot);
+        let words = may_rename(&self.metadata, scratch, slot, new, self.bytes.bytes())?;
+        let blocks = blocks_in(&self.metadata, slot);
         replace_record(
-            &mut self.parts,
+            &mut self.metadata,
             scratch,
             Some(slot),
             new,
@@ -107,7 +107,7 @@ impl Store {
             blocks,
         );
         hold(
-            &mut self.parts,
+            &mut self.metadata,
             &mut self.journal,
             &mut self.is_broken,
             disk,
@@ -123,10 +123,10 @@ impl Store {
         place: &Place,
         name: &Name,
         text: &Text,
-    ) -> Result<(), Change>
-        requires scratch { HasRoom scratch.old self.old.parts.limits }
+    ) -> Result<(), ChangeFault>
+        requires scratch { HasRoom scratch.old self.old.metadata.limits }
         requires usable { IsUsable self.old (D.meaning disk.old) }
-        ensures scratch { HasRoom scratch.new self.old.parts.limits }
+        ensures scratch { HasRoom scratch.new self.old.metadata.limits }
         ensures holds { (base : State) (s : State) → StoreHolds self.old (D.meaning disk.old) base s
             → Holds base (record { state = s; place = place.now }) (mv (record { state = s; place = place.now }) name.now text.now)
             self.new (D.meaning disk.old) (D.meaning disk.new) result }
@@ -139,21 +139,21 @@ impl Store {
         prove!(!self.is_broken);
         let next = place_or_refusal(place, text)?;
         let Some(slot) = self.slot_here(scratch, place, name) else {
-            return Err(Change::Refused(Refusal::NoFileHere));
+            return Err(ChangeFault::Refused(Refusal::NoFileHere));
         };
-        let words = may_move(&self.parts, slot, place, &next, text)?;
-        let own = own_in(&self.parts, slot);
+        let words = may_move(&self.metadata, slot, place, &next, text)?;
+        let own = own_in(&self.metadata, slot);
         let draft = Draft {
             name,
-            size: size_in(&self.parts, slot),
+            size: size_in(&self.metadata, slot),
             assigned: words.as_slice(),
             own: own.as_slice(),
         };
-        may_stand_instead(&self.parts, scratch, slot, draft)?;
-        let blocks = blocks_in(&self.parts, slot);
-        replace_draft(&mut self.parts, scratch, Some(slot), draft, blocks);
+        may_stand_instead(&self.metadata, scratch, slot, draft)?;
+        let blocks = blocks_in(&self.metadata, slot);
+        replace_draft(&mut self.metadata, scratch, Some(slot), draft, blocks);
         hold(
-            &mut self.parts,
+            &mut self.metadata,
             &mut self.journal,
             &mut self.is_broken,
             disk,

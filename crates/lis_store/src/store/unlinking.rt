@@ -4,11 +4,11 @@ ghost use Rattle.std.specs.Prelude.{◌≡◌, Err};
 ghost use Rattle.lis_model.specs.declared.refusal.Refusal.{Refusal};
 ghost use Rattle.lis_model.specs.Step.{Situation, unaxiom};
 ghost use Rattle.lis_model.specs.State.{State};
-ghost use Rattle.lis_store.specs.declared.change.Change.TheVariants.{Refused};
+ghost use Rattle.lis_store.specs.declared.change_fault.ChangeFault.TheVariants.{Refused};
 ghost use Rattle.lis_store.specs.Stored.{IsSound, StoreHolds, IsUsable};
 ghost use Rattle.lis_store.specs.Changes.{Holds, ChangeKeeps, ChangesDisk};
 
-use crate::change::Change;
+use crate::change_fault::ChangeFault;
 use crate::lessening::take_axiom;
 use crate::relating::axiom_numbers;
 use crate::saving::{MOST_HELD, hold};
@@ -24,7 +24,7 @@ impl Store {
         disk: &mut D,
         left: &Word,
         right: &Word,
-    ) -> Result<(), Change>
+    ) -> Result<(), ChangeFault>
         requires usable { IsUsable self.old (D.meaning disk.old) }
         ensures holds { (base : State) (now : Situation) → StoreHolds self.old (D.meaning disk.old) base now.state
             → Holds base now (unaxiom now (left.now, right.now)) self.new (D.meaning disk.old) (D.meaning disk.new) result }
@@ -33,12 +33,12 @@ impl Store {
         ensures keeps { ChangeKeeps self.old self.new result }
         ensures disk { ChangesDisk (D.meaning disk.old) (D.meaning disk.new) result }
     {
-        let Some((from, to)) = axiom_numbers(&self.parts, left, right) else {
-            return Err(Change::Refused(Refusal::NoAxiom));
+        let Some((from, to)) = axiom_numbers(&self.metadata, left, right) else {
+            return Err(ChangeFault::Refused(Refusal::NoAxiom));
         };
-        take_axiom(&mut self.parts, from, to);
+        take_axiom(&mut self.metadata, from, to);
         hold(
-            &mut self.parts,
+            &mut self.metadata,
             &mut self.journal,
             &mut self.is_broken,
             disk,

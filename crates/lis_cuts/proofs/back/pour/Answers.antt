@@ -2,7 +2,7 @@ use Rattle.std.proofs.Common.{◌≡◌, ◌+◌, true, false, not, ◌∷◌, �
 use Rattle.std.proofs.lemmas.Bool.{OnTrue_from}
 use Rattle.lis_words.specs.Words.{same_word}
 use Rattle.lis_model.specs.Step.{Payload}
-use Rattle.lis_line.specs.Parts.{with_bytes}
+use Rattle.lis_line.specs.Segments.{with_bytes}
 use Rattle.lis_views.specs.Lines.{lines_of}
 use Rattle.lis_views.specs.Views.{numeral, mark_of, pieces, runs_of}
 use Rattle.lis_cuts.specs.Returns.{feed_unless}

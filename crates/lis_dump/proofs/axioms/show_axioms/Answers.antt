@@ -12,17 +12,17 @@ use Rattle.lis_dump.proofs.axioms.show_axioms.Goals as goal
 
 pub loop-k-init : goal.loop-k-init
 loop-k-init g c =
-    let k = c.args.store.now.parts in
+    let k = c.args.store.now.metadata in
     to_none (entry_axioms k) (λ state. k.dict.entries) (g.T.Disk.meaning c.args.station.now)
 
 pub loop-k-preserved : goal.loop-k-preserved
 loop-k-preserved g c =
-    let k = c.args.store.now.parts in
+    let k = c.args.store.now.metadata in
     to_more (entry_axioms k) (λ state. k.dict.entries) c.loop-k.k c.loop-k.invariant c.in_ok-show_axioms_at.field-0 c.in_ok-show_axioms_at.ensures
 
 pub returns-in_err-show_axioms_at : goal.returns-in_err-show_axioms_at
 returns-in_err-show_axioms_at g c =
-    let k = c.args.store.now.parts in
+    let k = c.args.store.now.metadata in
     let p = err_from_is_err_and c.from_residual.result c.from_residual.ensures.1 in
     rw (p.1, p.2)
     (shown_same (λ (state : State). flat_map axiom_line state.axioms) (axioms_told c.requires)
@@ -30,7 +30,7 @@ returns-in_err-show_axioms_at g c =
 
 pub returns : goal.returns
 returns g c =
-    let k = c.args.store.now.parts in
+    let k = c.args.store.now.metadata in
     let few = few_words c.args.store.now c.requires in
     shown_same (λ (state : State). flat_map axiom_line state.axioms) (axioms_told c.requires)
     (to_all (entry_axioms k) (λ state. k.dict.entries) c.loop-k.k c.loop-k.invariant (λ state fitting. omega (arith, few, ap (λ (l : Limits). l.props) c.limits-k-end.ensures.value)))

@@ -8,11 +8,11 @@ use Rattle.lis_session.proofs.Shown.{as_shown, so_far_none, so_far_more, so_far_
 use Rattle.lis_dump.proofs.axioms.show_axioms_of.Goals as goal
 
 pub loop-right-init : goal.loop-right-init
-loop-right-init g c = so_far_none (g.T.Disk.meaning c.args.station.now) (λ state. all_behind c.args.store.now.parts c.args.left.now)
+loop-right-init g c = so_far_none (g.T.Disk.meaning c.args.station.now) (λ state. all_behind c.args.store.now.metadata c.args.left.now)
 
 pub returns-in_err-show : goal.returns-in_err-show
 returns-in_err-show g c =
-    let k = c.args.store.now.parts in
+    let k = c.args.store.now.metadata in
     let left = c.args.left.now in
     let right = c.in-Some.right in
     let p = err_from_is_err_and c.from_residual.result c.from_residual.ensures.1 in
@@ -23,11 +23,11 @@ returns-in_err-show g c =
 
 pub loop-right-smaller : goal.loop-right-smaller
 loop-right-smaller g c =
-    fewer_left c.args.store.now.parts c.args.left.now c.loop-right.last (option_copied c.as_ref.result) c.axiom_behind.result c.as_ref.ensures.value c.axiom_behind.ensures c.in-Some.right c.in-Some.is
+    fewer_left c.args.store.now.metadata c.args.left.now c.loop-right.last (option_copied c.as_ref.result) c.axiom_behind.result c.as_ref.ensures.value c.axiom_behind.ensures c.in-Some.right c.in-Some.is
 
 pub loop-right-preserved : goal.loop-right-preserved
 loop-right-preserved g c =
-    let k = c.args.store.now.parts in
+    let k = c.args.store.now.metadata in
     let left = c.args.left.now in
     let right = c.in-Some.right in
     so_far_more (λ state. axiom_line (left, right)) (λ state. lines_behind (axioms_of k) left (Some right)) c.loop-right.invariant
@@ -37,4 +37,4 @@ loop-right-preserved g c =
 pub returns : goal.returns
 returns g c =
     so_far_all c.loop-right.invariant
-    (λ state fitting. no_more c.args.store.now.parts c.args.left.now c.loop-right.last (option_copied c.as_ref.result) c.axiom_behind.result c.as_ref.ensures.value c.axiom_behind.ensures c.in_default.is)
+    (λ state fitting. no_more c.args.store.now.metadata c.args.left.now c.loop-right.last (option_copied c.as_ref.result) c.axiom_behind.result c.as_ref.ensures.value c.axiom_behind.ensures c.in_default.is)

@@ -7,8 +7,8 @@ use Rattle.lis_dump.proofs.axioms.show_axioms_of.Given as goal
 -- those up to the last one were shown
 abbrev pub invariant-loop-right : goal.invariant-loop-right
 invariant-loop-right g l =
-    ShownSoFar l.store (λ state. axiom_lines (axioms_of l.store.parts) l.left) (λ state. lines_behind (axioms_of l.store.parts) l.left l.last)
+    ShownSoFar l.store (λ state. axiom_lines (axioms_of l.store.metadata) l.left) (λ state. lines_behind (axioms_of l.store.metadata) l.left l.last)
     (g.T.Disk.meaning l.fn.station) (g.T.Disk.meaning l.station)
 
 abbrev pub decreases-loop-right : goal.decreases-loop-right
-decreases-loop-right g l = count_behind (axioms_of l.store.parts) l.left l.last
+decreases-loop-right g l = count_behind (axioms_of l.store.metadata) l.left l.last

@@ -9,6 +9,6 @@ use Rattle.lis_dump.proofs.words.show_word.Goals as goal
 pub returns-then-not-is_declared : goal.returns-then-not-is_declared
 returns-then-not-is_declared g c =
     let m = g.T.Disk.meaning c.args.station.now in
-    let there = ap (λ (o : Option (List ℕ × ℕ)). flat_map (declaring_line c.args.store.now.parts) (option_to_list o)) (sym c.word_at.ensures ∙ c.in-Some.is) in
+    let there = ap (λ (o : Option (List ℕ × ℕ)). flat_map (declaring_line c.args.store.now.metadata) (option_to_list o)) (sym c.word_at.ensures ∙ c.in-Some.is) in
     let none = ap (λ b. (if b then mkdir_line c.in-Some.word else []) ++ []) (sym c.is_declared.ensures.value ∙ c.if-not-is_declared.true) in
     subst (λ bytes. Answers m m bytes (Ok tt)) (sym (there ∙ none)) (answers_none m)

@@ -1,5 +1,5 @@
 use Rattle.lis_kept.proofs.Common.{◌≡◌, ℕ, ◌+◌, ◌*◌, ◌<◌, part, axiom_bytes}
-use Rattle.lis_kept.specs.Kept.{axiom_at}
+use Rattle.lis_kept.specs.Metadata.{axiom_at}
 use Rattle.lis_kept.proofs.spelling.write_axioms.Given as goal
 
 -- the slots so far are written

@@ -1,6 +1,6 @@
 use Rattle.std.proofs.Common.{arith}
 use Rattle.lis_kept.proofs.Common.{◌∙◌, ap, ◌+◌, file_bytes}
-use Rattle.lis_kept.specs.Kept.{record_at}
+use Rattle.lis_kept.specs.Metadata.{record_at}
 use Rattle.lis_kept.proofs.Spelled.{one_slot_more}
 use Rattle.lis_kept.proofs.spelling.write_files.Goals as goal
 

@@ -1,5 +1,5 @@
 use Rattle.lis_kept.proofs.Common.{◌≡◌, ℕ, ◌+◌, ◌*◌, ◌<◌, part, file_bytes}
-use Rattle.lis_kept.specs.Kept.{record_at}
+use Rattle.lis_kept.specs.Metadata.{record_at}
 use Rattle.lis_kept.proofs.spelling.write_files.Given as goal
 
 -- the slots so far are written

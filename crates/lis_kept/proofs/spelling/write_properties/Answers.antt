@@ -1,6 +1,6 @@
 use Rattle.std.proofs.Common.{arith}
 use Rattle.lis_kept.proofs.Common.{◌∙◌, ap, ◌+◌, prop_bytes}
-use Rattle.lis_kept.specs.Kept.{property_at}
+use Rattle.lis_kept.specs.Metadata.{property_at}
 use Rattle.lis_kept.proofs.Spelled.{one_slot_more}
 use Rattle.lis_kept.proofs.spelling.write_properties.Goals as goal
 

@@ -1,5 +1,5 @@
 use Rattle.lis_kept.proofs.Common.{◌≡◌, ℕ, ◌+◌, ◌*◌, ◌<◌, part, prop_bytes}
-use Rattle.lis_kept.specs.Kept.{property_at}
+use Rattle.lis_kept.specs.Metadata.{property_at}
 use Rattle.lis_kept.proofs.spelling.write_properties.Given as goal
 
 -- the slots so far are written

@@ -1,6 +1,6 @@
 use Rattle.std.proofs.Common.{ℕ, ◌≤◌, ◌≡◌, min, List, length, take, ap, ◌∙◌, arith}
 use Rattle.std.proofs.lemmas.List.{length-take}
-use Rattle.lis_line.specs.Parts.{with_bytes}
+use Rattle.lis_line.specs.Segments.{with_bytes}
 use Rattle.lis_line.proofs.Payloads.{run_given}
 use Rattle.lis_line.proofs.payload.take_run.Goals as goal
 

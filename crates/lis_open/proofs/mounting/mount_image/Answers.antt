@@ -43,8 +43,8 @@ read_store-requires-clause-readable g c =
       };
     }
 
-pub returns-in_err-room-clause-opened : goal.returns-in_err-room-clause-opened
-returns-in_err-room-clause-opened g c = λ honest.
+pub returns-in_err-memory-clause-opened : goal.returns-in_err-memory-clause-opened
+returns-in_err-memory-clause-opened g c = λ honest.
     let old = g.D.Disk.meaning c.args.disk.now in
     let p = err_from_is_err_and c.from_residual.result c.from_residual.ensures.1 in
     rw (p.1, p.2) (memory_opened old c.args.limits (c.requires.begins honest) c.requires.long old (unchanged_none old))

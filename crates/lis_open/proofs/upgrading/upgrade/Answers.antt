@@ -57,7 +57,7 @@ returns-in_err-write_gate g c =
     let mid = g.D.Disk.meaning c.mount.new.disk in
     let m = c.in_ok-store.ensures in
     let sound = c.limits-version.ensures.sound in
-    let one = first_version c.in_ok-store.store.parts.limits sound.parts.range (λ two. c.if-version-eq2.false (ap (λ (l : Limits). l.version) c.limits-version.ensures.value ∙ two)) in
+    let one = first_version c.in_ok-store.store.metadata.limits sound.metadata.range (λ two. c.if-version-eq2.false (ap (λ (l : Limits). l.version) c.limits-version.ensures.value ∙ two)) in
     let p = err_from_is_err_and c.from_residual-in_err-write_gate.result c.from_residual-in_err-write_gate.ensures.1 in
     record {
       run = run_then m.run c.write_gate.ensures.disk.run;
@@ -82,7 +82,7 @@ returns g c =
     let mid = g.D.Disk.meaning c.mount.new.disk in
     let m = c.in_ok-store.ensures in
     let sound = c.limits-version.ensures.sound in
-    let one = first_version c.in_ok-store.store.parts.limits sound.parts.range (λ two. c.if-version-eq2.false (ap (λ (l : Limits). l.version) c.limits-version.ensures.value ∙ two)) in
+    let one = first_version c.in_ok-store.store.metadata.limits sound.metadata.range (λ two. c.if-version-eq2.false (ap (λ (l : Limits). l.version) c.limits-version.ensures.value ∙ two)) in
     record {
       run = run_then m.run c.write_gate.ensures.disk.run;
       cause = c.in_ok-write_gate.ensures.disk.cause.stays ∙ m.cause;

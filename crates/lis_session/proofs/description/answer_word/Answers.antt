@@ -9,7 +9,7 @@ returns-in_default g c = rw (sym c.word_at.ensures ∙ c.in_default.is) (answers
 
 pub has-requires-clause-prop : goal.has-requires-clause-prop
 has-requires-clause-prop g c =
-    let below = number_in c.args.store.now.parts c.args.slot c.args.k c.in-Some.word c.in-Some.number (sym c.word_at.ensures ∙ c.in-Some.is) c.requires.sound.parts in
+    let below = number_in c.args.store.now.metadata c.args.slot c.args.k c.in-Some.word c.in-Some.number (sym c.word_at.ensures ∙ c.in-Some.is) c.requires.sound.metadata in
     omega (arith, below, c.from.ensures, ap (λ (e : Ext). e.props) c.descriptions.ensures)
 
 pub has-requires-clause-file : goal.has-requires-clause-file

@@ -7,5 +7,5 @@ use Rattle.lis_session.proofs.description.answer_words.Given as goal
 
 abbrev pub invariant-loop-k : goal.invariant-loop-k
 invariant-loop-k g l =
-    TextSoFar (flat_map (body_line 112) (words_had l.store.parts l.slot l.store.parts.dict.entries)) (text_from l.store.parts l.slot l.k)
+    TextSoFar (flat_map (body_line 112) (words_had l.store.metadata l.slot l.store.metadata.dict.entries)) (text_from l.store.metadata l.slot l.k)
     (g.T.Disk.meaning l.fn.station) (g.T.Disk.meaning l.station)

@@ -13,7 +13,7 @@ use Rattle.lis_session.proofs.description.props.Goals as goal
 pub answer_description-requires-clause-slot : goal.answer_description-requires-clause-slot
 answer_description-requires-clause-slot g c =
     let sound = c.requires.sound in
-    omega (arith, slot_in c.args.store.now.parts sound.parts c.args.name.now c.in-Some.slot (rw c.in-Some.is at c.slot_here.ensures.slot), sound.parts.files)
+    omega (arith, slot_in c.args.store.now.metadata sound.metadata c.args.name.now c.in-Some.slot (rw c.in-Some.is at c.slot_here.ensures.slot), sound.metadata.files)
 
 pub returns-in_default-clause-carries : goal.returns-in_default-clause-carries
 returns-in_default-clause-carries g c = λ state fitting.

@@ -8,12 +8,12 @@ pub returns-then-knows_text : goal.returns-then-knows_text
 returns-then-knows_text c =
     let leads = ap (resolved c.args.place.now) (sym c.bytes.ensures.bytes) ∙ c.in-Ok.ensures.place in
     let told = rw c.bytes-2.ensures.bytes at c.knows_text.ensures c.args.place.now c.in-Ok.next in
-    led_by_words (words c.args.store.now.parts.dict) c.args.text.now (resolved c.args.place.now c.args.text.now) c.in-Ok.next true leads
+    led_by_words (words c.args.store.now.metadata.dict) c.args.text.now (resolved c.args.place.now c.args.text.now) c.in-Ok.next true leads
     (sym c.if-knows_text.true ∙ told leads)
 
 pub returns : goal.returns
 returns c =
     let leads = ap (resolved c.args.place.now) (sym c.bytes.ensures.bytes) ∙ c.in-Ok.ensures.place in
     let told = rw c.bytes-2.ensures.bytes at c.knows_text.ensures c.args.place.now c.in-Ok.next in
-    led_by_words (words c.args.store.now.parts.dict) c.args.text.now (resolved c.args.place.now c.args.text.now) c.in-Ok.next false leads
+    led_by_words (words c.args.store.now.metadata.dict) c.args.text.now (resolved c.args.place.now c.args.text.now) c.in-Ok.next false leads
     (sym c.if-knows_text.false ∙ told leads)

@@ -22,5 +22,5 @@ returns-clause-carries g c = λ state fitting.
     let now : Situation = record { state = state; place = c.args.place.now } in
     let body = flat_map (body_line 100) (route (table state) c.args.place.now (entry_at state c.args.name.now)) in
     let is = c.make_route.ensures.way c.if-not-make_route.false in
-    let words = way_is now c.args.name.now c.requires.sound fitting.own (words_left (seen_of c.args.store.now.parts) c.make_route.new.scratch 0) is in
+    let words = way_is now c.args.name.now c.requires.sound fitting.own (words_left (seen_of c.args.store.now.metadata) c.make_route.new.scratch 0) is in
     shows_here now c.args.name.now body c.requires.sound fitting (way_here now c.args.name.now c.requires.sound fitting.own ∙ ap is_some is.here) (shows_bytes fitting (rw words at c.answer_route.ensures))

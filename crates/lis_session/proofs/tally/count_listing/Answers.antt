@@ -7,9 +7,9 @@ use Rattle.lis_session.proofs.tally.count_listing.Goals as goal
 
 pub count_lines-requires : goal.count_lines-requires
 count_lines-requires c =
-    let limits = c.args.store.now.parts.limits in
-    let range = c.requires.sound.parts.range in
-    let few = few_lines (seen_of c.args.store.now.parts) c.make_listing.new.scratch.increments c.make_listing.new.scratch.locals 0 0 c.make_listing.ensures.kept in
+    let limits = c.args.store.now.metadata.limits in
+    let range = c.requires.sound.metadata.range in
+    let few = few_lines (seen_of c.args.store.now.metadata) c.make_listing.new.scratch.increments c.make_listing.new.scratch.locals 0 0 c.make_listing.ensures.kept in
     omega (arith, ap length c.lines.ensures, few, few_properties limits range, few_files limits range)
 
 pub returns-clause-count : goal.returns-clause-count
@@ -17,5 +17,5 @@ returns-clause-count c = c.count_lines.ensures âˆ™ (ap length (c.lines.ensures â
 
 pub returns-clause-few : goal.returns-clause-few
 returns-clause-few c =
-    let few = few_lines (seen_of c.args.store.now.parts) c.make_listing.new.scratch.increments c.make_listing.new.scratch.locals 0 0 c.make_listing.ensures.kept in
+    let few = few_lines (seen_of c.args.store.now.metadata) c.make_listing.new.scratch.increments c.make_listing.new.scratch.locals 0 0 c.make_listing.ensures.kept in
     omega (arith, c.count_lines.ensures, ap length c.lines.ensures, few)

@@ -4,4 +4,4 @@ use Rattle.lis_store.proofs.adding.learn_words.Given as goal
 
 -- the words so far are learnt
 abbrev pub invariant-loop-word : goal.invariant-loop-word
-invariant-loop-word l = LearnsAll (with_heads (take l.word-index l.words)) l.initial.parts l.parts
+invariant-loop-word l = LearnsAll (with_heads (take l.word-index l.words)) l.initial.metadata l.metadata

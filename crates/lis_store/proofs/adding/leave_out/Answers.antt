@@ -3,7 +3,7 @@ use Rattle.lis_store.proofs.Entailed.{LeavesOut, leaves_none, leaves_one}
 use Rattle.lis_store.proofs.adding.leave_out.Goals as goal
 
 pub loop-word-init : goal.loop-word-init
-loop-word-init c = leaves_none c.args.parts.now c.args.row.now c.requires.shape
+loop-word-init c = leaves_none c.args.metadata.now c.args.row.now c.requires.shape
 
 pub unreachable-requires : goal.unreachable-requires
 unreachable-requires c =
@@ -17,12 +17,12 @@ unreachable-requires c =
 pub and_not_row-requires-clause-row : goal.and_not_row-requires-clause-row
 and_not_row-requires-clause-row c =
     let sound = c.requires.sound in
-    let below = number_below c.args.parts.now.dict sound.dict c.word-item.result c.in-Some.number (sym c.number_of.ensures ∙ c.in-Some.is) in
+    let below = number_below c.args.metadata.now.dict sound.dict c.word-item.result c.in-Some.number (sym c.number_of.ensures ∙ c.in-Some.is) in
     omega (arith, below, sound.numbers, c.taxonomy.ensures.props, c.rows-entailed.ensures.shape.tall, c.from.ensures)
 
 pub loop-word-preserved : goal.loop-word-preserved
 loop-word-preserved c =
-    let k = c.args.parts.now in
+    let k = c.args.metadata.now in
     let i = c.loop-word.word-index in
     let words = c.args.words.now in
     let word = c.word-item.result in

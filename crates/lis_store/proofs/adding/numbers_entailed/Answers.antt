@@ -4,7 +4,7 @@ use Rattle.lis_store.proofs.adding.numbers_entailed.Goals as goal
 
 pub numbers_in-requires : goal.numbers_in-requires
 numbers_in-requires c =
-    let k = c.args.parts.now in
+    let k = c.args.metadata.now in
     let sound = c.limits.ensures.sound in
     let props = ap (λ (l : Limits). l.props) c.limits.ensures.value in
     let P : ℕ → Type 0 = λ n. HasShape c.negate.new.self 1 n in
@@ -23,7 +23,7 @@ numbers_in-requires c =
 
 pub returns-clause-numbers : goal.returns-clause-numbers
 returns-clause-numbers c =
-    let k = c.args.parts.now in
+    let k = c.args.metadata.now in
     let sound = c.limits.ensures.sound in
     let props = ap (λ (l : Limits). l.props) c.limits.ensures.value in
     c.numbers_in.ensures

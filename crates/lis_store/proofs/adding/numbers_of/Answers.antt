@@ -5,17 +5,17 @@ use Rattle.lis_store.proofs.adding.numbers_of.Goals.{in-Some, in_default}
 use Rattle.lis_store.proofs.adding.numbers_of.Goals as goal
 
 pub loop-word-init : goal.loop-word-init
-loop-word-init c = shows_none c.args.parts.now.dict c.args.parts.now.limits.props c.args.row.now c.fill.new.self c.requires.shape c.fill.ensures
+loop-word-init c = shows_none c.args.metadata.now.dict c.args.metadata.now.limits.props c.args.row.now c.fill.new.self c.requires.shape c.fill.ensures
 
 pub put-requires-clause-bit : goal.put-requires-clause-bit
 put-requires-clause-bit c =
     let sound = c.limits.ensures.sound in
-    let below = number_below c.args.parts.now.dict sound.dict c.word-item.result c.in-Some.number (sym c.number_of.ensures ∙ c.in-Some.is) in
+    let below = number_below c.args.metadata.now.dict sound.dict c.word-item.result c.in-Some.number (sym c.number_of.ensures ∙ c.in-Some.is) in
     omega (arith, below, sound.numbers, c.loop-word.invariant.shape.wide, c.from.ensures)
 
 pub loop-word-preserved : goal.loop-word-preserved
 loop-word-preserved c =
-    let k = c.args.parts.now in
+    let k = c.args.metadata.now in
     let i = c.loop-word.word-index in
     let words = c.args.words.now in
     let word = c.word-item.result in
@@ -36,7 +36,7 @@ loop-word-preserved c =
 
 pub numbers_in-requires : goal.numbers_in-requires
 numbers_in-requires c =
-    let k = c.args.parts.now in
+    let k = c.args.metadata.now in
     let sound = c.limits.ensures.sound in
     let props = ap (λ (l : Limits). l.props) c.limits.ensures.value in
     let all = take_all c.loop-word.word-index c.args.words.now c.loop-word-test.false in
@@ -57,7 +57,7 @@ numbers_in-requires c =
 
 pub returns-clause-numbers : goal.returns-clause-numbers
 returns-clause-numbers c =
-    let k = c.args.parts.now in
+    let k = c.args.metadata.now in
     let sound = c.limits.ensures.sound in
     let props = ap (λ (l : Limits). l.props) c.limits.ensures.value in
     let all = take_all c.loop-word.word-index c.args.words.now c.loop-word-test.false in

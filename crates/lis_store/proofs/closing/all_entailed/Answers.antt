@@ -4,11 +4,11 @@ use Rattle.lis_store.proofs.Closed.{rows_below, wide_as, closure_shown}
 use Rattle.lis_store.proofs.closing.all_entailed.Goals as goal
 
 pub next_of-requires : goal.next_of-requires
-next_of-requires c = rows_below c.args.parts.now c.requires.sound c.taxonomy.result.now c.taxonomy.ensures c.rows-entailed.result.now c.rows-entailed.ensures.shape c.args.numbers.now c.requires.named
+next_of-requires c = rows_below c.args.metadata.now c.requires.sound c.taxonomy.result.now c.taxonomy.ensures c.rows-entailed.result.now c.rows-entailed.ensures.shape c.args.numbers.now c.requires.named
 
 pub push-requires : goal.push-requires
 push-requires c =
-    let k = c.args.parts.now in
+    let k = c.args.metadata.now in
     let rows = c.rows-entailed.result.now in
     let test = get_any rows c.args.numbers.now in
     let next = c.in-Some.ensures in
@@ -37,4 +37,4 @@ returns c =
     c.loop-number.invariant.0
     ∙ (past
     ∙ (found_all test rows.bits
-    ∙ closure_shown c.args.parts.now c.requires.sound c.taxonomy.result.now c.taxonomy.ensures rows c.rows-entailed.ensures.shape c.rows-entailed.ensures.values c.args.numbers.now c.requires.named))
+    ∙ closure_shown c.args.metadata.now c.requires.sound c.taxonomy.result.now c.taxonomy.ensures rows c.rows-entailed.ensures.shape c.rows-entailed.ensures.values c.args.numbers.now c.requires.named))

@@ -5,4 +5,4 @@ use Rattle.lis_store.proofs.closing.rebuild_all.Given as goal
 
 -- the slots so far are made anew
 abbrev pub invariant-loop-slot : goal.invariant-loop-slot
-invariant-loop-slot l = Redescribes (rebuilt l.initial.parts l.how) l.slot l.initial.parts l.parts × AreSound l.parts
+invariant-loop-slot l = Redescribes (rebuilt l.initial.metadata l.how) l.slot l.initial.metadata l.metadata × AreSound l.metadata

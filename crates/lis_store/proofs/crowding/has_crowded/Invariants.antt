@@ -4,4 +4,4 @@ use Rattle.lis_store.proofs.crowding.has_crowded.Given as goal
 
 -- none of the slots so far
 abbrev pub invariant-loop-slot : goal.invariant-loop-slot
-invariant-loop-slot l = (i : ℕ) → i < l.slot → is_crowded l.parts (Some l.test) l.numbers i ≡ false
+invariant-loop-slot l = (i : ℕ) → i < l.slot → is_crowded l.metadata (Some l.test) l.numbers i ≡ false

@@ -6,19 +6,19 @@ use Rattle.lis_store.proofs.Measured.{row_counted}
 use Rattle.lis_store.proofs.crowding.wider_count.Goals as goal
 
 pub count_with-requires-clause-others : goal.count_with-requires-clause-others
-count_with-requires-clause-others c = rows_below c.args.parts.now c.requires.sound c.taxonomy.result.now c.taxonomy.ensures c.rows-entailed.result.now c.rows-entailed.ensures.shape c.args.numbers.now c.requires.named
+count_with-requires-clause-others c = rows_below c.args.metadata.now c.requires.sound c.taxonomy.result.now c.taxonomy.ensures c.rows-entailed.result.now c.rows-entailed.ensures.shape c.args.numbers.now c.requires.named
 
 pub count_with-requires-clause-row : goal.count_with-requires-clause-row
 count_with-requires-clause-row c = omega (arith, c.requires.slot, c.requires.sound.files, c.sets.ensures.shape.tall, c.from.ensures, ap (λ (e : Ext). length e.sets) c.ext.ensures)
 
 pub count_with-requires-clause-bits : goal.count_with-requires-clause-bits
 count_with-requires-clause-bits c =
-    let wide = wide_as c.args.parts.now c.taxonomy.result.now c.taxonomy.ensures c.rows-entailed.result.now c.rows-entailed.ensures.shape in
+    let wide = wide_as c.args.metadata.now c.taxonomy.result.now c.taxonomy.ensures c.rows-entailed.result.now c.rows-entailed.ensures.shape in
     omega (arith, wide, c.sets.ensures.shape.wide, ap (λ (e : Ext). e.props) c.ext.ensures, c.requires.sound.rows)
 
 pub returns : goal.returns
 returns c =
-    let k = c.args.parts.now in
+    let k = c.args.metadata.now in
     let sets = c.sets.result.now in
     let rows = c.rows-entailed.result.now in
     let numbers = c.args.numbers.now in

@@ -5,14 +5,14 @@ use Rattle.lis_store.proofs.describing.gather.Goals as goal
 
 pub and_not_row-requires-clause-row : goal.and_not_row-requires-clause-row
 and_not_row-requires-clause-row c =
-    let k = c.args.parts.now in
+    let k = c.args.metadata.now in
     let numbered = sym c.number_of.ensures ∙ c.in-Some.is in
     let inside = numbered_below k c.requires.sound c.args.word.now c.in-Some.number (word_from_number k.dict c.requires.sound.dict c.args.word.now c.in-Some.number numbered) in
     omega (arith, c.from.ensures, inside, c.rows-entailed.ensures.shape.tall, c.taxonomy.ensures.props)
 
 pub returns-in-Some : goal.returns-in-Some
 returns-in-Some c =
-    gathers_known c.args.parts.now c.args.word.now c.requires.sound c.taxonomy.result.now c.taxonomy.ensures c.from.result
+    gathers_known c.args.metadata.now c.args.word.now c.requires.sound c.taxonomy.result.now c.taxonomy.ensures c.from.result
     (sym c.number_of.ensures ∙ (c.in-Some.is ∙ ap Some (sym c.from.ensures))) c.rows-entailed.result.now c.args.lacked.now c.and_not_row.new.to
     c.rows-entailed.ensures.values c.requires.shape c.and_not_row.ensures c.args.fresh.now.items
 
@@ -21,11 +21,11 @@ returns-then-not-has c =
     let fresh = c.args.fresh.now.items in
     let word = c.args.word.now in
     let lacks = ap (λ ws. has_word ws word) (sym c.as_slice.ensures.value) ∙ (sym c.has.ensures ∙ c.if-not-has.true) in
-    subst (λ (ws : List (List ℕ)). Gathers c.args.parts.now (word ∷ []) c.args.lacked.now c.args.lacked.now fresh ws)
+    subst (λ (ws : List (List ℕ)). Gathers c.args.metadata.now (word ∷ []) c.args.lacked.now c.args.lacked.now fresh ws)
     (sym (c.push.ensures.items ∙ ap (λ w. fresh ++ w ∷ []) c.copied.ensures))
-    (gathers_new c.args.parts.now word (sym c.number_of.ensures ∙ c.in_default.is) c.args.lacked.now c.requires.shape fresh lacks)
+    (gathers_new c.args.metadata.now word (sym c.number_of.ensures ∙ c.in_default.is) c.args.lacked.now c.requires.shape fresh lacks)
 
 pub returns-else-not-has : goal.returns-else-not-has
 returns-else-not-has c =
     let has = ap (λ ws. has_word ws c.args.word.now) (sym c.as_slice.ensures.value) ∙ (sym c.has.ensures ∙ c.if-not-has.false) in
-    gathers_there c.args.parts.now c.args.word.now (sym c.number_of.ensures ∙ c.in_default.is) c.args.lacked.now c.requires.shape c.args.fresh.now.items has
+    gathers_there c.args.metadata.now c.args.word.now (sym c.number_of.ensures ∙ c.in_default.is) c.args.lacked.now c.requires.shape c.args.fresh.now.items has

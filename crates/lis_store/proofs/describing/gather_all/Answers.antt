@@ -3,7 +3,7 @@ use Rattle.lis_store.proofs.Gathered.{gathers_none, gathers_next, with_heads_few
 use Rattle.lis_store.proofs.describing.gather_all.Goals as goal
 
 pub loop-word-init : goal.loop-word-init
-loop-word-init c = gathers_none c.args.parts.now c.args.lacked.now c.args.fresh.now.items c.requires.shape
+loop-word-init c = gathers_none c.args.metadata.now c.args.lacked.now c.args.fresh.now.items c.requires.shape
 
 pub gather_with_head-requires-clause-shape : goal.gather_with_head-requires-clause-shape
 gather_with_head-requires-clause-shape c = c.loop-word.invariant.shape
@@ -18,6 +18,6 @@ gather_with_head-requires-clause-room c =
 
 pub loop-word-preserved : goal.loop-word-preserved
 loop-word-preserved c =
-    gathers_next c.args.parts.now c.args.words.now c.loop-word.word-index c.word-item.result (omega (arith, c.loop-word-test.true, c.loop-word.auto.word-index-end)) c.word-item.is
+    gathers_next c.args.metadata.now c.args.words.now c.loop-word.word-index c.word-item.result (omega (arith, c.loop-word-test.true, c.loop-word.auto.word-index-end)) c.word-item.is
     c.args.lacked.now c.loop-word.lacked c.gather_with_head.new.lacked c.args.fresh.now.items c.loop-word.fresh.items c.gather_with_head.new.fresh.items
     c.loop-word.invariant c.gather_with_head.ensures

@@ -5,7 +5,7 @@ use Rattle.lis_store.proofs.describing.gather_with_head.Goals as goal
 
 pub returns-in-Some : goal.returns-in-Some
 returns-in-Some c =
-    let k = c.args.parts.now in
+    let k = c.args.metadata.now in
     let word = c.args.word.now in
     let is = ap (λ (w : List ℕ). w ∷ []) c.in-Some.ensures.head ∙ sym (headed word (c.in-Some.ensures.valued.0 refl)) in
     subst (λ (ws : List (List ℕ)). Gathers k (word ∷ ws) c.args.lacked.now c.gather-in-Some.new.lacked c.args.fresh.now.items c.gather-in-Some.new.fresh.items) is
@@ -15,5 +15,5 @@ returns-in-Some c =
 pub returns-in_default : goal.returns-in_default
 returns-in_default c =
     let word = c.args.word.now in
-    subst (λ (ws : List (List ℕ)). Gathers c.args.parts.now (word ∷ ws) c.args.lacked.now c.gather.new.lacked c.args.fresh.now.items c.gather.new.fresh.items)
+    subst (λ (ws : List (List ℕ)). Gathers c.args.metadata.now (word ∷ ws) c.args.lacked.now c.gather.new.lacked c.args.fresh.now.items c.gather.new.fresh.items)
     (sym (headless word (λ valued. let some = c.in_default.ensures.valued.1 valued in cc))) c.gather.ensures

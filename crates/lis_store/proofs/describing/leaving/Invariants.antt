@@ -5,4 +5,4 @@ use Rattle.lis_store.proofs.describing.leaving.Given as goal
 
 -- the numbers so far that leave
 abbrev pub invariant-loop-number : goal.invariant-loop-number
-invariant-loop-number l = (l.count ≡ length (found_below (is_leaving l.parts l.row l.slot) l.number)) × (l.count ≤ l.number)
+invariant-loop-number l = (l.count ≡ length (found_below (is_leaving l.metadata l.row l.slot) l.number)) × (l.count ≤ l.number)

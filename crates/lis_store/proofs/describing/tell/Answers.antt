@@ -14,7 +14,7 @@ gather_all-requires-2-clause-room c =
 
 pub returns : goal.returns
 returns c =
-    let k = c.args.parts.now in
+    let k = c.args.metadata.now in
     let few = c.gather_all.new.fresh.items in
     let fresh = c.gather_all-2.new.fresh.items in
     let first = subst (λ (ws : List (List ℕ)). Gathers k (with_heads c.args.draft.assigned.now) c.fill.new.self c.gather_all.new.lacked ws few) c.new-fresh.ensures c.gather_all.ensures in

@@ -7,21 +7,21 @@ use Rattle.lis_kept.proofs.Image.{same_blocks}
 
 pub read-requires-clause-short : goal.read-requires-clause-short
 read-requires-clause-short g c =
-    let k = c.args.parts.now in
+    let k = c.args.metadata.now in
     let rec = c.in-Some.rec.now in
     let form = record_in_form k.limits.version k.dict k.limits.blocks rec (c.limits.ensures.sound.records c.args.slot rec c.in-Some.ensures) in
     omega (arith, size_fits k.limits.version rec.size form.small, ap (λ (r : FileRecord). r.size) c.rec-2.view_is)
 
 pub read-requires-clause-count : goal.read-requires-clause-count
 read-requires-clause-count g c =
-    let k = c.args.parts.now in
+    let k = c.args.metadata.now in
     let rec = c.in-Some.rec.now in
     let counted = slot_counted k.limits.version k.dict k.limits.blocks rec (c.limits.ensures.sound.records c.args.slot rec c.in-Some.ensures) in
     ap length (c.as_slice.ensures.value ∙ ap (λ (r : FileRecord). r.blocks) c.rec-2.view_is) ∙ (counted ∙ ap (λ (r : FileRecord). slot_count r.size) (sym c.rec-2.view_is))
 
 pub read-requires-clause-within : goal.read-requires-clause-within
 read-requires-clause-within g c =
-    let k = c.args.parts.now in
+    let k = c.args.metadata.now in
     let rec = c.in-Some.rec.now in
     slot_within k rec c.data_start-base.result c.args.journal.now.layout.blocks c.as_slice.result.now (c.limits.ensures.sound.records c.args.slot rec c.in-Some.ensures)
     (c.data_start-base.ensures.start ∙ ap data_start c.limits.ensures.value) (same_blocks c.requires.image) (c.as_slice.ensures.value ∙ ap (λ (r : FileRecord). r.blocks) c.rec-2.view_is)
@@ -32,7 +32,7 @@ returns-clause-read g c =
     (λ read. λ rec kept is fits within.
     let same : c.in-Some.rec.now ≡ rec = same_Some c.in-Some.rec.now rec (sym c.in-Some.ensures ∙ is) in
     let fields = c.rec-2.view_is ∙ same in
-    read_told c.args.parts.now.limits rec (looked c.args.journal.now.staged kept) c.read.new.self c.args.journal.now.layout.blocks c.data_start-base.result c.rec-2.inside.size c.as_slice.result.now
+    read_told c.args.metadata.now.limits rec (looked c.args.journal.now.staged kept) c.read.new.self c.args.journal.now.layout.blocks c.data_start-base.result c.rec-2.inside.size c.as_slice.result.now
     (same_blocks c.requires.image) (c.data_start-base.ensures.start ∙ ap data_start c.limits.ensures.value) (ap (λ (r : FileRecord). r.size) fields)
     (c.as_slice.ensures.value ∙ ap (λ (r : FileRecord). r.blocks) fields) within (read kept fits))
     c.read.ensures.read

@@ -9,7 +9,7 @@ push-requires c = omega (arith, c.loop-number.invariant.1, c.loop-number-test.tr
 
 pub loop-number-preserved : goal.loop-number-preserved
 loop-number-preserved c =
-    let k = c.args.parts.now in
+    let k = c.args.metadata.now in
     let i = c.loop-number.number-index in
     let number = get_or c.args.numbers.now i 0 in
     let words = c.loop-number.words.items in

@@ -7,4 +7,4 @@ loop-number-preserved c =
     let numbers = c.args.numbers.now in
     let i = c.loop-number.number-index in
     let lt : i < length numbers = omega (arith, c.loop-number-test.true, c.loop-number.auto.number-index-end) in
-    told_next c.args.parts.now.dict numbers i lt c.requires c.loop-number.words.items c.put_number.new.words.items c.put_number.result c.loop-number.invariant.0 c.loop-number.invariant.1 c.put_number.ensures
+    told_next c.args.metadata.now.dict numbers i lt c.requires c.loop-number.words.items c.put_number.new.words.items c.put_number.result c.loop-number.invariant.0 c.loop-number.invariant.1 c.put_number.ensures

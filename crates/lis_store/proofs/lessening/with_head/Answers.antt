@@ -4,7 +4,7 @@ use Rattle.lis_store.proofs.lessening.with_head.Goals as goal
 
 pub returns-in_default-head_of : goal.returns-in_default-head_of
 returns-in_default-head_of c =
-    let dict = c.args.parts.now.dict in
+    let dict = c.args.metadata.now.dict in
     let word = c.in-Some.word in
     let none : is_valued word ≡ false = false_from_ne_true (is_valued word) (λ valued. both_ways (is_some c.head_of.result) (ap is_some c.in_default-head_of.is) (c.head_of.ensures.valued.1 valued)) in
     c.push.ensures.items

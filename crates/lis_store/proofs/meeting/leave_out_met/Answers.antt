@@ -9,19 +9,19 @@ use Rattle.lis_store.proofs.meeting.leave_out_met.Goals as goal
 
 pub loop-k-init : goal.loop-k-init
 loop-k-init c =
-    let k = c.args.parts.now in
+    let k = c.args.metadata.now in
     let none = met_before k c.args.size c.tests-start.result.0 (omega (arith, c.tests-start.ensures.rise, c.tests-start.ensures.within)) c.tests-start.ensures.before in
     subst (λ ws. LeavesOut k ws c.args.row.now c.args.row.now) (sym none) (leaves_none k c.args.row.now c.requires.shape)
 
 pub unreachable-requires : goal.unreachable-requires
 unreachable-requires c =
-    let k = c.args.parts.now in
+    let k = c.args.metadata.now in
     let past = past_end k.dict.entries c.loop-k.k (sym c.word_at.ensures ∙ c.in_default.is) in
     omega (arith, past, c.loop-k-test.true, c.tests-start.ensures.within)
 
 pub and_not_row-requires-clause-row : goal.and_not_row-requires-clause-row
 and_not_row-requires-clause-row c =
-    let k = c.args.parts.now in
+    let k = c.args.metadata.now in
     let sound = c.requires.sound in
     let e : List ℕ × ℕ = (c.in-Some.word, c.in-Some.number) in
     let at : slice_get k.dict.entries c.loop-k.k ≡ Some e = sym c.word_at.ensures ∙ c.in-Some.is in
@@ -31,7 +31,7 @@ and_not_row-requires-clause-row c =
 
 pub loop-k-preserved : goal.loop-k-preserved
 loop-k-preserved c =
-    let k = c.args.parts.now in
+    let k = c.args.metadata.now in
     let sound = c.requires.sound in
     let i = c.loop-k.k in
     let row = c.loop-k.row in
@@ -56,7 +56,7 @@ loop-k-preserved c =
 
 pub returns-clause-bits : goal.returns-clause-bits
 returns-clause-bits c =
-    let k = c.args.parts.now in
+    let k = c.args.metadata.now in
     let end : c.loop-k.k ≡ c.tests-start.result.1 = omega (arith, c.loop-k-test.false, c.loop-k.auto.k-end, c.tests-start.ensures.rise) in
     let all = ap (met_first k c.args.size) end ∙ met_behind k c.args.size c.tests-start.result.1 c.tests-start.ensures.within c.tests-start.ensures.behind in
     let Q : List (List ℕ) → Type 0 = λ ws. LeavesOut k ws c.args.row.now c.loop-k.row in

@@ -5,18 +5,18 @@ use Rattle.lis_store.proofs.Related.{overfull_here, overfull_unnumbered}
 use Rattle.lis_store.proofs.relating.has_overfull.Goals as goal
 
 pub returns-in_default : goal.returns-in_default
-returns-in_default c = sym (overfull_unnumbered c.args.parts.now c.args.left.now c.args.right.now (sym c.number_of.ensures ∙ c.in_default.is))
+returns-in_default c = sym (overfull_unnumbered c.args.metadata.now c.args.left.now c.args.right.now (sym c.number_of.ensures ∙ c.in_default.is))
 
 pub is_overfull-requires-clause-left : goal.is_overfull-requires-clause-left
 is_overfull-requires-clause-left c =
-    ap is_some (word_from_number c.args.parts.now.dict c.requires.sound.dict c.args.left.now c.in-Some.from (sym c.number_of.ensures ∙ c.in-Some.is))
+    ap is_some (word_from_number c.args.metadata.now.dict c.requires.sound.dict c.args.left.now c.in-Some.from (sym c.number_of.ensures ∙ c.in-Some.is))
 
 pub is_overfull-requires-clause-right : goal.is_overfull-requires-clause-right
-is_overfull-requires-clause-right c = ap is_some (word_from_number c.args.parts.now.dict c.requires.sound.dict c.args.right.now c.args.number c.requires.number)
+is_overfull-requires-clause-right c = ap is_some (word_from_number c.args.metadata.now.dict c.requires.sound.dict c.args.right.now c.args.number c.requires.number)
 
 pub returns-then-is_overfull : goal.returns-then-is_overfull
 returns-then-is_overfull c =
-    let k = c.args.parts.now in
+    let k = c.args.metadata.now in
     let slot = c.loop-slot.slot in
     let told = overfull_here k c.args.left.now c.args.right.now c.in-Some.from c.args.number (sym c.number_of.ensures ∙ c.in-Some.is)
     (word_from_number k.dict c.requires.sound.dict c.args.right.now c.args.number c.requires.number) slot in
@@ -25,7 +25,7 @@ returns-then-is_overfull c =
 
 pub loop-slot-preserved : goal.loop-slot-preserved
 loop-slot-preserved c = λ i lt.
-    let k = c.args.parts.now in
+    let k = c.args.metadata.now in
     let n = c.loop-slot.slot in
     let told = overfull_here k c.args.left.now c.args.right.now c.in-Some.from c.args.number (sym c.number_of.ensures ∙ c.in-Some.is)
     (word_from_number k.dict c.requires.sound.dict c.args.right.now c.args.number c.requires.number) n in
@@ -39,5 +39,5 @@ loop-slot-preserved c = λ i lt.
 
 pub returns : goal.returns
 returns c =
-    sym (full_nowhere (is_overfull c.args.parts.now c.args.left.now c.args.right.now) c.args.parts.now.limits.files (λ slot lt.
+    sym (full_nowhere (is_overfull c.args.metadata.now c.args.left.now c.args.right.now) c.args.metadata.now.limits.files (λ slot lt.
     c.loop-slot.invariant slot (omega (arith, lt, c.loop-slot.auto.slot-end, c.loop-slot-test.false, ap (λ (l : Limits). l.files) c.limits.ensures.value))))

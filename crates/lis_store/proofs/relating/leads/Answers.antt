@@ -5,18 +5,18 @@ use Rattle.lis_store.proofs.Related.{entails_unnumbered, decided}
 use Rattle.lis_store.proofs.relating.leads.Goals as goal
 
 pub returns-in_default : goal.returns-in_default
-returns-in_default c = sym (entails_unnumbered c.args.parts.now c.requires.sound c.args.word.now c.args.other.now c.args.number c.requires.number (sym c.number_of.ensures ∙ c.in_default.is))
+returns-in_default c = sym (entails_unnumbered c.args.metadata.now c.requires.sound c.args.word.now c.args.other.now c.args.number c.requires.number (sym c.number_of.ensures ∙ c.in_default.is))
 
 pub entails-requires-clause-p : goal.entails-requires-clause-p
 entails-requires-clause-p c =
-    omega (arith, c.from.ensures, number_below c.args.parts.now.dict c.requires.sound.dict c.args.word.now c.args.number c.requires.number, c.requires.sound.numbers, c.taxonomy.ensures.props)
+    omega (arith, c.from.ensures, number_below c.args.metadata.now.dict c.requires.sound.dict c.args.word.now c.args.number c.requires.number, c.requires.sound.numbers, c.taxonomy.ensures.props)
 
 pub entails-requires-clause-q : goal.entails-requires-clause-q
 entails-requires-clause-q c =
     omega (
       arith,
       c.from-2.ensures,
-      number_below c.args.parts.now.dict c.requires.sound.dict c.args.other.now c.in-Some.to (sym c.number_of.ensures ∙ c.in-Some.is),
+      number_below c.args.metadata.now.dict c.requires.sound.dict c.args.other.now c.in-Some.to (sym c.number_of.ensures ∙ c.in-Some.is),
       c.requires.sound.numbers,
       c.taxonomy.ensures.props,
     )
@@ -24,7 +24,7 @@ entails-requires-clause-q c =
 pub returns : goal.returns
 returns c =
     let t = c.taxonomy.result.now in
-    let k = c.args.parts.now in
+    let k = c.args.metadata.now in
     let sound = c.requires.sound in
     decided t c.from.result c.from-2.result c.entails.result c.entails.ensures
     ∙ (ap₂ (entails t) c.from.ensures c.from-2.ensures

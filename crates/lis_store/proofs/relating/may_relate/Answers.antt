@@ -5,7 +5,7 @@ use Rattle.lis_store.proofs.relating.may_relate.Goals as goal
 
 pub returns-in_err-number : goal.returns-in_err-number
 returns-in_err-number c =
-    let k = c.args.parts.now in
+    let k = c.args.metadata.now in
     let left = c.args.left.now in
     let right = c.args.right.now in
     let p = err_from_is_err_and c.from_residual.result c.from_residual.ensures.1 in
@@ -16,5 +16,5 @@ returns-in_err-number c =
 
 pub returns : goal.returns
 returns c =
-    let k = c.args.parts.now in
+    let k = c.args.metadata.now in
     record { row = judges_then (pair_checks k c.args.left.now c.args.right.now) (axiom_room_checks k c.args.left.now c.args.right.now) c.has_room.result c.in_ok-number.ensures.row c.has_room.ensures.row }

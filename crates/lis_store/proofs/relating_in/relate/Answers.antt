@@ -1,4 +1,4 @@
-use Rattle.lis_store.proofs.Common.{◌∙◌, is_some, length, sym, ap, subst, arith, both_ways, number_of, word_of, Kept, FreeSlotsAreEmpty}
+use Rattle.lis_store.proofs.Common.{◌∙◌, is_some, length, sym, ap, subst, arith, both_ways, number_of, word_of, Metadata, FreeSlotsAreEmpty}
 use Rattle.lis_ext.specs.Ext.{set_of}
 use Rattle.lis_store.proofs.Relates.{left_may, left_numbered, right_numbered, left_named, may_link, few_linked}
 use Rattle.lis_store.proofs.relating_in.relate.Goals as goal
@@ -8,13 +8,13 @@ learn_word-requires-clause-form c = left_may c.requires.may
 
 pub unreachable-requires : goal.unreachable-requires
 unreachable-requires c =
-    let learnt = c.learn_word.new.parts in
+    let learnt = c.learn_word.new.metadata in
     both_ways (is_some (number_of learnt.dict c.args.left.now)) (ap is_some (sym c.number_of.ensures ∙ c.in_default.is))
     (left_numbered c.requires.may c.learn_word.ensures.learns)
 
 pub unreachable-requires-in_default-number_of : goal.unreachable-requires-in_default-number_of
 unreachable-requires-in_default-number_of c =
-    let learnt = c.learn_word.new.parts in
+    let learnt = c.learn_word.new.metadata in
     both_ways (is_some (number_of learnt.dict c.args.right.now)) (ap is_some (sym c.number_of-2.ensures ∙ c.in_default-number_of.is))
     (right_numbered c.requires.may c.learn_word.ensures.learns)
 
@@ -24,17 +24,17 @@ link-requires c =
 
 pub rebuild_all-requires-clause-words : goal.rebuild_all-requires-clause-words
 rebuild_all-requires-clause-words c =
-    ap (λ (k : Kept). is_some (word_of k.dict c.in-Some.from)) c.link.ensures.links.parts
+    ap (λ (k : Metadata). is_some (word_of k.dict c.in-Some.from)) c.link.ensures.links.metadata
     ∙ ap is_some (left_named c.requires.may c.learn_word.ensures.learns c.learn_word.ensures.sound (sym c.number_of.ensures ∙ c.in-Some.is) (sym c.number_of-2.ensures ∙ c.in-Some-number_of.is))
 
 pub rebuild_all-requires-clause-free : goal.rebuild_all-requires-clause-free
 rebuild_all-requires-clause-free c =
-    subst (λ (k : Kept). FreeSlotsAreEmpty k) (sym c.link.ensures.links.parts)
-    (subst (λ (k : Kept). FreeSlotsAreEmpty k) (sym c.learn_word.ensures.learns.parts) c.requires.free)
+    subst (λ (k : Metadata). FreeSlotsAreEmpty k) (sym c.link.ensures.links.metadata)
+    (subst (λ (k : Metadata). FreeSlotsAreEmpty k) (sym c.learn_word.ensures.learns.metadata) c.requires.free)
 
 pub rebuild_all-requires-clause-short : goal.rebuild_all-requires-clause-short
 rebuild_all-requires-clause-short c = λ slot.
-    omega (arith, c.requires.short slot, ap (λ (k : Kept). length (set_of k.ext slot)) c.link.ensures.links.parts, ap (λ (k : Kept). length (set_of k.ext slot)) c.learn_word.ensures.learns.parts)
+    omega (arith, c.requires.short slot, ap (λ (k : Metadata). length (set_of k.ext slot)) c.link.ensures.links.metadata, ap (λ (k : Metadata). length (set_of k.ext slot)) c.learn_word.ensures.learns.metadata)
 
 pub rebuild_all-requires-clause-few : goal.rebuild_all-requires-clause-few
 rebuild_all-requires-clause-few c =
@@ -42,7 +42,7 @@ rebuild_all-requires-clause-few c =
 
 pub returns : goal.returns
 returns c = record {
-  learnt = c.learn_word.new.parts;
+  learnt = c.learn_word.new.metadata;
   learns = c.learn_word.ensures.learns;
   sound = c.learn_word.ensures.sound;
   from = c.in-Some.from;

@@ -13,7 +13,7 @@ pub learn_words-requires-clause-room : goal.learn_words-requires-clause-room
 learn_words-requires-clause-room c = assigned_room c.requires.sound c.requires.may
 
 pub learn_words-requires-2-clause-form : goal.learn_words-requires-2-clause-form
-learn_words-requires-2-clause-form c = own_may c.learn_words.new.parts c.args.draft.own.now c.requires.may.own
+learn_words-requires-2-clause-form c = own_may c.learn_words.new.metadata c.args.draft.own.now c.requires.may.own
 
 pub learn_words-requires-2-clause-room : goal.learn_words-requires-2-clause-room
 learn_words-requires-2-clause-room c = own_room c.requires.sound c.requires.may c.learn_words.ensures
@@ -28,8 +28,8 @@ numbers_entailed-all-requires-clause-few c =
 
 pub returns-clause-learnt : goal.returns-clause-learnt
 returns-clause-learnt c =
-    let p = c.args.parts.now in
-    let r = c.learn_words-2.new.parts in
+    let p = c.args.metadata.now in
+    let r = c.learn_words-2.new.metadata in
     let draft = drafted c.args.draft.name.now c.args.draft.size c.args.draft.assigned.now c.args.draft.own.now in
     let learns = both_learnt c.requires.sound c.requires.may c.learn_words.ensures c.learn_words-2.ensures in
     let numbers = c.numbers_entailed-all.ensures.numbers ∙ ap (numbers_named r.dict) (entailed_is c.requires.sound c.requires.may learns) in

@@ -1,9 +1,9 @@
-use Rattle.lis_store.proofs.Common.{◌≡◌, ◌∙◌, ℕ, ◌∷◌, is_some, length, sym, ap, ap₂, subst, arith, List, none-some, same_Some, word_from_number, numbers_at, Kept, FreeSlotsAreEmpty}
+use Rattle.lis_store.proofs.Common.{◌≡◌, ◌∙◌, ℕ, ◌∷◌, is_some, length, sym, ap, ap₂, subst, arith, List, none-some, same_Some, word_from_number, numbers_at, Metadata, FreeSlotsAreEmpty}
 use Rattle.lis_store.specs.Closing.{closure, is_met_at}
 use Rattle.lis_store.specs.Redescribing.{Redescribes}
 use Rattle.lis_store.specs.Stored.{DescriptionsAreShort}
 use Rattle.lis_store.specs.Testing.{tested}
-use Rattle.lis_store.proofs.Declared.{parts_are, number_then}
+use Rattle.lis_store.proofs.Declared.{metadata_are, number_then}
 use Rattle.lis_store.proofs.Tested.{untested_same, tested_is, base_is, few_gained}
 use Rattle.lis_store.proofs.testing.declare_tested.Goals as goal
 
@@ -26,11 +26,11 @@ rebuild_all-requires-clause-words c =
 
 pub rebuild_all-requires-clause-free : goal.rebuild_all-requires-clause-free
 rebuild_all-requires-clause-free c =
-    subst (λ (k : Kept). FreeSlotsAreEmpty k) (sym (parts_are c.requires.form.sound c.requires.may c.declare_under.ensures.declares_under)) c.requires.form.free
+    subst (λ (k : Metadata). FreeSlotsAreEmpty k) (sym (metadata_are c.requires.form.sound c.requires.may c.declare_under.ensures.declares_under)) c.requires.form.free
 
 pub rebuild_all-requires-clause-short : goal.rebuild_all-requires-clause-short
 rebuild_all-requires-clause-short c =
-    subst (λ (k : Kept). DescriptionsAreShort k) (sym (parts_are c.requires.form.sound c.requires.may c.declare_under.ensures.declares_under)) c.requires.form.short
+    subst (λ (k : Metadata). DescriptionsAreShort k) (sym (metadata_are c.requires.form.sound c.requires.may c.declare_under.ensures.declares_under)) c.requires.form.short
 
 pub rebuild_all-requires-clause-few : goal.rebuild_all-requires-clause-few
 rebuild_all-requires-clause-few c = λ slot met.
@@ -40,7 +40,7 @@ rebuild_all-requires-clause-few c = λ slot met.
     let same : n ≡ stands.declares.number =
     same_Some n stands.declares.number (sym (sym c.number_of.ensures ∙ c.in-Some-number_of.is) ∙ number_then c.requires.form.sound c.requires.may stands c.declare_under.ensures.sound) in
     let few = few_gained c.requires.form c.requires.may stands c.declare_under.ensures.sound slot (ap (λ t. is_met_at made t slot) (sym c.test_of.ensures ∙ c.in-Some.is) ∙ met) in
-    let base = base_is made c.in-Some.test n slot ∙ ap₂ (λ m (k : Kept). m ∷ numbers_at k.ext slot) same (parts_are c.requires.form.sound c.requires.may stands) in
+    let base = base_is made c.in-Some.test n slot ∙ ap₂ (λ m (k : Metadata). m ∷ numbers_at k.ext slot) same (metadata_are c.requires.form.sound c.requires.may stands) in
     omega (arith, few, ap (λ ns. length (closure made ns)) base)
 
 pub returns : goal.returns
@@ -50,7 +50,7 @@ returns c =
     let stands = c.declare_under.ensures.declares_under in
     let same : n ≡ stands.declares.number =
     same_Some n stands.declares.number (sym (sym c.number_of.ensures ∙ c.in-Some-number_of.is) ∙ number_then c.requires.form.sound c.requires.may stands c.declare_under.ensures.sound) in
-    let P : (ℕ → List ℕ) → Type 0 = λ sets. Redescribes sets made.limits.files made c.rebuild_all.new.parts in
+    let P : (ℕ → List ℕ) → Type 0 = λ sets. Redescribes sets made.limits.files made c.rebuild_all.new.metadata in
     record {
       made = made;
       stands = stands;

@@ -5,4 +5,4 @@ use Rattle.lis_store.proofs.testing.describe_all_without.Given as goal
 
 -- the slots so far have the number no more, and memory is in form
 abbrev pub invariant-loop-slot : goal.invariant-loop-slot
-invariant-loop-slot l = Redescribes (without_number l.initial.parts l.number) l.slot l.initial.parts l.parts × AreSound l.parts
+invariant-loop-slot l = Redescribes (without_number l.initial.metadata l.number) l.slot l.initial.metadata l.metadata × AreSound l.metadata

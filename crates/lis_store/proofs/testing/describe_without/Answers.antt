@@ -6,11 +6,11 @@ use Rattle.lis_store.proofs.testing.describe_without.Goals as goal
 pub has-requires-clause-prop : goal.has-requires-clause-prop
 has-requires-clause-prop c =
     let sound = c.limits.ensures.sound in
-    omega (arith, named_below c.args.parts.now sound c.args.number c.requires.number, sound.rows, ap (λ (e : Ext). e.props) c.ext.ensures, c.from.ensures)
+    omega (arith, named_below c.args.metadata.now sound c.args.number c.requires.number, sound.rows, ap (λ (e : Ext). e.props) c.ext.ensures, c.from.ensures)
 
 pub returns-then-not-has-clause-gives : goal.returns-then-not-has-clause-gives
 returns-then-not-has-clause-gives c =
-    let p = c.args.parts.now in
+    let p = c.args.metadata.now in
     let none : has p.ext c.args.number c.args.slot ≡ false =
     ap (λ (x : Ext). has x c.args.number c.args.slot) (sym c.ext.ensures)
     ∙ (ap₂ (λ (a b : ℕ). has c.ext.result.now a b) (sym c.from.ensures) (sym c.from-2.ensures) ∙ (sym c.has.ensures ∙ c.if-not-has.true)) in
@@ -25,14 +25,14 @@ describe-requires-clause-rising c =
 
 pub describe-requires-clause-named : goal.describe-requires-clause-named
 describe-requires-clause-named c =
-    let p = c.args.parts.now in
+    let p = c.args.metadata.now in
     let are = c.as_slice.ensures.value ∙ (c.numbers_at-old.ensures.numbers ∙ ap (λ (e : Ext). set_of e c.args.slot) c.ext-2.ensures) in
     ap (list_all (λ n. is_some (word_of p.dict n))) (c.as_slice-3.ensures.value ∙ (c.numbers_without-new.ensures ∙ ap (filter (is_other c.args.number)) are))
     ∙ without_named p c.args.number (set_of p.ext c.args.slot) c.requires.had
 
 pub returns-clause-gives : goal.returns-clause-gives
 returns-clause-gives c =
-    let p = c.args.parts.now in
+    let p = c.args.metadata.now in
     let are = c.as_slice.ensures.value ∙ (c.numbers_at-old.ensures.numbers ∙ ap (λ (e : Ext). set_of e c.args.slot) c.ext-2.ensures) in
     let new = c.as_slice-3.ensures.value ∙ (c.numbers_without-new.ensures ∙ ap (filter (is_other c.args.number)) are) in
     let P : List ℕ → Type 0 = λ ns. Describes c.args.slot ns p c.describe.new.self in

@@ -19,8 +19,8 @@ returns-in_err-tally-clause-carried g c = λ start entry first done.
 
 pub returns-clause-ready : goal.returns-clause-ready
 returns-clause-ready g c = λ more ready.
-    let limits = c.args.self.now.session.now.store.parts.limits in
-    let range = ready.sound.parts.range in
+    let limits = c.args.self.now.session.now.store.metadata.limits in
+    let range = ready.sound.metadata.range in
     record {
       sound = c.in_ok-tally.ensures.sound;
       usable = record {

@@ -7,5 +7,5 @@ pub returns-in-Ok-None-clause-images : goal.returns-in-Ok-None-clause-images
 returns-in-Ok-None-clause-images g c = λ honest.
     let old = g.D.Disk.meaning c.args.disk.now in
     let new = g.D.Disk.meaning c.recover.new.disk in
-    subst (λ (s : Staging). (image : List ℕ) → new.images image → LeftOrRecovering s.layout old image) c.in_ok-room.ensures.latest
+    subst (λ (s : Staging). (image : List ℕ) → new.images image → LeftOrRecovering s.layout old image) c.in_ok-buffers.ensures.latest
     (c.in-Ok-None.ensures.recovers honest).images

@@ -1,4 +1,4 @@
-use Rattle.lis_store.proofs.Common.{◌≡◌, ◌∙◌, sym, ap, subst, ℕ, List, None, Ok, Err, err_from_is_err_and, new_file, file_added, assigned_at, Situation, Outcome, Payload, add, Kept, changed, rules, State}
+use Rattle.lis_store.proofs.Common.{◌≡◌, ◌∙◌, sym, ap, subst, ℕ, List, None, Ok, Err, err_from_is_err_and, new_file, file_added, assigned_at, Situation, Outcome, Payload, add, Metadata, changed, rules, State}
 use Rattle.lis_store.specs.ReplacingIn.{MayPutBytes}
 use Rattle.lis_store.specs.Stored.{Stored, StoreHolds}
 use Rattle.lis_store.specs.Changes.{Holds, Commits}
@@ -16,7 +16,7 @@ returns-in_err-assigned g c =
     let holds = λ (base : State) (s : State) (holds : StoreHolds c.args.self.now (g.D.Disk.meaning c.args.disk.now) base s).
     let p = err_from_is_err_and c.from_residual.result c.from_residual.ensures.1 in
     let m = g.D.Disk.meaning c.args.disk.now in
-    let old : Stored = record { parts = c.self.inside.parts; journal = c.self.inside.journal; is_broken = c.self.inside.is_broken } in
+    let old : Stored = record { metadata = c.self.inside.metadata; journal = c.self.inside.journal; is_broken = c.self.inside.is_broken } in
     let now : Situation = record { state = s; place = c.args.place.now } in
     let payload : Payload = record { size = c.args.file.size; bytes = c.args.file.bytes.now } in
     let H : Stored → Type 0 = λ k. StoreHolds k m base s in
@@ -38,18 +38,18 @@ returns-in_err-commit g c =
 
 pub put_file-requires-clause-may : goal.put_file-requires-clause-may
 put_file-requires-clause-may g c =
-    let k = c.self.inside.parts in
+    let k = c.self.inside.metadata in
     let whole = whole_inside c.args.file.bytes.now c.args.file.size c.self.view_is c.requires.whole in
-    let M : List (List ℕ) → Kept → Type 0 = λ ws k. MayPutBytes k None (new_file c.args.file.name.now ws c.args.file.bytes.now) in
+    let M : List (List ℕ) → Metadata → Type 0 = λ ws k. MayPutBytes k None (new_file c.args.file.name.now ws c.args.file.bytes.now) in
     let one : M (assigned_at c.args.place.now c.args.file.tags.now) k = (
       admitted k c.args.place.now c.args.file.name.now c.args.file.tags.now c.args.file.bytes.now c.args.file.size c.in_ok-assigned.ensures.name whole c.in_ok-assigned.ensures.row,
       enough_free k c.args.place.now c.args.file.name.now c.args.file.tags.now c.args.file.bytes.now c.args.file.size c.in_ok-assigned.ensures.name whole c.in_ok-assigned.ensures.row,
     ) in
     let A = M c.as_slice.result.now in
-    let there = subst (λ (k : Stored). A k.parts) c.self.view_is (subst (λ ws. M ws k) (sym (c.as_slice.ensures.value ∙ c.in_ok-assigned.ensures.words)) one) in
+    let there = subst (λ (k : Stored). A k.metadata) c.self.view_is (subst (λ ws. M ws k) (sym (c.as_slice.ensures.value ∙ c.in_ok-assigned.ensures.words)) one) in
     elim c.if-is_large.branch [
-      | then-is_large+in_ok-commit w ↦ subst A (sym (ap (λ (k : Stored). k.parts) w.self-is ∙ w.commit.ensures.parts)) there
-      | else-is_large w ↦ subst A (sym (ap (λ (k : Stored). k.parts) w.self-is)) there
+      | then-is_large+in_ok-commit w ↦ subst A (sym (ap (λ (k : Stored). k.metadata) w.self-is ∙ w.commit.ensures.metadata)) there
+      | else-is_large w ↦ subst A (sym (ap (λ (k : Stored). k.metadata) w.self-is)) there
     ]
 
 pub returns-clause-holds : goal.returns-clause-holds
@@ -58,7 +58,7 @@ returns-clause-holds g c = λ base s holds.
     let mid = c.if-is_large.self in
     let between = g.D.Disk.meaning c.if-is_large.disk in
     let after = g.D.Disk.meaning c.put_file.new.disk in
-    let old : Stored = record { parts = c.self.inside.parts; journal = c.self.inside.journal; is_broken = c.self.inside.is_broken } in
+    let old : Stored = record { metadata = c.self.inside.metadata; journal = c.self.inside.journal; is_broken = c.self.inside.is_broken } in
     let now : Situation = record { state = s; place = c.args.place.now } in
     let payload : Payload = record { size = c.args.file.size; bytes = c.args.file.bytes.now } in
     let made : List (List ℕ) → Outcome = λ ws. changed now (file_added s (new_file c.args.file.name.now ws c.args.file.bytes.now)) in
@@ -80,9 +80,9 @@ returns-clause-holds g c = λ base s holds.
 
 pub returns-clause-keeps : goal.returns-clause-keeps
 returns-clause-keeps g c =
-    let kept : (c.if-is_large.self.parts ≡ c.args.self.now.parts) × (shape_of c.if-is_large.self.journal ≡ shape_of c.args.self.now.journal) =
+    let kept : (c.if-is_large.self.metadata ≡ c.args.self.now.metadata) × (shape_of c.if-is_large.self.journal ≡ shape_of c.args.self.now.journal) =
     elim c.if-is_large.branch [
-      | then-is_large+in_ok-commit w ↦ (ap (λ (k : Stored). k.parts) w.self-is ∙ w.commit.ensures.parts, ap (λ (k : Stored). shape_of k.journal) w.self-is ∙ w.commit.ensures.image)
-      | else-is_large w ↦ (ap (λ (k : Stored). k.parts) w.self-is, ap (λ (k : Stored). shape_of k.journal) w.self-is)
+      | then-is_large+in_ok-commit w ↦ (ap (λ (k : Stored). k.metadata) w.self-is ∙ w.commit.ensures.metadata, ap (λ (k : Stored). shape_of k.journal) w.self-is ∙ w.commit.ensures.image)
+      | else-is_large w ↦ (ap (λ (k : Stored). k.metadata) w.self-is, ap (λ (k : Stored). shape_of k.journal) w.self-is)
     ] in
     keeps_behind kept.0 kept.1 c.put_file.ensures.keeps c.put_file.ensures.ended

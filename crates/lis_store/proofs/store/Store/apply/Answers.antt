@@ -28,8 +28,8 @@ returns-clause-changes g c = λ s fits.
     let now : Situation = record { state = s; place = c.args.place.now } in
     let holds = fits_held c.args.self.now (g.D.Disk.meaning c.args.disk.now) s c.hold.ensures.entry fits in
     let held = subst (λ r. Holds s now (written now c.args.write) c.hold.new.self (g.D.Disk.meaning c.args.disk.now) (g.D.Disk.meaning c.hold.new.disk) r) c.in_ok-hold.was (c.hold.ensures.holds s s holds) in
-    let keeps = keeps_committed c.commit.result c.hold.ensures.keeps c.commit.ensures.sound c.commit.ensures.left c.commit.ensures.parts c.commit.ensures.image in
+    let keeps = keeps_committed c.commit.result c.hold.ensures.keeps c.commit.ensures.sound c.commit.ensures.left c.commit.ensures.metadata c.commit.ensures.image in
     changes_applied fits keeps.left (applies_committed holds c.hold.ensures.keeps.limits held c.commit.ensures.commits)
 
 pub returns-clause-keeps : goal.returns-clause-keeps
-returns-clause-keeps g c = keeps_committed c.commit.result c.hold.ensures.keeps c.commit.ensures.sound c.commit.ensures.left c.commit.ensures.parts c.commit.ensures.image
+returns-clause-keeps g c = keeps_committed c.commit.result c.hold.ensures.keeps c.commit.ensures.sound c.commit.ensures.left c.commit.ensures.metadata c.commit.ensures.image

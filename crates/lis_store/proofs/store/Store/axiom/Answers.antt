@@ -17,11 +17,11 @@ returns-in_err-may_relate g c =
     search (rules, holds)
 
 pub relate-requires-clause-may : goal.relate-requires-clause-may
-relate-requires-clause-may g c = related c.self.invariant.parts c.in_ok-may_relate.ensures.row
+relate-requires-clause-may g c = related c.self.invariant.metadata c.in_ok-may_relate.ensures.row
 
 pub hold-requires : goal.hold-requires
 hold-requires g c =
-    let change = axiom_change c.self.invariant (related c.self.invariant.parts c.in_ok-may_relate.ensures.row) c.relate.ensures (whole_view c.self.view_is c.requires.usable.unbroken) in
+    let change = axiom_change c.self.invariant (related c.self.invariant.metadata c.in_ok-may_relate.ensures.row) c.relate.ensures (whole_view c.self.view_is c.requires.usable.unbroken) in
     let asks = change_saves c.self.invariant (whole_view c.self.view_is c.requires.usable.unbroken) change in
     search (rules, asks.settles, asks.image, asks.placed, asks.room)
 
@@ -29,10 +29,10 @@ pub returns-clause-holds : goal.returns-clause-holds
 returns-clause-holds g c = λ base now fits.
     let held = held_view c.self.view_is fits in
     let row = c.in_ok-may_relate.ensures.row in
-    axiom_holds c.self.invariant (related c.self.invariant.parts row) c.relate.ensures (whole_view c.self.view_is c.requires.usable.unbroken) c.hold.ensures.saves now held
+    axiom_holds c.self.invariant (related c.self.invariant.metadata row) c.relate.ensures (whole_view c.self.view_is c.requires.usable.unbroken) c.hold.ensures.saves now held
     (axiom_fit c.self.invariant now held.tells c.args.left.now c.args.right.now row) (axiom_done c.self.invariant now held.tells c.args.left.now c.args.right.now row)
 
 pub returns-clause-keeps : goal.returns-clause-keeps
 returns-clause-keeps g c =
-    let change = axiom_change c.self.invariant (related c.self.invariant.parts c.in_ok-may_relate.ensures.row) c.relate.ensures (whole_view c.self.view_is c.requires.usable.unbroken) in
-    keeps_saved c.self.view_is c.relate.new.parts c.hold.result change.limits change.edits c.hold.ensures.sound c.hold.ensures.parts c.hold.ensures.image c.hold.ensures.ended
+    let change = axiom_change c.self.invariant (related c.self.invariant.metadata c.in_ok-may_relate.ensures.row) c.relate.ensures (whole_view c.self.view_is c.requires.usable.unbroken) in
+    keeps_saved c.self.view_is c.relate.new.metadata c.hold.result change.limits change.edits c.hold.ensures.sound c.hold.ensures.metadata c.hold.ensures.image c.hold.ensures.ended

@@ -25,5 +25,5 @@ returns-clause-read g c =
     let P : Stored → Type 0 = λ k. StoreFits k m s in
     block_read has m c.data_start-base.result c.read_block.new.buf
     (c.data_start-base.ensures.start ∙ ap data_start c.limits.ensures.value) read s name
-    (subst P (sym c.self.view_is) fits) (ap (λ (k : Stored). slot_of k.parts.catalog name) c.self.view_is ∙ is_slot))
+    (subst P (sym c.self.view_is) fits) (ap (λ (k : Stored). slot_of k.metadata.catalog name) c.self.view_is ∙ is_slot))
     c.read_block.ensures.read

@@ -29,5 +29,5 @@ returns-clause-read g c =
     block_read has m c.data_start-base.result c.read_block_by.new.buf
     is_base
     (λ kept fits_kept. read kept fits_kept (index_kept has m c.data_start-base.result c.args.index.now is_base (omega (arith, c.data_start-base.ensures)) (subst I (sym c.self.view_is) is_index) kept fits_kept)) s name
-    (subst P (sym c.self.view_is) fits) (ap (λ (k : Stored). slot_of k.parts.catalog name) c.self.view_is ∙ is_slot))
+    (subst P (sym c.self.view_is) fits) (ap (λ (k : Stored). slot_of k.metadata.catalog name) c.self.view_is ∙ is_slot))
     c.read_block_by.ensures.read

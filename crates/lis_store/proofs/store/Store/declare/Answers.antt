@@ -21,7 +21,7 @@ pub declare_tested-requires-clause-form : goal.declare_tested-requires-clause-fo
 declare_tested-requires-clause-form g c = in_form _ c.self.invariant
 
 pub declare_tested-requires-clause-may : goal.declare_tested-requires-clause-may
-declare_tested-requires-clause-may g c = subst (λ (ns : List ℕ). MayDeclare c.self.inside.parts c.args.word.now ns) (sym c.as_slice.ensures.value) c.in_ok-places.ensures.may
+declare_tested-requires-clause-may g c = subst (λ (ns : List ℕ). MayDeclare c.self.inside.metadata c.args.word.now ns) (sym c.as_slice.ensures.value) c.in_ok-places.ensures.may
 
 pub hold-requires : goal.hold-requires
 hold-requires g c =
@@ -32,7 +32,7 @@ hold-requires g c =
 pub returns-clause-keeps : goal.returns-clause-keeps
 returns-clause-keeps g c =
     let change = declared_change c.self.invariant (whole_view c.self.view_is c.requires.usable.unbroken) c.in_ok-places.ensures.may c.as_slice.ensures.value c.declare_tested.ensures in
-    keeps_saved c.self.view_is c.declare_tested.new.parts c.hold.result change.limits change.edits c.hold.ensures.sound c.hold.ensures.parts c.hold.ensures.image c.hold.ensures.ended
+    keeps_saved c.self.view_is c.declare_tested.new.metadata c.hold.result change.limits change.edits c.hold.ensures.sound c.hold.ensures.metadata c.hold.ensures.image c.hold.ensures.ended
 
 pub returns-clause-holds : goal.returns-clause-holds
 returns-clause-holds g c = λ base s fits.

@@ -12,27 +12,27 @@ use Rattle.lis_kept.proofs.Image.{same_blocks}
 
 pub invariant_of-self : goal.invariant_of-self
 invariant_of-self g c =
-    let old : Stored = record { parts = c.self.inside.parts; journal = c.self.inside.journal; is_broken = c.self.inside.is_broken } in
-    lost_sound (ArrayVec ℕ) old c.self.invariant c.args.payload.now (record_in old.parts c.args.slot) c.put_anew.new.parts c.put_anew.new.journal c.put_anew.new.is_broken c.in_err-blocks.field-0.0
+    let old : Stored = record { metadata = c.self.inside.metadata; journal = c.self.inside.journal; is_broken = c.self.inside.is_broken } in
+    lost_sound (ArrayVec ℕ) old c.self.invariant c.args.payload.now (record_in old.metadata c.args.slot) c.put_anew.new.metadata c.put_anew.new.journal c.put_anew.new.is_broken c.in_err-blocks.field-0.0
     (g.D.Disk.meaning c.args.disk.now) (g.D.Disk.meaning c.put_anew.new.disk) c.in_err-blocks.ensures.renewed c.in_err-blocks.ensures.ended c.put_anew.ensures.sound
 
 pub returns-in_err-blocks-clause-keeps : goal.returns-in_err-blocks-clause-keeps
 returns-in_err-blocks-clause-keeps g c =
-    let old : Stored = record { parts = c.self.inside.parts; journal = c.self.inside.journal; is_broken = c.self.inside.is_broken } in
+    let old : Stored = record { metadata = c.self.inside.metadata; journal = c.self.inside.journal; is_broken = c.self.inside.is_broken } in
     let r = err_from_is_err_and c.from_residual.result c.from_residual.ensures.1 in
-    lost_keeps (ArrayVec ℕ) old c.self.invariant c.args.payload.now (record_in old.parts c.args.slot) c.put_anew.new.parts c.put_anew.new.journal c.put_anew.new.is_broken c.in_err-blocks.field-0.0
+    lost_keeps (ArrayVec ℕ) old c.self.invariant c.args.payload.now (record_in old.metadata c.args.slot) c.put_anew.new.metadata c.put_anew.new.journal c.put_anew.new.is_broken c.in_err-blocks.field-0.0
     (g.D.Disk.meaning c.args.disk.now) (g.D.Disk.meaning c.put_anew.new.disk) c.in_err-blocks.ensures.renewed c.in_err-blocks.ensures.ended c.self.view_is (r.1 ∙ ap Err r.2) c.put_anew.ensures.sound
 
 pub returns-in_err-blocks-clause-holds : goal.returns-in_err-blocks-clause-holds
 returns-in_err-blocks-clause-holds g c = λ base now holds.
-    let old : Stored = record { parts = c.self.inside.parts; journal = c.self.inside.journal; is_broken = c.self.inside.is_broken } in
+    let old : Stored = record { metadata = c.self.inside.metadata; journal = c.self.inside.journal; is_broken = c.self.inside.is_broken } in
     let m = g.D.Disk.meaning c.args.disk.now in
     let after = g.D.Disk.meaning c.put_anew.new.disk in
     let alone = λ (large : is_large (length c.args.payload.now) ≡ true). ap (λ (k : Stored). k.journal.staged) c.self.view_is ∙ c.requires.alone large in
     let H : Stored → Type 0 = λ k. StoreHolds k m base now.state in
     let r = err_from_is_err_and c.from_residual.result c.from_residual.ensures.1 in
-    lost_holds (ArrayVec ℕ) old c.self.invariant c.args.payload.now (record_in old.parts c.args.slot) c.put_anew.new.parts c.put_anew.new.journal c.put_anew.new.is_broken c.in_err-blocks.field-0.0 m after c.in_err-blocks.ensures.renewed c.in_err-blocks.ensures.ended base now
-    (changed now (file_added (file_gone now.state (record_in c.args.self.now.parts c.args.slot)) (new_file c.args.name.now c.args.assigned.now c.args.payload.now))) c.from_residual.result (r.1 ∙ ap Err r.2) alone (subst H (sym c.self.view_is) holds)
+    lost_holds (ArrayVec ℕ) old c.self.invariant c.args.payload.now (record_in old.metadata c.args.slot) c.put_anew.new.metadata c.put_anew.new.journal c.put_anew.new.is_broken c.in_err-blocks.field-0.0 m after c.in_err-blocks.ensures.renewed c.in_err-blocks.ensures.ended base now
+    (changed now (file_added (file_gone now.state (record_in c.args.self.now.metadata c.args.slot)) (new_file c.args.name.now c.args.assigned.now c.args.payload.now))) c.from_residual.result (r.1 ∙ ap Err r.2) alone (subst H (sym c.self.view_is) holds)
 
 pub replace_record-requires : goal.replace_record-requires
 replace_record-requires g c = record {
@@ -71,7 +71,7 @@ returns-clause-scratch g c =
 
 pub returns-clause-holds : goal.returns-clause-holds
 returns-clause-holds g c = λ base now holds.
-    let new : Stored = record { parts = c.hold.new.parts; journal = c.hold.new.journal; is_broken = c.hold.new.is_broken } in
+    let new : Stored = record { metadata = c.hold.new.metadata; journal = c.hold.new.journal; is_broken = c.hold.new.is_broken } in
     written_holds c.self.view_is c.args.slot c.args.name.now c.args.assigned.now c.args.payload.now c.in_ok-blocks.blocks.items c.self.invariant c.in_ok-blocks.ensures.sound c.requires.may.0 c.in_ok-blocks.ensures.renewed c.replace_record.ensures.refiles
     base now holds c.requires.may.1 c.requires.alone new (g.D.Disk.meaning c.hold.new.disk) c.hold.result c.hold.ensures.saves
 
@@ -83,11 +83,11 @@ pub returns-clause-keeps : goal.returns-clause-keeps
 returns-clause-keeps g c =
     let limits = written_same c.self.view_is c.args.slot c.args.name.now c.args.assigned.now c.args.payload.now c.in_ok-blocks.blocks.items c.self.invariant c.in_ok-blocks.ensures.sound c.requires.may.0 c.in_ok-blocks.ensures.renewed c.replace_record.ensures.refiles in
     let edits = written_edits c.self.view_is c.args.slot c.args.name.now c.args.assigned.now c.args.payload.now c.in_ok-blocks.blocks.items c.self.invariant c.in_ok-blocks.ensures.sound c.requires.may.0 c.in_ok-blocks.ensures.renewed c.replace_record.ensures.refiles in
-    keeps_saved c.self.view_is c.replace_record.new.parts c.hold.result limits edits c.hold.ensures.sound c.hold.ensures.parts (c.hold.ensures.image ∙ c.in_ok-blocks.ensures.renewed.image) c.hold.ensures.ended
+    keeps_saved c.self.view_is c.replace_record.new.metadata c.hold.result limits edits c.hold.ensures.sound c.hold.ensures.metadata (c.hold.ensures.image ∙ c.in_ok-blocks.ensures.renewed.image) c.hold.ensures.ended
 
 pub put_anew-requires : goal.put_anew-requires
 put_anew-requires g c =
     let there = anew_there c.self.view_is c.args.slot (draft_of (new_file c.args.name.now c.args.assigned.now c.args.payload.now)) c.requires.may.0 in
     let short = anew_small c.self.view_is c.args.slot (draft_of (new_file c.args.name.now c.args.assigned.now c.args.payload.now)) c.requires.may.0 in
-    let enough = subst (λ (k : Stored). blocks_taken k.parts.limits.version (length c.args.payload.now) ≤ free_for k.parts (record_in k.parts c.args.slot)) (sym c.self.view_is) c.requires.may.1 in
+    let enough = subst (λ (k : Stored). blocks_taken k.metadata.limits.version (length c.args.payload.now) ≤ free_for k.metadata (record_in k.metadata c.args.slot)) (sym c.self.view_is) c.requires.may.1 in
     search (rules, there, short, enough)

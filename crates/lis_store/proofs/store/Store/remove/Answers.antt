@@ -17,26 +17,26 @@ free_content-requires-clause-there g c = ap is_some (found_there c.self.view_is 
 
 pub invariant_of-self : goal.invariant_of-self
 invariant_of-self g c =
-    let old : Stored = record { parts = c.self.inside.parts; journal = c.self.inside.journal; is_broken = c.self.inside.is_broken } in
-    let named = ap (λ (k : Stored). slot_of k.parts.catalog c.args.name.now) c.self.view_is ∙ c.in-Some.ensures.slot in
-    lost_sound (Unit {0}) old c.in-Some.slot c.args.name.now c.self.invariant named c.free_content.new.parts c.free_content.new.is_broken c.in_err-free_content.field-0.0 (g.D.Disk.meaning c.args.disk.now)
+    let old : Stored = record { metadata = c.self.inside.metadata; journal = c.self.inside.journal; is_broken = c.self.inside.is_broken } in
+    let named = ap (λ (k : Stored). slot_of k.metadata.catalog c.args.name.now) c.self.view_is ∙ c.in-Some.ensures.slot in
+    lost_sound (Unit {0}) old c.in-Some.slot c.args.name.now c.self.invariant named c.free_content.new.metadata c.free_content.new.is_broken c.in_err-free_content.field-0.0 (g.D.Disk.meaning c.args.disk.now)
     (g.D.Disk.meaning c.free_content.new.disk) c.in_err-free_content.ensures.given c.in_err-free_content.ensures.ended
 
 pub returns-in_err-free_content : goal.returns-in_err-free_content
 returns-in_err-free_content g c =
     let m = g.D.Disk.meaning c.args.disk.now in
     let after = g.D.Disk.meaning c.free_content.new.disk in
-    let old : Stored = record { parts = c.self.inside.parts; journal = c.self.inside.journal; is_broken = c.self.inside.is_broken } in
-    let named = ap (λ (k : Stored). slot_of k.parts.catalog c.args.name.now) c.self.view_is ∙ c.in-Some.ensures.slot in
+    let old : Stored = record { metadata = c.self.inside.metadata; journal = c.self.inside.journal; is_broken = c.self.inside.is_broken } in
+    let named = ap (λ (k : Stored). slot_of k.metadata.catalog c.args.name.now) c.self.view_is ∙ c.in-Some.ensures.slot in
     let given = c.in_err-free_content.ensures.given in
     let ended = c.in_err-free_content.ensures.ended in
     let fault = c.in_err-free_content.field-0.0 in
     let p = err_from_is_err_and c.from_residual.result c.from_residual.ensures.1 in
-    let keeps = lost_keeps (Unit {0}) old c.in-Some.slot c.args.name.now c.self.invariant named c.free_content.new.parts c.free_content.new.is_broken fault m after given ended c.self.view_is (p.1 ∙ ap Err p.2) in
+    let keeps = lost_keeps (Unit {0}) old c.in-Some.slot c.args.name.now c.self.invariant named c.free_content.new.metadata c.free_content.new.is_broken fault m after given ended c.self.view_is (p.1 ∙ ap Err p.2) in
     let holds = λ (base : State) (s : State) (holds : StoreHolds c.args.self.now m base s).
     let now : Situation = record { state = s; place = c.args.place.now } in
     let H : Stored → Type 0 = λ k. StoreHolds k m base s in
-    lost_holds (Unit {0}) old c.in-Some.slot c.args.name.now c.self.invariant named c.free_content.new.parts c.free_content.new.is_broken fault m after given ended
+    lost_holds (Unit {0}) old c.in-Some.slot c.args.name.now c.self.invariant named c.free_content.new.metadata c.free_content.new.is_broken fault m after given ended
     base now (rm now c.args.name.now) c.from_residual.result (p.1 ∙ ap Err p.2) (subst H (sym c.self.view_is) holds) in
     search (rules, keeps, holds)
 
@@ -57,7 +57,7 @@ hold-requires g c =
 pub returns-clause-keeps : goal.returns-clause-keeps
 returns-clause-keeps g c =
     let change = removed_change c.self.view_is c.self.invariant c.requires.usable.unbroken c.args.place.now c.args.name.now c.in-Some.ensures.slot c.in-Some.ensures.here c.in_ok-free_content.ensures.given c.take_out.ensures in
-    keeps_saved c.self.view_is c.take_out.new.parts c.hold.result change.limits change.edits c.hold.ensures.sound c.hold.ensures.parts c.hold.ensures.image c.hold.ensures.ended
+    keeps_saved c.self.view_is c.take_out.new.metadata c.hold.result change.limits change.edits c.hold.ensures.sound c.hold.ensures.metadata c.hold.ensures.image c.hold.ensures.ended
 
 pub returns-clause-holds : goal.returns-clause-holds
 returns-clause-holds g c = λ base s holds.

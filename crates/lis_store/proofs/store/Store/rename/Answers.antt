@@ -29,7 +29,7 @@ returns-in-Err-clause-holds g c = λ base s holds.
 
 pub returns-in-Err-clause-keeps : goal.returns-in-Err-clause-keeps
 returns-in-Err-clause-keeps g c =
-    let sound = sound_lost c.self.inside.parts c.self.inside.journal (in_form _ c.self.invariant) c.self.invariant.pairs c.self.invariant.image in
+    let sound = sound_lost c.self.inside.metadata c.self.inside.journal (in_form _ c.self.invariant) c.self.invariant.pairs c.self.invariant.image in
     keeps_lost c.self.view_is sound (ap Err c.from.ensures) refl refl refl refl
 
 pub may_rename-requires-clause-there : goal.may_rename-requires-clause-there
@@ -59,11 +59,11 @@ hold-requires g c =
 pub returns-clause-keeps : goal.returns-clause-keeps
 returns-clause-keeps g c =
     let change = refiled_change c.self.view_is c.self.invariant c.requires.usable.unbroken c.replace_record.ensures.refiles in
-    keeps_saved c.self.view_is c.replace_record.new.parts c.hold.result change.limits change.edits c.hold.ensures.sound c.hold.ensures.parts c.hold.ensures.image c.hold.ensures.ended
+    keeps_saved c.self.view_is c.replace_record.new.metadata c.hold.result change.limits change.edits c.hold.ensures.sound c.hold.ensures.metadata c.hold.ensures.image c.hold.ensures.ended
 
 pub returns-clause-holds : goal.returns-clause-holds
 returns-clause-holds g c = λ base s holds.
-    let new : Stored = record { parts = c.hold.new.parts; journal = c.hold.new.journal; is_broken = c.hold.new.is_broken } in
+    let new : Stored = record { metadata = c.hold.new.metadata; journal = c.hold.new.journal; is_broken = c.hold.new.is_broken } in
     renaming_holds c.self.view_is c.self.invariant c.args.place.now c.args.name.now c.in-Some.ensures.slot c.in-Some.ensures.here c.args.new.now (g.D.Disk.meaning c.args.disk.now) base s holds (g.D.Disk.meaning c.read_file.new.disk)
     (record { reads = c.read_file.ensures.disk.reads; fits = c.read_file.ensures.fits })
     c.in_default-read_file.ensures.read c.bytes-2.ensures.bytes c.bytes.ensures.bytes c.in_ok-words.ensures.row (λ rec is. c.as_slice.ensures.value ∙ c.in_ok-words.ensures.words rec is)

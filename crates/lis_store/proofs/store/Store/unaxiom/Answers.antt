@@ -12,7 +12,7 @@ returns-in_default-clause-holds g c = λ base now fits.
 
 pub take_axiom-requires-clause-may : goal.take_axiom-requires-clause-may
 take_axiom-requires-clause-may g c =
-    may_go c.self.inside.parts c.self.invariant.pairs c.args.left.now c.args.right.now c.in-Some.from c.in-Some.to c.in-Some.ensures.numbers
+    may_go c.self.inside.metadata c.self.invariant.pairs c.args.left.now c.args.right.now c.in-Some.from c.in-Some.to c.in-Some.ensures.numbers
 
 pub hold-requires : goal.hold-requires
 hold-requires g c =
@@ -27,4 +27,4 @@ returns-clause-holds g c = λ base now fits.
 pub returns-clause-keeps : goal.returns-clause-keeps
 returns-clause-keeps g c =
     let change = unaxiom_change c.self.invariant c.take_axiom.ensures (whole_view c.self.view_is c.requires.usable.unbroken) in
-    keeps_saved c.self.view_is c.take_axiom.new.parts c.hold.result change.limits change.edits c.hold.ensures.sound c.hold.ensures.parts c.hold.ensures.image c.hold.ensures.ended
+    keeps_saved c.self.view_is c.take_axiom.new.metadata c.hold.result change.limits change.edits c.hold.ensures.sound c.hold.ensures.metadata c.hold.ensures.image c.hold.ensures.ended

@@ -29,7 +29,7 @@ hold-requires g c =
 pub returns-clause-keeps : goal.returns-clause-keeps
 returns-clause-keeps g c =
     let change = undeclared_change c.self.invariant c.in_ok-number.ensures.may (whole_view c.self.view_is c.requires.usable.unbroken) c.undeclare_unmet.ensures in
-    keeps_saved c.self.view_is c.undeclare_unmet.new.parts c.hold.result change.limits change.edits c.hold.ensures.sound c.hold.ensures.parts c.hold.ensures.image c.hold.ensures.ended
+    keeps_saved c.self.view_is c.undeclare_unmet.new.metadata c.hold.result change.limits change.edits c.hold.ensures.sound c.hold.ensures.metadata c.hold.ensures.image c.hold.ensures.ended
 
 pub returns-clause-holds : goal.returns-clause-holds
 returns-clause-holds g c = λ base now fits.

@@ -9,11 +9,11 @@ pub returns-clause-told : goal.returns-clause-told
 returns-clause-told c =
     let P : Stored → Type 0 = λ k. IsSound k in
     let sound = subst P c.self.view_is c.self.invariant in
-    let Q : Ext → Type 0 = λ e. TellsFiles (seen_of c.args.self.now.parts) e in
-    subst Q (sym (c.ext.ensures ∙ ap (λ (k : Stored). k.parts.ext) c.self.view_is)) (tells_files c.args.self.now.parts sound.parts sound.free)
+    let Q : Ext → Type 0 = λ e. TellsFiles (seen_of c.args.self.now.metadata) e in
+    subst Q (sym (c.ext.ensures ∙ ap (λ (k : Stored). k.metadata.ext) c.self.view_is)) (tells_files c.args.self.now.metadata sound.metadata sound.free)
 
 pub returns-clause-kept : goal.returns-clause-kept
 returns-clause-kept c =
     let P : Stored → Type 0 = λ k. IsSound k in
     let sound = subst P c.self.view_is c.self.invariant in
-    is_view c.args.self.now.parts sound.parts sound.closed sound.tests
+    is_view c.args.self.now.metadata sound.metadata sound.closed sound.tests

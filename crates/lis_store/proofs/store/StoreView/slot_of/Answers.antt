@@ -5,5 +5,5 @@ use Rattle.lis_store.proofs.store.StoreView.slot_of.Goals as goal
 
 pub returns : goal.returns
 returns c =
-    let k = c.args.self.now.parts in
-    c.slot_of.ensures.slot ∙ (ap (λ (j : Stored). slot_of j.parts.catalog c.args.name.now) c.self.view_is ∙ sym (slot_seen k c.args.name.now k.catalog.entries))
+    let k = c.args.self.now.metadata in
+    c.slot_of.ensures.slot ∙ (ap (λ (j : Stored). slot_of j.metadata.catalog c.args.name.now) c.self.view_is ∙ sym (slot_seen k c.args.name.now k.catalog.entries))

@@ -7,5 +7,5 @@ pub returns : goal.returns
 returns c =
     let P : Stored → Type 0 = λ k. IsSound k in
     let sound = subst P c.self.view_is c.self.invariant in
-    let Q : Stored → Type 0 = λ k. TellsLinks k.parts c.taxonomy.result.now in
-    tells_entailment c.args.self.now.parts sound.parts c.taxonomy.result.now (subst Q c.self.view_is c.taxonomy.ensures)
+    let Q : Stored → Type 0 = λ k. TellsLinks k.metadata c.taxonomy.result.now in
+    tells_entailment c.args.self.now.metadata sound.metadata c.taxonomy.result.now (subst Q c.self.view_is c.taxonomy.ensures)

@@ -1,0 +1,49 @@
+use Rattle.std.proofs.Common.{arith}
+use Rattle.lis_kept.proofs.Common.{common_steps, ◌≡◌, ◌<◌, ℕ, true, List, sym, subst, bitmap_start, AxiomSlot}
+use Rattle.lis_fields.specs.Layouts.{is_axiom}
+use Rattle.lis_kept.specs.Metadata.{Metadata, axiom_at}
+use Rattle.lis_kept.specs.Inside.{IsBlock}
+use Rattle.lis_kept.specs.contracts.metadata.Metadata.{the_view}
+use Rattle.lis_kept.proofs.Formed.{axioms_formed, records_formed}
+use Rattle.lis_kept.proofs.Spelled.{properties_block, axioms_block, files_block, rows_block}
+use Rattle.lis_kept.proofs.metadata.Metadata.write_block.Goals as goal
+
+pub returns-then-n-axioms : goal.returns-then-n-axioms
+returns-then-n-axioms c =
+    let P : Metadata → Type 0 = λ k. IsBlock k c.args.n c.write_properties.new.block in
+    subst P c.self.view_is
+    (properties_block (the_view c.self.inside) c.self.invariant.sound.range c.args.n c.write_properties.new.block c.requires.from (omega (arith, c.if-n-axioms.true, c.axioms_start-axioms.ensures)) c.write_properties.ensures)
+
+pub write_axioms-requires-clause-forms : goal.write_axioms-requires-clause-forms
+write_axioms-requires-clause-forms c =
+    let P : List AxiomSlot → Type 0 = λ axioms. (n : ℕ) → is_axiom (axiom_at axioms n) ≡ true in
+    subst P (sym c.as_slice.ensures.value) (axioms_formed (the_view c.self.inside) c.self.invariant.sound)
+
+pub returns-then-n-files : goal.returns-then-n-files
+returns-then-n-files c =
+    let P : Metadata → Type 0 = λ k. IsBlock k c.args.n c.write_axioms.new.block in
+    subst P c.self.view_is
+    (axioms_block (the_view c.self.inside) c.self.invariant.sound.range c.args.n c.write_axioms.new.block _ _ c.axioms_start-axioms.ensures c.as_slice.ensures.value
+    (omega (arith, c.if-n-axioms.false, c.axioms_start-axioms.ensures)) (omega (arith, c.if-n-files.true, c.files_start-files.ensures)) c.write_axioms.ensures)
+
+pub write_files-requires-clause-records : goal.write_files-requires-clause-records
+write_files-requires-clause-records c = records_formed (the_view c.self.inside) c.self.invariant.sound
+
+pub returns-then-n-rows : goal.returns-then-n-rows
+returns-then-n-rows c =
+    let P : Metadata → Type 0 = λ k. IsBlock k c.args.n c.write_files.new.block in
+    subst P c.self.view_is
+    (files_block (the_view c.self.inside) c.self.invariant.sound.range c.args.n c.write_files.new.block _ c.files_start-files.ensures
+    (omega (arith, c.if-n-files.false, c.files_start-files.ensures)) (omega (arith, c.if-n-rows.true, c.rows_start-rows.ensures)) c.write_files.ensures)
+
+pub overflow_mul-count : goal.overflow_mul-count
+overflow_mul-count c = grind (arith, common_steps) steps 2000000
+
+pub returns : goal.returns
+returns c =
+    let v = the_view c.self.inside in
+    let P : Metadata → Type 0 = λ k. IsBlock k c.args.n c.write_rows.new.block in
+    let Q : Metadata → Type 0 = λ k. c.args.n < bitmap_start k.limits in
+    subst P c.self.view_is
+    (rows_block v c.self.invariant.sound.range c.args.n c.write_rows.new.block _ c.rows_start-rows.ensures
+    (omega (arith, c.if-n-rows.false, c.rows_start-rows.ensures)) (subst Q (sym c.self.view_is) c.requires.to) c.write_rows.ensures)

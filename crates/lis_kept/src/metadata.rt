@@ -1,0 +1,159 @@
+//! The metadata of an image, what memory keeps of it, as one value.
+
+ghost use Rattle.std.specs.Prelude.{◌≡◌, ℕ, ◌+◌, ◌<◌, ◌≤◌, false, length, replicate};
+ghost use Rattle.lis_journal.specs.Images.{is_among};
+ghost use Rattle.lis_model.specs.Image.{properties_start, bitmap_start, data_start};
+ghost use Rattle.lis_journal.specs.Journal.{shape_of};
+ghost use Rattle.lis_kept.specs.Image.{image_shape};
+
+use crate::places::{axioms_start, bitmap_start, data_start, files_start, rows_start};
+use crate::rows::write_rows;
+use crate::spelling::{write_axioms, write_files, write_properties};
+use lis_bits::Flags;
+use lis_blockmap::BlockMap;
+use lis_catalog::Catalog;
+use lis_dict::Dict;
+use lis_ext::Ext;
+use lis_fields::AxiomSlot;
+use lis_journal::Journal;
+use lis_limits::{
+    AXIOMS_PER_BLOCK, BLOCK_LEN, FILES_PER_BLOCK, PROPERTIES_PER_BLOCK, PROPERTIES_START,
+};
+use lis_model::limits::Limits;
+use lis_taxonomy::Taxonomy;
+use std::marker::Model;
+
+/// What memory keeps of an image, and which of its blocks are yet to be written.
+#[derive(Drop)]
+pub struct Metadata {
+    pub(crate) limits: Limits,
+    pub(crate) dict: Dict,
+    // By number: the word that has it is declared.
+    pub(crate) declared: Flags,
+    // By slot, as many as whole blocks have.
+    pub(crate) axioms: Vec<AxiomSlot>,
+    // The links between the words that have numbers.
+    pub(crate) taxonomy: Taxonomy,
+    pub(crate) catalog: Catalog,
+    pub(crate) map: BlockMap,
+    pub(crate) ext: Ext,
+    // By block: it is to be written.
+    pub(crate) marks: Flags,
+}
+
+impl Model for Metadata {
+    ghost use Rattle.lis_kept.specs.Metadata.{Metadata as MetadataOf};
+
+    ghost Value = { MetadataOf };
+
+    ghost use Rattle.lis_kept.specs.Metadata.{metadata_of};
+    ghost use Rattle.lis_kept.specs.Links.{AreHeld};
+
+    ghost view = { λ p. metadata_of p.limits p.dict p.declared p.axioms.items p.catalog p.map p.ext p.marks };
+
+    ghost invariant = { λ p. AreHeld (metadata_of p.limits p.dict p.declared p.axioms.items p.catalog p.map p.ext p.marks) p.taxonomy };
+}
+
+impl Metadata {
+    ghost use Rattle.lis_kept.specs.Sound.{AreSound};
+    ghost use Rattle.lis_kept.specs.Areas.{is_marked, marked_count};
+    ghost use Rattle.lis_kept.specs.Staging.{Stages};
+    ghost use Rattle.lis_kept.specs.Inside.{IsBlock, StagesBlock};
+
+    /// The limits of the image.
+    pub fn limits(&self) -> &Limits
+        ensures value { result.now ≡ self.now.limits }
+        ensures sound { AreSound self.now }
+    {
+        &self.limits
+    }
+
+    /// Stages every marked block, spelled whole. The marks stay.
+    pub fn stage(&self, journal: &mut Journal)
+        requires image { shape_of journal.old ≡ image_shape self.now.limits }
+        requires unbroken { journal.old.is_broken ≡ false }
+        requires unplaced { (n : ℕ) → n < data_start self.now.limits → is_among journal.old.placed n ≡ false }
+        requires room { length journal.old.staged + marked_count self.now ≤ journal.old.capacity.staged }
+        ensures staged { Stages self.now journal.old journal.new }
+        ensures sound { AreSound self.now }
+    {
+        let end = data_start(self.limits());
+        for n in PROPERTIES_START..end {
+            if self.is_marked(n) {
+                self.stage_block(journal, n);
+            }
+        }
+    }
+
+    /// Takes all marks away, as what is marked was written.
+    pub fn settle(&mut self)
+        ensures settled { self.new ≡ record self.old { marks = replicate (length self.old.marks) false } }
+        ensures sound { AreSound self.new }
+    {
+        self.marks.fill(false);
+    }
+
+    // Whether a block is to be written.
+    fn is_marked(&self, n: u32) -> bool
+        requires { n < length self.now.marks }
+        ensures { result ≡ is_marked self.now n }
+    {
+        self.marks.get(n)
+    }
+
+    // Stages a block, spelled whole.
+    fn stage_block(&self, journal: &mut Journal, n: u32)
+        requires image { shape_of journal.old ≡ image_shape self.now.limits }
+        requires unbroken { journal.old.is_broken ≡ false }
+        requires unplaced { is_among journal.old.placed n ≡ false }
+        requires room { length journal.old.staged < journal.old.capacity.staged }
+        requires from { properties_start ≤ n }
+        requires to { n < data_start self.now.limits }
+        ensures { StagesBlock self.now n journal.old journal.new }
+    {
+        if n == bitmap_start(&self.limits) {
+            self.map.stage_to(journal, n);
+            return;
+        }
+        let mut block = [0; BLOCK_LEN];
+        self.write_block(n, &mut block);
+        journal.stage(n, &block);
+    }
+
+    // Writes a block of slots or rows.
+    fn write_block(&self, n: u32, block: &mut [u8])
+        requires from { properties_start ≤ n }
+        requires to { n < bitmap_start self.now.limits }
+        requires whole { length block.old ≡ BLOCK_LEN }
+        ensures { IsBlock self.now n block.new }
+    {
+        let axioms = axioms_start(&self.limits);
+        if n < axioms {
+            let first = PROPERTIES_PER_BLOCK * (n - PROPERTIES_START) as u16;
+            write_properties(&self.dict, &self.declared, first, block);
+            return;
+        }
+        let files = files_start(&self.limits);
+        if n < files {
+            let first = AXIOMS_PER_BLOCK * (n - axioms) as usize;
+            write_axioms(self.axioms.as_slice(), first, block);
+            return;
+        }
+        let rows = rows_start(&self.limits);
+        if n < rows {
+            let first = FILES_PER_BLOCK * (n - files) as u16;
+            write_files(&self.catalog, self.limits.version, first, block);
+            return;
+        }
+        let width = self.limits.files / 8;
+        let count = BLOCK_LEN as u32 / width;
+        write_rows(
+            &self.ext,
+            self.limits.props,
+            count * (n - rows),
+            width as usize,
+            count,
+            block,
+        );
+    }
+}

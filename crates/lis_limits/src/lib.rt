@@ -1,0 +1,101 @@
+//! The numbers of an image, its limits and its lines, each once.
+#![tactic(auto)]
+
+/// Bytes of a block.
+pub const BLOCK_LEN: usize = 4_096;
+
+/// Bits of a block.
+pub const BLOCK_BITS: u32 = 32_768;
+
+/// Gates of the journal, a byte each.
+pub const GATES: u32 = 64;
+
+/// Blocks that hold the journal's record.
+pub const RECORD_BLOCKS: u32 = 576;
+
+/// The most blocks that wait at once for one commit.
+pub const MAX_STAGED: u32 = 575;
+
+/// The most blocks that one change writes at once to where they stay: the blocks of a file's content and their index.
+pub const MAX_PLACED: u32 = 257;
+
+/// The first block of the properties.
+pub const PROPERTIES_START: u32 = 578;
+
+/// The most files of an image.
+pub const MAX_FILES: u32 = 4_096;
+
+/// The most words of an image.
+pub const MAX_PROPS: u32 = 8_192;
+
+/// The most data blocks of an image.
+pub const MAX_BLOCKS: u32 = 32_768;
+
+/// The most blocks of an image.
+pub const MAX_IMAGE_BLOCKS: u32 = 34_771;
+
+/// The most bytes of a file in an image of the first version.
+pub const MAX_FILE: u32 = 65_536;
+
+/// The most bytes of a file in an image of the second version.
+pub const MAX_LARGE_FILE: u32 = 1_048_576;
+
+/// A file that has bytes, and fewer than this, is small.
+pub const SMALL_FILE: usize = 1_024;
+
+/// A file that is not small, and has fewer bytes than this, is a medium one.
+pub const MEDIUM_FILE: usize = 16_384;
+
+/// The most blocks of a content, without its index.
+pub const MAX_FILE_BLOCKS: usize = 256;
+
+/// Bytes of the slot of a word.
+pub const PROP_LEN: usize = 64;
+
+/// Bytes of the slot of an axiom.
+pub const AXIOM_LEN: usize = 8;
+
+/// Bytes of the slot of a file.
+pub const FILE_LEN: usize = 256;
+
+/// How many axioms have their slots in one block.
+pub const AXIOMS_PER_BLOCK: usize = 512;
+
+/// How many numbers of two bytes are below this one.
+pub const NUMBERS: u32 = 65_536;
+
+/// The most words that a file has: its own, those derived from it and the tests that it meets, and all that these entail.
+pub const MAX_DESCRIPTION: usize = 128;
+
+/// The most nodes of a working directory.
+pub const MAX_NODES: usize = 64;
+
+/// The most bytes of a working directory, as it is printed.
+pub const MAX_FORMULA: usize = 1_024;
+
+/// The most bytes of a line, without its line feed.
+pub const MAX_LINE: usize = 1_024;
+
+/// The most bytes of a payload.
+pub const MAX_PAYLOAD: u32 = 1_048_576;
+
+/// The most bytes of an edited view.
+pub const MAX_VIEW: u32 = 8_388_608;
+
+/// The most words that a file is given.
+pub const MAX_ASSIGNED: usize = 16;
+
+/// The most words that are derived from one file.
+pub const MAX_DERIVED: usize = 48;
+
+/// The most bytes of a word, and of the name of a file.
+pub const MAX_WORD: usize = 60;
+
+/// The most blocks of a content whose numbers are in the slot of its file. A larger one has an index block.
+pub const SLOT_BLOCKS: u32 = 16;
+
+/// How many words have their slots in one block.
+pub const PROPERTIES_PER_BLOCK: u16 = 64;
+
+/// How many files have their slots in one block.
+pub const FILES_PER_BLOCK: u16 = 16;

@@ -1,0 +1,81 @@
+//! The memory that opening takes, all of it before the journal is looked at.
+
+ghost use Rattle.std.specs.Prelude.{◌≡◌, IsTrue, IfOk};
+ghost use Rattle.lis_model.specs.Ranges.{are_in_range};
+ghost use Rattle.lis_open.specs.ReadAll.{IsEmptyMemory};
+ghost use Rattle.lis_open.specs.ReadFiles.{no_files};
+ghost use Rattle.lis_open.specs.ReadWords.{no_words, AreNoAxioms};
+
+use crate::axioms::{Axioms, no_axioms};
+use crate::files::{Files, no_files};
+use crate::words::{Words, no_words};
+use lis_bits::{Flags, Rows};
+use lis_content::Buffer;
+use lis_kept::data_start;
+use lis_model::limits::Limits;
+use std::alloc::{AllocError, Global};
+
+/// What opening reads into.
+#[derive(Drop)]
+pub struct OpeningMemory {
+    pub words: Words,
+    pub axioms: Axioms,
+    pub files: Files,
+    /// Two rows of numbers. Each reader uses them as it likes.
+    pub row: Rows,
+    /// The bytes of the file that is read.
+    pub bytes: Buffer,
+    /// By block: it is to be written.
+    pub marks: Flags,
+}
+
+impl OpeningMemory {
+    /// Gives back its memory, what has most parts by calls of their own: a drop of all at once takes long to check.
+    pub fn close(self) {
+        self.files.close();
+        self.axioms.close();
+        self.words.close();
+    }
+}
+
+// What the slots are read into.
+#[derive(Drop)]
+struct SlotMemory {
+    words: Words,
+    axioms: Axioms,
+    files: Files,
+}
+
+// Takes the memory for the slots. Nothing is read yet.
+fn take_slot_memory(alloc: Global, limits: &Limits) -> Result<SlotMemory, AllocError>
+    requires { IsTrue (are_in_range limits.now) }
+    ensures words { IfOk result (λ slots. slots.words ≡ no_words limits.now) }
+    ensures axioms { IfOk result (λ slots. AreNoAxioms limits.now slots.axioms) }
+    ensures files { IfOk result (λ slots. slots.files ≡ no_files limits.now) }
+{
+    Ok(SlotMemory {
+        axioms: no_axioms(alloc, limits)?,
+        words: no_words(alloc, limits)?,
+        files: no_files(alloc, limits)?,
+    })
+}
+
+/// Takes the memory, what has most parts last: each part is given back wherever a later one can't be had, which takes long to check.
+/// Nothing is read yet.
+pub fn take_memory(alloc: Global, limits: &Limits) -> Result<OpeningMemory, AllocError>
+    requires { IsTrue (are_in_range limits.now) }
+    ensures { IfOk result (IsEmptyMemory limits.now) }
+{
+    let row = Rows::new(alloc, 2, limits.props)?;
+    let bytes = Buffer::new(alloc)?;
+    let marks = Flags::new(alloc, 64 * data_start(limits).div_ceil(64))?;
+    let slots = take_slot_memory(alloc, limits)?;
+    Ok(OpeningMemory {
+        words: slots.words,
+        axioms: slots.axioms,
+        files: slots.files,
+        row,
+        bytes,
+        marks,
+    })
+}
