@@ -8,7 +8,7 @@ ghost use Rattle.lis_journal.specs.Record.{homes_start};
 
 use lis_bits::Rows;
 use lis_journal::Journal;
-use lis_limits::{BLOCK_LEN, MAX_BLOCKS};
+use lis_limits::{BLOCK_BITS, BLOCK_LEN, MAX_BLOCKS};
 use std::alloc::{AllocError, Global};
 use std::marker::Model;
 
@@ -148,7 +148,7 @@ impl BlockMap {
         ensures same { IfNone result (bytes.now ≡ bitmap_bytes self.now) }
         ensures differs { IfSome result (IsFirstDifference bytes.now self.now) }
     {
-        for n in 0..BITS {
+        for n in 0..BLOCK_BITS {
             if has_bit(bytes, n) != self.tells(n) {
                 return Some(n);
             }

@@ -9,8 +9,11 @@ use itoa::Buffer;
 use lis_limits::{MAX_LINE, MAX_WORD};
 use lis_words::{Name, Word};
 
+// A line with its line feed.
+const LINE_ROOM: usize = MAX_LINE + 1;
+
 /// Room for any line that a session takes, with its line feed. A line of a dump has at most 560 bytes.
-pub type Line = ArrayVec<u8, { MAX_LINE + 1 }>;
+pub type Line = ArrayVec<u8, LINE_ROOM>;
 
 // A line so far: its first bytes.
 fn begin(bytes: &[u8]) -> Line

@@ -114,6 +114,6 @@ module _ (k : Metadata) (sound : AreSound k) (free : FreeSlotsAreEmpty k) (at : 
       ap₂ (λ a b. a || (not (is_test w) && b)) (list_any-append (λ v. same_word v w) lefts rights ∙ ap₂ (λ a b. a || b) left_told right_told)
       (list_any-append (λ v. same_word v w) left_heads described_words ∙ ap₂ (λ a b. a || b) head_told had_told)
       ∙ (in_order (list_any (is_left_of n) k.axioms) (list_any (is_right_of n) k.axioms) (list_any (is_left_head_of k.dict n) k.axioms) (is_had k.ext n) (is_test w) no_test_head
-      ∙ sym (ap₂ (λ o b. (not (is_some {T = Bool × ℕ} (test_by o)) && is_had k.ext n) || b) is
+      ∙ sym (ap₂ (λ o b. (not (is_some (test_by o)) && is_had k.ext n) || b) is
       (any_or (λ a. is_left_of n a || is_left_head_of k.dict n a) (is_right_of n) k.axioms
       ∙ ap (λ b. b || list_any (is_right_of n) k.axioms) (any_or (is_left_of n) (is_left_head_of k.dict n) k.axioms))))

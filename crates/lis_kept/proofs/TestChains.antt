@@ -1,5 +1,6 @@
 -- Edges between tests close no circle.
 use Rattle.std.proofs.Common.{OnOk, OnErr, arith}
+use Rattle.lis_words.specs.declared.test.Test.{Test}
 use Rattle.lis_kept.proofs.Common.{common_steps, rules, ◌≡◌, ◌⊎◌, ℕ, zero, suc, ◌+◌, ◌<◌, ◌≤◌, ◌==◌, ◌&&◌, ◌||◌, nat_lt, not, Bool, true, false, Option, Some, None, is_some, List, ◌↔◌, Result, Ok, Err, IsTrue, refl, sym, ap, ap₂, ◌∙◌, subst, inl, inr, Contains, and_parts, or_cases, ne_eqb, eqb-true, lt-ltb, Chain, among_from_contains, Dict, IsDict, word_of, number_from_word, number_below, EdgeFault, Present, Cycle, Absent, Taxonomy, no_links, has_edge, with_edge, without_edge, are_weaker, both_ways}
 use Rattle.std.proofs.Math.Bool.{and-true}
 use Rattle.std.proofs.lemmas.Bool.Decides.{nat_tests}
@@ -11,19 +12,19 @@ use Rattle.lis_kept.proofs.HeadEdges.{has_edge-with_edge, has_edge-without_edge,
 use Rattle.lis_kept.proofs.TestLinks.{none_weaker, no_test, test_link}
 use Rattle.std.specs.FinSet as set
 
-some_behind : (q p : Option (Bool × ℕ)) → are_weaker q p ≡ true → is_some {T = Bool × ℕ} p ≡ true
+some_behind : (q p : Option Test) → are_weaker q p ≡ true → is_some p ≡ true
 some_behind q p w = search (rules, both_ways, none_weaker)
 
-some_front : (q p : Option (Bool × ℕ)) → are_weaker q p ≡ true → is_some {T = Bool × ℕ} q ≡ true
+some_front : (q p : Option Test) → are_weaker q p ≡ true → is_some q ≡ true
 some_front q p w = search (rules)
 
 -- ---- chains to tests
 module _ (dict : Dict) (t : Taxonomy) (ordered : TestsAreOrdered dict t) where
-  abbrev test : ℕ → Option (Bool × ℕ)
+  abbrev test : ℕ → Option Test
   test n = test_by (word_of dict n)
 
   -- a chain to a test is empty, or comes from a stronger one
-  chain_to_test : (len x y : ℕ) → is_some {T = Bool × ℕ} (test y) ≡ true → Chain no_links (set.items t.edges) len x y → (x ≡ y) ⊎ (are_weaker (test y) (test x) ≡ true)
+  chain_to_test : (len x y : ℕ) → is_some (test y) ≡ true → Chain no_links (set.items t.edges) len x y → (x ≡ y) ⊎ (are_weaker (test y) (test x) ≡ true)
   chain_to_test zero x y tested c = inl c
   chain_to_test (suc len) x y tested c = by (chain_to_test len c.0 y tested c.2)
     where
@@ -107,11 +108,11 @@ some_added dict declared t u x y (Ok done) ok err link =
 some_added dict declared t u x y (Err fault) ok err link = subst (LinksSome dict declared t) (sym err) (some_none dict declared t)
 
 -- a number with a declared test is below the limit
-pub test_below : (dict : Dict) (declared : List Bool) (n : ℕ) → IsDict dict → is_some {T = Bool × ℕ} (declared_test dict declared n) ≡ true → n < dict.props
+pub test_below : (dict : Dict) (declared : List Bool) (n : ℕ) → IsDict dict → is_some (declared_test dict declared n) ≡ true → n < dict.props
 test_below dict declared n kept some = by (word_of dict n) refl
   where
     by : (o : Option (List ℕ)) → word_of dict n ≡ o → n < dict.props
-    by None e = absurd (both_ways (is_some {T = Bool × ℕ} (declared_test dict declared n)) (ap (λ t. is_some {T = Bool × ℕ} t) (no_test dict declared n e)) some)
+    by None e = absurd (both_ways (is_some (declared_test dict declared n)) (ap (λ t. is_some t) (no_test dict declared n e)) some)
     by (Some v) e = number_below dict kept v n (number_from_word dict kept v n e)
 
 pub link_below : (dict : Dict) (declared : List Bool) (p q : ℕ) → IsDict dict → is_test_link dict declared p q ≡ true → (p < dict.props) × (q < dict.props)

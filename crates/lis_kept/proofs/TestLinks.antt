@@ -1,6 +1,7 @@
 -- The links between declared tests, by their numbers.
 use Rattle.lis_kept.proofs.Common.{rules, ◌≡◌, ◌⊎◌, ℕ, if◌then◌else◌, ◌||◌, Bool, true, false, Option, Some, None, is_some, List, refl, sym, ap, ap₂, ◌∙◌, subst, inl, inr, and_parts, or_cases, Dict, IsDict, word_of, number_from_word, Taxonomy, same_word, has_word, is_valued, head_bytes, is_test, are_weaker, same_word_decides, among_from_has_word, OwnLink, own_link, Head, Weaker, and_from, or_left, or_right, both_ways, false_from_ne_true, has_word_from_among, same_tests}
 use Rattle.lis_blockmap.specs.Bitmap.{is_taken}
+use Rattle.lis_words.specs.declared.test.Test.{Test}
 use Rattle.lis_words.specs.Words.{test_of}
 use Rattle.lis_words.proofs.Tests.{plain_not_test}
 use Rattle.lis_model.specs.State.{links}
@@ -14,7 +15,7 @@ use Rattle.lis_kept.proofs.OwnLinks.{pair_slot, own_head}
 use Rattle.lis_kept.proofs.WordMore.{declared_there, there_declared}
 
 -- ---- tests of numbers
-pub none_weaker : (t : Option (Bool × ℕ)) → are_weaker t None ≡ false
+pub none_weaker : (t : Option Test) → are_weaker t None ≡ false
 none_weaker t = search (rules)
 
 -- a number that has no word has no test
@@ -93,7 +94,7 @@ pub tests_ordered : (k : Metadata) (t : Taxonomy) → AreHeld k t → TestsAreOr
 tests_ordered k t held p q edge test =
     by (or_cases (is_head_by (word_of k.dict p) (word_of k.dict q) || is_test_link k.dict k.declared p q) (has_pair k.axioms p q) (sym (linked_by k held.sound.dict p q) ∙ (sym (held.links.edges p q) ∙ edge)))
   where
-    not_head : (o r : Option (List ℕ)) → is_head_by o r ≡ true → is_some {T = Bool × ℕ} (test_by r) ≡ true → ⊥
+    not_head : (o r : Option (List ℕ)) → is_head_by o r ≡ true → is_some (test_by r) ≡ true → ⊥
     not_head None r h tested = both_ways false refl h
     not_head (Some w) None h tested = both_ways false refl h
     not_head (Some w) (Some v) h tested =
@@ -111,4 +112,4 @@ tests_ordered k t held p q edge test =
         let at = pair_slot k.axioms p q pair in
         let one = held.sound.axioms at.0 p q at.1 in
         let word = some_word (word_of k.dict q) one.right in
-        absurd (both_ways (is_test word.0) (plain_not_test word.0 (one.plain word.0 word.1)) (subst (λ o. is_some {T = Bool × ℕ} (test_by o) ≡ true) word.1 test))
+        absurd (both_ways (is_test word.0) (plain_not_test word.0 (one.plain word.0 word.1)) (subst (λ o. is_some (test_by o) ≡ true) word.1 test))

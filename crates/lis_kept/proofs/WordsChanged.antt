@@ -62,7 +62,7 @@ module _ (p : Metadata) (t : Taxonomy) (held : AreHeld p t) {word : List ℕ} {n
       by (inr differ) (inr apart) =
           let to = same_word_there p held.sound one y apart in
           ap₂ (λ r o. are_weaker (test_by r) (test_by o)) to (same_word_there p held.sound one x differ)
-          ∙ tests_ordered p t held x y edge (subst (λ o. is_some {T = Bool × ℕ} (test_by o) ≡ true) to tested)
+          ∙ tests_ordered p t held x y edge (subst (λ o. is_some (test_by o) ≡ true) to tested)
 
   pub ordered_between : (u : Taxonomy) → LinksWeaker d bits number t u → TestsAreOrdered d u
   ordered_between u links = where_ordered (λ x y. x == number) d bits t u (record { props = links.props; edges = links.edges }) ordered_after

@@ -3,16 +3,17 @@ use Rattle.std.specs.Prelude.{◌≡◌, ℕ, ◌==◌, Bool, true, not, ◌&&�
 use Rattle.lis_blockmap.specs.Bitmap.{is_taken}
 use Rattle.lis_dict.specs.Dict.{Dict, word_of}
 use Rattle.lis_taxonomy.specs.Taxonomy.{Taxonomy, has_edge}
+use Rattle.lis_words.specs.declared.test.Test.{Test}
 use Rattle.lis_words.specs.Words.{test_of}
 use Rattle.lis_model.specs.Tests.{are_weaker}
 
 -- the test that a word is
-abbrev pub test_by : Option (List ℕ) → Option (Bool × ℕ)
+abbrev pub test_by : Option (List ℕ) → Option Test
 test_by None = None
 test_by (Some word) = test_of word
 
 -- the test that the word of a number is, where this is declared
-abbrev pub declared_test : Dict → List Bool → ℕ → Option (Bool × ℕ)
+abbrev pub declared_test : Dict → List Bool → ℕ → Option Test
 declared_test dict declared n = if is_taken declared n then test_by (word_of dict n) else None
 
 -- the words of both numbers are declared tests, and the second one is weaker
@@ -22,7 +23,7 @@ is_test_link dict declared p q = are_weaker (declared_test dict declared q) (dec
 -- To a test edges lead from stronger tests alone.
 abbrev pub TestsAreOrdered : Dict → Taxonomy → Type 0
 TestsAreOrdered dict t =
-    (p q : ℕ) → has_edge t p q ≡ true → is_some {T = Bool × ℕ} (test_by (word_of dict q)) ≡ true → are_weaker (test_by (word_of dict q)) (test_by (word_of dict p)) ≡ true
+    (p q : ℕ) → has_edge t p q ≡ true → is_some (test_by (word_of dict q)) ≡ true → are_weaker (test_by (word_of dict q)) (test_by (word_of dict p)) ≡ true
 
 -- with edges to weaker tests, where a test of the two numbers holds
 pub record LinksWhere (test : ℕ → ℕ → Bool) (dict : Dict) (declared : List Bool) (t u : Taxonomy) : Type 0 where

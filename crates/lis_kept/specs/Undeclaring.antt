@@ -54,4 +54,4 @@ is_named_by dict n slot = is_left_of n slot || is_left_head_of dict n slot || is
 
 -- Some description has it, or an axiom names it. A test is in descriptions by sizes alone, and goes with its declaration.
 abbrev pub is_needed : Metadata → ℕ → Bool
-is_needed k n = (not (is_some {T = Bool × ℕ} (test_by (word_of k.dict n))) && is_had k.ext n) || list_any (is_named_by k.dict n) k.axioms
+is_needed k n = (not (is_some (test_by (word_of k.dict n))) && is_had k.ext n) || list_any (is_named_by k.dict n) k.axioms

@@ -9,10 +9,10 @@ use arrayvec::ArrayVec;
 use lis_bits::Flags;
 use lis_catalog::Catalog;
 use lis_dict::Dict;
-use lis_fields::{use lis_limits::{BLOCK_LEN, MAX_FILES, MAX_PROPS};
-use lis_limits::{AXIOMS_PER_BLOCK, AXIOM_LEN, FILES_PER_BLOCK, FILE_LEN, PROPERTIES_PER_BLOCK, PROP_LEN};
-    AXIOM_LEN, AxiomSlot, FILE_LEN, FileRec, FileSlot, PROP_LEN, PropSlot, write_axiom, write_file,
-    write_prop,
+use lis_fields::{AxiomSlot, FileRec, FileSlot, PropSlot, write_axiom, write_file, write_prop};
+use lis_limits::{
+    AXIOM_LEN, AXIOMS_PER_BLOCK, BLOCK_LEN, FILE_LEN, FILES_PER_BLOCK, MAX_FILES, MAX_PROPS,
+    PROP_LEN, PROPERTIES_PER_BLOCK,
 };
 
 // The property slot of a number.

@@ -10,19 +10,19 @@ use lis_bits::Flags;
 use lis_dict::Dict;
 use lis_limits::{MAX_PROPS, NUMBERS};
 use lis_taxonomy::Taxonomy;
-use lis_words::test_of;
+use lis_words::{Test, test_of};
 
-fn is_weaker(q: (bool, u64), p: (bool, u64)) -> bool
+fn is_weaker(q: Test, p: Test) -> bool
     ensures { result ≡ is_weaker q p }
 {
-    if q.0 {
-        return p.0 && q.1 < p.1;
+    if q.at_least {
+        return p.at_least && q.bytes < p.bytes;
     }
-    !p.0 && p.1 < q.1
+    !p.at_least && p.bytes < q.bytes
 }
 
 // The test that the word of a number is, where this is declared.
-fn declared_test(dict: &Dict, declared: &Flags, number: u32) -> Option<(bool, u64)>
+fn declared_test(dict: &Dict, declared: &Flags, number: u32) -> Option<Test>
     requires long { number < length declared.now }
     requires small { number < NUMBERS }
     ensures { result ≡ declared_test dict.now declared.now number }
@@ -35,7 +35,7 @@ fn declared_test(dict: &Dict, declared: &Flags, number: u32) -> Option<(bool, u6
 }
 
 // Whether a number has a declared test that is weaker than this one.
-fn has_weaker(dict: &Dict, declared: &Flags, number: u32, test: (bool, u64)) -> bool
+fn has_weaker(dict: &Dict, declared: &Flags, number: u32, test: Test) -> bool
     requires long { number < length declared.now }
     requires small { number < NUMBERS }
     ensures { result ≡ are_weaker (declared_test dict.now declared.now number) (Some test) }
@@ -47,7 +47,7 @@ fn has_weaker(dict: &Dict, declared: &Flags, number: u32, test: (bool, u64)) -> 
 }
 
 // Whether a number has a declared test that is stronger than this one.
-fn has_stronger(dict: &Dict, declared: &Flags, number: u32, test: (bool, u64)) -> bool
+fn has_stronger(dict: &Dict, declared: &Flags, number: u32, test: Test) -> bool
     requires long { number < length declared.now }
     requires small { number < NUMBERS }
     ensures { result ≡ are_weaker (Some test) (declared_test dict.now declared.now number) }
@@ -59,7 +59,7 @@ fn has_stronger(dict: &Dict, declared: &Flags, number: u32, test: (bool, u64)) -
 }
 
 // The test of a number that has a declared test which is weaker than this one.
-fn weaker_test(dict: &Dict, declared: &Flags, number: u32, test: (bool, u64)) -> Option<(bool, u64)>
+fn weaker_test(dict: &Dict, declared: &Flags, number: u32, test: Test) -> Option<Test>
     requires long { number < length declared.now }
     requires small { number < NUMBERS }
     ensures { IfSome result (λ _. are_weaker (declared_test dict.now declared.now number) (Some test) ≡ true) }
@@ -72,7 +72,7 @@ fn weaker_test(dict: &Dict, declared: &Flags, number: u32, test: (bool, u64)) ->
 }
 
 // Whether a test is nearer than the nearest one so far, of tests that are all weaker than another one.
-fn is_nearer(nearest: Option<(bool, u64)>, test: (bool, u64)) -> bool {
+fn is_nearer(nearest: Option<Test>, test: Test) -> bool {
     match nearest {
         None => true,
         Some(nearest) => is_weaker(nearest, test),
@@ -80,7 +80,7 @@ fn is_nearer(nearest: Option<(bool, u64)>, test: (bool, u64)) -> bool {
 }
 
 // A number that has a declared test which is weaker than this one, and it is the nearest.
-fn nearest_weaker(dict: &Dict, declared: &Flags, props: u32, test: (bool, u64)) -> Option<u32>
+fn nearest_weaker(dict: &Dict, declared: &Flags, props: u32, test: Test) -> Option<u32>
     requires few { props ≤ MAX_PROPS }
     requires bits { length declared.now ≡ props }
     ensures below { IfSome result (λ number. number < props) }

@@ -8,6 +8,7 @@ use Rattle.lis_graph.specs.Graph.{IsOrdered}
 use Rattle.lis_graph.proofs.Graph as graph
 use Rattle.lis_graph.proofs.Graph.{IsLinkedWithin}
 use Rattle.lis_graph.proofs.Members.{Among, among_filter, filter_among, among_append, among_left, among_right, among_from_contains, contains_from_among}
+use Rattle.lis_words.specs.declared.test.Test.{Test}
 use Rattle.lis_words.specs.Words.{word_cmp, same_word, has_word, has_stem, stem, is_plain_byte, is_valued, head_bytes, is_test, test_of}
 use Rattle.lis_words.proofs.Head.{value_joined}
 use Rattle.lis_words.proofs.Tests.{test_no_colon, valued_not_test}
@@ -50,22 +51,22 @@ weaker_trans_by false true c k m n h g = absurd cc
 weaker_trans_by false false true k m n h g = absurd cc
 weaker_trans_by false false false k m n h g = lt-ltb n k (omega (arith, ltb-true m k h, ltb-true n m g))
 
-pub weaker_trans : (r q p : Option (Bool × ℕ)) → are_weaker r q ≡ true → are_weaker q p ≡ true → are_weaker r p ≡ true
+pub weaker_trans : (r q p : Option Test) → are_weaker r q ≡ true → are_weaker q p ≡ true → are_weaker r p ≡ true
 weaker_trans None q p h g = absurd cc
 weaker_trans (Some r) None p h g = absurd cc
 weaker_trans (Some r) (Some q) None h g = absurd cc
-weaker_trans (Some r) (Some q) (Some p) h g = weaker_trans_by r.0 q.0 p.0 r.1 q.1 p.1 h g
+weaker_trans (Some r) (Some q) (Some p) h g = weaker_trans_by r.at_least q.at_least p.at_least r.bytes q.bytes p.bytes h g
 
-pub weaker_apart : (p : Option (Bool × ℕ)) → are_weaker p p ≡ true → ⊥
+pub weaker_apart : (p : Option Test) → are_weaker p p ≡ true → ⊥
 weaker_apart None h = absurd cc
-weaker_apart (Some p) h = by p.0 h
+weaker_apart (Some p) h = by p.at_least h
   where
-    by : (a : Bool) → cond a (a && nat_lt p.1 p.1) (not a && nat_lt p.1 p.1) ≡ true → ⊥
-    by true e = omega (arith, ltb-true p.1 p.1 e)
-    by false e = omega (arith, ltb-true p.1 p.1 e)
+    by : (a : Bool) → cond a (a && nat_lt p.bytes p.bytes) (not a && nat_lt p.bytes p.bytes) ≡ true → ⊥
+    by true e = omega (arith, ltb-true p.bytes p.bytes e)
+    by false e = omega (arith, ltb-true p.bytes p.bytes e)
 
 -- the two words are tests
-pub tests_by : (q p : Option (Bool × ℕ)) → are_weaker q p ≡ true → (is_some {T = Bool × ℕ} q ≡ true) × (is_some {T = Bool × ℕ} p ≡ true)
+pub tests_by : (q p : Option Test) → are_weaker q p ≡ true → (is_some q ≡ true) × (is_some p ≡ true)
 tests_by None p h = absurd cc
 tests_by (Some q) None h = absurd cc
 tests_by (Some q) (Some p) h = (refl, refl)

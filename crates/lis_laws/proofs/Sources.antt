@@ -3,6 +3,7 @@ use Rattle.std.proofs.Common.{◌≡◌, ◌⊎◌, ℕ, Bool, true, false, not,
 use Rattle.std.specs.List.{flat_map, list_all}
 use Rattle.std.proofs.lemmas.Bool.{and_parts, or_cases, both_ways, ltb-true, lt-ltb, leb-true, le-leb}
 use Rattle.lis_graph.proofs.Members.{Among, among_append, among_left, among_right, among_filter, filter_among, among_map, map_among, among_flat_map, flat_map_among}
+use Rattle.lis_words.specs.declared.test.Test.{Test}
 use Rattle.lis_words.specs.Words.{has_word, head_bytes, is_plain_word, is_head, is_valued, is_test, test_of}
 use Rattle.lis_words.proofs.Tests.{plain_not_test, head_not_test, valued_not_test}
 use Rattle.lis_model.specs.Tests.{are_weaker, is_met, met_tests}
@@ -102,10 +103,10 @@ met_weaker_by false true m n size h met = absurd cc
 met_weaker_by false false m n size h met = lt-ltb size m (omega (arith, ltb-true n m h, ltb-true size n met))
 
 -- what meets a test meets a weaker one
-pub met_weaker : (q p : Option (Bool × ℕ)) (size : ℕ) → are_weaker q p ≡ true → is_met p size ≡ true → is_met q size ≡ true
+pub met_weaker : (q p : Option Test) (size : ℕ) → are_weaker q p ≡ true → is_met p size ≡ true → is_met q size ≡ true
 met_weaker None p size h met = absurd cc
 met_weaker (Some q) None size h met = absurd cc
-met_weaker (Some q) (Some p) size h met = met_weaker_by q.0 p.0 q.1 p.1 size h met
+met_weaker (Some q) (Some p) size h met = met_weaker_by q.at_least p.at_least q.bytes p.bytes size h met
 
 -- a test that holds of the file, and is declared
 pub record IsMetBy (declared : List (List ℕ)) (file : File) (word : List ℕ) : Type 0 where

@@ -2,6 +2,7 @@
 use Rattle.std.proofs.Common.{◌≡◌, ℕ, Bool, true, false, nat_lt, nat_le, ◌&&◌, cond, Option, Some, None, is_some, List, length, refl, sym, ap, subst, ◌∙◌}
 use Rattle.std.proofs.lemmas.Bool.{and_parts, and_from}
 use Rattle.lis_graph.proofs.Members.{Among, among_from_any, any_from_among, among_map, map_among}
+use Rattle.lis_words.specs.declared.test.Test.{Test}
 use Rattle.lis_words.specs.Words.{same_word, has_word, test_of, is_test}
 use Rattle.lis_grammar.specs.Formula.Formula.{SizeAtLeast, SizeBelow}
 use Rattle.lis_model.specs.Tests.{is_met, step_by, step_of}
@@ -58,10 +59,10 @@ step_holds : (s : State) → WellFormed s → (file : File) → Among s.files fi
     → holds (step_of p) (entry_of s.declared s.axioms file) ≡ has_word (description s file) p
 step_holds s formed file m p there = by (test_of p) refl
   where
-    size_of : (test : Bool × ℕ) → holds (step_by (Some test) p) (entry_of s.declared s.axioms file) ≡ is_met (Some test) (length file.bytes)
-    size_of test = choice test.0
+    size_of : (test : Test) → holds (step_by (Some test) p) (entry_of s.declared s.axioms file) ≡ is_met (Some test) (length file.bytes)
+    size_of test = choice test.at_least
       where
-        choice : (at_least : Bool) → holds (cond at_least (SizeAtLeast test.1) (SizeBelow test.1)) (entry_of s.declared s.axioms file) ≡ cond at_least (nat_le test.1 (length file.bytes)) (nat_lt (length file.bytes) test.1)
+        choice : (at_least : Bool) → holds (cond at_least (SizeAtLeast test.bytes) (SizeBelow test.bytes)) (entry_of s.declared s.axioms file) ≡ cond at_least (nat_le test.bytes (length file.bytes)) (nat_lt (length file.bytes) test.bytes)
         choice true = refl
         choice false = refl
 
@@ -71,11 +72,11 @@ step_holds s formed file m p there = by (test_of p) refl
     meets : is_test p ≡ true → has_word (description s file) p ≡ true → is_met (test_of p) (length file.bytes) ≡ true
     meets test has = (test_had s formed file m p test (among_from_has_word (description s file) p has)).met
 
-    by : (o : Option (Bool × ℕ)) → test_of p ≡ o → holds (step_by o p) (entry_of s.declared s.axioms file) ≡ has_word (description s file) p
+    by : (o : Option Test) → test_of p ≡ o → holds (step_by o p) (entry_of s.declared s.axioms file) ≡ has_word (description s file) p
     by None e = refl
     by (Some test) e =
-        let is : is_test p ≡ true = ap (λ (o : Option (Bool × ℕ)). is_some o) e in
-        size_of test ∙ sym (ap (λ (o : Option (Bool × ℕ)). is_met o (length file.bytes)) e)
+        let is : is_test p ≡ true = ap (λ (o : Option Test). is_some o) e in
+        size_of test ∙ sym (ap (λ (o : Option Test). is_met o (length file.bytes)) e)
         ∙ same_tests (is_met (test_of p) (length file.bytes)) (has_word (description s file) p) (had is) (meets is)
 
 -- ---- the table of a state

@@ -11,6 +11,7 @@ use Rattle.std.proofs.lemmas.List.Folds.{list_any-append}
 use Rattle.lis_graph.specs.Graph.{is_rising}
 use Rattle.lis_graph.proofs.Filters.{filter_same}
 use Rattle.lis_graph.proofs.Members.{Among, among_from_any, any_from_among, among_filter, filter_among, among_left, among_right, map_among, flat_map_among, among_insert_key, insert_key_old}
+use Rattle.lis_words.specs.declared.test.Test.{Test}
 use Rattle.lis_words.specs.Words.{word_cmp, same_word, has_word, head_bytes, is_valued, is_test, is_built_in, built_in_heads, test_of}
 use Rattle.lis_words.proofs.Tests.{valued_not_test}
 use Rattle.lis_model.specs.Tests.{is_met}
@@ -172,7 +173,7 @@ test_stands declared w test = record { there = inr (inr (inr test)); head = λ v
 declared_stands : (s : State) → WellFormed s → (w : List ℕ) → Among s.declared w → Stands s.declared w
 declared_stands s formed w m = record { there = inl m; head = λ valued. absurd (both_ways (is_valued w) ((settled s formed).not_valued w m) valued) }
 
-met_is_test : (test : Option (Bool × ℕ)) (size : ℕ) → is_met test size ≡ true → is_some {T = Bool × ℕ} test ≡ true
+met_is_test : (test : Option Test) (size : ℕ) → is_met test size ≡ true → is_some test ≡ true
 met_is_test None size h = absurd cc
 met_is_test (Some test) size h = refl
 

@@ -8,6 +8,7 @@ use Rattle.lis_transducers.specs.Mail.{mail_words}
 use Rattle.lis_transducers.specs.Source.{source_words}
 use Rattle.lis_transducers.specs.Pieces.{pieces}
 use Rattle.lis_transducers.specs.Joined.{joined}
+use Rattle.lis_words.specs.declared.test.Test.{Test}
 use Rattle.lis_model.specs.Replies.{line}
 use Rattle.lis_model.specs.Step.{start_of, replies, step, Situation, Outcome, Item, Payload, no_payload, done}
 use Rattle.lis_model.specs.Script.{script, all_items, whole_items}
@@ -191,14 +192,20 @@ tests_shown = refl
 test_not_assigned : said (plain (Mkdir (codes "size<1")) ∷ plain (Create (codes "d") (codes "size<1" ∷ [])) ∷ []) ≡ ok ++ line (codes "no 14 not assignable")
 test_not_assigned = refl
 
+abbrev size_at_least : ℕ → Test
+size_at_least n = record { at_least = true; bytes = n }
+
+abbrev size_below : ℕ → Test
+size_below n = record { at_least = false; bytes = n }
+
 -- size>=1 is weaker than size>=2, and size<3 than size<2
-weaker_at_least : is_weaker (true, 1) (true, 2) ≡ true
+weaker_at_least : is_weaker (size_at_least 1) (size_at_least 2) ≡ true
 weaker_at_least = refl
 
-weaker_below : is_weaker (false, 3) (false, 2) ≡ true
+weaker_below : is_weaker (size_below 3) (size_below 2) ≡ true
 weaker_below = refl
 
-unlike_tests : is_weaker (true, 1) (false, 2) ≡ false
+unlike_tests : is_weaker (size_at_least 1) (size_below 2) ≡ false
 unlike_tests = refl
 
 -- ---- versions: only in version 2 a block numbers more than 16 others

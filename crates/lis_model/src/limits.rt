@@ -38,14 +38,14 @@ pub fn is_files_limit(files: u64) -> bool
 pub fn is_props_limit(props: u64) -> bool
     ensures { result ≡ is_props_limit props }
 {
-    64 <= props && props <= MAX_PROPS && props % 64 == 0
+    64 <= props && props <= u64::from(MAX_PROPS) && props % 64 == 0
 }
 
 /// Whether so many data blocks are in range.
 pub fn is_blocks_limit(blocks: u64) -> bool
     ensures { result ≡ is_blocks_limit blocks }
 {
-    1 <= blocks && blocks <= MAX_BLOCKS
+    1 <= blocks && blocks <= u64::from(MAX_BLOCKS)
 }
 
 /// Whether there is such a version.

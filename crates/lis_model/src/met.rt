@@ -3,13 +3,15 @@
 ghost use Rattle.std.specs.Prelude.{◌≡◌};
 ghost use Rattle.lis_model.specs.Tests.{is_met};
 
-/// Whether so many bytes meet the test, `size>=` its number where it is true and `size<` its number where it is false. Nothing meets no test.
-pub fn is_met(test: Option<(bool, u64)>, size: u64) -> bool
+use lis_words::Test;
+
+/// Whether so many bytes meet the test. Nothing meets no test.
+pub fn is_met(test: Option<Test>, size: u64) -> bool
     ensures { result ≡ is_met test size }
 {
     match test {
         None => false,
-        Some((true, least)) => least <= size,
-        Some((false, bound)) => size < bound,
+        Some(test) if test.at_least => test.bytes <= size,
+        Some(test) => size < test.bytes,
     }
 }

@@ -102,7 +102,7 @@ pub record IsTestBy (o : Option (List ℕ)) : Type 0 where
   pub is : o ≡ Some word
   pub test : is_test word ≡ true
 
-pub test_word : (o : Option (List ℕ)) → is_some {T = Bool × ℕ} (test_by o) ≡ true → IsTestBy o
+pub test_word : (o : Option (List ℕ)) → is_some (test_by o) ≡ true → IsTestBy o
 test_word None some = absurd (both_ways false refl some)
 test_word (Some w) some = record { word = w; is = refl; test = some }
 
@@ -140,7 +140,7 @@ module _ (words : Words) (kept : IsDict words.dict) (end : ℕ) (t : Taxonomy) (
   heads_ordered : TestsAreOrdered words.dict t
   heads_ordered p q edge some =
       let found = headed (word_of words.dict p) (word_of words.dict q) (and_parts (nat_lt p end) (is_head_by (word_of words.dict p) (word_of words.dict q)) (sym (heads.edges p q) ∙ edge)).1 in
-      absurd (head_no_test found.word (subst (λ o. is_some {T = Bool × ℕ} (test_by o) ≡ true) found.head some))
+      absurd (head_no_test found.word (subst (λ o. is_some (test_by o) ≡ true) found.head some))
 
   pub still_ordered : (u : Taxonomy) → LinksSome words.dict words.declared t u → TestsAreOrdered words.dict u
   still_ordered u some = where_ordered some.0 words.dict words.declared t u some.1 heads_ordered

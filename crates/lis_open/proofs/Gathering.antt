@@ -18,6 +18,7 @@ use Rattle.std.proofs.lemmas.Grind.{flat_map-append}
 use Rattle.std.proofs.lemmas.List.{take_more}
 use Rattle.lis_open.specs.declared.words.Words.{Words}
 use Rattle.lis_graph.proofs.Members.{among_filter}
+use Rattle.lis_words.specs.declared.test.Test.{Test}
 use Rattle.lis_words.specs.Words.{test_of}
 use Rattle.lis_laws.proofs.Apart.{test_not_valued}
 use Rattle.lis_laws.proofs.Counts.{all_from}
@@ -127,7 +128,7 @@ module _ (words : Words) (t : Taxonomy) (size : ℕ) (old : Rows) where
 
 -- ---- with what is derived
 -- only a test is met
-met_is_test : (test : Option (Bool × ℕ)) (size : ℕ) → is_met test size ≡ true → is_some test ≡ true
+met_is_test : (test : Option Test) (size : ℕ) → is_met test size ≡ true → is_some test ≡ true
 met_is_test test size met = search (rules, both_ways)
 
 module _ (words : Words) (dict : IsDict words.dict) (size : ℕ) where

@@ -194,13 +194,13 @@ module _ (limits : Limits) (words : Words) (axioms : Axioms) (files : Files) (ma
         ∙ (ap (λ ws. has_word ws w) (told_are words read.words_are.are.dict _ _ (slot_are limits words axioms files marks read slot rec there)) ∙ (test_described metadata metadata_are (draft_of file) given (derived_own file.name file.bytes) n w is test ∙ ap (is_met (test_of w)) numbers.sized))
 
     -- it was given none
-    untested : (n : ℕ) → has_number rec.tags n ≡ true → is_some {T = Bool × ℕ} (test_by (word_of words.dict n)) ≡ false
+    untested : (n : ℕ) → has_number rec.tags n ≡ true → is_some (test_by (word_of words.dict n)) ≡ false
     untested n tag =
         let m = among_from_number rec.tags n tag in
         let word = given_word limits words axioms files limits.files read.files_are slot n rec there m in
-        ap (λ o. is_some {T = Bool × ℕ} (test_by o)) word.1 ∙ assigned_no_test metadata metadata_are file.assigned given word.0 (told_among words.dict rec.tags n word.0 word.1 m)
+        ap (λ o. is_some (test_by o)) word.1 ∙ assigned_no_test metadata metadata_are file.assigned given word.0 (told_among words.dict rec.tags n word.0 word.1 m)
 
-    met_by_number : (n : ℕ) → is_some {T = Bool × ℕ} (test_by (word_of words.dict n)) ≡ true → has files.ext n slot ≡ is_met (test_by (word_of words.dict n)) rec.size
+    met_by_number : (n : ℕ) → is_some (test_by (word_of words.dict n)) ≡ true → has files.ext n slot ≡ is_met (test_by (word_of words.dict n)) rec.size
     met_by_number n test =
         let found = test_word (word_of words.dict n) test in
         test_met n found.word found.is found.test ∙ sym (ap (λ o. is_met (test_by o) rec.size) found.is)

@@ -1,5 +1,6 @@
 -- How many words files would have with a test that is declared.
 use Rattle.std.proofs.Common.{rules}
+use Rattle.lis_words.specs.declared.test.Test.{Test}
 use Rattle.lis_store.proofs.Common.{common_steps, ◌≡◌, sym, ap, ◌∙◌, ℕ, ◌<◌, nat_lt, Bool, true, false, Option, Some, None, is_some, IsSome, List, length, refl, arith, ◌⊎◌, ap₂, subst, inl, inr, ◌≤◌, nat_le, ◌&&◌, ◌||◌, get_or, ◌++◌, list_any, range_with_len, Among, range_among, Filed, rec_at, slot_is_below, FileRecord, State, File, description, Metadata, AreSound, FreeSlotsAreEmpty, Tells, filed_rec, filed_at_slot, fun_ext, list_all, and_parts, ltb-true, lt-ltb, leb-true, list_any-append, contains_from_among, among_append, among_left, among_right, number_of, word_of, number_from_word, has, numbers_at, is_test, test_of, is_valued, is_met, all_up, declared_under, exceeds_words, word_exact, declared_of, axioms_of, named_all, some_word, among_word, word_among, both_ways, false_from_ne_true, among_from_any, any_from_among, same_tests, file_told, words_told, has_number, known, all_up_has, all_among, among_from_number, number_from_among, numbers_where}
 use Rattle.lis_graph.proofs.Ranges.{among_range}
 use Rattle.lis_store.proofs.StoreSays.{file_of_filed, filed_of_file, number_of_known, size_of_filed}
@@ -58,7 +59,7 @@ named_at k numbers named i lt = all_among (λ n. is_some (word_of k.dict n)) num
 gains_within : (k : Metadata) (some more : List ℕ) → ((n : ℕ) → Among some n → Among more n) → (n : ℕ) → is_gained k some n ≡ true → is_gained k more n ≡ true
 gains_within k some more within n h = let found = among_from_any (λ m. is_entailed k m n) some h in any_from_among (λ m. is_entailed k m n) more found.0 (within found.0 found.1) found.2
 
-pub crowded_alike : (k : Metadata) (t : Option (Bool × ℕ)) (some more : List ℕ) → ((n : ℕ) → Among some n → Among more n) → ((n : ℕ) → Among more n → Among some n) → has_crowded k t some ≡ has_crowded k t more
+pub crowded_alike : (k : Metadata) (t : Option Test) (some more : List ℕ) → ((n : ℕ) → Among some n → Among more n) → ((n : ℕ) → Among more n → Among some n) → has_crowded k t some ≡ has_crowded k t more
 crowded_alike k t some more to from =
     ap (λ (gains : ℕ → Bool). list_any (λ slot. is_met_at k t slot && nat_lt 127 (length (numbers_where k.ext.props (λ n. has k.ext n slot || gains n)))) (range_with_len 0 k.limits.files))
     (fun_ext (λ n. same_tests (is_gained k some n) (is_gained k more n) (gains_within k some more to n) (gains_within k more some from n)))
@@ -173,7 +174,7 @@ never_crowded k word numbers plain = by (test_of word) plain
     none None = refl
     none (Some rec) = refl
 
-    by : (o : Option (Bool × ℕ)) → is_some {T = Bool × ℕ} o ≡ false → has_crowded k o numbers ≡ false
+    by : (o : Option Test) → is_some o ≡ false → has_crowded k o numbers ≡ false
     by None e = false_from_ne_true (has_crowded k None numbers) (λ h.
         let found = among_from_any (is_crowded k None numbers) (range_with_len 0 k.limits.files) h in
         both_ways (is_met_at k None found.0) (none (rec_at k.catalog found.0)) (and_parts (is_met_at k None found.0) (nat_lt 127 (length (wider k (is_gained k numbers) found.0))) found.2).0)

@@ -81,7 +81,7 @@ flagged_before p sound d keeps n w bit is = let word = some_word (word_of p.dict
 
 -- ---- tests that have numbers
 -- a test is the word of its number
-pub tested_word : (o : Option (List ℕ)) → is_some {T = Bool × ℕ} (test_by o) ≡ true → (w : List ℕ) × (o ≡ Some w) × (is_test w ≡ true)
+pub tested_word : (o : Option (List ℕ)) → is_some (test_by o) ≡ true → (w : List ℕ) × (o ≡ Some w) × (is_test w ≡ true)
 tested_word None test = absurd (both_ways false refl test)
 tested_word (Some w) test = (w, refl, test)
 
@@ -91,13 +91,13 @@ pub tests_stay : (p q : Metadata) → ((at : ℕ) (rec : FileRecord) → rec_at 
     → ((n at : ℕ) (rec : FileRecord) (w : List ℕ) → rec_at q.catalog at ≡ Some rec → word_of p.dict n ≡ Some w → is_test w ≡ true → has q.ext n at ≡ has p.ext n at)
     → TestsAreMet p → TestsAreMet q
 tests_stay p q files words rows tests = record {
-  given = λ at rec there n tag. false_from_ne_true (is_some {T = Bool × ℕ} (test_by (word_of q.dict n))) (λ test.
+  given = λ at rec there n tag. false_from_ne_true (is_some (test_by (word_of q.dict n))) (λ test.
       let w = tested_word (word_of q.dict n) test in
-      both_ways (is_some {T = Bool × ℕ} (test_by (word_of p.dict n))) (tests.given at rec (files at rec there) n tag) (ap (λ o. is_some {T = Bool × ℕ} (test_by o)) (words n w.0 w.1 w.2) ∙ w.2));
+      both_ways (is_some (test_by (word_of p.dict n))) (tests.given at rec (files at rec there) n tag) (ap (λ o. is_some (test_by o)) (words n w.0 w.1 w.2) ∙ w.2));
   met = λ at rec there n test.
       let w = tested_word (word_of q.dict n) test in
       let was = words n w.0 w.1 w.2 in
       rows n at rec w.0 there was w.2
-      ∙ (tests.met at rec (files at rec there) n (ap (λ o. is_some {T = Bool × ℕ} (test_by o)) was ∙ w.2)
+      ∙ (tests.met at rec (files at rec there) n (ap (λ o. is_some (test_by o)) was ∙ w.2)
       ∙ ap (λ o. is_met (test_by o) rec.size) (was ∙ sym w.1));
 }

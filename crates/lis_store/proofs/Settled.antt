@@ -150,11 +150,11 @@ module _ {slot : ℕ} {old : List ℕ} {draft : Draft} {blocks : List ℕ} {v q 
     given = λ at r there n tag. elim (cases_eq at slot) [
       | inl same ↦
           let found = given_word n (subst (λ (x : FileRecord). has_number x.tags n ≡ true) (sym (same_rec at r same there)) tag) in
-          ap (λ o. is_some {T = Bool × ℕ} (test_by o)) found.1 ∙ assigned_no_test v vacant.sound draft.assigned may.assignable found.0 found.2
-      | inr differ ↦ false_from_ne_true (is_some {T = Bool × ℕ} (test_by (word_of l.dict n))) (λ test.
+          ap (λ o. is_some (test_by o)) found.1 ∙ assigned_no_test v vacant.sound draft.assigned may.assignable found.0 found.2
+      | inr differ ↦ false_from_ne_true (is_some (test_by (word_of l.dict n))) (λ test.
           let w = tested_word (word_of l.dict n) test in
-          both_ways (is_some {T = Bool × ℕ} (test_by (word_of v.dict n))) (vacant.form.tests.given at r (sym (rec_other at differ) ∙ there) n tag)
-          (ap (λ o. is_some {T = Bool × ℕ} (test_by o)) (test_was n w.0 w.1 w.2) ∙ w.2))
+          both_ways (is_some (test_by (word_of v.dict n))) (vacant.form.tests.given at r (sym (rec_other at differ) ∙ there) n tag)
+          (ap (λ o. is_some (test_by o)) (test_was n w.0 w.1 w.2) ∙ w.2))
     ];
     met = λ at r there n test.
         let w = tested_word (word_of l.dict n) test in
@@ -169,7 +169,7 @@ module _ {slot : ℕ} {old : List ℕ} {draft : Draft} {blocks : List ℕ} {v q 
               ∙ (ap (λ (x : FileRecord). is_met (test_of w.0) x.size) (same_rec at r same there) ∙ here))))
           | inr differ ↦
               has_other n at differ
-              ∙ (vacant.form.tests.met at r (sym (rec_other at differ) ∙ there) n (ap (λ o. is_some {T = Bool × ℕ} (test_by o)) was ∙ w.2)
+              ∙ (vacant.form.tests.met at r (sym (rec_other at differ) ∙ there) n (ap (λ o. is_some (test_by o)) was ∙ w.2)
               ∙ (ap (λ o. is_met (test_by o) r.size) was ∙ here))
         ];
   }

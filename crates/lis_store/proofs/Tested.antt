@@ -1,6 +1,7 @@
 -- A word that is declared under others: the files that meet it have it, where it is a test, and all that the others entail.
 use Rattle.std.proofs.Common.{rules}
 use Rattle.lis_store.proofs.Common.{◌≡◌, ◌⊎◌, refl, sym, ap, ap₂, ◌∙◌, subst, inl, inr, ℕ, ◌+◌, ◌<◌, ◌≤◌, nat_lt, ◌&&◌, ◌||◌, Bool, true, false, List, [], ◌∷◌, ◌++◌, length, Option, Some, None, is_some, IsSome, arith, Result, list_any, range_with_len, or_cases, cases_eq, ltb-false, same_Some, Among, contains_from_among, range_among, word_of, rec_at, Filed, slot_is_below, Ext, has, numbers_at, differs, FileRecord, is_valued, is_test, test_of, plain_not_test, with_word, is_met, State, up, File, all_up, own_words, description, WellFormed, under, Metadata, marked_count, IsSaved, AreSound, FreeSlotsAreEmpty, KeepsInUse, declared_of, axioms_of, bytes_told, state_of, AreUsed, Tells, test_by, among_where, where_among, sorted_where, filed_rec, named_all, some_word, among_axiom, among_word, word_among, declared_has_number, used_had, met_weaker, Meaning, Held, Formula, Refusal, image_blocks, declared_under, Situation, refused, words_at, mkdir, link_named, linked_up, Head, Weaker, fun_ext, or_right, both_ways, false_from_ne_true, among_from_any, any_from_among, has_number, numbers_where, known, all_among, is_linked, words_told, file_told, among_from_number, number_from_among, one_number, same_tests, changed, all_up_has, declarable_not_valued, link_cases}
+use Rattle.lis_words.specs.declared.test.Test.{Test}
 use Rattle.lis_words.specs.Words.{is_property}
 use Rattle.lis_model.specs.Tests.{are_weaker}
 use Rattle.lis_laws.proofs.Chains.{tests_by}
@@ -41,14 +42,14 @@ use Rattle.lis_kept.specs.Image.{image_shape}
 
 -- ---- the sizes of files
 -- a slot whose file meets a test has one
-met_rec : (t : Option (Bool × ℕ)) (o : Option FileRecord) → is_met_by t o ≡ true → (rec : FileRecord) × (o ≡ Some rec) × (is_met t rec.size ≡ true)
+met_rec : (t : Option Test) (o : Option FileRecord) → is_met_by t o ≡ true → (rec : FileRecord) × (o ≡ Some rec) × (is_met t rec.size ≡ true)
 met_rec t o h = search (rules, both_ways)
 
 -- ---- descriptions that are made anew
-pub base_is : (k : Metadata) (test : Bool × ℕ) (number slot : ℕ) → base_at k (Meeting test number) slot ≡ number ∷ numbers_at k.ext slot
+pub base_is : (k : Metadata) (test : Test) (number slot : ℕ) → base_at k (Meeting test number) slot ≡ number ∷ numbers_at k.ext slot
 base_is k test number slot = ap (λ ns. number ∷ ns) (filter_all (λ n. true) (numbers_at k.ext slot) (λ n m. refl))
 
-pub tested_is : (k : Metadata) (test : Bool × ℕ) (number : ℕ) → rebuilt k (Meeting test number) ≡ tested k (Some test) number
+pub tested_is : (k : Metadata) (test : Test) (number : ℕ) → rebuilt k (Meeting test number) ≡ tested k (Some test) number
 tested_is k test number = ap (anew k (is_met_at k (Some test))) (fun_ext (base_is k test number))
 
 -- a word that is no test changes nothing
@@ -132,7 +133,7 @@ module _ {p made : Metadata} {word : List ℕ} {rights : List ℕ} (form : AreIn
         let from = among_word p form.sound set v m in
         let rec = rec_there (rec_at p.catalog slot) (had_filed p form.free from.0 slot from.2) in
         let is_v : test_by (word_of p.dict from.0) ≡ test_of v = ap test_by from.1 in
-        let met = sym (form.tests.met slot rec.0 rec.1 from.0 (ap (λ o. is_some {T = Bool × ℕ} o) is_v ∙ (tests_by (test_of word) (test_of v) weaker).1)) ∙ from.2 in
+        let met = sym (form.tests.met slot rec.0 rec.1 from.0 (ap (λ o. is_some o) is_v ∙ (tests_by (test_of word) (test_of v) weaker).1)) ∙ from.2 in
         both_ways (meets slot) unmet (meets_is slot rec.0 rec.1 ∙ met_weaker (test_of word) (test_of v) rec.0.size weaker (ap (λ t. is_met t rec.0.size) (sym is_v) ∙ met))
 
     weaker_had : meets slot ≡ true → (r : List ℕ) → Among (declared_of p) r → are_weaker (test_of r) (test_of word) ≡ true → Among had r
@@ -141,7 +142,7 @@ module _ {p made : Metadata} {word : List ℕ} {rights : List ℕ} (form : AreIn
         let rec = met_file slot met in
         let is_r : test_by (word_of p.dict to.0) ≡ test_of r = ap test_by to.1 in
         word_among p form.sound set to.0 r to.1
-        (form.tests.met slot rec.0 rec.1 to.0 (ap (λ o. is_some {T = Bool × ℕ} o) is_r ∙ (tests_by (test_of r) (test_of word) weaker).0)
+        (form.tests.met slot rec.0 rec.1 to.0 (ap (λ o. is_some o) is_r ∙ (tests_by (test_of r) (test_of word) weaker).0)
         ∙ (ap (λ t. is_met t rec.0.size) is_r ∙ met_weaker (test_of r) (test_of word) rec.0.size weaker rec.2))
 
     -- it gains the number, and what the words of the place entail
@@ -260,7 +261,7 @@ module _ {p made : Metadata} {word : List ℕ} {rights : List ℕ} (form : AreIn
     tests_then = record {
       given = λ slot rec is n tag.
           let was = rec_was slot rec is in
-          ap (λ o. is_some {T = Bool × ℕ} (test_by o)) (kept_word n (named_p n slot (form.in_use.tags slot rec was n tag))) ∙ form.tests.given slot rec was n tag;
+          ap (λ o. is_some (test_by o)) (kept_word n (named_p n slot (form.in_use.tags slot rec was n tag))) ∙ form.tests.given slot rec was n tag;
       met = λ slot rec is n test. met slot rec (rec_was slot rec is) n (tested_word (word_of made.dict n) test) (cases_eq n number);
     }
       where
@@ -280,7 +281,7 @@ module _ {p made : Metadata} {word : List ℕ} {rights : List ℕ} (form : AreIn
         met slot rec was n w (inr differ) =
             let named = word_other form.sound may stands n differ in
             test_same n slot w.0 (sym named ∙ w.1) w.2
-            ∙ (form.tests.met slot rec was n (ap (λ o. is_some {T = Bool × ℕ} (test_by o)) (sym named ∙ w.1) ∙ w.2) ∙ ap (λ o. is_met (test_by o) rec.size) (sym named))
+            ∙ (form.tests.met slot rec was n (ap (λ o. is_some (test_by o)) (sym named ∙ w.1) ∙ w.2) ∙ ap (λ o. is_met (test_by o) rec.size) (sym named))
 
     used_then : KeepsInUse end
     used_then = record {

@@ -48,7 +48,7 @@ module _ (k : Metadata) (sound : AreSound k) (word : List ℕ) (n : ℕ) (number
   -- it may be taken back where nothing needs it, once no description has it
   module _ (in_use : KeepsInUse k) (closed : AreClosed k) (tests : TestsAreMet k) (unneeded : is_needed k n ≡ false) where
     abbrev tested : Bool
-    tested = is_some {T = Bool × ℕ} (test_by (word_of k.dict n))
+    tested = is_some (test_by (word_of k.dict n))
 
     neither_had : (not tested && is_had k.ext n) ≡ false
     neither_had = (neither (not tested && is_had k.ext n) (list_any (is_named_by k.dict n) k.axioms) unneeded).0
@@ -78,7 +78,7 @@ module _ (k : Metadata) (sound : AreSound k) (word : List ℕ) (n : ℕ) (number
             at None is test h = both_ways (is_head_by (Some w) (word_of k.dict n)) (ap (is_head_by (Some w)) is) h
             at (Some v) is test h =
                 let both = and_parts (is_valued w) (same_word (head_bytes w) v) (sym (ap (is_head_by (Some w)) is) ∙ h) in
-                head_no_test w (subst (λ u. is_test u ≡ true) (sym ((same_word_decides (head_bytes w) v).0 both.1)) (sym (ap (λ o. is_some {T = Bool × ℕ} (test_by o)) is) ∙ test))
+                head_no_test w (subst (λ u. is_test u ≡ true) (sym ((same_word_decides (head_bytes w) v).0 both.1)) (sym (ap (λ o. is_some (test_by o)) is) ∙ test))
 
         by : (b : Bool) → tested ≡ b → MayUndeclare n (undescribed k)
         by true test = record {
@@ -227,12 +227,12 @@ module _ {old : Stored} {word : List ℕ} {number : ℕ} (sound : IsSound old) (
       tests = record {
         given = λ slot rec is n tag.
             let was = rec_was slot rec is in
-            ap (λ o. is_some {T = Bool × ℕ} (test_by o)) (stays n (not_tag slot rec was n tag)) ∙ sound.tests.given slot rec was n tag;
+            ap (λ o. is_some (test_by o)) (stays n (not_tag slot rec was n tag)) ∙ sound.tests.given slot rec was n tag;
         met = λ slot rec is n test.
             let differ = word_before n (ap is_some (tested_word (word_of q.dict n) test).1) in
             let same = stays n differ in
             has_same n slot differ
-            ∙ (sound.tests.met slot rec (rec_was slot rec is) n (ap (λ o. is_some {T = Bool × ℕ} (test_by o)) (sym same) ∙ test) ∙ ap (λ o. is_met (test_by o) rec.size) (sym same));
+            ∙ (sound.tests.met slot rec (rec_was slot rec is) n (ap (λ o. is_some (test_by o)) (sym same) ∙ test) ∙ ap (λ o. is_met (test_by o) rec.size) (sym same));
       };
     }
 

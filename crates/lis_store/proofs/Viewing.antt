@@ -1,5 +1,6 @@
 -- What memory keeps is a view, and its rows and its taxonomy tell of it.
 use Rattle.std.proofs.Common.{eq-eqb}
+use Rattle.lis_words.specs.declared.test.Test.{Test}
 use Rattle.lis_store.proofs.Common.{common_steps, ◌≡◌, ℕ, ◌==◌, ◌&&◌, nat_lt, Bool, true, List, map, is_some, Option, Some, None, refl, sym, ap, ap₂, ◌∙◌, subst, arith, list_any, Contains, and_parts, eqb-true, ltb-true, length-map, same_Some, Among, among_from_contains, contains_from_among, number_of, word_of, number_below, Filed, slot_of, rec_at, has, numbers_at, Taxonomy, leads, entails_decides, FileRecord, same_word, has_word, test_of, up, is_met, same_word_decides, among_from_has_word, Placed, Metadata, AreSound, FreeSlotsAreEmpty, declared_of, axioms_of, test_by, TellsLinks, filed_rec, filed_slot, filed_at_slot, among_word, number_told, and_from, both_ways, among_from_any, any_from_among, among_map, map_among, words, has_word_from_among, all_among, same_tests, words_told}
 use Rattle.lis_dict.proofs.Laws.{among_from_word, number_from_among, word_from_among}
 use Rattle.lis_model.specs.Tests.{step_by}
@@ -13,7 +14,7 @@ use Rattle.lis_store.proofs.Entailment.{closed_up}
 use Rattle.lis_store.proofs.StoreSays.{any_is_found}
 
 -- the step of a test asks for the size
-size_asked : (word : List ℕ) (test : Bool × ℕ) (file : Entry) → holds (step_by (Some test) word) file ≡ is_met (Some test) file.size
+size_asked : (word : List ℕ) (test : Test) (file : Entry) → holds (step_by (Some test) word) file ≡ is_met (Some test) file.size
 size_asked word test file = grind (arith, common_steps)
 
 module _ (k : Metadata) (sound : AreSound k) where
@@ -56,15 +57,15 @@ module _ (k : Metadata) (sound : AreSound k) where
       subst (λ (x : Placed). has k.ext w.1 x.slot ≡ has_word x.entry.words w.0) g.2 (number_told k sound (numbers_at k.ext (g.0).slot) w.1 w.0 (named w there_w))
 
   -- a step that asks for a test finds the files that have it
-  asked : TestsAreMet k → (w : Numbered) (f : Placed) → Contains k.dict.entries w → Contains (map (placed k) k.catalog.entries) f → (test : Option (Bool × ℕ)) → test_of w.0 ≡ test
+  asked : TestsAreMet k → (w : Numbered) (f : Placed) → Contains k.dict.entries w → Contains (map (placed k) k.catalog.entries) f → (test : Option Test) → test_of w.0 ≡ test
       → holds (step_by test w.0) f.entry ≡ has_word f.entry.words w.0
   asked met w f there_w there_f None e = refl
   asked met w f there_w there_f (Some test) e =
       let g = filed f there_f in
       let tested = ap test_by (named w there_w) in
       let here : has k.ext w.1 (g.0).slot ≡ is_met (test_of w.0) (g.0).rec.size =
-      met.met (g.0).slot (g.0).rec (filed_rec k.catalog sound.catalog g.0 g.1) w.1 (ap (λ (o : Option (Bool × ℕ)). is_some o) (tested ∙ e))
-      ∙ ap (λ (o : Option (Bool × ℕ)). is_met o (g.0).rec.size) tested in
+      met.met (g.0).slot (g.0).rec (filed_rec k.catalog sound.catalog g.0 g.1) w.1 (ap (λ (o : Option Test). is_some o) (tested ∙ e))
+      ∙ ap (λ (o : Option Test). is_met o (g.0).rec.size) tested in
       size_asked w.0 test f.entry
       ∙ (ap (λ (x : Placed). is_met (Some test) x.entry.size) (sym g.2)
       ∙ (ap (λ o. is_met o (g.0).rec.size) (sym e)

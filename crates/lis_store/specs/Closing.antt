@@ -1,6 +1,7 @@
 -- Descriptions that are made anew: of some of their numbers, with all that these entail.
 use Rattle.std.specs.Prelude.{ℕ, Bool, true, false, not, ◌&&◌, ◌||◌, if◌then◌else◌, Option, is_some, Some, None, List, [], ◌∷◌, ◌++◌, filter}
 use Rattle.std.specs.List.{list_any}
+use Rattle.lis_words.specs.declared.test.Test.{Test}
 use Rattle.lis_dict.specs.Dict.{word_of}
 use Rattle.lis_catalog.specs.Catalog.{rec_at}
 use Rattle.lis_ext.specs.Ext.{has, set_of as numbers_at}
@@ -45,12 +46,12 @@ abbrev pub wider : Metadata → (ℕ → Bool) → ℕ → List ℕ
 wider k gains slot = numbers_where k.ext.props (λ n. has k.ext n slot || gains n)
 
 -- ---- which descriptions are made anew
-abbrev pub is_met_by : Option (Bool × ℕ) → Option FileRecord → Bool
+abbrev pub is_met_by : Option Test → Option FileRecord → Bool
 is_met_by test None = false
 is_met_by test (Some rec) = is_met test rec.size
 
 -- there is a file in the slot, and its size meets the test
-abbrev pub is_met_at : Metadata → Option (Bool × ℕ) → ℕ → Bool
+abbrev pub is_met_at : Metadata → Option Test → ℕ → Bool
 is_met_at k test slot = is_met_by test (rec_at k.catalog slot)
 
 abbrev pub is_concerned : Metadata → Rebuild → ℕ → Bool

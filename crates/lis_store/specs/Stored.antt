@@ -54,8 +54,8 @@ DescriptionsAreShort k = (slot : ℕ) → length (numbers_at k.ext slot) ≤ MAX
 -- Tests come into descriptions by sizes alone: no file was given one, and a file has a known one exactly where its size meets it.
 pub record TestsAreMet (k : Metadata) : Type 0 where
   pub given : (slot : ℕ) (rec : FileRecord) → rec_at k.catalog slot ≡ Some rec → (n : ℕ) → has_number rec.tags n ≡ true
-      → is_some {T = Bool × ℕ} (test_by (word_of k.dict n)) ≡ false
-  pub met : (slot : ℕ) (rec : FileRecord) → rec_at k.catalog slot ≡ Some rec → (n : ℕ) → is_some {T = Bool × ℕ} (test_by (word_of k.dict n)) ≡ true
+      → is_some (test_by (word_of k.dict n)) ≡ false
+  pub met : (slot : ℕ) (rec : FileRecord) → rec_at k.catalog slot ≡ Some rec → (n : ℕ) → is_some (test_by (word_of k.dict n)) ≡ true
       → has k.ext n slot ≡ is_met (test_by (word_of k.dict n)) rec.size
 
 -- What holds of every store. Where it is not broken nothing is placed or marked between calls, and of what is staged there are few blocks,

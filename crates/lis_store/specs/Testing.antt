@@ -3,6 +3,7 @@ use Rattle.std.specs.Prelude.{◌-◌, ℕ, ◌==◌, nat_lt, Bool, false, not, 
 use Rattle.std.specs.List.{list_any, range_with_len}
 use Rattle.lis_limits.specs.declared.TheConstants.{MAX_DESCRIPTION, MAX_NODES}
 use Rattle.lis_ext.specs.Ext.{set_of as numbers_at}
+use Rattle.lis_words.specs.declared.test.Test.{Test}
 use Rattle.lis_words.specs.Words.{test_of}
 use Rattle.lis_kept.specs.Metadata.{Metadata}
 use Rattle.lis_kept.specs.Sound.{AreSound}
@@ -17,10 +18,10 @@ use Rattle.lis_store.specs.Placing.{AreNumbersOf}
 
 -- ---- a new test
 -- a file meets the test, and would have too many words with it and with what it gains
-abbrev pub is_crowded : Metadata → Option (Bool × ℕ) → List ℕ → ℕ → Bool
+abbrev pub is_crowded : Metadata → Option Test → List ℕ → ℕ → Bool
 is_crowded k test numbers slot = is_met_at k test slot && nat_lt (MAX_DESCRIPTION - 1) (length (wider k (is_gained k numbers) slot))
 
-abbrev pub has_crowded : Metadata → Option (Bool × ℕ) → List ℕ → Bool
+abbrev pub has_crowded : Metadata → Option Test → List ℕ → Bool
 has_crowded k test numbers = list_any (is_crowded k test numbers) (range_with_len 0 k.limits.files)
 
 -- The word may be declared under the words of these numbers: it is a new one, and there is room for it.
@@ -34,7 +35,7 @@ pub record MayDeclare (k : Metadata) (word : List ℕ) (numbers : List ℕ) : Ty
   pub short : length numbers ≤ MAX_NODES
 
 -- The description in a slot, where the number is that of a new test: a file that meets it has it, and all that its words entail then.
-abbrev pub tested : Metadata → Option (Bool × ℕ) → ℕ → ℕ → List ℕ
+abbrev pub tested : Metadata → Option Test → ℕ → ℕ → List ℕ
 tested k test number = anew k (is_met_at k test) (λ slot. number ∷ numbers_at k.ext slot)
 
 -- The word is declared under others, and files that meet it have it.

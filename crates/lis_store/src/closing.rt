@@ -15,6 +15,7 @@ use crate::removing::numbers_at;
 use arrayvec::ArrayVec;
 use lis_kept::Metadata;
 use lis_limits::MAX_DESCRIPTION;
+use lis_words::Test;
 
 /// Which descriptions are made anew, and of which numbers.
 #[derive(Clone, Copy)]
@@ -24,7 +25,7 @@ pub(crate) enum Rebuild {
     /// Those that have the left number, of their numbers that need no axiom to the right one.
     Losing(u16, u16),
     /// Those of files that meet the test, of the number and all their own.
-    Meeting((bool, u64), u16),
+    Meeting(Test, u16),
 }
 
 /// The numbers of all that the words of these numbers entail, in rising order.

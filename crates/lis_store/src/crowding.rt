@@ -11,10 +11,10 @@ ghost use Rattle.lis_store.specs.Testing.{is_crowded, has_crowded};
 use lis_kept::Metadata;
 use lis_limits::MAX_DESCRIPTION;
 use lis_model::met::is_met;
-use lis_words::{Word, test_of};
+use lis_words::{Test, Word, test_of};
 
 /// Whether there is a file in the slot, and its size meets the test.
-pub(crate) fn is_met_at(metadata: &Metadata, test: (bool, u64), slot: u16) -> bool
+pub(crate) fn is_met_at(metadata: &Metadata, test: Test, slot: u16) -> bool
     ensures { result ≡ is_met_at metadata.now (Some test) slot }
 {
     match metadata.rec(slot) {
@@ -48,7 +48,7 @@ pub(crate) fn is_full(metadata: &Metadata, numbers: &[u16], slot: u16, most: u32
 }
 
 // Whether a file meets the test, and would have too many words with it and with what it gains.
-fn is_crowded(metadata: &Metadata, test: (bool, u64), numbers: &[u16], slot: u16) -> bool
+fn is_crowded(metadata: &Metadata, test: Test, numbers: &[u16], slot: u16) -> bool
     requires sound { AreSound metadata.now }
     requires named { IsTrue (list_all (λ n. is_some (word_of metadata.now.dict n)) numbers.now) }
     requires slot { slot < metadata.now.limits.files }

@@ -9,20 +9,20 @@ ghost use Rattle.lis_table.specs.Links.{with_links, all_linked};
 
 use crate::words::{has_word, insert_word};
 use lis_model::met::is_met;
-use lis_words::{Word, head_of, test_of};
+use lis_words::{Test, Word, head_of, test_of};
 use std::alloc::{AllocError, Global};
 
-fn is_weaker(q: (bool, u64), p: (bool, u64)) -> bool
+fn is_weaker(q: Test, p: Test) -> bool
     ensures { result ≡ is_weaker q p }
 {
-    if q.0 {
-        return p.0 && q.1 < p.1;
+    if q.at_least {
+        return p.at_least && q.bytes < p.bytes;
     }
-    !p.0 && p.1 < q.1
+    !p.at_least && p.bytes < q.bytes
 }
 
 /// Whether the word is a test that is weaker than this one.
-fn is_weaker_test(word: &Word, test: (bool, u64)) -> bool
+fn is_weaker_test(word: &Word, test: Test) -> bool
     ensures { result ≡ are_weaker (test_of word.now) (Some test) }
 {
     match test_of(word) {
@@ -35,7 +35,7 @@ fn is_weaker_test(word: &Word, test: (bool, u64)) -> bool
 fn insert_weaker_than(
     words: &mut Vec<Word>,
     declared: &[Word],
-    test: (bool, u64),
+    test: Test,
 ) -> Result<(), AllocError>
     ensures { OnOk result (words.new.items ≡ with_words words.old.items (filter (λ q. are_weaker (test_of q) (Some test)) declared.now)) }
 {

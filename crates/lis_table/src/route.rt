@@ -18,8 +18,8 @@ fn holds(word: &Word, file: &Entry) -> bool
 {
     match test_of(word) {
         None => has_word(&file.words, word),
-        Some((true, number)) => number <= file.size,
-        Some((false, number)) => file.size < number,
+        Some(test) if test.at_least => test.bytes <= file.size,
+        Some(test) => file.size < test.bytes,
     }
 }
 

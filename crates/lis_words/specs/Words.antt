@@ -6,6 +6,7 @@ use Rattle.std.specs.Ordering.{nat_cmp}
 use Rattle.std.specs.declared.cmp.Ordering.{Ordering}
 use Rattle.std.specs.List.{list_any, list_all, fold}
 use Rattle.lis_limits.specs.declared.TheConstants.{MAX_WORD}
+use Rattle.lis_words.specs.declared.test.Test.{Test}
 use Rattle.lis_words.specs.Bytes.{is_colon}
 
 -- an ASCII letter, a digit, or one of _ - . + @
@@ -75,13 +76,13 @@ abbrev pub number_behind : List ℕ → List ℕ → Option ℕ
 number_behind sign word =
     if same_word (take (length sign) word) sign && is_number (drop (length sign) word) then Some (count_of (drop (length sign) word)) else None
 
-abbrev pub test_by : Option ℕ → Option ℕ → Option (Bool × ℕ)
-test_by (Some n) below = Some (true, n)
-test_by None (Some n) = Some (false, n)
+abbrev pub test_by : Option ℕ → Option ℕ → Option Test
+test_by (Some n) below = Some (record { at_least = true; bytes = n })
+test_by None (Some n) = Some (record { at_least = false; bytes = n })
 test_by None None = None
 
--- which test a word is: whether it asks for so many bytes at least, or for fewer, and its number; none where the word is no test
-abbrev pub test_of : List ℕ → Option (Bool × ℕ)
+-- which test a word is: whether it asks for so many bytes at least, or for fewer; none where the word is no test
+abbrev pub test_of : List ℕ → Option Test
 test_of word = test_by (number_behind (codes "size>=") word) (number_behind (codes "size<") word)
 
 abbrev pub is_test : List ℕ → Bool

@@ -6,8 +6,8 @@ ghost use Rattle.std.specs.List.{list_any, list_all, prefix_len};
 ghost use Rattle.std.specs.Char.{is_ascii_digit};
 ghost use Rattle.lis_words.specs.Bytes.{is_colon};
 
-/// The most bytes of a word or a file name.
-pub const MAX_WORD: usize = 60;
+use crate::test::Test;
+use lis_limits::MAX_WORD;
 
 /// The most digits of a count.
 pub const MAX_DIGITS: usize = 12;
@@ -230,15 +230,21 @@ fn number_behind(sign: &[u8], bytes: &[u8]) -> Option<u64>
     read_count(digits)
 }
 
-/// Which test the bytes are: whether it is `size>=` or `size<`, and its number. None comes exactly where they are none.
-pub fn test_in(bytes: &[u8]) -> Option<(bool, u64)>
+/// Which test the bytes are. None comes exactly where they are none.
+pub fn test_in(bytes: &[u8]) -> Option<Test>
     ensures { result ≡ test_of bytes.now }
 {
     if let Some(number) = number_behind(b"size>=".as_slice(), bytes) {
-        return Some((true, number));
+        return Some(Test {
+            at_least: true,
+            bytes: number,
+        });
     }
     match number_behind(b"size<".as_slice(), bytes) {
-        Some(number) => Some((false, number)),
+        Some(number) => Some(Test {
+            at_least: false,
+            bytes: number,
+        }),
         None => None,
     }
 }

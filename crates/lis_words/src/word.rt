@@ -7,6 +7,7 @@ ghost use Rattle.lis_words.specs.Kind.{kind_of};
 use crate::forms::{
     is_head, is_plain_word, is_property, is_valued, is_word, split_at_colon, test_in,
 };
+use crate::test::Test;
 use arrayvec::ArrayVec;
 use lis_limits::MAX_WORD;
 use std::marker::Model;
@@ -131,8 +132,8 @@ pub fn kind(word: &Word) -> PropKind
     PropKind::Test
 }
 
-/// Which test the word is: whether it is `size>=` or `size<`, and its number. None comes exactly where it is no test.
-pub fn test_of(word: &Word) -> Option<(bool, u64)>
+/// Which test the word is. None comes exactly where it is no test.
+pub fn test_of(word: &Word) -> Option<Test>
     ensures { result ≡ test_of word.now }
 {
     test_in(word.bytes())

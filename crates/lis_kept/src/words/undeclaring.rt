@@ -43,7 +43,7 @@ fn is_named(dict: &Dict, axioms: &[AxiomSlot], number: u16) -> bool
 
 // Whether the word of a number is a test.
 fn is_test(dict: &Dict, number: u16) -> bool
-    ensures { result ≡ is_some {T = Bool × ℕ} (test_by (word_of dict.now number)) }
+    ensures { result ≡ is_some (test_by (word_of dict.now number)) }
 {
     match dict.word_of(number) {
         None => false,

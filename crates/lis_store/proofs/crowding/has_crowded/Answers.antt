@@ -4,7 +4,7 @@ use Rattle.lis_store.proofs.Crowded.{never_crowded, full_at, full_nowhere}
 use Rattle.lis_store.proofs.crowding.has_crowded.Goals as goal
 
 pub returns-in_default : goal.returns-in_default
-returns-in_default c = sym (never_crowded c.args.metadata.now c.args.word.now c.args.numbers.now (ap (is_some {T = Bool × ℕ}) (sym c.test_of.ensures ∙ c.in_default.is)))
+returns-in_default c = sym (never_crowded c.args.metadata.now c.args.word.now c.args.numbers.now (ap is_some (sym c.test_of.ensures ∙ c.in_default.is)))
 
 pub returns-then-is_crowded : goal.returns-then-is_crowded
 returns-then-is_crowded c =

@@ -27,7 +27,7 @@ pub returns : goal.returns
 returns c =
     let k = the_view c.self.inside in
     let n = c.args.number in
-    let tested : Bool = is_some {T = Bool × ℕ} (test_by (word_of k.dict n)) in
+    let tested : Bool = is_some (test_by (word_of k.dict n)) in
     let none : (not tested && is_had k.ext n) ≡ false =
     elim c.else-not-is_test.branch [
       | else-not-is_test-via-then-not-is_test+else-is_had w ↦ ap₂ (λ a b. not a && b) (sym c.is_test.ensures ∙ w.if-not-is_test.true) (sym w.is_had.ensures ∙ w.if-is_had.false)
