@@ -1,11 +1,12 @@
 //! The whole dump.
 
-ghost use Rattle.std.specs.Prelude.{List, []};
+ghost use Rattle.std.specs.Prelude.{List, [], IsTrue};
 ghost use Rattle.lis_grammar.specs.Formula.{Formula};
 ghost use Rattle.lis_replay.specs.Dump.{dump_of};
 ghost use Rattle.lis_store.specs.Stored.{IsSound, StoreFits, IsUsable};
 ghost use Rattle.lis_session.specs.Item.{Does};
 ghost use Rattle.lis_session.specs.Parts.{only_shows, Ends};
+ghost use Rattle.lis_session.specs.Showing.{DiskStays};
 
 use crate::axioms::show_axioms;
 use crate::files::show_files;
@@ -22,6 +23,7 @@ pub fn dump_state<T: Station>(store: &Store, station: &mut T) -> Result<(), End>
     ensures shows { Does {P = List Formula} (λ now. only_shows (dump_of now.state) now) (StoreFits store.now (T.meaning station.old)) []
         (T.meaning station.old) (T.meaning station.new) result (StoreFits store.now (T.meaning station.new)) [] }
     ensures ends { Ends (T.meaning station.old) (T.meaning station.new) result }
+    ensures disk { IsTrue (T.meaning station.old).is_honest → DiskStays (T.meaning station.old) (T.meaning station.new) }
 {
     show_words(store, station)?;
     show_files(store, station)?;

@@ -21,8 +21,9 @@ use lis_session::end::End;
 /// Carries out the items of the input, up to its end, its limit or the first fault, with many changes to a commit. It takes at most one
 /// byte past the limit, and no memory. While it waits for input no change is held back, and no reply waits.
 ///
-/// Stopped at any moment, the image stands for the state after some first items, and what was shown is a front of their replies that
-/// lacks at most the last 256: no reply runs ahead of the image, and no change whose reply was begun is lost.
+/// Stopped at any moment, the image stands for the state after some first items, and what was shown is a front of their replies. Of these
+/// items at most the last 256 have replies that were not shown whole: no reply runs ahead of the image, and no change whose reply was
+/// begun is lost.
 pub fn serve_load<S: Source, T: Station>(
     loader: &mut Loader,
     payload: &mut Payload,

@@ -14,5 +14,6 @@ mod Damage
 mod Lefts
 mod AllRead
 mod Opening
+mod Unwritten
 mod Shut
 mod Upgraded

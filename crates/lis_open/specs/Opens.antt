@@ -1,10 +1,10 @@
 -- How opening an image ends, and its causes.
-use Rattle.std.specs.Prelude.{◌≡◌, ◌⊎◌, ℕ, ◌*◌, ◌≤◌, ◌<◌, List, Result, Ok, Err, IsTrue}
+use Rattle.std.specs.Prelude.{◌≡◌, ◌≢◌, ◌⊎◌, ℕ, ◌*◌, ◌≤◌, ◌<◌, List, Result, Ok, Err, IsTrue}
 use Rattle.lis_limits.specs.declared.TheConstants.{BLOCK_LEN}
 use Rattle.lis_ports.specs.Meaning.{Meaning}
 use Rattle.lis_ports.specs.Calls.{Rose, IsUnchanged}
 use Rattle.lis_ports.specs.Bytes.{part}
-use Rattle.lis_ports.specs.Runs.{IsSettled}
+use Rattle.lis_ports.specs.Runs.{Leaves, IsSettled}
 use Rattle.lis_journal.specs.Record.{recovered}
 use Rattle.lis_journal.specs.Recovery.{InRecovery}
 use Rattle.lis_journal.specs.declared.journal.JournalFault.{JournalFault}
@@ -74,6 +74,20 @@ FaultLeft old new NoMemory = IsUnchanged old new
 abbrev pub OpenLeft : Meaning → Meaning → Result Stored OpenFault → Type 0
 OpenLeft old new (Ok store) = Recovers old new
 OpenLeft old new (Err fault) = FaultLeft old new fault
+
+-- what a crash could have left before, or the bytes as they read
+abbrev pub WasLeft : Meaning → List ℕ → Type 0
+WasLeft old image = old.images image ⊎ (image ≡ old.bytes)
+
+-- Nothing was written: it reads as before, and a crash leaves what it could have left before, or these bytes.
+pub record Unwritten (old new : Meaning) : Type 0 where
+  pub bytes : new.bytes ≡ old.bytes
+  pub images : (image : List ℕ) → new.images image → WasLeft old image
+
+-- What opening leaves where no gate is open: nothing is written. Where the disk failed the moments alone tell it.
+pub record OpenUnwritten (old new : Meaning) (result : Result Stored OpenFault) : Type 0 where
+  pub left : result ≢ Err DiskFault → Unwritten old new
+  pub moments : Leaves old new old.images
 
 -- what a crash in opening leaves: what it could have left before, or an image on which records are being brought home
 abbrev pub InOpening : Meaning → List ℕ → Type 0

@@ -4,6 +4,7 @@ ghost use Rattle.std.specs.Prelude.{◌≡◌, ◌⊎◌, ◌*◌, ◌≤◌, �
 ghost use Rattle.lis_ports.specs.Calls.{DiskFaultEnds, OnlyReads};
 ghost use Rattle.lis_ports.specs.Runs.{IsDiskRun, Leaves};
 ghost use Rattle.lis_journal.specs.Images.{KeepsPast};
+ghost use Rattle.lis_journal.specs.Record.{has_open};
 ghost use Rattle.lis_journal.specs.Recovery.{IsSettledPast};
 ghost use Rattle.lis_model.specs.Ranges.{are_in_range};
 ghost use Rattle.lis_model.specs.declared.limits.Limits.{Limits as LimitsOf};
@@ -11,7 +12,7 @@ ghost use Rattle.lis_model.specs.Image.{image_blocks};
 ghost use Rattle.lis_model.specs.State.{State};
 ghost use Rattle.lis_store.specs.Stands.{Stands};
 ghost use Rattle.lis_store.specs.Stored.{IsSound};
-ghost use Rattle.lis_open.specs.Opens.{HasOpenCause, HasSuper, OpenEnded, OpenLeft, InOpening};
+ghost use Rattle.lis_open.specs.Opens.{HasOpenCause, HasSuper, OpenEnded, OpenLeft, OpenUnwritten, InOpening};
 ghost use Rattle.lis_open.specs.Checks.{FailsFirst};
 ghost use Rattle.lis_open.specs.Reading.{Opened, LimitsRead};
 ghost use Rattle.lis_open.specs.declared.mounting.OpenFault.TheVariants.{TooShort, Damaged, DiskFault as DiskFailed};
@@ -167,6 +168,10 @@ pub fn mount<D: Disk>(alloc: Global, disk: &mut D) -> Result<Store, OpenFault>
         → Leaves (D.meaning disk.old) (D.meaning disk.new) (InOpening (D.meaning disk.old)) }
     ensures same_state { (s : State) → IsTrue (D.meaning disk.old).is_honest → Stands (D.meaning disk.old).bytes s
         → Leaves (D.meaning disk.old) (D.meaning disk.new) (λ image. (D.meaning disk.old).images image ⊎ Stands image s) }
+
+    // Where no gate is open nothing is written, whatever the image.
+    ensures unwritten { IsTrue (D.meaning disk.old).is_honest → has_open (D.meaning disk.old).bytes ≡ false
+        → OpenUnwritten (D.meaning disk.old) (D.meaning disk.new) result }
 
     // What lies past the image stays; where the disk failed, if a crash at entry left it as it read.
     ensures past { (limits : LimitsOf) → IsTrue (D.meaning disk.old).is_honest → HasSuper limits (D.meaning disk.old).bytes

@@ -4,5 +4,6 @@ pub mod Puts
 mod Formulas
 mod Saying
 mod Viewed
+mod Unchanged
 mod Examples
 mod PutExamples

@@ -23,6 +23,7 @@ use Rattle.lis_session.specs.Item.{FitsAt}
 use Rattle.lis_session.specs.Parts.{Ends, Answers}
 use Rattle.lis_session.specs.Showing.{Shows}
 use Rattle.lis_session.proofs.Blocks.{size_is, block_is, block_item, block_broke, block_more, first_blocks, block_of}
+use Rattle.lis_session.proofs.DiskKept.{reads_stay}
 use Rattle.lis_session.proofs.InTurn.{answers_none}
 use Rattle.lis_session.proofs.Shown.{as_shown, shown_same, shown_then, shown_front}
 
@@ -60,10 +61,12 @@ pub load_shows : {E : Type 0} {k : Stored} {old new : Meaning} (result : Result 
 load_shows {new = new} (Ok u) reading = record {
   shows = λ state fitting. block_item [] fitting (reading.disk.reads.moments fitting.honest) (reading.disk.reads.same fitting.honest) (Ok tt) (reading.fits state fitting.own) (answers_none new);
   ends = reading_ends (Ok u) reading;
+  disk = reads_stay reading.disk.reads;
 }
 load_shows (Err e) reading = record {
   shows = λ state fitting. block_broke [] fitting (reading.disk.reads.moments fitting.honest) (reading.disk.reads.same fitting.honest);
   ends = reading_ends (Err e) reading;
+  disk = reads_stay reading.disk.reads;
 }
 
 -- A text that is made of the file's bytes: the file could not be loaded, or it was and then the text is shown.

@@ -1,6 +1,8 @@
 //! Parts of a file: the lines of which a formula holds, shown and put back.
 #![tactic(auto)]
 
+ghost use Rattle.lis_parts.specs.Laws.{UnchangedViewLeaves};
+
 mod formula;
 mod gathering;
 mod loading;
@@ -12,3 +14,9 @@ pub mod workspace;
 pub use putting::put_file;
 pub use viewing::view_file;
 pub use workspace::Workspace;
+
+/// A view that is put back unchanged leaves the state of a store. The answer is the refusal that the view has, or `ok`, or in version 2
+/// the refusal for want of space, where fewer blocks are free than the file takes.
+pub fn unchanged_view_leaves()
+    ensures { UnchangedViewLeaves }
+{}

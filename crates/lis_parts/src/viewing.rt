@@ -1,6 +1,6 @@
 //! Showing the view of a file.
 
-ghost use Rattle.std.specs.Prelude.{◌≡◌, ℕ, ◌+◌, ◌<◌, ◌^◌, List, [], ◌++◌, Some, option_copied};
+ghost use Rattle.std.specs.Prelude.{◌≡◌, ℕ, ◌+◌, ◌<◌, ◌^◌, List, [], ◌++◌, Some, option_copied, IsTrue};
 ghost use Rattle.lis_catalog.specs.Catalog.{slot_of};
 ghost use Rattle.lis_model.specs.Changes.{file_of};
 ghost use Rattle.lis_model.specs.Step.{Situation};
@@ -8,7 +8,7 @@ ghost use Rattle.lis_views.specs.Views.{view_of};
 ghost use Rattle.lis_store.specs.Stored.{IsSound, StoreFits, IsUsable};
 ghost use Rattle.lis_session.specs.Item.{Does};
 ghost use Rattle.lis_session.specs.Parts.{Answers, Ends};
-ghost use Rattle.lis_session.specs.Showing.{Shows};
+ghost use Rattle.lis_session.specs.Showing.{DiskStays, Shows};
 ghost use Rattle.lis_parts.specs.Commands.{view};
 ghost use Rattle.lis_parts.specs.Showing.{Says};
 ghost use Rattle.lis_parts.specs.Viewing.{mark_text, next_number, shown_text, end_text, pieces_text};
@@ -158,6 +158,7 @@ pub fn view_file<T: Station>(
     ensures shows { Does (λ (now : Situation). view now name.now text.now) (StoreFits store.now (T.meaning station.old)) []
         (T.meaning station.old) (T.meaning station.new) result (StoreFits store.now (T.meaning station.new)) [] }
     ensures ends { Ends (T.meaning station.old) (T.meaning station.new) result }
+    ensures disk { IsTrue (T.meaning station.old).is_honest → DiskStays (T.meaning station.old) (T.meaning station.new) }
     ensures limits { workspace.new ≡ workspace.old }
 {
     let place = match read_place(text) {

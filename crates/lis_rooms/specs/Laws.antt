@@ -3,6 +3,7 @@ use Rattle.std.specs.Prelude.{◌≡◌, ◌↔◌, ℕ, ◌<◌, false, List, [
 use Rattle.lis_model.specs.State.{State}
 use Rattle.lis_model.specs.Step.{SituationOf, after_by}
 use Rattle.lis_line.specs.Tagged.{Tagged}
+use Rattle.lis_session.specs.Session.{SaysTheSame}
 use Rattle.lis_rooms.specs.Rooms.{Places, at_room, room_step}
 use Rattle.lis_rooms.specs.Sights.{same_state, is_of, seen, heard}
 
@@ -10,6 +11,10 @@ use Rattle.lis_rooms.specs.Sights.{same_state, is_of, seen, heard}
 pub record RoomStepsAreRegular : Type 0 where
   pub some : (now : SituationOf Places) (tagged : Tagged) → 0 < length (room_step now tagged).reply
   pub limits : (now : SituationOf Places) (tagged : Tagged) → (room_step now tagged).next.state.limits ≡ now.state.limits
+
+-- a moment of rooms told by how many items were carried out, and one told by the replies that were shown whole, say the same
+abbrev pub RoomsOneForm : Type 0
+RoomsOneForm = (start : SituationOf Places) (items : List Tagged) (image shown : List ℕ) → SaysTheSame room_step start items image shown
 
 -- the test of states says what it is to say
 abbrev pub StatesAreTold : Type 0

@@ -1,6 +1,6 @@
 pub mod Laws
 pub mod Moments
-mod Same
+pub mod Same
 pub mod Fitting
 pub mod Saying
 pub mod Answering
@@ -15,6 +15,7 @@ pub mod Whole
 pub mod InTurn
 pub mod Described
 pub mod Counted
+pub mod DiskKept
 pub mod Shown
 mod TextWords
 mod Examples

@@ -12,6 +12,7 @@ use Rattle.lis_session.specs.Session.{root_of}
 use Rattle.lis_session.specs.Item.{FitsAt, OneItem, HasEndCause}
 use Rattle.lis_session.specs.Parts.{only_shows, Ends, Answers}
 use Rattle.lis_session.proofs.Described.{split_at, drop_none}
+use Rattle.lis_session.proofs.DiskKept.{stays_none, stays_then, shows_stay}
 use Rattle.lis_session.proofs.Going.{ends_then}
 use Rattle.lis_session.proofs.Saying.{item_none, item_front, item_then, shows_item}
 use Rattle.lis_session.specs.Showing.{Shows}
@@ -38,6 +39,7 @@ module _ {k : Stored} where
   as_shown {bytes = bytes} {result = result} answers = record {
     shows = λ state fitting. shows_item (only_shows bytes (root_of state)) [] fitting answers refl;
     ends = answers_end result answers;
+    disk = shows_stay answers.run;
   }
 
   -- another text, of the states that fit
@@ -46,10 +48,11 @@ module _ {k : Stored} where
   shown_same {old = old} {new = new} {result = result} other same shows = record {
     shows = λ state fitting. subst (λ bytes. OneItem (root_of state) (only_shows bytes (root_of state)) old new result (StoreFits k new) []) (same state fitting) (shows.shows state fitting);
     ends = shows.ends;
+    disk = shows.disk;
   }
 
   pub shown_none : (m : Meaning) → Shows k (λ state. []) m m (Ok tt)
-  shown_none m = record { shows = λ state fitting. item_none (root_of state) fitting; ends = ends_none m }
+  shown_none m = record { shows = λ state fitting. item_none (root_of state) fitting; ends = ends_none m; disk = λ honest. stays_none m }
 
   -- ---- two texts
   module _ {a b : Meaning} (first more : State → List ℕ) where
@@ -60,11 +63,12 @@ module _ {k : Stored} where
           let then_shown = two.shows state shown.ended.fitting in
           item_then result shown then_shown.past then_shown;
       ends = ends_then one.ends two.ends;
+      disk = λ honest. stays_then two.ends.same.recorded (one.disk honest) (two.disk (one.ends.same.honest ∙ honest));
     }
 
     -- the first of them was not shown whole
     pub shown_front : (end : End) → Shows k first a b (Err end) → Shows k (both first more) a b (Err end)
-    shown_front end one = record { shows = λ state fitting. item_front (more state) (one.shows state fitting) refl; ends = one.ends }
+    shown_front end one = record { shows = λ state fitting. item_front (more state) (one.shows state fitting) refl; ends = one.ends; disk = one.disk }
 
 -- ---- what a loop keeps
 -- So much of the text was shown since the start, and this is left.

@@ -28,12 +28,12 @@ module _ {old mid : Meaning} (P : List ℕ → List ℕ → Type 0) where
       by image bytes (inl there) told = inl (there, told)
       by image bytes (inr stood) told = inr ([], append_known-nil old.shown ∙ told, quiet image stood)
 
+  pub moments_behind : {new : Meaning} → mid.shown ≡ old.shown → Adds old mid (OpenedMoment old P) → Adds mid new (Since mid.shown P) → Adds old new (OpenedMoment old P)
+  moments_behind same opening moments = adds_then opening (adds_weaken _ moments (λ image bytes since. inr (since.0, ap (λ known. append_known known since.0) (sym same) ∙ since.1, since.2)))
+
   pub opens_into : {new : Meaning} {limits : Limits} (end : Option (List ℕ) → Type 0) → mid.shown ≡ old.shown → Adds old mid (OpenedMoment old P)
       → Goes P limits mid new (end mid.shown) → OpensInto P old new (end old.shown)
-  opens_into end same opening goes = record {
-    moments = adds_then opening (adds_weaken _ goes.moments (λ image bytes since. inr (since.0, ap (λ known. append_known known since.0) (sym same) ∙ since.1, since.2)));
-    ended = subst end same goes.ended;
-  }
+  opens_into end same opening goes = record { moments = moments_behind same opening goes.moments; ended = subst end same goes.ended }
 
 pub headline : {old new : Meaning} (P : List ℕ → List ℕ → Type 0) → OnlyNow old → Adds old new (OpenedMoment old P) → EachMoment old new (OpenedMoment old P)
 headline {old} P only_now adds = λ image bytes had.

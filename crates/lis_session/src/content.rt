@@ -11,6 +11,7 @@ ghost use Rattle.lis_model.specs.Step.{Situation, shown, cat};
 ghost use Rattle.lis_store.specs.Stored.{IsSound, StoreFits, IsIndex, IsUsable};
 ghost use Rattle.lis_session.specs.Item.{Does};
 ghost use Rattle.lis_session.specs.Parts.{only_shows, Ends};
+ghost use Rattle.lis_session.specs.Showing.{DiskStays};
 
 use crate::end::End;
 use crate::replies::{answer_bytes, answer_refusal, answer_size};
@@ -43,7 +44,7 @@ fn show_block<T: Station>(
         → Does (λ (now : Situation). only_shows (part (BLOCK_LEN * n) BLOCK_LEN (file_of now.state.files name).bytes) now) (StoreFits store.now (T.meaning station.old)) []
         (T.meaning station.old) (T.meaning station.new) result (StoreFits store.now (T.meaning station.new)) [] }
     ensures ends { Ends (T.meaning station.old) (T.meaning station.new) result }
-    ensures bytes { IsTrue (T.meaning station.old).is_honest → (T.meaning station.new).bytes ≡ (T.meaning station.old).bytes }
+    ensures disk { IsTrue (T.meaning station.old).is_honest → DiskStays (T.meaning station.old) (T.meaning station.new) }
     ensures whole { length block.new ≡ BLOCK_LEN }
 {
     if let Err(Failed) = store.content_by(station, slot, index, n, block) {
@@ -70,6 +71,7 @@ fn show_blocks<T: Station>(
         → Does (λ (now : Situation). only_shows (file_of now.state.files name).bytes now) (StoreFits store.now (T.meaning station.old)) []
         (T.meaning station.old) (T.meaning station.new) result (StoreFits store.now (T.meaning station.new)) [] }
     ensures ends { Ends (T.meaning station.old) (T.meaning station.new) result }
+    ensures disk { IsTrue (T.meaning station.old).is_honest → DiskStays (T.meaning station.old) (T.meaning station.new) }
 {
     let mut block = [0; BLOCK_LEN];
     for n in 0..size.div_ceil(BLOCK_LEN as u32) {
@@ -92,6 +94,7 @@ pub fn show_content<T: Station>(
         → Does (λ (now : Situation). only_shows (file_of now.state.files name).bytes now) (StoreFits store.now (T.meaning station.old)) []
         (T.meaning station.old) (T.meaning station.new) result (StoreFits store.now (T.meaning station.new)) [] }
     ensures ends { Ends (T.meaning station.old) (T.meaning station.new) result }
+    ensures disk { IsTrue (T.meaning station.old).is_honest → DiskStays (T.meaning station.old) (T.meaning station.new) }
 {
     if size == 0 {
         return Ok(());

@@ -1,23 +1,27 @@
 -- What is kept where opening refused the image.
-use Rattle.std.proofs.Common.{◌≡◌, ℕ, ◌<◌, List, length, Option, Result, Err, IsTrue, refl, ap, ap₂, arith}
+use Rattle.std.proofs.Common.{◌≡◌, ◌⊎◌, ℕ, ◌<◌, List, length, Option, Result, Err, IsTrue, false, refl, ap, ap₂, inl, arith}
 use Rattle.lis_ports.specs.Meaning.{Meaning}
 use Rattle.lis_ports.specs.Runs.{IsDiskRun, Leaves, Adds}
+use Rattle.lis_ports.proofs.Moments.{adds_weaken}
 use Rattle.lis_journal.specs.Images.{KeepsPast}
+use Rattle.lis_journal.specs.Record.{has_open}
 use Rattle.lis_journal.specs.Recovery.{IsSettledPast}
 use Rattle.lis_model.specs.declared.limits.Limits.{Limits}
 use Rattle.lis_model.specs.declared.spot.Spot.{Spot}
 use Rattle.lis_model.specs.Image.{image_blocks}
 use Rattle.lis_model.specs.State.{State}
 use Rattle.lis_store.specs.Stands.{Stands}
+use Rattle.lis_store.specs.Stored.{Stored}
 use Rattle.lis_open.specs.declared.mounting.OpenFault.{OpenFault}
 use Rattle.lis_open.specs.declared.mounting.OpenFault.TheVariants.{TooShort, Damaged, DiskFault, NoMemory}
-use Rattle.lis_open.specs.Opens.{HasOpenCause, HasSuper, IsNeeded, OpenEnded, OpenLeft, InOpening}
+use Rattle.lis_open.specs.Opens.{HasOpenCause, HasSuper, IsNeeded, OpenEnded, OpenLeft, InOpening, WasLeft, OpenUnwritten}
 use Rattle.lis_open.specs.Checks.{FailsFirst}
 use Rattle.lis_open.proofs.Needs.{needs_no_more, has_super}
 use Rattle.lis_session.specs.Session.{OpenedMoment}
+use Rattle.lis_session.proofs.Whole.{opening_moments}
 use Rattle.lis_shell.specs.declared.status.Status.TheVariants.{Opening}
 use Rattle.lis_shell.specs.Causes.{counts, HasStatusCause, IsDiskFault}
-use Rattle.lis_shell.specs.Image.{Work, Told, Refused, ImageKeeps}
+use Rattle.lis_shell.specs.Image.{Work, Told, Refused, NotBegun, NothingWritten, ImageKeeps}
 
 -- What opening an image says at each answer, and an upgrade of one. `unmoved` says that the disk is as it was.
 pub record IsOpening {T : Type 0} (old new : Meaning) (unmoved : Type 0) (result : Result T OpenFault) : Type 0 where
@@ -47,6 +51,18 @@ disk_fault : {T : Type 0} (fault : OpenFault) → ◌≡◌ {A = Result T OpenFa
 disk_fault DiskFault is = refl
 disk_fault fault is = absurd (cc)
 
+-- ---- what opening leaves, by its moments
+-- at each of them no work was begun
+pub not_begun : {old new : Meaning} (state : State) → Leaves old new (λ image. old.images image ⊎ Stands image state) → Adds old new (OpenedMoment old (NotBegun state))
+not_begun state moments = opening_moments (NotBegun state) (λ image stood. (refl, stood)) moments
+
+-- and where no gate is open each is one that a crash could have left before
+pub opening_stays : {old new : Meaning} {result : Result Stored OpenFault} → OpenUnwritten old new result → Adds old new (λ image bytes. WasLeft old image)
+opening_stays {old} opening = adds_weaken (λ image bytes. WasLeft old image) opening.moments.adds (λ image bytes had. inl had.0)
+
+pub refused_unwritten : {old new : Meaning} (fault : OpenFault) → OpenUnwritten old new (Err fault) → NothingWritten old new (Opening fault)
+refused_unwritten fault opening = record { left = λ worked. opening.left (λ is. worked (ap Opening (one_fault fault DiskFault is))); moments = opening_stays opening }
+
 module _ {T : Type 0} {old new : Meaning} {unmoved : Type 0} (fault : OpenFault) (opening : IsOpening {T = T} old new unmoved (Err fault))
     (ended : IsTrue old.is_honest → OpenEnded old new (Err fault)) (left : IsTrue old.is_honest → OpenLeft old new (Err fault)) where
   -- An image that stands for a state is refused for want of memory alone, or because the disk failed.
@@ -58,13 +74,17 @@ module _ {T : Type 0} {old new : Meaning} {unmoved : Type 0} (fault : OpenFault)
 
   pub word_refused : {untouched : Type 0} {input : Option (List ℕ)} (work : Work)
       → ((state : State) (bytes : List ℕ) → IsTrue old.is_honest → Stands old.bytes state → Adds old new (OpenedMoment old (work.moment state bytes)))
+      → ((state : State) → IsTrue (work.undone (Opening fault)) → IsTrue old.is_honest → Stands old.bytes state → Adds old new (OpenedMoment old (NotBegun state)))
+      → (IsTrue work.only_reads → IsTrue old.is_honest → has_open old.bytes ≡ false → NothingWritten old new (Opening fault))
       → untouched → ImageKeeps work untouched unmoved input input old new (Opening fault)
-  word_refused {untouched} {input} work moments still = record {
+  word_refused {untouched} {input} work moments undone unwritten still = record {
     only = tt;
     runs = λ state bytes entry. record {
       moments = moments state bytes entry.honest entry.stands;
       ended = refused (Told work.takes_input input bytes) entry.told state entry.honest entry.stands fault refl (ended entry.honest);
     };
+    undone = λ state bytes entry is. undone state is entry.honest entry.stands;
+    unwritten = unwritten;
     past = λ state bytes entry settled. opening.past state.limits entry.honest (has_super old.bytes state entry.stands) (λ is. settled (disk_fault fault is));
     judged = ended;
     spot = λ spot is. opening.spot spot (ap Err (one_opening fault (Damaged spot) is));

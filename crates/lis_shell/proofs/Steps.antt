@@ -1,7 +1,8 @@
 -- Words that are one step of the model.
-use Rattle.std.proofs.Common.{◌≡◌, ℕ, List, [], ◌∷◌, ◌++◌, Option, Result, Ok, Err, refl, ◌∙◌, inl, inr}
+use Rattle.std.proofs.Common.{◌≡◌, ℕ, List, [], ◌∷◌, ◌++◌, Option, Result, Ok, Err, IsTrue, refl, ◌∙◌, inl, inr}
 use Rattle.lis_ports.specs.Meaning.{Meaning}
-use Rattle.lis_ports.specs.Since.{Begins}
+use Rattle.lis_ports.specs.Runs.{Adds}
+use Rattle.lis_ports.specs.Since.{Begins, Since}
 use Rattle.lis_reply.proofs.Showing.{append_known-nil}
 use Rattle.lis_line.specs.declared.carrier.Halt.{Halt}
 use Rattle.lis_line.specs.declared.carrier.Halt.TheVariants.{End as AtEnd, Limit, InputFault, Stopped}
@@ -16,10 +17,11 @@ use Rattle.lis_session.specs.Parts.{only_shows}
 use Rattle.lis_session.specs.Runs.{Goes}
 use Rattle.lis_session.specs.Session.{root_of}
 use Rattle.lis_session.proofs.Moments.{adds_since}
-use Rattle.lis_shell.specs.Image.{ByResult, halted}
+use Rattle.lis_shell.specs.declared.status.Status.TheVariants.{Ended}
+use Rattle.lis_shell.specs.Image.{ByResult, halted, NotBegun}
 use Rattle.lis_parts.specs.Commands.{put}
 use Rattle.lis_parts.specs.Putting.{view_limit, put_by}
-use Rattle.lis_shell.specs.Steps.{StepEnded, NothingDone, ToldStepEnded}
+use Rattle.lis_shell.specs.Steps.{StepEnded, NothingDone, is_untaken, ToldStepEnded}
 use Rattle.lis_shell.proofs.Opened.{by_halted}
 
 -- it was carried out as an item at the root
@@ -41,15 +43,15 @@ begins_none [] front = refl
 begins_none (b ∷ shown) front = absurd (let no : [] ≡ b ∷ (shown ++ front.rest) = front.is in cc)
 
 -- nothing was shown, or nothing changed and a front of nothing was shown
-still_nothing : (state : State) (outcome : Outcome) (image shown : List ℕ) → InItem state (only_shows [] (root_of state)) image shown → InItem state outcome image shown
-still_nothing state outcome image shown (inl quiet) = inl quiet
-still_nothing state outcome image shown (inr front) = inl (begins_none shown front.0, front.1)
+still_nothing : (state : State) (image shown : List ℕ) → InItem state (only_shows [] (root_of state)) image shown → NotBegun state image shown
+still_nothing state image shown (inl quiet) = quiet
+still_nothing state image shown (inr front) = (begins_none shown front.0, front.1)
 
 -- Nothing was done: as if an item had shown nothing.
 nothing_goes : {old new : Meaning} {fits : State → Type 0} {place : List Formula} (state : State) (outcome : Outcome) (end : Type 0)
     → (NothingDone state old.shown new → end) → OneItem (root_of state) (only_shows [] (root_of state)) old new (Ok tt) fits place → Goes (InItem state outcome) state.limits old new end
 nothing_goes {old} state outcome end by one = record {
-  moments = adds_since old.shown (still_nothing state outcome) one.moments;
+  moments = adds_since old.shown (λ image shown at. inl (still_nothing state image shown at)) one.moments;
   past = one.past;
   ended = by (one.ended.shown ∙ append_known-nil old.shown, one.ended.fitting.stands);
 }
@@ -71,3 +73,11 @@ put_goes state name text bytes left (Stopped OutputFault) read one = record {
   past = one.past;
   ended = (one.ended.0, one.ended.1, record { shown = one.ended.2.shown; stands = one.ended.2.fitting.stands });
 }
+
+-- where it was not read whole, nothing was done at any moment
+pub put_undone : {old new : Meaning} {fits : State → Type 0} {place : List Formula} (state : State) (name text bytes : List ℕ) (halt : Halt End) → IsTrue (is_untaken (Ended halt))
+    → OneItem (root_of state) (put_by halt (root_of state) name text bytes) old new (result_of halt) fits place → Adds old new (Since old.shown (NotBegun state))
+put_undone state name text bytes AtEnd is one = absurd (cc)
+put_undone {old} state name text bytes Limit is one = adds_since old.shown (still_nothing state) one.moments
+put_undone {old} state name text bytes InputFault is one = adds_since old.shown (still_nothing state) one.moments
+put_undone state name text bytes (Stopped fault) is one = absurd (cc)

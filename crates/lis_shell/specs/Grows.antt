@@ -6,12 +6,14 @@ use Rattle.lis_model.specs.Step.{Item}
 use Rattle.lis_session.specs.Session.{root_of, EachMoment, OpenedMoment}
 use Rattle.lis_grow.specs.Session.{grow_items, GrowMoment, GrowEnded, GrewAll, summary}
 use Rattle.lis_shell.specs.declared.status.Status.{Status}
-use Rattle.lis_shell.specs.Image.{Work, ByResult, IsUnread, EntryWith, Completes}
+use Rattle.lis_shell.specs.Image.{Work, ByResult, IsUnread, is_opening, EntryWith, Completes}
 
 -- `grow`: the session from the root
 abbrev pub growing : ℕ → Work
 growing n = record {
   takes_input = false;
+  only_reads = false;
+  undone = is_opening;
   may_end = IsUnread;
   input = λ bytes left halt. Unit {0};
   moment = λ state bytes. GrowMoment (root_of state) (grow_items n);

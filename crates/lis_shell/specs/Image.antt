@@ -1,10 +1,11 @@
 -- What every word keeps that opens an image and does one work on it behind the opening.
-use Rattle.std.specs.Prelude.{◌≡◌, ℕ, ◌<◌, List, Bool, true, false, Option, Some, Result, Ok, Err, IsTrue}
+use Rattle.std.specs.Prelude.{◌≡◌, ◌≢◌, ℕ, ◌<◌, List, [], Bool, true, false, Option, Some, Result, Ok, Err, IsTrue}
 use Rattle.lis_limits.specs.declared.TheConstants.{BLOCK_LEN}
 use Rattle.lis_ports.specs.Meaning.{Meaning}
 use Rattle.lis_ports.specs.Calls.{IsUnchanged}
-use Rattle.lis_ports.specs.Runs.{Leaves}
+use Rattle.lis_ports.specs.Runs.{Adds, Leaves}
 use Rattle.lis_journal.specs.Images.{KeepsPast}
+use Rattle.lis_journal.specs.Record.{has_open}
 use Rattle.lis_journal.specs.Recovery.{IsSettledPast}
 use Rattle.lis_line.specs.declared.carrier.Halt.{Halt}
 use Rattle.lis_line.specs.declared.carrier.Halt.TheVariants.{End as AtEnd, Limit, InputFault, Stopped}
@@ -16,17 +17,22 @@ use Rattle.lis_store.specs.Stands.{Stands}
 use Rattle.lis_open.specs.declared.mounting.OpenFault.{OpenFault}
 use Rattle.lis_open.specs.declared.mounting.OpenFault.TheVariants.{TooShort, Damaged, DiskFault, NoMemory}
 use Rattle.lis_open.specs.Checks.{FailsFirst}
-use Rattle.lis_open.specs.Opens.{HasSuper, IsLongEnough, OpenRefused, FaultLeft, InOpening}
+use Rattle.lis_open.specs.Opens.{HasSuper, IsLongEnough, OpenRefused, FaultLeft, InOpening, WasLeft, Unwritten}
 use Rattle.lis_session.specs.declared.end.End.{End}
 use Rattle.lis_session.specs.Runs.{OpensInto}
+use Rattle.lis_session.specs.Session.{EachMoment, OpenedMoment}
 use Rattle.lis_shell.specs.declared.status.Status.{Status}
 use Rattle.lis_shell.specs.declared.status.Status.TheVariants.{Opening, Ended}
-use Rattle.lis_shell.specs.Causes.{ByOpening, IsDiskFault}
+use Rattle.lis_shell.specs.Causes.{Counts, NoFault, ByOpening, IsDiskFault}
 
 -- What is done on an opened image that stands for a state, where the source had the bytes left. Of the input a work says something only where
 -- it takes some.
 pub record Work : Type 1 where
   pub takes_input : Bool
+  -- whether it leaves the disk as it is
+  pub only_reads : Bool
+  -- the answers at which nothing was done
+  pub undone : Status → Bool
   -- how it may end, whatever the disk does
   pub may_end : Halt End → Type 0
   -- what its end says of the input, whatever the disk does
@@ -49,6 +55,11 @@ ByResult P InputFault = ⊥
 
 abbrev pub IsUnread : Halt End → Type 0
 IsUnread halt = ByResult (λ result. Unit {0}) halt
+
+-- the answers of opening
+abbrev pub is_opening : Status → Bool
+is_opening (Opening fault) = true
+is_opening status = false
 
 -- how an opening ended, and what was done behind it, where there was memory for that
 abbrev pub status_of : {E : Type 0} → Result (Halt End) E → Status
@@ -91,6 +102,16 @@ ComesToEnd work state bytes left before new (Ended Limit) = work.ended state byt
 ComesToEnd work state bytes left before new (Opening NoMemory) = Refused (Told work.takes_input left bytes) state before new NoMemory
 ComesToEnd work state bytes left before new status = ⊥
 
+-- before the work: nothing was shown, and the image stands for the state
+abbrev pub NotBegun : State → List ℕ → List ℕ → Type 0
+NotBegun state image shown = (shown ≡ []) × Stands image state
+
+-- Nothing was written, and each moment leaves what a crash at entry could have left, or the bytes of entry. Where the disk failed in opening the
+-- moments alone tell it.
+pub record NothingWritten (old new : Meaning) (status : Status) : Type 0 where
+  pub left : status ≢ Opening DiskFault → Unwritten old new
+  pub moments : Adds old new (λ image bytes. WasLeft old image)
+
 -- The answers of opening are exact, and what was opened stands for a state.
 abbrev pub IsJudged : Meaning → Meaning → Status → Type 0
 IsJudged old new status = ByOpening (OpenRefused old new) (λ halt. IsLongEnough old × ((s : State) × Stands old.bytes s)) status
@@ -111,16 +132,38 @@ pub record Barred (old new : Meaning) (status : Status) : Type 0 where
   pub past : (limits : Limits) → HasSuper limits old.bytes → (IsDiskFault status → IsSettledPast (image_blocks limits) old) → KeepsPast (image_blocks limits) old new
 
 -- An opening, and the work behind it. `untouched` says that no input was taken, and `unmoved` that the station is as it was. A refusal leaves
--- the input alone and shows nothing. What lies past the image stays; where the disk failed, if a crash at entry left it as it read.
+-- the input alone and shows nothing. Where nothing was done, each moment says so. What lies past the image stays; where the disk failed, if a
+-- crash at entry left it as it read. A work that only reads writes nothing where no gate is open.
 pub record ImageKeeps (work : Work) (untouched unmoved : Type 0) (left left_after : Option (List ℕ)) (old new : Meaning) (status : Status) : Type 0 where
   pub only : ByOpening (λ fault. Unit {0}) work.may_end status
   pub runs : (state : State) (bytes : List ℕ) → EntryWith old (Told work.takes_input left bytes) state
       → OpensInto (work.moment state bytes) old new (WorkEnded work state bytes left_after old.shown new status)
+  pub undone : (state : State) (bytes : List ℕ) → EntryWith old (Told work.takes_input left bytes) state → IsTrue (work.undone status)
+      → Adds old new (OpenedMoment old (NotBegun state))
   pub past : (state : State) (bytes : List ℕ) → EntryWith old (Told work.takes_input left bytes) state
       → (IsDiskFault status → IsSettledPast (image_blocks state.limits) old) → KeepsPast (image_blocks state.limits) old new
+  pub unwritten : IsTrue work.only_reads → IsTrue old.is_honest → has_open old.bytes ≡ false → NothingWritten old new status
   pub judged : IsTrue old.is_honest → IsJudged old new status
   pub spot : (spot : Spot) → status ≡ Opening (Damaged spot) → IsTrue old.is_honest → FailsFirst old.bytes spot
   pub idle : (fault : OpenFault) → status ≡ Opening fault → untouched × (new.shown ≡ old.shown)
   pub input : (bytes : List ℕ) → left ≡ Some bytes → ByOpening (λ fault. Unit {0}) (work.input bytes left_after) status
   pub measured : IsMeasured old new status (untouched × unmoved)
   pub barred : IsTrue old.is_honest → ((state : State) → Stands old.bytes state → ⊥) → Barred old new status
+
+-- Each moment since the start is one of the work, or an image that a crash at the start could have left, with nothing shown since.
+abbrev pub WorkHeadline : Work → Option (List ℕ) → Meaning → Meaning → Type 0
+WorkHeadline work left old new =
+    (state : State) (bytes : List ℕ) → EntryWith old (Told work.takes_input left bytes) state → EachMoment old new (OpenedMoment old (work.moment state bytes))
+
+-- Where nothing was done, nothing was shown at any moment since the start, and the image stood for the state, or was one that a crash at the
+-- start could have left.
+abbrev pub UndoneHeadline : Work → Option (List ℕ) → Meaning → Meaning → Status → Type 0
+UndoneHeadline work left old new status =
+    (state : State) (bytes : List ℕ) → EntryWith old (Told work.takes_input left bytes) state → IsTrue (work.undone status)
+    → EachMoment old new (OpenedMoment old (NotBegun state))
+
+-- Where no call failed it came to its end, or to the limit of its input; or there was no memory at the opening.
+abbrev pub WorkComplete : Work → Option (List ℕ) → Option (List ℕ) → Counts → Counts → Meaning → Meaning → Status → Type 0
+WorkComplete work left left_after faults faults_after old new status =
+    (state : State) (bytes : List ℕ) → EntryWith old (Told work.takes_input left bytes) state → NoFault faults faults_after
+    → ComesToEnd work state bytes left_after old.shown new status

@@ -79,6 +79,8 @@ IsAtEnd halt = ⊥
 abbrev pub upgrading : Work
 upgrading = record {
   takes_input = false;
+  only_reads = false;
+  undone = λ status. false;
   may_end = IsAtEnd;
   input = λ bytes left halt. Unit {0};
   moment = λ state bytes image shown. (shown ≡ []) × UpgradeMoment state image;

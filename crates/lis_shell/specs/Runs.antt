@@ -1,5 +1,5 @@
 -- What `run`, `load` and `rooms` keep.
-use Rattle.std.specs.Prelude.{◌≡◌, ℕ, ◌^◌, List, true, Option, Some}
+use Rattle.std.specs.Prelude.{◌≡◌, ℕ, ◌^◌, List, true, false, Option, Some}
 use Rattle.std.specs.Io.KnownBytes.{IsAtEnd}
 use Rattle.lis_ports.specs.Meaning.{Meaning}
 use Rattle.lis_model.specs.State.{State}
@@ -12,12 +12,14 @@ use Rattle.lis_session.specs.Ending.{Served, InputRead}
 use Rattle.lis_load.specs.Load.{LoadMoment, LoadServed}
 use Rattle.lis_rooms.specs.Rooms.{room_step, rooms_of}
 use Rattle.lis_shell.specs.declared.status.Status.{Status}
-use Rattle.lis_shell.specs.Image.{Work, EntryWith, Completes}
+use Rattle.lis_shell.specs.Image.{Work, EntryWith, is_opening, Completes}
 
 -- a session of the items of an input, from where it begins in a state
 abbrev pub serving : {P I : Type 0} → (SituationOf P → I → OutcomeOf P) → Cut I → (State → SituationOf P) → Work
 serving by cut start = record {
   takes_input = true;
+  only_reads = false;
+  undone = is_opening;
   may_end = λ halt. Unit {0};
   input = InputRead (2 ^ 40);
   moment = λ state bytes. SessionMoment by (start state) (script_by cut bytes (2 ^ 40));
@@ -32,6 +34,8 @@ running = serving step session_cut root_of
 abbrev pub loading : Work
 loading = record {
   takes_input = true;
+  only_reads = false;
+  undone = is_opening;
   may_end = λ halt. Unit {0};
   input = InputRead (2 ^ 40);
   moment = λ state bytes. LoadMoment (root_of state) (script bytes (2 ^ 40));

@@ -1,5 +1,5 @@
 -- Words that are one step of the model, whatever the step is.
-use Rattle.std.specs.Prelude.{◌≡◌, ℕ, ◌≤◌, ◌<◌, List, [], length, true, false, Option, Some, Result, Ok, Err, refl}
+use Rattle.std.specs.Prelude.{◌≡◌, ℕ, ◌≤◌, ◌<◌, List, [], length, Bool, true, false, Option, Some, Result, Ok, Err, refl}
 use Rattle.std.proofs.Common.{inl}
 use Rattle.std.specs.Io.KnownBytes.{append_known, IsAtEnd}
 use Rattle.lis_ports.specs.Meaning.{Meaning}
@@ -20,7 +20,9 @@ use Rattle.lis_session.specs.Parts.{only_shows}
 use Rattle.lis_session.specs.Session.{root_of}
 use Rattle.lis_parts.specs.Commands.{view, put}
 use Rattle.lis_parts.specs.Putting.{view_limit}
-use Rattle.lis_shell.specs.Image.{Work, ByResult, IsUnread}
+use Rattle.lis_shell.specs.declared.status.Status.{Status}
+use Rattle.lis_shell.specs.declared.status.Status.TheVariants.{Ended}
+use Rattle.lis_shell.specs.Image.{Work, ByResult, IsUnread, is_opening}
 
 -- the step was made, and so much was shown
 pub record StepShown (outcome : Outcome) (before : Option (List ℕ)) (new : Meaning) (bytes : List ℕ) : Type 0 where
@@ -34,10 +36,12 @@ StepEnded outcome before new (Ok done) = StepShown outcome before new outcome.re
 StepEnded outcome before new (Err DiskFault) = Unit {0}
 StepEnded outcome before new (Err OutputFault) = (shown : List ℕ) × Begins shown outcome.reply × StepShown outcome before new shown
 
--- the work that is a step from the state, and takes no input
+-- the work that is a step from the state, takes no input and changes nothing
 abbrev pub stepping : (State → Outcome) → Work
 stepping outcome = record {
   takes_input = false;
+  only_reads = true;
+  undone = is_opening;
   may_end = IsUnread;
   input = λ bytes left halt. Unit {0};
   moment = λ state bytes. InItem state (outcome state);
@@ -60,10 +64,19 @@ ToldStepEnded limit state outcome bytes left before new Limit = (limit < length 
 ToldStepEnded limit state outcome bytes left before new InputFault = NothingDone state before new
 ToldStepEnded limit state outcome bytes left before new (Stopped fault) = StepEnded outcome before new (Err fault)
 
--- The work that is a step from the state, of which an input of at most so many bytes tells. Of a longer one at most a byte more is taken.
+-- the answers before an input was taken whole
+abbrev pub is_untaken : Status → Bool
+is_untaken (Ended Limit) = true
+is_untaken (Ended InputFault) = true
+is_untaken status = is_opening status
+
+-- The work that is a step from the state, of which an input of at most so many bytes tells. Of a longer one at most a byte more is taken. Nothing
+-- is done before the input was taken whole.
 abbrev pub told_stepping : ℕ → (State → List ℕ → Outcome) → Work
 told_stepping limit outcome = record {
   takes_input = true;
+  only_reads = false;
+  undone = is_untaken;
   may_end = λ halt. Unit {0};
   input = λ bytes left halt. InputRead limit bytes left halt × TakesFew limit (Some bytes) left;
   moment = λ state bytes. InItem state (outcome state bytes);

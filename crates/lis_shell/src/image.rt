@@ -1,15 +1,19 @@
 //! An image that is opened, and the one work that a word does on it.
 
-ghost use Rattle.std.specs.Prelude.{◌≡◌, ℕ, ◌^◌, List, [], Some, false, IfOk, IfErr};
+ghost use Rattle.std.specs.Prelude.{◌≡◌, ℕ, ◌^◌, List, [], Some, false, IfOk, IfErr, IsTrue};
 ghost use Rattle.lis_ports.specs.Calls.{StationFaultEnds, FaultEnds};
+ghost use Rattle.lis_ports.specs.Runs.{Adds};
+ghost use Rattle.lis_ports.specs.Since.{Since};
 ghost use Rattle.lis_line.specs.Taking.{TakesFew};
 ghost use Rattle.lis_model.specs.State.{State};
 ghost use Rattle.lis_store.specs.Stands.{Stands};
 ghost use Rattle.lis_store.specs.Stored.{IsSound, StoreFits, IsUsable};
 ghost use Rattle.lis_session.specs.Item.{IsSameStation};
 ghost use Rattle.lis_session.specs.Runs.{Goes};
+ghost use Rattle.lis_session.specs.Showing.{DiskStays};
 ghost use Rattle.lis_shell.specs.Causes.{counts, HasStatusCause};
-ghost use Rattle.lis_shell.specs.Image.{Work, Told, halted, status_of, ImageKeeps};
+ghost use Rattle.lis_shell.specs.declared.status.Status.TheVariants.{Ended};
+ghost use Rattle.lis_shell.specs.Image.{Work, Told, halted, status_of, NotBegun, ImageKeeps};
 
 use crate::status::Status;
 use lis_line::carrier::Halt;
@@ -45,6 +49,11 @@ pub trait ImageWork {
         ensures refused { IfErr result (λ _. (input.new ≡ input.old) × (station.new ≡ station.old)) }
         ensures only { IfOk result (says self.now).may_end }
         ensures input { IfOk result (λ halt. (bytes : List ℕ) → S.left input.old ≡ Some bytes → (says self.now).input bytes (S.left input.new) halt) }
+        ensures disk { IfOk result (λ _. IsTrue (says self.now).only_reads → IsTrue (T.meaning station.old).is_honest
+            → DiskStays (T.meaning station.old) (T.meaning station.new)) }
+        ensures undone { IfOk result (λ halt. IsTrue ((says self.now).undone (Ended halt)) → (state : State) (bytes : List ℕ)
+            → StoreFits store (T.meaning station.old) state → Told (says self.now).takes_input (S.left input.old) bytes
+            → Adds (T.meaning station.old) (T.meaning station.new) (Since (T.meaning station.old).shown (NotBegun state))) }
         ensures goes { IfOk result (λ halt. (state : State) (bytes : List ℕ) → StoreFits store (T.meaning station.old) state
             → Told (says self.now).takes_input (S.left input.old) bytes
             → Goes ((says self.now).moment state bytes) state.limits (T.meaning station.old) (T.meaning station.new)

@@ -1,12 +1,17 @@
 //! What the clauses of the tasks say together, each law the contract of a function with nothing to do.
 
-ghost use Rattle.std.specs.Prelude.{◌≡◌, ℕ, List, Some};
+ghost use Rattle.std.specs.Prelude.{◌≡◌, ℕ, ◌^◌, ◌≤◌, List, Some, length};
 ghost use Rattle.lis_line.specs.declared.carrier.Halt.TheVariants.{End as AtEnd};
 ghost use Rattle.lis_model.specs.declared.limits.Limits.{Limits as LimitsOf};
 ghost use Rattle.lis_model.specs.State.{State, empty_state};
+ghost use Rattle.lis_grow.specs.Session.{grow_items};
 ghost use Rattle.lis_shell.specs.Agree.{ShowSame, EndSame, replies_from_empty, replies_from, state_behind};
+ghost use Rattle.lis_shell.specs.Causes.{counts, NoFault};
+ghost use Rattle.lis_shell.specs.Grows.{growing, GrowEntry, GrowHeadline, IsGrown};
+ghost use Rattle.lis_shell.specs.Image.{WorkHeadline, WorkComplete};
 ghost use Rattle.lis_shell.specs.Keeps.{TryKeeps, RunKeeps, LoadKeeps};
-ghost use Rattle.lis_shell.specs.Runs.{AtEntry};
+ghost use Rattle.lis_shell.specs.Runs.{running, AtEntry, IsComplete};
+ghost use Rattle.lis_shell.specs.declared.status.Status.{Status as StatusOf};
 ghost use Rattle.lis_shell.specs.declared.status.Status.TheVariants.{Ended};
 
 use lis_ports::{Source, Station};
@@ -38,4 +43,40 @@ pub fn run_and_load_agree<R: Source, S: Source, T: Station, U: Station>()
         → AtEntry (U.meaning other) (S.left fed) state bytes
         → LoadKeeps (fed_after ≡ fed) (other_after ≡ other) (S.left fed) (S.left fed_after) (U.meaning other) (U.meaning other_after) (Ended AtEnd)
         → EndSame (T.meaning image) (T.meaning image_after) (U.meaning other) (U.meaning other_after) (replies_from state bytes) (state_behind state bytes) }
+{}
+
+/// `run`, where no call failed and the input has at most 2^40 bytes: each item was carried out and its reply shown; or there was no memory
+/// at the opening.
+///
+/// The premise is what `lisfs` says of `run` (`work_complete`), of any source and station.
+pub fn run_complete<S: Source, T: Station>()
+    ensures { (state : State) (bytes : List ℕ) (input input_after : S) (image image_after : T) (status : StatusOf)
+        → WorkComplete running (S.left input) (S.left input_after) (counts (T.meaning image) (S.faults input)) (counts (T.meaning image_after) (S.faults input_after))
+        (T.meaning image) (T.meaning image_after) status
+        → AtEntry (T.meaning image) (S.left input) state bytes → length bytes ≤ 2 ^ 40
+        → NoFault (counts (T.meaning image) (S.faults input)) (counts (T.meaning image_after) (S.faults input_after))
+        → IsComplete state (2 ^ 40) bytes (S.left input_after) (T.meaning image).shown (T.meaning image_after) status }
+{}
+
+/// `grow`: stopped at any moment, the image stands for the model's state after some first items of the session, and what was shown is a
+/// front of its summary: nothing before all items were carried out; or it is what a stop could have left at entry.
+///
+/// The premise is what `lisfs` says of `grow` (`work_headline`), of any source and station.
+pub fn grow_headline<S: Source, T: Station>()
+    ensures { (n : ℕ) (state : State) (input : S) (image image_after : T)
+        → WorkHeadline (growing n) (S.left input) (T.meaning image) (T.meaning image_after)
+        → GrowEntry (T.meaning image) state
+        → GrowHeadline state (grow_items n) (T.meaning image) (T.meaning image_after) }
+{}
+
+/// `grow`, where no call failed: each item was carried out and the summary was shown; or there was no memory at the opening.
+///
+/// The premise is what `lisfs` says of `grow` (`work_complete`), of any source and station.
+pub fn grow_complete<S: Source, T: Station>()
+    ensures { (n : ℕ) (state : State) (input input_after : S) (image image_after : T) (status : StatusOf)
+        → WorkComplete (growing n) (S.left input) (S.left input_after) (counts (T.meaning image) (S.faults input)) (counts (T.meaning image_after) (S.faults input_after))
+        (T.meaning image) (T.meaning image_after) status
+        → GrowEntry (T.meaning image) state
+        → NoFault (counts (T.meaning image) (S.faults input)) (counts (T.meaning image_after) (S.faults input_after))
+        → IsGrown state (grow_items n) (T.meaning image).shown (T.meaning image_after) status }
 {}

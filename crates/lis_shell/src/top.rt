@@ -1,8 +1,9 @@
 //! The top call.
 
-ghost use Rattle.std.specs.Prelude.{◌≡◌, ◌↔◌, ℕ, ◌≤◌, ◌^◌, List, length, map, None, Some, false, IsTrue};
+ghost use Rattle.std.specs.Prelude.{◌≡◌, ◌↔◌, ℕ, ◌^◌, List, map, None, Some, false, IsTrue};
 ghost use Rattle.std.specs.String.{string_bytes};
 ghost use Rattle.lis_ports.specs.Calls.{StationFaultEnds, FaultEnds};
+ghost use Rattle.lis_line.specs.Tagged.{room_script};
 ghost use Rattle.lis_line.specs.Taking.{TakesFew};
 ghost use Rattle.lis_model.specs.declared.limits.Limits.{Limits as LimitsOf};
 ghost use Rattle.lis_model.specs.Ranges.{are_in_range};
@@ -10,17 +11,16 @@ ghost use Rattle.lis_model.specs.Step.{step};
 ghost use Rattle.lis_model.specs.Script.{script};
 ghost use Rattle.lis_model.specs.State.{State};
 ghost use Rattle.lis_session.specs.Item.{IsSameStation};
-ghost use Rattle.lis_session.specs.Session.{root_of, EachMoment, OpenedMoment, Headline, FullHeadline};
-ghost use Rattle.lis_grow.specs.Session.{grow_items};
+ghost use Rattle.lis_session.specs.Session.{root_of, Headline, FullHeadline};
 ghost use Rattle.lis_load.specs.Load.{FullLoadHeadline};
+ghost use Rattle.lis_rooms.specs.Rooms.{room_step, rooms_of};
 ghost use Rattle.lis_shell.specs.Words.{task_of};
 ghost use Rattle.lis_shell.specs.declared.words.Task.TheVariants.{Try, Make, Upgrade, OnImage};
 ghost use Rattle.lis_shell.specs.declared.words.ImageTask.{ImageTask as WorkNamed};
-ghost use Rattle.lis_shell.specs.declared.words.ImageTask.TheVariants.{Run, Load, Grow};
-ghost use Rattle.lis_shell.specs.Causes.{counts, HasStatusCause, NoFault};
-ghost use Rattle.lis_shell.specs.Runs.{AtEntry, IsComplete};
-ghost use Rattle.lis_shell.specs.Grows.{GrowHeadline, GrowEntry, IsGrown};
-ghost use Rattle.lis_shell.specs.Image.{Told, EntryWith, ComesToEnd, ImageKeeps};
+ghost use Rattle.lis_shell.specs.declared.words.ImageTask.TheVariants.{Run, Load, Rooms};
+ghost use Rattle.lis_shell.specs.Causes.{counts, HasStatusCause};
+ghost use Rattle.lis_shell.specs.Runs.{AtEntry};
+ghost use Rattle.lis_shell.specs.Image.{ImageKeeps, WorkHeadline, UndoneHeadline, WorkComplete};
 ghost use Rattle.lis_shell.specs.Keeps.{TryKeeps, MakeKeeps, UpgradeKeeps, work_of, TaskKeeps};
 
 use crate::dumping::Dumping;
@@ -128,15 +128,16 @@ fn carry_task<S: Source, T: Station>(
 /// `try FILES PROPS BLOCKS` carries out the commands of the input on a state that begins empty, and shows the replies; what the disk reads
 /// as, and what a crash leaves of it, stays. `make IMAGE FILES PROPS BLOCKS` makes an image of the empty state; it reads no input and shows
 /// nothing. With `v2` behind the words of these two the state is of version 2, and else of version 1. `run IMAGE` opens the image, carries
-/// out the commands of the input on it and shows the replies. `load IMAGE` does the same with many changes to a commit: a reply comes
-/// behind the commit, and at most 256 wait for it. `rooms IMAGE` does what `run` does for up to eight sessions in one stream, each at a
-/// place of its own: the tag of a line, `@0` to `@7`, says whose it is, and stands behind the reply. `upgrade IMAGE` makes the image one of
-/// version 2; it reads no input and shows nothing. `dump IMAGE` opens the image and shows the session that makes its state again; it reads
-/// no input and changes nothing. `grow IMAGE N` opens the image and carries out the large session that is made of the number, below 2^31;
-/// it reads no input, and shows a summary in place of the replies. `view IMAGE NAME F` opens the image and shows the lines of the file NAME
-/// of which the formula F holds, with marks in place of the others; it reads no input and changes nothing. `put IMAGE NAME F` opens the
-/// image, reads an edited view of the file, of at most 8,388,608 bytes, and makes the file anew of it. IMAGE is not looked at here: the
-/// station is the image. Any other words are `Usage`, which is judged before anything is read or taken.
+/// out the commands of the input on it and shows the replies. `load IMAGE` does the same with many changes to a commit: a reply shows
+/// after the commit, and of the items whose changes the image has, at most 256 have replies that were not shown whole. `rooms IMAGE` does
+/// what `run` does for up to eight sessions in one stream, each at a place of its own: the tag of a line, `@0` to `@7`, says whose it is,
+/// and follows the reply. `upgrade IMAGE` makes the image one of version 2; it reads no input and shows nothing. `dump IMAGE` opens the
+/// image and shows the session that makes its state again; it reads no input. `grow IMAGE N` opens the image and carries out the large
+/// session that is made of the number, below 2^31; it reads no input, and shows a summary instead of the replies. `view IMAGE NAME F` opens
+/// the image and shows the lines of the file NAME of which the formula F holds, with marks instead of the others; it reads no input. `dump`
+/// and `view` write nothing, but for what opening writes if a gate of the journal is open. `put IMAGE NAME F` opens the image, reads an
+/// edited view of the file, of at most 8,388,608 bytes, and makes the file again of it. IMAGE is not looked at here: the station is the
+/// image. Any other words are `Usage`, which is judged before anything is read or taken.
 ///
 /// Want of memory in a word that opens an image comes at the opening alone, with nothing shown; in `try` it may come between two
 /// commands.
@@ -163,43 +164,35 @@ pub fn lisfs<S: Source, T: Station>(
         → AtEntry (T.meaning station.old) (S.left input.old) state bytes
         → ((image : List ℕ) → (T.meaning station.old).images image → image ≡ (T.meaning station.old).bytes)
         → FullHeadline step (root_of state) (script bytes (2 ^ 40)) (T.meaning station.old) (T.meaning station.new) }
-    ensures complete { task_of (map string_bytes words.now) ≡ Some (OnImage Run) → (state : State) (bytes : List ℕ)
-        → AtEntry (T.meaning station.old) (S.left input.old) state bytes → length bytes ≤ 2 ^ 40
-        → NoFault (counts (T.meaning station.old) (S.faults input.old)) (counts (T.meaning station.new) (S.faults input.new))
-        → IsComplete state (2 ^ 40) bytes (S.left input.new) (T.meaning station.old).shown (T.meaning station.new) result }
 
-    // `grow`: stopped at any moment, the image stands for the model's state after some first items of the session, and what was shown is a
-    // front of its summary: nothing before all items were carried out; or it is what a stop could have left at entry.
-    ensures grow_headline { (n : ℕ) → task_of (map string_bytes words.now) ≡ Some (OnImage (Grow n)) → (state : State)
-        → GrowEntry (T.meaning station.old) state
-        → GrowHeadline state (grow_items n) (T.meaning station.old) (T.meaning station.new) }
-    ensures grow_complete { (n : ℕ) → task_of (map string_bytes words.now) ≡ Some (OnImage (Grow n)) → (state : State)
-        → GrowEntry (T.meaning station.old) state
-        → NoFault (counts (T.meaning station.old) (S.faults input.old)) (counts (T.meaning station.new) (S.faults input.new))
-        → IsGrown state (grow_items n) (T.meaning station.old).shown (T.meaning station.new) result }
+    // `load` and `rooms` on an image of which nothing is unsynced: each moment is one of the work, with no exception.
+    ensures load_settled { task_of (map string_bytes words.now) ≡ Some (OnImage Load) → (state : State) (bytes : List ℕ)
+        → AtEntry (T.meaning station.old) (S.left input.old) state bytes
+        → ((image : List ℕ) → (T.meaning station.old).images image → image ≡ (T.meaning station.old).bytes)
+        → FullLoadHeadline (root_of state) (script bytes (2 ^ 40)) (T.meaning station.old) (T.meaning station.new) }
+    ensures rooms_settled { task_of (map string_bytes words.now) ≡ Some (OnImage Rooms) → (state : State) (bytes : List ℕ)
+        → AtEntry (T.meaning station.old) (S.left input.old) state bytes
+        → ((image : List ℕ) → (T.meaning station.old).images image → image ≡ (T.meaning station.old).bytes)
+        → FullHeadline room_step (rooms_of state) (room_script bytes (2 ^ 40)) (T.meaning station.old) (T.meaning station.new) }
+
+    // Each work on an image: stopped at any moment, it is a moment of the work; or it is what a stop could have left at entry, with nothing
+    // shown since. Where the image was not opened, or the input of `put` was not taken whole, the work was not begun at any moment.
+    ensures work_headline { (task : WorkNamed) → task_of (map string_bytes words.now) ≡ Some (OnImage task)
+        → WorkHeadline (work_of (map string_bytes words.now) task) (S.left input.old) (T.meaning station.old) (T.meaning station.new) }
+    ensures work_undone { (task : WorkNamed) → task_of (map string_bytes words.now) ≡ Some (OnImage task)
+        → UndoneHeadline (work_of (map string_bytes words.now) task) (S.left input.old) (T.meaning station.old) (T.meaning station.new) result }
+    ensures work_complete { (task : WorkNamed) → task_of (map string_bytes words.now) ≡ Some (OnImage task)
+        → WorkComplete (work_of (map string_bytes words.now) task) (S.left input.old) (S.left input.new)
+        (counts (T.meaning station.old) (S.faults input.old)) (counts (T.meaning station.new) (S.faults input.new)) (T.meaning station.old) (T.meaning station.new) result }
 
     // What each task keeps. `make` and `upgrade` leave the input alone, and so does each work on an image that takes none.
     ensures tries { (limits : LimitsOf) → task_of (map string_bytes words.now) ≡ Some (Try limits)
         → TryKeeps limits (S.left input.old) (S.left input.new) (T.meaning station.old) (T.meaning station.new) result }
     ensures makes { (limits : LimitsOf) → task_of (map string_bytes words.now) ≡ Some (Make limits)
         → MakeKeeps limits (station.new ≡ station.old) (T.meaning station.old) (T.meaning station.new) result × (input.new ≡ input.old) }
-    // Each work on an image: stopped at any moment, it is a moment of the work; or it is what a stop could have left at entry, with nothing
-    // shown since.
-    ensures headlines { (task : WorkNamed) → task_of (map string_bytes words.now) ≡ Some (OnImage task) → (state : State) (bytes : List ℕ)
-        → EntryWith (T.meaning station.old) (Told (work_of (map string_bytes words.now) task).takes_input (S.left input.old) bytes) state
-        → EachMoment (T.meaning station.old) (T.meaning station.new) (OpenedMoment (T.meaning station.old) ((work_of (map string_bytes words.now) task).moment state bytes)) }
     ensures works { (task : WorkNamed) → task_of (map string_bytes words.now) ≡ Some (OnImage task)
         → ImageKeeps (work_of (map string_bytes words.now) task) (input.new ≡ input.old) (station.new ≡ station.old) (S.left input.old) (S.left input.new)
         (T.meaning station.old) (T.meaning station.new) result × ((work_of (map string_bytes words.now) task).takes_input ≡ false → input.new ≡ input.old) }
-    // `load` on an image of which nothing is unsynced: each moment is one of the load, with no exception.
-    ensures load_settled { task_of (map string_bytes words.now) ≡ Some (OnImage Load) → (state : State) (bytes : List ℕ)
-        → AtEntry (T.meaning station.old) (S.left input.old) state bytes
-        → ((image : List ℕ) → (T.meaning station.old).images image → image ≡ (T.meaning station.old).bytes)
-        → FullLoadHeadline (root_of state) (script bytes (2 ^ 40)) (T.meaning station.old) (T.meaning station.new) }
-    ensures completes { (task : WorkNamed) → task_of (map string_bytes words.now) ≡ Some (OnImage task) → (state : State) (bytes : List ℕ)
-        → EntryWith (T.meaning station.old) (Told (work_of (map string_bytes words.now) task).takes_input (S.left input.old) bytes) state
-        → NoFault (counts (T.meaning station.old) (S.faults input.old)) (counts (T.meaning station.new) (S.faults input.new))
-        → ComesToEnd (work_of (map string_bytes words.now) task) state bytes (S.left input.new) (T.meaning station.old).shown (T.meaning station.new) result }
     ensures upgrades { task_of (map string_bytes words.now) ≡ Some Upgrade
         → UpgradeKeeps (station.new ≡ station.old) (T.meaning station.old) (T.meaning station.new) result × (input.new ≡ input.old) }
 {

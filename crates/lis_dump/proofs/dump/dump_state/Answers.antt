@@ -15,3 +15,13 @@ returns-in_err-show_files-clause-shows g c =
 pub returns-clause-shows : goal.returns-clause-shows
 returns-clause-shows g c =
     (dump_shown c.in_ok-show_words.field-0 c.in_ok-show_words.ensures c.in_ok-show_files.field-0 c.show_axioms.result c.in_ok-show_files.ensures c.show_axioms.ensures).shows
+
+pub returns-in_err-show_words-clause-disk : goal.returns-in_err-show_words-clause-disk
+returns-in_err-show_words-clause-disk g c = c.in_err-show_words.ensures.disk
+
+pub returns-in_err-show_files-clause-disk : goal.returns-in_err-show_files-clause-disk
+returns-in_err-show_files-clause-disk g c = (files_broke c.in_ok-show_words.field-0 c.in_ok-show_words.ensures c.in_err-show_files.field-0.0 c.in_err-show_files.ensures).disk
+
+pub returns-clause-disk : goal.returns-clause-disk
+returns-clause-disk g c =
+    (dump_shown c.in_ok-show_words.field-0 c.in_ok-show_words.ensures c.in_ok-show_files.field-0 c.show_axioms.result c.in_ok-show_files.ensures c.show_axioms.ensures).disk

@@ -29,7 +29,7 @@ returns-in_err-show_content g c =
     (λ state fitting. lines_are c.requires.sound state fitting name c.args.slot c.requires.slot size c.len.result c.min.result c.tags-words.result.items c.as_slice.result.now first others
     c.file_size-size.ensures.size c.tags-words.ensures c.as_slice.ensures.value c.len.ensures.value c.min.ensures c.split_at.ensures.front c.split_at.ensures.back)
     c.in_ok-show.field-0 (rw (c.as_slice-2.ensures.value ∙ c.add_line.ensures) at c.in_ok-show.ensures)
-    c.in_err-show_content.field-0.0 (record { shows = c.in_err-show_content.ensures.shows name c.requires.slot; ends = c.in_err-show_content.ensures.ends }))
+    c.in_err-show_content.field-0.0 (record { shows = c.in_err-show_content.ensures.shows name c.requires.slot; ends = c.in_err-show_content.ensures.ends; disk = c.in_err-show_content.ensures.disk }))
 
 pub returns : goal.returns
 returns g c =
@@ -41,5 +41,5 @@ returns g c =
     (λ state fitting. lines_are c.requires.sound state fitting name c.args.slot c.requires.slot size c.len.result c.min.result c.tags-words.result.items c.as_slice.result.now first others
     c.file_size-size.ensures.size c.tags-words.ensures c.as_slice.ensures.value c.len.ensures.value c.min.ensures c.split_at.ensures.front c.split_at.ensures.back)
     c.in_ok-show.field-0 (rw (c.as_slice-2.ensures.value ∙ c.add_line.ensures) at c.in_ok-show.ensures)
-    c.in_ok-show_content.field-0 c.show-2.result (record { shows = c.in_ok-show_content.ensures.shows name c.requires.slot; ends = c.in_ok-show_content.ensures.ends })
+    c.in_ok-show_content.field-0 c.show-2.result (record { shows = c.in_ok-show_content.ensures.shows name c.requires.slot; ends = c.in_ok-show_content.ensures.ends; disk = c.in_ok-show_content.ensures.disk })
     (rw (c.as_slice-3.ensures.value ∙ c.mv_line.ensures) at c.show-2.ensures)

@@ -1,6 +1,7 @@
 use Rattle.lis_open.proofs.Common.{rules, ◌∙◌, sym, ap, subst, inl, Err, IsTrue, err_from_is_err_and, leaves_weaken}
 use Rattle.lis_open.specs.Opens.{HasOpenCause, InOpening}
 use Rattle.lis_open.proofs.Opening.{opened_before, opening_before, moments_stand, mount_past}
+use Rattle.lis_open.proofs.Unwritten.{open_unwritten}
 use Rattle.lis_open.proofs.mounting.mount.Goals as goal
 
 pub returns-in_err-limits-clause-spot : goal.returns-in_err-limits-clause-spot
@@ -11,6 +12,12 @@ returns-in_err-limits-clause-spot g c = λ spot is honest.
 pub returns-in_err-limits-clause-any_moment : goal.returns-in_err-limits-clause-any_moment
 returns-in_err-limits-clause-any_moment g c = λ honest.
     leaves_weaken (InOpening (g.D.Disk.meaning c.args.disk.now)) (c.read_limits.ensures.reads.moments honest) (λ image is. inl is)
+
+pub returns-in_err-limits-clause-unwritten : goal.returns-in_err-limits-clause-unwritten
+returns-in_err-limits-clause-unwritten g c = λ honest shut.
+    let p = err_from_is_err_and c.from_residual.result c.from_residual.ensures.1 in
+    rw (p.1, p.2) (open_unwritten (Err c.in_err-limits.field-0.0) (c.in_err-limits.ensures.ended honest).left
+    (leaves_weaken (InOpening (g.D.Disk.meaning c.args.disk.now)) (c.read_limits.ensures.reads.moments honest) (λ image is. inl is)) shut)
 
 pub returns : goal.returns
 returns g c =
@@ -37,6 +44,7 @@ returns g c =
       left = λ honest. (opened honest).left;
       any_moment = moments;
       same_state = λ s honest stands. moments_stand old new s (g.met.D.Disk.reads_len c.args.disk.now honest) stands (moments honest);
+      unwritten = λ honest shut. open_unwritten c.mount_image.result (opened honest).left (moments honest) shut;
       past = λ limits honest super settled.
           mount_past old mid (reads.same honest) reads.run.len new c.in_ok-limits.limits limits (c.in_ok-limits.ensures.ended honest) super settled (image.past (reads.run.honest ∙ honest));
     }

@@ -3,6 +3,7 @@ use Rattle.lis_model.specs.Step.{Outcome}
 use Rattle.lis_store.specs.Stored.{StoreFits}
 use Rattle.lis_session.specs.Session.{root_of}
 use Rattle.lis_session.specs.Item.{OneItem}
+use Rattle.lis_session.proofs.DiskKept.{shows_stay}
 use Rattle.lis_session.proofs.Saying.{shows_item}
 use Rattle.lis_parts.specs.Commands.{view}
 use Rattle.lis_parts.proofs.Puts.{slot_named, done_refused, done_nowhere, done_here}
@@ -35,3 +36,12 @@ returns-clause-shows g c = λ state fitting.
 
 pub returns-clause-ends : goal.returns-clause-ends
 returns-clause-ends g c = (c.view_slot.ensures.shows c.args.name.now (slot_named c.args.store.now c.args.name.now (Some c.in-Some.slot) (sym c.in-Some.ensures))).ends
+
+pub returns-in-Err-clause-disk : goal.returns-in-Err-clause-disk
+returns-in-Err-clause-disk g c = shows_stay c.answer_refusal.ensures.run
+
+pub returns-in_default-clause-disk : goal.returns-in_default-clause-disk
+returns-in_default-clause-disk g c = shows_stay c.answer_refusal-in_default.ensures.run
+
+pub returns-clause-disk : goal.returns-clause-disk
+returns-clause-disk g c = (c.view_slot.ensures.shows c.args.name.now (slot_named c.args.store.now c.args.name.now (Some c.in-Some.slot) (sym c.in-Some.ensures))).disk

@@ -1,6 +1,7 @@
 use Rattle.std.proofs.Common.{◌≡◌, length, Ok, IsTrue}
 use Rattle.lis_store.specs.Stored.{IsIndex}
 use Rattle.lis_session.specs.Parts.{Ends}
+use Rattle.lis_session.specs.Showing.{DiskStays}
 use Rattle.lis_session.proofs.Blocks.{ShowsOf, first_blocks}
 use Rattle.lis_session.proofs.content.show_blocks.Given as goal
 
@@ -10,7 +11,7 @@ invariant-loop-n g l =
     let now = g.T.Disk.meaning l.station in
     record {
       ends : Ends old now (Ok tt);
-      bytes : IsTrue old.is_honest → now.bytes ≡ old.bytes;
+      disk : IsTrue old.is_honest → DiskStays old now;
       whole : length l.block ≡ 4096;
       shown : IsIndex l.store old.bytes l.slot l.index → ShowsOf (first_blocks l.n) l.store l.slot old now (Ok tt);
     }

@@ -1,7 +1,8 @@
-use Rattle.std.proofs.Common.{sym, subst, arith}
+use Rattle.std.proofs.Common.{sym, subst, ◌∙◌, arith}
 use Rattle.lis_store.specs.Stored.{IsIndex}
 use Rattle.lis_model.specs.Changes.{file_of}
 use Rattle.lis_session.proofs.Blocks.{blocks_none, blocks_all, block_broke, read_fits, read_then}
+use Rattle.lis_session.proofs.DiskKept.{stays_none, stays_then, reads_stay}
 use Rattle.lis_session.proofs.content.show_content.Goals as goal
 
 pub returns-then-size-eq0-clause-shows : goal.returns-then-size-eq0-clause-shows
@@ -22,3 +23,14 @@ returns-clause-shows g c = λ name is state fitting.
     let fits = e.fits state fitting.own in
     let is_index = subst (λ xs. IsIndex c.args.store.now xs c.args.slot c.index.new.index) (sym same.bytes) (c.in_default.ensures.held fitting.honest) in
     read_then bytes fitting read same c.show_blocks.result fits (c.show_blocks.ensures.shows is_index name is state (read_fits bytes fitting read same fits))
+
+pub returns-then-size-eq0-clause-disk : goal.returns-then-size-eq0-clause-disk
+returns-then-size-eq0-clause-disk g c = λ honest. stays_none (g.T.Disk.meaning c.args.station.now)
+
+pub returns-in-Err-clause-disk : goal.returns-in-Err-clause-disk
+returns-in-Err-clause-disk g c = reads_stay c.index.ensures.disk.reads
+
+pub returns-clause-disk : goal.returns-clause-disk
+returns-clause-disk g c = λ honest.
+    let reads = c.index.ensures.disk.reads in
+    stays_then c.show_blocks.ensures.ends.same.recorded (reads_stay reads honest) (c.show_blocks.ensures.disk (reads.run.honest ∙ honest))

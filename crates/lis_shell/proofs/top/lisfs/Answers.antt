@@ -1,19 +1,18 @@
-use Rattle.std.proofs.Common.{[], Some, None, map, sym, subst}
+use Rattle.std.proofs.Common.{Some, None, map, sym, subst}
 use Rattle.std.specs.String.{string_bytes}
 use Rattle.lis_model.specs.Step.{step}
 use Rattle.lis_model.specs.Script.{script}
 use Rattle.lis_session.specs.Session.{root_of, SessionMoment}
-use Rattle.lis_session.proofs.Whole.{headline, no_exception, headline_settled, complete, no_limit}
-use Rattle.lis_grow.specs.Session.{grow_items, GrowMoment}
+use Rattle.lis_session.proofs.Whole.{headline, no_exception, headline_settled}
 use Rattle.lis_load.specs.Load.{LoadMoment}
 use Rattle.lis_load.proofs.Moments.{load_none}
+use Rattle.lis_rooms.specs.Rooms.{room_step, rooms_of}
 use Rattle.lis_store.specs.Stands.{Stands}
 use Rattle.lis_shell.specs.declared.words.Task.TheVariants.{Try, Make, Upgrade, OnImage}
-use Rattle.lis_shell.specs.declared.words.ImageTask.TheVariants.{Run, Load, Grow}
-use Rattle.lis_shell.specs.Runs.{running}
-use Rattle.lis_shell.specs.Grows.{growing}
+use Rattle.lis_shell.specs.declared.words.ImageTask.TheVariants.{Run, Load, Rooms}
+use Rattle.lis_shell.specs.Image.{NotBegun}
 use Rattle.lis_shell.specs.Keeps.{work_of}
-use Rattle.lis_shell.proofs.Opened.{comes_to_end, completes}
+use Rattle.lis_shell.proofs.Opened.{comes_to_end}
 use Rattle.lis_shell.proofs.Tasks.{unasked, kept_by}
 use Rattle.lis_shell.proofs.top.lisfs.Goals as goal
 
@@ -23,8 +22,8 @@ returns-clause-usage g c = (λ e. (unasked c.carry_task.ensures.keeps e).0, λ e
 pub returns-clause-unused : goal.returns-clause-unused
 returns-clause-unused g c = λ e. let none = unasked c.carry_task.ensures.keeps e in (none.1, none.2)
 
-pub returns-clause-completes : goal.returns-clause-completes
-returns-clause-completes g c = λ task is state bytes entry none.
+pub returns-clause-work_complete : goal.returns-clause-work_complete
+returns-clause-work_complete g c = λ task is state bytes entry none.
     comes_to_end (work_of (map string_bytes c.args.words.now) task) state bytes (g.S.Source.left c.carry_task.new.input) (g.T.Disk.meaning c.args.station.now).shown (g.T.Disk.meaning c.carry_task.new.station) _ _
     c.carry_task.result ((kept_by (Some (OnImage task)) c.carry_task.ensures.keeps is).0.runs state bytes entry).ended c.carry_task.ensures.cause none
 
@@ -41,29 +40,23 @@ returns-clause-load_settled g c = λ is state bytes entry settled.
     no_exception (LoadMoment (root_of state) (script bytes 1099511627776)) (λ image had. load_none (root_of state) (script bytes 1099511627776) image (subst (λ xs. Stands xs state) (sym (settled image had)) entry.stands))
     (g.met.T.Disk.only_now c.args.station.now) ((kept_by (Some (OnImage Load)) c.carry_task.ensures.keeps is).0.runs state bytes entry).moments
 
-pub returns-clause-complete : goal.returns-clause-complete
-returns-clause-complete g c = λ is state bytes entry short none.
-    completes running state bytes (g.S.Source.left c.carry_task.new.input) (g.T.Disk.meaning c.args.station.now).shown (g.T.Disk.meaning c.carry_task.new.station) _
-    c.carry_task.result (λ all. complete all) (λ over. no_limit short over) (returns-clause-completes g c Run is state bytes entry none)
-
-pub returns-clause-grow_headline : goal.returns-clause-grow_headline
-returns-clause-grow_headline g c = λ n is state entry.
-    headline (GrowMoment (root_of state) (grow_items n)) (g.met.T.Disk.only_now c.args.station.now) ((kept_by (Some (OnImage (Grow n))) c.carry_task.ensures.keeps is).0.runs state [] entry).moments
-
-pub returns-clause-grow_complete : goal.returns-clause-grow_complete
-returns-clause-grow_complete g c = λ n is state entry none.
-    completes (growing n) state [] (g.S.Source.left c.carry_task.new.input) (g.T.Disk.meaning c.args.station.now).shown (g.T.Disk.meaning c.carry_task.new.station) _
-    c.carry_task.result (λ all. all) (λ over. over) (returns-clause-completes g c (Grow n) is state [] entry none)
-
 pub returns-clause-tries : goal.returns-clause-tries
 returns-clause-tries g c = λ limits is. kept_by (Some (Try limits)) c.carry_task.ensures.keeps is
 
 pub returns-clause-makes : goal.returns-clause-makes
 returns-clause-makes g c = λ limits is. kept_by (Some (Make limits)) c.carry_task.ensures.keeps is
 
-pub returns-clause-headlines : goal.returns-clause-headlines
-returns-clause-headlines g c = λ task is state bytes entry.
+pub returns-clause-work_headline : goal.returns-clause-work_headline
+returns-clause-work_headline g c = λ task is state bytes entry.
     headline ((work_of (map string_bytes c.args.words.now) task).moment state bytes) (g.met.T.Disk.only_now c.args.station.now) ((kept_by (Some (OnImage task)) c.carry_task.ensures.keeps is).0.runs state bytes entry).moments
+
+pub returns-clause-work_undone : goal.returns-clause-work_undone
+returns-clause-work_undone g c = λ task is state bytes entry undone.
+    headline (NotBegun state) (g.met.T.Disk.only_now c.args.station.now) ((kept_by (Some (OnImage task)) c.carry_task.ensures.keeps is).0.undone state bytes entry undone)
+
+pub returns-clause-rooms_settled : goal.returns-clause-rooms_settled
+returns-clause-rooms_settled g c = λ is state bytes entry settled.
+    headline_settled room_step (rooms_of state) entry.stands settled (g.met.T.Disk.only_now c.args.station.now) ((kept_by (Some (OnImage Rooms)) c.carry_task.ensures.keeps is).0.runs state bytes entry).moments
 
 pub returns-clause-works : goal.returns-clause-works
 returns-clause-works g c = λ task is. kept_by (Some (OnImage task)) c.carry_task.ensures.keeps is

@@ -46,7 +46,7 @@ returns-in-Ok-clause-keeps g c =
                 let at = c.in-Ok.ensures.ended entry.honest in
                 subst (λ (s : State). Always new (λ image. Stands image (upgraded s))) (one_state old.bytes at.1.0 state at.1.1 entry.stands) at.1.2;
           })
-          (λ state bytes entry. opened_past c.in-Ok.field-0 opening state entry.honest entry.stands);
+          (λ state bytes entry. opened_past c.in-Ok.field-0 opening state entry.honest entry.stands) (λ state bytes entry is. absurd (cc)) (λ is. absurd (cc));
       run = c.in-Ok.ensures.run;
       left = c.in-Ok.ensures.left;
       settled_moments = λ state entry settled. settled_moments state entry.stands settled (c.in-Ok.ensures.moments state entry.honest entry.stands);
@@ -66,7 +66,7 @@ returns-in-Err-clause-keeps g c = record {
     moments = c.in-Err.ensures.refused;
     past = c.in-Err.ensures.past;
   }) c.in-Err.ensures.ended c.in-Err.ensures.left upgrading
-      (λ state bytes honest stands. opening_moments (upgrading.moment state bytes) (λ image stood. (refl, stood)) (c.in-Err.ensures.moments state honest stands)) tt;
+      (λ state bytes honest stands. opening_moments (upgrading.moment state bytes) (λ image stood. (refl, stood)) (c.in-Err.ensures.moments state honest stands)) (λ state is. absurd (cc)) (λ is. absurd (cc)) tt;
   run = c.in-Err.ensures.run;
   left = c.in-Err.ensures.left;
   settled_moments = λ state entry settled. settled_moments state entry.stands settled (c.in-Err.ensures.moments state entry.honest entry.stands);

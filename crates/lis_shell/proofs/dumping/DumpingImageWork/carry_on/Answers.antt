@@ -17,3 +17,9 @@ returns-clause-goes g c = λ state bytes fits told.
     let outcome = only_shows (dump_of state) (root_of state) in
     let made = c.dump_state-done.ensures.shows state (store_fits_at c.requires.sound fits) in
     subst (λ halt. Goes (InItem state outcome) state.limits old new (ByResult (StepEnded outcome old.shown new) halt)) (sym c.halted.ensures) (step_goes state outcome c.dump_state-done.result made)
+
+pub returns-clause-disk : goal.returns-clause-disk
+returns-clause-disk g c = λ is. c.dump_state-done.ensures.disk
+
+pub returns-clause-undone : goal.returns-clause-undone
+returns-clause-undone g c = λ is. absurd (cc)

@@ -24,3 +24,9 @@ returns-clause-cause g c =
     let new = g.T.Disk.meaning c.grow_session-done.new.station in
     let faults = g.S.Source.faults c.args._input.now in
     subst (λ halt. HasStatusCause (counts old faults) (counts new faults) (Ended halt)) (sym c.halted.ensures) (halted_cause old new faults c.grow_session-done.result c.grow_session-done.ensures.cause)
+
+pub returns-clause-disk : goal.returns-clause-disk
+returns-clause-disk g c = λ is. absurd (cc)
+
+pub returns-clause-undone : goal.returns-clause-undone
+returns-clause-undone g c = λ is. absurd (cc)

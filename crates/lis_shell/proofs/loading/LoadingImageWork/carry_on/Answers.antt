@@ -24,3 +24,9 @@ returns-clause-goes g c = λ state bytes fits told.
     subst (λ (s : SituatedOf (List Formula)). StoreFits s.store old state → Loads (situation_at s state) (script bytes 1099511627776) old new
     (LoadServed (situation_at s state) 1099511627776 bytes (g.S.Source.left c.serve_load-halt.new.input) old.shown new c.serve_load-halt.result))
     (c.new-loader.ensures.session ∙ c.in_ok-session.ensures) (λ own. c.serve_load-halt.ensures.serves state bytes own told) fits
+
+pub returns-clause-disk : goal.returns-clause-disk
+returns-clause-disk g c = λ is. absurd (cc)
+
+pub returns-clause-undone : goal.returns-clause-undone
+returns-clause-undone g c = λ is. absurd (cc)

@@ -32,3 +32,9 @@ returns-clause-goes g c = λ state bytes fits told.
     let own = subst (λ (s : Stored). StoreFits s old state) same fits in
     let made = c.view_file-done.ensures.shows state (store_fits_at (subst IsSound same c.requires.sound) own) in
     subst (λ halt. Goes (InItem state outcome) state.limits old new (ByResult (StepEnded outcome old.shown new) halt)) (sym c.halted.ensures) (step_goes state outcome c.view_file-done.result made)
+
+pub returns-clause-disk : goal.returns-clause-disk
+returns-clause-disk g c = λ is. c.view_file-done.ensures.disk
+
+pub returns-clause-undone : goal.returns-clause-undone
+returns-clause-undone g c = λ is. absurd (cc)

@@ -21,3 +21,9 @@ returns-clause-goes g c = λ state bytes fits told.
     subst (λ (s : SituatedOf Places). StoreFits s.store old state → Serves room_step (situation_at s state) (room_script bytes 1099511627776) old new
     (Served room_step tagged_cut (situation_at s state) 1099511627776 bytes (g.S.Source.left c.serve_rooms-halt.new.input) old.shown new c.serve_rooms-halt.result))
     c.in_ok-rooms.ensures (λ own. c.serve_rooms-halt.ensures.serves state bytes own told) fits
+
+pub returns-clause-disk : goal.returns-clause-disk
+returns-clause-disk g c = λ is. absurd (cc)
+
+pub returns-clause-undone : goal.returns-clause-undone
+returns-clause-undone g c = λ is. absurd (cc)

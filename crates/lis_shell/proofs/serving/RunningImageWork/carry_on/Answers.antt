@@ -14,3 +14,9 @@ returns-clause-goes g c = λ state bytes fits told.
     subst (λ (s : Situated). StoreFits s.store old state → Serves step (record { state = state; place = s.place }) (script bytes 1099511627776) old new
     (Served step session_cut (record { state = state; place = s.place }) 1099511627776 bytes (g.S.Source.left c.serve-halt.new.input) old.shown new c.serve-halt.result))
     c.in_ok-session.ensures (λ own. c.serve-halt.ensures.serves state bytes own told) fits
+
+pub returns-clause-disk : goal.returns-clause-disk
+returns-clause-disk g c = λ is. absurd (cc)
+
+pub returns-clause-undone : goal.returns-clause-undone
+returns-clause-undone g c = λ is. absurd (cc)
