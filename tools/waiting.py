@@ -87,14 +87,17 @@ def waits_of(process):
 
 
 def rest(*processes):
-    """Waits until all of these do nothing any more before something comes from elsewhere."""
+    """Waits until all of these do nothing any more before something comes from elsewhere. Whether they do: one that has ended never will."""
     looks = [[None]]
 
     def is_so():
         looks.append([waits_of(process) for process in processes])
         return None not in looks[-1] and looks[-1] == looks[-2]
 
-    return until(is_so)
+    def are_there():
+        return all(map(is_running, processes))
+
+    return until(lambda: is_so() or not are_there()) and are_there()
 
 
 def stop(process):

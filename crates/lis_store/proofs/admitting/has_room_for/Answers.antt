@@ -4,8 +4,8 @@ use Rattle.lis_store.proofs.admitting.has_room_for.Goals as goal
 pub returns-then-file_count-limits-clause-row : goal.returns-then-file_count-limits-clause-row
 returns-then-file_count-limits-clause-row c = grind (arith, common_steps)
 
-pub returns-then-measure-gt-MAX_DESCRIPTION-clause-row : goal.returns-then-measure-gt-MAX_DESCRIPTION-clause-row
-returns-then-measure-gt-MAX_DESCRIPTION-clause-row c = grind (arith, common_steps)
+pub returns-then-measure-clause-row : goal.returns-then-measure-clause-row
+returns-then-measure-clause-row c = grind (arith, common_steps)
 
 pub returns-then-measure-limits-clause-row : goal.returns-then-measure-limits-clause-row
 returns-then-measure-limits-clause-row c = grind (arith, common_steps)
