@@ -1,18 +1,18 @@
-"""What something costs a processor at most, on whatever machine it is tried. For tests alone.
+"""How much processor time a call takes at most, on any machine. For tests alone.
 
-A bound is told in seconds of one machine. Where another one is slower, as a yardstick shows that is laid beside each measure, the bound is as
-much longer: so no verdict counts on how quick a machine is, or on what else it has to do.
+A bound is in seconds of one machine. A yardstick is measured beside each call. If it shows that this machine is slower, the bound is longer by
+the same factor: so no verdict counts on how quick a machine is, or on what else it has to do.
 """
 import re
 import time
 
-# So many seconds of processor the yardstick took on the machine of which the bounds tell, at best.
+# How many seconds of processor the yardstick takes on that machine.
 YARD = 0.0100
 WORD = re.compile(r"[a-z]+([0-9]*)")
 
 
 def yardstick():
-    """Some work of an interpreter on texts and tables."""
+    """Some work on texts and tables."""
     found = {}
     for number in range(1_000):
         text = f"From: p{number} <word{number}@example.org>".lower()
@@ -29,8 +29,8 @@ def spent_by(call):
 
 
 def bounded(call, most, tries=3):
-    """What a call gives, whether it took at most so many seconds, and what was measured. What else there is to do may make one measure larger,
-    and not each of several."""
+    """What a call gives, whether it took at most so many seconds, and of each try the seconds and how much slower this machine is. Other work
+    may make one try longer, and not all of them."""
     told = []
     for _ in range(tries):
         before = spent_by(yardstick)[1]
