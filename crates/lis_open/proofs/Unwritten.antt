@@ -21,15 +21,15 @@ recovered-shut layout image shut = ap (λ b. cond b (recovered_as image (replaye
 unchanged_unwritten : {old new : Meaning} → IsUnchanged old new → Unwritten old new
 unchanged_unwritten same = record { bytes = same.bytes; images = λ image there. inl (same.images.only image there) }
 
+had_before : (old : Meaning) → has_open old.bytes ≡ false → (image : List ℕ) → InOpening old image → old.images image
+had_before old shut image (inl there) = there
+had_before old shut image (inr recovering) = absurd (both_ways (has_open old.bytes) shut recovering.2.opened)
+
 module _ {old new : Meaning} (shut : has_open old.bytes ≡ false) where
   recovered_unwritten : Recovers old new → Unwritten old new
   recovered_unwritten at =
       let settled : IsSettled new old.bytes = subst (IsSettled new) (recovered-shut (image_layout at.0) old.bytes shut) at.2 in
       record { bytes = settled.reads; images = λ image there. inr (settled.only image there) }
-
-  had_before : (image : List ℕ) → InOpening old image → old.images image
-  had_before image (inl there) = there
-  had_before image (inr recovering) = absurd (both_ways (has_open old.bytes) shut recovering.2.opened)
 
   left_unwritten : (result : Result Stored OpenFault) → OpenLeft old new result → result ≢ Err DiskFault → Unwritten old new
   left_unwritten (Ok store) left worked = recovered_unwritten left
@@ -43,5 +43,5 @@ pub open_unwritten : {old new : Meaning} (result : Result Stored OpenFault) → 
     → OpenUnwritten old new result
 open_unwritten {old} result left moments shut = record {
   left = left_unwritten shut result left;
-  moments = leaves_weaken old.images moments (had_before shut);
+  moments = leaves_weaken old.images moments (had_before old shut);
 }

@@ -141,7 +141,7 @@ module _ (s : State) (formed : WellFormed s) (name : List ℕ) (has : has_name s
   write_same : write (root_of s) name (payload_of (length old.bytes) old.bytes) ≡ only_shows (space_line s old) (root_of s)
   write_same =
       ap (λ bytes. write_with (root_of s) old (new_file old.name old.assigned bytes) (length old.bytes))
-          (ap (λ b. cond b old.bytes []) (le-leb (length old.bytes) payload_limit (omega (arith, short, limit_le (s.limits.version == 2)))))
+      (ap (λ b. cond b old.bytes []) (le-leb (length old.bytes) payload_limit (omega (arith, short, limit_le (s.limits.version == 2)))))
       ∙ (ap (λ (made : State). judged (root_of s) (write_checks (root_of s) old made (length old.bytes)) (changed (root_of s) made)) same_state
       ∙ (row_left (root_of s) (changed (root_of s) s) _ _ _ _ (nat_lt (blocks_for s old) (blocks_taken s.limits.version (length old.bytes))) not_large here few_words few_known
       ∙ (ap (λ full. cond full (refused (root_of s) NoSpace) (changed (root_of s) s)) (space_is (s.limits.version == 2) (free_blocks s) (blocks_taken s.limits.version (length old.bytes)))
