@@ -4,6 +4,7 @@ use Rattle.lis_model.specs.Step.{step}
 use Rattle.lis_model.specs.Script.{script}
 use Rattle.lis_session.specs.Session.{root_of, SessionMoment}
 use Rattle.lis_session.proofs.Whole.{headline, no_exception, headline_settled}
+use Rattle.lis_line.specs.Tagged.{room_script}
 use Rattle.lis_load.specs.Load.{LoadMoment}
 use Rattle.lis_load.proofs.Moments.{load_none}
 use Rattle.lis_rooms.specs.Rooms.{room_step, rooms_of}
@@ -56,7 +57,7 @@ returns-clause-work_undone g c = λ task is state bytes entry undone.
 
 pub returns-clause-rooms_settled : goal.returns-clause-rooms_settled
 returns-clause-rooms_settled g c = λ is state bytes entry settled.
-    headline_settled room_step (rooms_of state) entry.stands settled (g.met.T.Disk.only_now c.args.station.now) ((kept_by (Some (OnImage Rooms)) c.carry_task.ensures.keeps is).0.runs state bytes entry).moments
+    headline_settled room_step (rooms_of state) (room_script bytes 1099511627776) entry.stands settled (g.met.T.Disk.only_now c.args.station.now) ((kept_by (Some (OnImage Rooms)) c.carry_task.ensures.keeps is).0.runs state bytes entry).moments
 
 pub returns-clause-works : goal.returns-clause-works
 returns-clause-works g c = λ task is. kept_by (Some (OnImage task)) c.carry_task.ensures.keeps is
