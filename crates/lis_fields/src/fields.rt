@@ -1,6 +1,6 @@
 //! The fields of which the parts of an image are made.
 
-ghost use Rattle.std.specs.Prelude.{◌≡◌, ℕ, ◌*◌, ◌≤◌, ◌==◌, List, length, IfSome, IsSomeAnd, IsTrue};
+ghost use Rattle.std.specs.Prelude.{◌+◌, ◌≡◌, ℕ, ◌*◌, ◌≤◌, ◌==◌, List, length, IfSome, IsSomeAnd, IsTrue};
 ghost use Rattle.std.specs.List.{list_all, flat_map};
 ghost use Rattle.byteorder.specs.Endian.{little_bytes};
 ghost use Rattle.lis_fields.specs.Layouts.{text_bytes, zeros, numbers};

@@ -1,12 +1,12 @@
 -- Segments taken one piece after another.
-use Rattle.std.proofs.Common.{◌≡◌, ℕ, ◌<◌, true, false, zero, suc, unwrap_or, List, [], ◌∷◌, ◌++◌, length, Option, Some, None, Result, Ok, Err, ap, sym, subst, ◌∙◌, refl, arith, append_assoc}
+use Rattle.std.proofs.Common.{◌≡◌, ℕ, ◌<◌, true, zero, suc, unwrap_or, List, [], ◌∷◌, ◌++◌, length, Option, Some, None, Result, Ok, Err, ap, sym, subst, ◌∙◌, refl, arith, append_assoc}
 use Rattle.std.specs.Option.{option_map}
 use Rattle.std.specs.Io.KnownBytes.{IsAtEnd}
 use Rattle.std.specs.List.{list_any}
 use Rattle.lis_model.specs.declared.command.Command.{Command}
 use Rattle.lis_model.specs.declared.refusal.Refusal.{Refusal}
 use Rattle.lis_model.specs.declared.refusal.Refusal.TheVariants.{PayloadEnd, CutPayload}
-use Rattle.lis_model.specs.Step.{Payload, no_payload}
+use Rattle.lis_model.specs.Step.{Item, Payload, no_payload}
 use Rattle.lis_model.specs.Step.Item.{Bad}
 use Rattle.lis_model.specs.Script.{First, FirstOf, item_of, payload_size, payload_of, first_of, first_with, first_ended}
 use Rattle.lis_model.proofs.Lines.{IsOneLine, after_feed_at, after_feed_all, has_feed, line_alone, line_with, last_alone, last_with, with_cut, with_payload}
@@ -17,7 +17,7 @@ use Rattle.lis_line.specs.Forms.{line_asks}
 use Rattle.lis_line.specs.Reading.{Gave, item_with}
 use Rattle.lis_line.specs.Segments.{WholeSegment, LastSegment, TakesSegment, first_dropped}
 use Rattle.lis_line.proofs.Bytes.{gave_none, gave_then, gave_line}
-use Rattle.lis_line.proofs.Sized.{asks_with, asks_alone}
+use Rattle.lis_line.proofs.Sized.{asks_alone}
 use Rattle.lis_words.specs.Bytes.{is_feed}
 
 -- a segment that begins with these bytes, where what follows them is told by `after`
@@ -81,32 +81,30 @@ dropped_last old new left_before left line text taken some none end = record {
 }
 
 -- behind a payload: a line feed, the end, or another byte
-pub ended_whole : (old new : Stocked) (left_before left : Option (List ℕ)) (byte size : ℕ) (line : List ℕ) (payload : Payload) (asked : Option (Result Command Refusal))
-    → Gave old new left_before left (byte ∷ []) → 0 < new.rest → is_feed byte ≡ true → payload_size line ≡ Some size → line_asks payload asked ≡ item_of line payload
-    → WholeSegment (first_ended (item_of line payload)) old new left_before left (option_map (item_with payload) asked)
-ended_whole old new left_before left byte size line payload asked gave some feed sized is = record {
+pub ended_whole : (old new : Stocked) (left_before left : Option (List ℕ)) (byte : ℕ) (item : Option Item)
+    → Gave old new left_before left (byte ∷ []) → 0 < new.rest → is_feed byte ≡ true → WholeSegment (first_ended item) old new left_before left item
+ended_whole old new left_before left byte item gave some feed = record {
   bytes = byte ∷ [];
   gave = gave;
   within = some;
-  is = λ more. rw feed (ap (λ item. record { item = item; rest = more; is_whole = true }) (asks_with line size payload asked sized is));
+  is = λ more. rw feed refl;
 }
 
-pub ended_last : (old new : Stocked) (left_before left : Option (List ℕ)) (size : ℕ) (line : List ℕ) (payload : Payload) (asked : Option (Result Command Refusal))
-    → Gave old new left_before left [] → 0 < new.rest → new.ahead ≡ [] → IsAtEnd left → payload_size line ≡ Some size → line_asks payload asked ≡ item_of line payload
-    → LastSegment (first_ended (item_of line payload)) old new left_before left (option_map (item_with payload) asked)
-ended_last old new left_before left size line payload asked gave some none end sized is = record {
+pub ended_last : (old new : Stocked) (left_before left : Option (List ℕ)) (item : Option Item)
+    → Gave old new left_before left [] → 0 < new.rest → new.ahead ≡ [] → IsAtEnd left → LastSegment (first_ended item) old new left_before left item
+ended_last old new left_before left item gave some none end = record {
   bytes = [];
   gave = gave;
   within = some;
-  is = ap (λ item. record { item = item; rest = []; is_whole = false }) (asks_with line size payload asked sized is);
+  is = refl;
   nothing_ahead = none;
   at_end = end;
 }
 
 -- a payload, and what follows it
-pub payload_ended : (line bytes more : List ℕ) (size : ℕ) (payload : Payload) → length bytes ≡ size → payload ≡ payload_of size bytes
-    → first_with line size (bytes ++ more) ≡ first_ended (item_of line payload) more
-payload_ended line bytes more size payload all is = with_payload line bytes more size all ∙ rw is refl
+pub payload_ended : (line bytes more : List ℕ) (size : ℕ) (payload : Payload) (item : Option Item) → length bytes ≡ size → payload ≡ payload_of size bytes → item ≡ item_of line payload
+    → first_with line size (bytes ++ more) ≡ first_ended item more
+payload_ended line bytes more size payload item all is asks = with_payload line bytes more size all ∙ rw (asks, is) refl
 
 -- no payload follows the line
 pub behind_alone : (stock : Stocked) (left : Option (List ℕ)) (line : List ℕ) (payload : Payload) (asked : Option (Result Command Refusal))

@@ -10,7 +10,7 @@ use Rattle.lis_model.specs.declared.command.Command.TheVariants.{Add, Write, Sta
 use Rattle.lis_model.specs.Step.{Item, Payload, no_payload}
 use Rattle.lis_model.specs.Step.Item.{Do, Bad}
 use Rattle.lis_model.specs.Script.{bad_line, two_words_form, tags_form, with_tags, add_form, form_of, item_of, item_of_words, is_long, line_words, size_of_words, payload_size}
-use Rattle.lis_line.specs.Forms.{command_with, line_asks}
+use Rattle.lis_line.specs.Forms.{command_with, line_asks, IsUncounted}
 use Rattle.lis_line.specs.Reading.{item_with}
 
 -- the command of a line that a payload follows has that payload
@@ -94,3 +94,37 @@ asks_alone None = refl
 asks_alone (Some (Err refusal)) = refl
 asks_alone (Some (Ok Stat)) = refl
 asks_alone (Some (Ok command)) = refl
+
+-- ---- a line in which no count stands where one is to stand
+add_uncounted : (words : List (List ℕ)) (payload : Payload) → IsUncounted words → add_form words payload ≡ bad_line
+add_uncounted [] payload none = refl
+add_uncounted (name ∷ []) payload none = refl
+add_uncounted (name ∷ count ∷ words) payload none = by (is_file_name name) (is_count count) none
+  where
+    by : (named counts : Bool) → counts ≡ false → cond (named && counts) (with_tags (λ tags. Do (Add name tags) payload) (tags_form words)) bad_line ≡ bad_line
+    by true true none = absurd (cc)
+    by true false none = refl
+    by false counts none = refl
+
+write_uncounted : (words : List (List ℕ)) (payload : Payload) → IsUncounted words → two_words_form is_file_name is_count (λ name size. Do (Write name) payload) words ≡ bad_line
+write_uncounted [] payload none = refl
+write_uncounted (name ∷ []) payload none = refl
+write_uncounted (name ∷ count ∷ []) payload none = by (is_file_name name) (is_count count) none
+  where
+    by : (named counts : Bool) → counts ≡ false → cond (named && counts) (Do (Write name) payload) bad_line ≡ bad_line
+    by true true none = absurd (cc)
+    by true false none = refl
+    by false counts none = refl
+write_uncounted (name ∷ count ∷ more ∷ words) payload none = refl
+
+pub uncounted_bad : (first : List ℕ) (words : List (List ℕ)) (payload : Payload) → (same_word first (codes "add") || same_word first (codes "write")) ≡ true → IsUncounted words
+    → form_of first words payload ≡ bad_line
+uncounted_bad first words payload either none = by (same_word first (codes "add")) refl either
+  where
+    by : (t : Bool) → same_word first (codes "add") ≡ t → (t || same_word first (codes "write")) ≡ true → form_of first words payload ≡ bad_line
+    by true h e =
+        let same : first ≡ codes "add" = (bytes_eq-Decides first (codes "add")).0 h in
+        ap (λ w. form_of w words payload) same ∙ add_uncounted words payload none
+    by false h e =
+        let same : first ≡ codes "write" = (bytes_eq-Decides first (codes "write")).0 e in
+        ap (λ w. form_of w words payload) same ∙ write_uncounted words payload none

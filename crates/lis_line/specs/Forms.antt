@@ -1,11 +1,12 @@
 -- What a line asks for, as the code answers it.
-use Rattle.std.specs.Prelude.{ℕ, List, Option, Some, None, Result, Ok, Err}
+use Rattle.std.specs.Prelude.{◌≡◌, ℕ, false, List, [], ◌∷◌, Option, Some, None, Result, Ok, Err, IsTrue, ⊤}
 use Rattle.lis_model.specs.declared.command.Command.{Command}
 use Rattle.lis_model.specs.declared.command.Command.TheVariants.{Add, Write}
 use Rattle.lis_model.specs.declared.refusal.Refusal.{Refusal}
 use Rattle.lis_model.specs.Step.{Item, Payload, no_payload}
 use Rattle.lis_model.specs.Step.Item.{Do, Bad}
 use Rattle.lis_model.specs.Script.{bad_line}
+use Rattle.lis_words.specs.Words.{is_count, count_of}
 
 -- a command, given what stands behind its line: `add` and `write` alone have it as their payload
 abbrev pub command_with : Payload → Command → Item
@@ -29,3 +30,15 @@ word_asks item (Some word) = item word
 abbrev pub pair_asks : (List ℕ → List ℕ → Item) → Option (List ℕ × List ℕ) → Item
 pair_asks item None = bad_line
 pair_asks item (Some two) = item two.0 two.1
+
+-- The words of a line behind its first one: a word, a count, and others; or there is no count in the second place.
+pub record IsCounted (words : List (List ℕ)) (word : List ℕ) (number : ℕ) (others : List (List ℕ)) : Type 0 where
+  pub count : List ℕ
+  pub split : words ≡ word ∷ count ∷ others
+  pub counts : IsTrue (is_count count)
+  pub is : number ≡ count_of count
+
+abbrev pub IsUncounted : List (List ℕ) → Type 0
+IsUncounted [] = ⊤
+IsUncounted (word ∷ []) = ⊤
+IsUncounted (word ∷ count ∷ others) = is_count count ≡ false

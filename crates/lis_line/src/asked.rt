@@ -1,23 +1,32 @@
 //! What a line asks for, and how many bytes are to follow it.
 
-ghost use Rattle.std.specs.Prelude.{◌≡◌, ◌≤◌, length, ◌||◌, codes};
+ghost use Rattle.std.specs.Prelude.{◌≡◌, ◌≤◌, ◌∷◌, length, ◌||◌, false, Some, IsTrue, codes};
 ghost use Rattle.lis_words.specs.Words.{same_word};
 ghost use Rattle.lis_model.specs.Step.{Payload};
-ghost use Rattle.lis_model.specs.Script.{words_of, form_of, item_of, payload_size};
+ghost use Rattle.lis_model.specs.Script.{words_of, form_of, item_of, size_of_words, payload_size};
 ghost use Rattle.lis_line.specs.Forms.{asked_of, line_asks};
 
 use crate::forms::{
-    add_form, axiom_form, cat_form, cd_form, create_form, ls_form, mkdir_form, mv_form, props_form,
-    pwd_form, rename_form, rm_form, rmdir_form, stat_form, unaxiom_form, way_form, write_form,
+    add_form, axiom_form, cat_form, cd_form, counted, create_form, ls_form, mkdir_form, mv_form,
+    props_form, pwd_form, rename_form, rm_form, rmdir_form, stat_form, unaxiom_form, way_form,
+    write_form,
 };
 use crate::line::{is_long, next_word, without_return};
 use lis_limits::MAX_LINE;
 use lis_model::command::Command;
 use lis_model::refusal::Refusal;
-use lis_words::read_count;
 
 /// What a line asks for, without the payload behind it.
 pub type Request = Result<Command, Refusal>;
+
+/// What a line asks for, and how many bytes are to follow it.
+#[derive(Drop)]
+pub struct ParsedLine {
+    /// None for a line without words.
+    pub request: Option<Request>,
+    /// How many bytes are to follow the line and its line feed; None where no payload follows.
+    pub size: Option<u64>,
+}
 
 /// Whether the first word is this one. It is a function, since what a check sees of a literal stands in each step behind it.
 fn is_word(first: &[u8], word: &[u8]) -> bool
@@ -26,9 +35,10 @@ fn is_word(first: &[u8], word: &[u8]) -> bool
     first == word
 }
 
-/// What a line asks for by its first word and what stands behind it.
+/// What a line asks for that no payload follows, by its first word and what stands behind it.
 fn command_of(first: &[u8], rest: &[u8]) -> Request
-    requires { length rest.now ≤ MAX_LINE }
+    requires few { length rest.now ≤ MAX_LINE }
+    requires alone { (same_word first.now (codes "add") || same_word first.now (codes "write")) ≡ false }
     ensures { (payload : Payload) → asked_of payload result ≡ form_of first.now (words_of rest.now) payload }
 {
     if is_word(first, b"mkdir") {
@@ -45,12 +55,6 @@ fn command_of(first: &[u8], rest: &[u8]) -> Request
     }
     if is_word(first, b"create") {
         return create_form(rest);
-    }
-    if is_word(first, b"add") {
-        return add_form(rest);
-    }
-    if is_word(first, b"write") {
-        return write_form(rest);
     }
     if is_word(first, b"cat") {
         return cat_form(rest);
@@ -85,17 +89,6 @@ fn command_of(first: &[u8], rest: &[u8]) -> Request
     Err(Refusal::BadLine)
 }
 
-/// What a line asks for, given what stands before its line feed; None for a line without words.
-pub fn asked(line: &[u8]) -> Option<Request>
-    ensures { (payload : Payload) → line_asks payload result ≡ item_of line.now payload }
-{
-    if is_long(line) {
-        return Some(Err(Refusal::LongLine));
-    }
-    let (first, rest) = next_word(without_return(line))?;
-    Some(command_of(first, rest))
-}
-
 fn takes_payload(first: &[u8]) -> bool
     ensures { result ≡ (same_word first.now (codes "add") || same_word first.now (codes "write")) }
 {
@@ -105,7 +98,56 @@ fn takes_payload(first: &[u8]) -> bool
     is_word(first, b"write")
 }
 
-/// How many bytes are to follow a line and its line feed; None where no payload follows.
+/// What `add` or `write` asks for, by what stands behind it.
+fn sized_of(first: &[u8], rest: &[u8]) -> ParsedLine
+    requires { IsTrue (same_word first.now (codes "add") || same_word first.now (codes "write")) }
+    ensures asks { (payload : Payload) → line_asks payload result.request ≡ Some (form_of first.now (words_of rest.now) payload) }
+    ensures size { result.size ≡ size_of_words (first.now ∷ words_of rest.now) }
+{
+    let Some((name, size, rest)) = counted(rest) else {
+        return ParsedLine {
+            request: Some(Err(Refusal::BadLine)),
+            size: None,
+        };
+    };
+    let request = if is_word(first, b"add") {
+        add_form(name, rest)
+    } else {
+        write_form(name, rest)
+    };
+    ParsedLine {
+        request: Some(request),
+        size: Some(size),
+    }
+}
+
+/// What a line asks for, given what stands before its line feed.
+pub fn asked(line: &[u8]) -> ParsedLine
+    ensures asks { (payload : Payload) → line_asks payload result.request ≡ item_of line.now payload }
+    ensures size { result.size ≡ payload_size line.now }
+{
+    if is_long(line) {
+        return ParsedLine {
+            request: Some(Err(Refusal::LongLine)),
+            size: None,
+        };
+    }
+    let Some((first, rest)) = next_word(without_return(line)) else {
+        return ParsedLine {
+            request: None,
+            size: None,
+        };
+    };
+    if takes_payload(first) {
+        return sized_of(first, rest);
+    }
+    ParsedLine {
+        request: Some(command_of(first, rest)),
+        size: None,
+    }
+}
+
+/// How many bytes are to follow a line and its line feed, where nothing else of the line is asked for.
 pub fn payload_size(line: &[u8]) -> Option<u64>
     ensures { result ≡ payload_size line.now }
 {
@@ -113,7 +155,6 @@ pub fn payload_size(line: &[u8]) -> Option<u64>
     if is_long(line) || !takes_payload(first) {
         return None;
     }
-    let (_, rest) = next_word(rest)?;
-    let (size, _) = next_word(rest)?;
-    read_count(size)
+    let (_, size, _) = counted(rest)?;
+    Some(size)
 }

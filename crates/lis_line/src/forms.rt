@@ -1,19 +1,19 @@
 //! The forms of lines, by what stands behind the first word.
 
-ghost use Rattle.std.specs.Prelude.{◌≡◌, ◌↔◌, ℕ, ◌≤◌, List, length, IsSome, IfSome, IsTrue};
+ghost use Rattle.std.specs.Prelude.{◌≡◌, ◌↔◌, ℕ, ◌≤◌, List, ◌∷◌, length, IsSome, IfSome, MatchOption, IsTrue};
 ghost use Rattle.lis_words.specs.Words.{is_property, is_file_name, is_count};
 ghost use Rattle.lis_model.specs.Step.{Item, Payload, no_payload};
 ghost use Rattle.lis_model.specs.Step.Item.{Do};
 ghost use Rattle.lis_model.specs.declared.command.Command.TheVariants.{Mkdir, Rmdir, Axiom, Unaxiom, Write, Cat, Mv, Rename, Rm, Cd, Pwd, Ls, Props, Way, Stat};
 ghost use Rattle.lis_model.specs.Script.{words_of, one_word_form, two_words_form, any_word, tags_form, create_form, add_form, alone_form};
-ghost use Rattle.lis_line.specs.Forms.{asked_of, word_asks, pair_asks};
+ghost use Rattle.lis_line.specs.Forms.{asked_of, word_asks, pair_asks, IsCounted, IsUncounted};
 
 use crate::line::{next_word, no_words, only_word, two_words};
 use lis_limits::{MAX_ASSIGNED, MAX_LINE};
 use lis_model::command::{Command, Tags};
 use lis_model::refusal::Refusal;
 use lis_place::Text;
-use lis_words::{Name, Word, is_count, read_name, read_word};
+use lis_words::{Name, Word, read_count, read_name, read_word};
 
 /// Reads a word of a line that may be a property.
 fn read_property(bytes: &[u8]) -> Option<Word>
@@ -129,40 +129,43 @@ pub fn create_form(text: &[u8]) -> Result<Command, Refusal>
     }
 }
 
-pub fn add_form(text: &[u8]) -> Result<Command, Refusal>
-    ensures { (payload : Payload) → asked_of payload result ≡ add_form (words_of text.now) payload }
+/// A word, the number that a count behind it spells, and what stands behind both; None where there is no count.
+pub fn counted(text: &[u8]) -> Option<(&[u8], u64, &[u8])>
+    ensures { MatchOption result (IsUncounted (words_of text.now)) (λ found. IsCounted (words_of text.now) found.0.now found.1 (words_of found.2.now)) }
 {
-    let Some((first, rest)) = next_word(text) else {
-        return Err(Refusal::BadLine);
-    };
-    let Some((size, rest)) = next_word(rest) else {
-        return Err(Refusal::BadLine);
-    };
+    let (first, rest) = next_word(text)?;
+    let (size, rest) = next_word(rest)?;
+    match read_count(size) {
+        None => None,
+        Some(count) => Some((first, count, rest)),
+    }
+}
+
+/// What `add` asks for, by the words before and behind the count.
+pub fn add_form(first: &[u8], text: &[u8]) -> Result<Command, Refusal>
+    ensures { (size : List ℕ) (payload : Payload) → IsTrue (is_count size) → asked_of payload result ≡ add_form (first.now ∷ size ∷ words_of text.now) payload }
+{
     let Some(name) = read_name(first) else {
         return Err(Refusal::BadLine);
     };
-    if !is_count(size) {
-        return Err(Refusal::BadLine);
-    }
-    match tags_form(rest) {
+    match tags_form(text) {
         Ok(tags) => Ok(Command::Add(name, tags)),
         Err(refusal) => Err(refusal),
     }
 }
 
-pub fn write_form(text: &[u8]) -> Result<Command, Refusal>
-    ensures { (payload : Payload) → asked_of payload result ≡ two_words_form is_file_name is_count (λ name size. Do (Write name) payload) (words_of text.now) }
+/// What `write` asks for, by the words before and behind the count.
+pub fn write_form(first: &[u8], text: &[u8]) -> Result<Command, Refusal>
+    ensures { (size : List ℕ) (payload : Payload) → IsTrue (is_count size)
+        → asked_of payload result ≡ two_words_form is_file_name is_count (λ name size. Do (Write name) payload) (first.now ∷ size ∷ words_of text.now) }
 {
-    let Some((first, size)) = two_words(text) else {
-        return Err(Refusal::BadLine);
-    };
-    let Some(name) = read_name(first) else {
-        return Err(Refusal::BadLine);
-    };
-    if !is_count(size) {
+    if !no_words(text) {
         return Err(Refusal::BadLine);
     }
-    Ok(Command::Write(name))
+    match read_name(first) {
+        None => Err(Refusal::BadLine),
+        Some(name) => Ok(Command::Write(name)),
+    }
 }
 
 pub fn cat_form(text: &[u8]) -> Result<Command, Refusal>

@@ -1,16 +1,16 @@
 //! Segments of a session's input: a line, and the payload behind it.
 
-ghost use Rattle.std.specs.Prelude.{◌≡◌, ℕ, ◌<◌, ◌≤◌, ◌∷◌, ◌++◌, false, Some, length};
+ghost use Rattle.std.specs.Prelude.{◌≡◌, ℕ, ◌<◌, ◌≤◌, List, ◌∷◌, ◌++◌, false, length};
 ghost use Rattle.std.specs.Option.{option_map};
 ghost use Rattle.std.specs.List.{list_any};
 ghost use Rattle.lis_model.specs.Step.{Payload as Told, no_payload};
-ghost use Rattle.lis_model.specs.Script.{item_of, payload_size, first_of, first_with, first_ended, session_cut};
+ghost use Rattle.lis_model.specs.Script.{item_of, first_of, first_with, first_ended, session_cut};
 ghost use Rattle.lis_line.specs.Reading.{item_with, asked_by};
 ghost use Rattle.lis_line.specs.Taking.{UsesSource};
 ghost use Rattle.lis_line.specs.Segments.{TakesSegment, first_dropped};
 ghost use Rattle.lis_words.specs.Bytes.{is_feed};
 
-use crate::asked::{Request, asked, payload_size};
+use crate::asked::{Request, asked};
 use crate::input::{InputItem, Segment};
 use crate::payload::{Filled, Payload, fill};
 use crate::reader::{AskedItem, Item};
@@ -37,44 +37,43 @@ fn drop_line<S: Source>(stock: &mut Stock, source: &mut S) -> Result<Segment<Req
 /// Takes what is to end a payload: one line feed, or nothing at the end of the input.
 fn take_end<S: Source>(
     stock: &mut Stock,
-    line: &[u8],
+    request: Option<Request>,
     source: &mut S,
 ) -> Result<Segment<Request>, Failed>
-    requires some { 0 < stock.old.rest }
-    requires sized { (size : ℕ) × (payload_size line.now ≡ Some size) }
-    ensures takes { (payload : Told) → TakesSegment (first_ended (item_of line.now payload)) (item_with payload) stock.old stock.new (S.left source.old) (S.left source.new) result }
+    requires { 0 < stock.old.rest }
+    ensures takes { (payload : Told) → TakesSegment (first_ended (option_map (item_with payload) request)) (item_with payload) stock.old stock.new (S.left source.old) (S.left source.new) result }
     ensures few { length stock.new.ahead ≤ stock.new.rest }
     ensures source { UsesSource (S.faults source.old) (S.faults source.new) (S.behind source.old) (S.behind source.new) result }
 {
     let Some(byte) = stock.next_byte(source)? else {
-        return Ok(Segment::Last(asked(line)));
+        return Ok(Segment::Last(request));
     };
     if stock.rest() == 0 {
         return Ok(Segment::PastLimit);
     }
     if is_feed(byte) {
-        return Ok(Segment::Whole(asked(line)));
+        return Ok(Segment::Whole(request));
     }
     drop_line(stock, source)
 }
 
-/// Takes the payload behind a line, and what ends it.
+/// Takes the payload behind a line, and what ends it. The request is what the line asks for.
 fn take_payload<S: Source>(
     stock: &mut Stock,
     payload: &mut Payload,
-    line: &[u8],
+    request: Option<Request>,
     size: u64,
     source: &mut S,
 ) -> Result<Segment<Request>, Failed>
     requires some { 0 < stock.old.rest }
     requires few { length stock.old.ahead ≤ stock.old.rest }
-    requires sized { payload_size line.now ≡ Some size }
-    ensures takes { TakesSegment (first_with line.now size) (item_with payload.new) stock.old stock.new (S.left source.old) (S.left source.new) result }
+    ensures takes { (line : List ℕ) → ((told : Told) → option_map (item_with told) request ≡ item_of line told)
+        → TakesSegment (first_with line size) (item_with payload.new) stock.old stock.new (S.left source.old) (S.left source.new) result }
     ensures few { length stock.new.ahead ≤ stock.new.rest }
     ensures source { UsesSource (S.faults source.old) (S.faults source.new) (S.behind source.old) (S.behind source.new) result }
 {
     match fill(stock, payload, size, source)? {
-        Filled::All => take_end(stock, line, source),
+        Filled::All => take_end(stock, request, source),
         Filled::Cut => Ok(Segment::Last(Some(Err(Refusal::CutPayload)))),
         Filled::Spent => Ok(Segment::PastLimit),
     }
@@ -95,9 +94,10 @@ pub fn take_behind<S: Source>(
     ensures few { length stock.new.ahead ≤ stock.new.rest }
     ensures source { UsesSource (S.faults source.old) (S.faults source.new) (S.behind source.old) (S.behind source.new) result }
 {
-    match payload_size(line) {
-        None => Ok(Segment::Whole(asked(line))),
-        Some(size) => take_payload(stock, payload, line, size, source),
+    let parsed = asked(line);
+    match parsed.size {
+        None => Ok(Segment::Whole(parsed.request)),
+        Some(size) => take_payload(stock, payload, parsed.request, size, source),
     }
 }
 
@@ -106,10 +106,11 @@ pub fn asked_last(line: &[u8]) -> Option<Request>
     requires { list_any is_feed line.now ≡ false }
     ensures { option_map (item_with no_payload) result ≡ (first_of line.now).item }
 {
-    if payload_size(line).unwrap_or(0) > 0 {
+    let parsed = asked(line);
+    if parsed.size.unwrap_or(0) > 0 {
         return Some(Err(Refusal::CutPayload));
     }
-    asked(line)
+    parsed.request
 }
 
 impl InputItem for Item {

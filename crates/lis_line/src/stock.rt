@@ -33,6 +33,8 @@ impl Model for Stock {
 
     ghost view = { λ s. record { ahead = take (s.end - s.start) (drop s.start s.buf); rest = s.rest } };
 
+    ghost use Rattle.lis_line.specs.declared.stock.TheConstants.{PIECE};
+
     ghost invariant = { λ s. (s.start ≤ s.end) × (s.end ≤ PIECE) × (s.end - s.start ≤ s.rest) };
 }
 

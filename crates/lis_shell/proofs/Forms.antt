@@ -1,15 +1,15 @@
 -- The forms of words of the command line.
-use Rattle.std.proofs.Common.{◌≡◌, ℕ, ◌<◌, ◌&&◌, not, cond, Bool, true, false, List, [], ◌∷◌, length, Option, Some, None, IsTrue, codes, refl, arith, subst}
+use Rattle.std.proofs.Common.{◌≡◌, ℕ, ◌<◌, ◌&&◌, not, cond, Bool, true, false, List, [], ◌∷◌, length, Option, Some, None, IsTrue, IfSome, codes, refl, arith, subst}
 use Rattle.std.specs.Option.{option_map}
 use Rattle.std.proofs.lemmas.Bool.{and_parts, and_from}
 use Rattle.lis_words.specs.Words.{same_word, is_count, count_of, is_file_name}
 use Rattle.lis_model.specs.declared.limits.Limits.{Limits}
 use Rattle.lis_model.specs.Ranges.{is_files_limit, is_props_limit, is_blocks_limit, is_version, are_in_range}
 use Rattle.lis_shell.specs.declared.words.Task.{Task}
-use Rattle.lis_shell.specs.declared.words.Task.TheVariants.{Try, Make, OnImage}
+use Rattle.lis_shell.specs.declared.words.Task.TheVariants.{Try, Make, Upgrade, OnImage}
 use Rattle.lis_shell.specs.declared.words.ImageTask.{ImageTask}
 use Rattle.lis_shell.specs.declared.words.ImageTask.TheVariants.{Run, Load, Rooms, Dump, Grow, View, Put}
-use Rattle.lis_shell.specs.Words.{limits_of, grow_number_of, limits_in, part_named, work_named, upgrade_alone, task_of, name_in}
+use Rattle.lis_shell.specs.Words.{limits_of, grow_number_of, limits_in, part_named, work_named, upgrade_alone, task_of, MakesInRange, name_in}
 
 -- ---- limits are in range
 held : (t : Bool) (all limits : Limits) → cond t (Some all) None ≡ Some limits → (t ≡ true) × (all ≡ limits)
@@ -110,8 +110,15 @@ is_asked (word ∷ second ∷ words) =
     (either (IsAsked all) (same_word word (codes "make")) _ _ (made all (limits_in words) (limits_are words))
     (either (IsAsked all) (same_word word (codes "upgrade")) _ _ (upgrades all words) (on_image all (work_named word words) (work_is word second words))))
 
-pub made_in_range : (words : List (List ℕ)) (limits : Limits) → task_of words ≡ Some (Make limits) → IsTrue (are_in_range limits)
-made_in_range words limits is = subst (IsAsked words) is (is_asked words)
+pub makes_in_range : (words : List (List ℕ)) → IfSome (task_of words) MakesInRange
+makes_in_range words = by (task_of words) (is_asked words)
+  where
+    by : (task : Option Task) → IsAsked words task → IfSome task MakesInRange
+    by None is = tt
+    by (Some (Try limits)) is = tt
+    by (Some (Make limits)) is = is
+    by (Some Upgrade) is = tt
+    by (Some (OnImage work)) is = tt
 
 -- what is to be viewed or put back has a name and a text
 pub view_named : (words : List (List ℕ)) → task_of words ≡ Some (OnImage View) → (3 < length words) × IsTrue (is_file_name (name_in words))

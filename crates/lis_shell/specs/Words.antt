@@ -1,8 +1,8 @@
 -- What the words of the command line ask for.
-use Rattle.std.specs.Prelude.{ℕ, ◌*◌, nat_lt, not, ◌&&◌, if◌then◌else◌, Option, Some, None, List, [], ◌∷◌, codes, slice_index_or, ◌^◌}
+use Rattle.std.specs.Prelude.{ℕ, ◌*◌, nat_lt, not, ◌&&◌, if◌then◌else◌, Option, Some, None, List, [], ◌∷◌, IsTrue, codes, slice_index_or, ◌^◌, ⊤}
 use Rattle.lis_words.specs.Words.{same_word, is_count, count_of, is_file_name}
 use Rattle.lis_model.specs.declared.limits.Limits.{Limits}
-use Rattle.lis_model.specs.Ranges.{is_files_limit, is_props_limit, is_blocks_limit}
+use Rattle.lis_model.specs.Ranges.{is_files_limit, is_props_limit, is_blocks_limit, are_in_range}
 use Rattle.lis_model.specs.Image.{image_blocks}
 use Rattle.lis_shell.specs.declared.words.Task.{Task}
 use Rattle.lis_shell.specs.declared.words.Task.TheVariants.{Try, Make, Upgrade, OnImage}
@@ -71,6 +71,13 @@ abbrev pub task_of : List (List ℕ) → Option Task
 task_of [] = None
 task_of (word ∷ []) = None
 task_of (word ∷ second ∷ words) = if same_word word (codes "try") then option_map Try (limits_in (second ∷ words)) else task_with word words
+
+-- the limits of an image that is to be made are in range
+abbrev pub MakesInRange : Task → Type 0
+MakesInRange (Try limits) = ⊤
+MakesInRange (Make limits) = IsTrue (are_in_range limits)
+MakesInRange Upgrade = ⊤
+MakesInRange (OnImage work) = ⊤
 
 -- how many bytes an image takes that is to be made
 abbrev pub length_for : Option Task → Option ℕ

@@ -1,9 +1,9 @@
 //! The words of the command line.
 
-ghost use Rattle.std.specs.Prelude.{◌≡◌, map};
+ghost use Rattle.std.specs.Prelude.{◌≡◌, map, Some, IfSome};
 ghost use Rattle.std.specs.String.{string_bytes};
 ghost use Rattle.lis_words.specs.Words.{same_word};
-ghost use Rattle.lis_shell.specs.Words.{limits_of, grow_number_of, limits_in, work_alone, part_named, work_named, upgrade_alone, task_with, task_of, length_for};
+ghost use Rattle.lis_shell.specs.Words.{limits_of, grow_number_of, limits_in, work_alone, part_named, work_named, upgrade_alone, task_with, task_of, MakesInRange, length_for};
 
 use lis_limits::BLOCK_LEN;
 use lis_model::limits::{Limits, image_blocks, is_blocks_limit, is_files_limit, is_props_limit};
@@ -186,7 +186,8 @@ fn task_with(word: &String, words: &[String]) -> Option<Task>
 
 /// What the words after the program's name ask for. None comes exactly where they are in none of the forms, or a number is out of range.
 pub fn task_of(words: &[String]) -> Option<Task>
-    ensures { result ≡ task_of (map string_bytes words.now) }
+    ensures task { result ≡ task_of (map string_bytes words.now) }
+    ensures range { IfSome result MakesInRange }
 {
     match words {
         [word, _, ..] => {
@@ -200,12 +201,13 @@ pub fn task_of(words: &[String]) -> Option<Task>
     }
 }
 
-/// How many bytes the image takes that the words ask to make. None comes exactly where they ask for no image.
-pub fn make_len(words: &[String]) -> Option<u64>
-    ensures { result ≡ length_for (task_of (map string_bytes words.now)) }
+/// How many bytes the image takes that the task makes. None comes exactly where it makes none.
+pub fn make_len(task: &Task) -> Option<u64>
+    requires { MakesInRange task.now }
+    ensures { result ≡ length_for (Some task.now) }
 {
-    match task_of(words) {
-        Some(Task::Make(limits)) => Some(u64::from(image_blocks(&limits)) * BLOCK_LEN as u64),
+    match task {
+        Task::Make(limits) => Some(u64::from(image_blocks(limits)) * BLOCK_LEN as u64),
         _ => None,
     }
 }

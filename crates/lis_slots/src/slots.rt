@@ -31,6 +31,8 @@ impl Model for Slots {
 
     ghost inverse = { λ s. record { first = s.first; count = s.count; width = s.width } };
 
+    ghost use Rattle.lis_limits.specs.declared.TheConstants.{BLOCK_LEN};
+
     ghost invariant = { λ s. (0 < s.width) × (BLOCK_LEN % s.width ≡ 0) };
 }
 

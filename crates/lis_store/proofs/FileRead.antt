@@ -65,13 +65,13 @@ module _ {old now : Stored} (same : old ≡ now) (sound : IsSound old) (place : 
   here = ap (λ (o : Stored). is_among o.metadata place name) same ∙ sym here_now
 
   -- what is asked of memory in which the file is to have another name, and the bytes that were read
-  pub rename_asks : {judged read bytes : List ℕ} → judged ≡ read → bytes ≡ read → ((r : FileRecord) → rec_at k.catalog slot ≡ Some r → length read ≡ r.size) → {given words : List (List ℕ)} → is_file_name other ≡ true
-      → given ≡ words → ((r : FileRecord) → rec_at k.catalog slot ≡ Some r → words ≡ words_told k.dict r.tags)
+  pub rename_asks : {judged read bytes : List ℕ} → judged ≡ read → bytes ≡ read → ((r : FileRecord) → rec_at k.catalog slot ≡ Some r → length read ≡ r.size) → {words : List (List ℕ)} → is_file_name other ≡ true
+      → ((r : FileRecord) → rec_at k.catalog slot ≡ Some r → words ≡ words_told k.dict r.tags)
       → ((r : FileRecord) → rec_at k.catalog slot ≡ Some r → first_refusal (renaming_checks k slot (given_before k r other judged)) ≡ None)
-      → IsSomeAnd (rec_at k.catalog slot) (λ (x : FileRecord). MayReplace k slot x (draft_of (new_file other given bytes)))
-  rename_asks {judged} {read} {bytes} is_judged is_read size form is words_are row =
+      → IsSomeAnd (rec_at k.catalog slot) (λ (x : FileRecord). MayReplace k slot x (draft_of (new_file other words bytes)))
+  rename_asks {judged} {read} {bytes} is_judged is_read size form words_are row =
       let May : List (List ℕ) → List ℕ → Type 0 = λ ws bs. IsSomeAnd (rec_at k.catalog slot) (λ (x : FileRecord). MayReplace k slot x (draft_of (new_file other ws bs))) in
-      subst (λ ws. May ws bytes) (sym (is ∙ words_are rec there))
+      subst (λ ws. May ws bytes) (sym (words_are rec there))
       (subst (May (words_told k.dict rec.tags)) (is_judged ∙ sym is_read)
       (subst (λ o. IsSomeAnd o (λ (x : FileRecord). MayReplace k slot x (draft_of (given_before k rec other judged)))) (sym there)
       (rename_first old sound place name slot rec named there here other judged form (ap length is_judged ∙ size rec there) (row rec there))))

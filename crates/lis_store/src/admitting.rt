@@ -5,6 +5,7 @@ ghost use Rattle.std.specs.List.{list_any};
 ghost use Rattle.lis_words.specs.Words.{is_built_in, is_file_name};
 ghost use Rattle.lis_model.specs.declared.refusal.Refusal.TheVariants.{LargeFile};
 ghost use Rattle.lis_model.specs.Changes.{new_file};
+ghost use Rattle.lis_model.specs.Derived.{derived_words};
 ghost use Rattle.lis_model.specs.State.{file_limit, blocks_taken};
 ghost use Rattle.lis_model.specs.Step.{is_head_or_test, assigned_at};
 ghost use Rattle.lis_eval.specs.Room.{HasRoom};
@@ -13,13 +14,14 @@ ghost use Rattle.lis_store.specs.Admitting.{named_checks, room_checks, add_check
 ghost use Rattle.lis_store.specs.Changes.{Judges};
 
 use crate::assigning::{are_assignable, assigned, has_words};
-use crate::describing::{Draft, measure};
+use crate::describing::{Draft, FileWords, measure};
 use arrayvec::ArrayVec;
 use lis_derive::derive_words;
 use lis_eval::Scratch;
 use lis_kept::Metadata;
 use lis_limits::{BLOCK_LEN, MAX_ASSIGNED, MAX_DESCRIPTION, MAX_FILE, MAX_LARGE_FILE};
 use lis_model::command::Tags;
+use lis_model::derived::Derived;
 use lis_model::refusal::Refusal;
 use lis_place::Place;
 use lis_words::{Name, Word, is_builtin, is_head, test_of};
@@ -148,17 +150,18 @@ fn has_room_for(
     Ok(())
 }
 
-// As `has_room_for`, with the words that are derived from these bytes.
+// As `has_room_for`, with the words that are derived from these bytes. They are the answer.
 fn has_room(
     metadata: &Metadata,
     scratch: &mut Scratch,
     file: NewFile,
     words: &[Word],
-) -> Result<(), Refusal>
+) -> Result<Derived, Refusal>
     requires few { length words.now ≤ MAX_ASSIGNED }
     requires room { HasRoom scratch.old metadata.now.limits }
     ensures room { HasRoom scratch.new metadata.now.limits }
     ensures row { Judges (room_checks metadata.now (draft_of (new_file file.entry.name.now words.now file.entry.bytes.now)) file.entry.size) result }
+    ensures derived { IfOk result (λ derived. derived ≡ derived_words file.entry.name.now file.entry.bytes.now) }
 {
     let derived = derive_words(file.name, file.bytes);
     let draft = Draft {
@@ -167,24 +170,26 @@ fn has_room(
         assigned: words,
         own: derived.as_slice(),
     };
-    has_room_for(metadata, scratch, draft, file.size)
+    has_room_for(metadata, scratch, draft, file.size)?;
+    Ok(derived)
 }
 
-/// The words that a new file is given, or what it is refused for. Where there are more bytes than a file may have, only their
+/// The words of a new file, or what it is refused for. Where there are more bytes than a file may have, only their
 /// number counts.
 pub(crate) fn may_add(
     metadata: &Metadata,
     scratch: &mut Scratch,
     place: &Place,
     file: NewFile,
-) -> Result<ArrayVec<Word, 16>, Refusal>
+) -> Result<FileWords, Refusal>
     requires room { HasRoom scratch.old metadata.now.limits }
     ensures room { HasRoom scratch.new metadata.now.limits }
     ensures row { Judges (add_checks_of metadata.now place.now file.entry.name.now file.entry.tags.now file.entry.bytes.now file.entry.size) result }
-    ensures words { IfOk result (λ words. words.items ≡ assigned_at place.now file.entry.tags.now) }
+    ensures words { IfOk result (λ words. words.assigned.items ≡ assigned_at place.now file.entry.tags.now) }
+    ensures derived { IfOk result (λ words. words.derived ≡ derived_words file.entry.name.now file.entry.bytes.now) }
     ensures name { IfOk result (λ words. IsTrue (is_file_name file.entry.name.now)) }
 {
-    let words = may_name(metadata, place, file)?;
-    has_room(metadata, scratch, file, words.as_slice())?;
-    Ok(words)
+    let assigned = may_name(metadata, place, file)?;
+    let derived = has_room(metadata, scratch, file, assigned.as_slice())?;
+    Ok(FileWords { assigned, derived })
 }

@@ -17,6 +17,7 @@ use arrayvec::ArrayVec;
 use lis_bits::{Rows, and_not_row};
 use lis_kept::Metadata;
 use lis_limits::{MAX_ASSIGNED, MAX_DESCRIPTION};
+use lis_model::derived::Derived;
 use lis_words::{Name, Word, head_of};
 
 /// A file as a change tells it: of its bytes only how many they are, and which words are derived from them and its name.
@@ -26,6 +27,13 @@ pub(crate) struct Draft<'a> {
     pub(crate) size: u64,
     pub(crate) assigned: &'a [Word],
     pub(crate) own: &'a [Word],
+}
+
+/// The words of a file: those that it is given, and those that are derived from its name and its bytes.
+#[derive(Drop)]
+pub(crate) struct FileWords {
+    pub(crate) assigned: ArrayVec<Word, MAX_ASSIGNED>,
+    pub(crate) derived: Derived,
 }
 
 /// The words that are new: as many as 144 words, which a file is given or which are derived from it, have with their heads.

@@ -7,6 +7,7 @@ ghost use Rattle.lis_catalog.specs.Catalog.{slot_of, rec_at};
 ghost use Rattle.lis_dict.specs.Dict.{word_of};
 ghost use Rattle.lis_fields.specs.Records.{FileRecord};
 ghost use Rattle.lis_model.specs.Changes.{new_file};
+ghost use Rattle.lis_model.specs.Derived.{derived_words};
 ghost use Rattle.lis_eval.specs.Room.{HasRoom};
 ghost use Rattle.lis_kept.specs.Telling.{words_told, AreUsed};
 ghost use Rattle.lis_store.specs.Assigning.{Takes};
@@ -17,13 +18,14 @@ ghost use Rattle.lis_store.specs.Instead.{given_before, free_instead, instead_ch
 
 use crate::admitting::blocks_taken;
 use crate::assigning::{all_assignable, put_word};
-use crate::describing::{Draft, measure};
+use crate::describing::{Draft, FileWords, measure};
 use crate::removing::numbers_at;
 use arrayvec::ArrayVec;
 use lis_derive::derive_words;
 use lis_eval::Scratch;
 use lis_kept::Metadata;
 use lis_limits::{MAX_ASSIGNED, MAX_DESCRIPTION};
+use lis_model::derived::Derived;
 use lis_model::refusal::Refusal;
 use lis_words::{Name, Word, is_builtin};
 
@@ -156,7 +158,7 @@ pub(crate) fn may_stand_instead(
     Ok(())
 }
 
-// As `may_stand_instead`, with the words that are derived from these bytes.
+// As `may_stand_instead`, with the words that are derived from these bytes. They are the answer.
 fn has_room_instead(
     metadata: &Metadata,
     scratch: &mut Scratch,
@@ -164,13 +166,14 @@ fn has_room_instead(
     name: &Name,
     words: &[Word],
     payload: &[u8],
-) -> Result<(), Refusal>
+) -> Result<Derived, Refusal>
     requires there { IsSome (rec_at metadata.now.catalog slot) }
     requires used { AreUsed metadata.now }
     requires few { length words.now ≤ MAX_ASSIGNED }
     requires room { HasRoom scratch.old metadata.now.limits }
     ensures room { HasRoom scratch.new metadata.now.limits }
     ensures row { Judges (instead_checks metadata.now slot (draft_of (new_file name.now words.now payload.now))) result }
+    ensures derived { IfOk result (λ derived. derived ≡ derived_words name.now payload.now) }
 {
     let derived = derive_words(name, payload);
     let draft = Draft {
@@ -179,10 +182,11 @@ fn has_room_instead(
         assigned: words,
         own: derived.as_slice(),
     };
-    may_stand_instead(metadata, scratch, slot, draft)
+    may_stand_instead(metadata, scratch, slot, draft)?;
+    Ok(derived)
 }
 
-/// The words that the file in a slot was given, or what it is refused for with these bytes in the place of its own. `name` is its name.
+/// The words of the file in a slot with these bytes in the place of its own, or what it is refused for with them. `name` is its name.
 /// Where there are more bytes than a file may have, only their number counts.
 pub(crate) fn may_write(
     metadata: &Metadata,
@@ -191,7 +195,7 @@ pub(crate) fn may_write(
     name: &Name,
     payload: &[u8],
     size: u64,
-) -> Result<ArrayVec<Word, 16>, Refusal>
+) -> Result<FileWords, Refusal>
     requires there { IsSome (rec_at metadata.now.catalog slot) }
     requires used { AreUsed metadata.now }
     requires room { HasRoom scratch.old metadata.now.limits }
@@ -199,25 +203,26 @@ pub(crate) fn may_write(
     ensures row { (rec : FileRecord) → rec_at metadata.now.catalog slot ≡ Some rec
         → Judges (overwriting_checks metadata.now slot rec (given_before metadata.now rec name.now payload.now) size) result }
     ensures words { IfOk result (λ words. (rec : FileRecord) → rec_at metadata.now.catalog slot ≡ Some rec
-        → words.items ≡ words_told metadata.now.dict rec.tags) }
+        → words.assigned.items ≡ words_told metadata.now.dict rec.tags) }
+    ensures derived { IfOk result (λ words. words.derived ≡ derived_words name.now payload.now) }
 {
-    let words = assigned_in(metadata, slot);
-    has_room_instead(metadata, scratch, slot, name, words.as_slice(), payload)?;
+    let assigned = assigned_in(metadata, slot);
+    let derived = has_room_instead(metadata, scratch, slot, name, assigned.as_slice(), payload)?;
     if blocks_taken(metadata.limits().version, size) > free_instead(metadata, slot) {
         return Err(Refusal::NoSpace);
     }
-    Ok(words)
+    Ok(FileWords { assigned, derived })
 }
 
-/// The words that the file in a slot was given, or what it is refused for under another name, which no file has. `payload` are
-/// its bytes.
+/// The words of the file in a slot under another name, which no file has, or what it is refused for under it. `payload` are its
+/// bytes.
 pub(crate) fn may_rename(
     metadata: &Metadata,
     scratch: &mut Scratch,
     slot: u16,
     other: &Name,
     payload: &[u8],
-) -> Result<ArrayVec<Word, 16>, Refusal>
+) -> Result<FileWords, Refusal>
     requires there { IsSome (rec_at metadata.now.catalog slot) }
     requires used { AreUsed metadata.now }
     requires new { slot_of metadata.now.catalog other.now ≡ None }
@@ -226,9 +231,10 @@ pub(crate) fn may_rename(
     ensures row { (rec : FileRecord) → rec_at metadata.now.catalog slot ≡ Some rec
         → Judges (renaming_checks metadata.now slot (given_before metadata.now rec other.now payload.now)) result }
     ensures words { IfOk result (λ words. (rec : FileRecord) → rec_at metadata.now.catalog slot ≡ Some rec
-        → words.items ≡ words_told metadata.now.dict rec.tags) }
+        → words.assigned.items ≡ words_told metadata.now.dict rec.tags) }
+    ensures derived { IfOk result (λ words. words.derived ≡ derived_words other.now payload.now) }
 {
-    let words = assigned_in(metadata, slot);
-    has_room_instead(metadata, scratch, slot, other, words.as_slice(), payload)?;
-    Ok(words)
+    let assigned = assigned_in(metadata, slot);
+    let derived = has_room_instead(metadata, scratch, slot, other, assigned.as_slice(), payload)?;
+    Ok(FileWords { assigned, derived })
 }

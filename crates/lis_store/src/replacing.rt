@@ -5,21 +5,21 @@ ghost use Rattle.std.specs.List.{list_all};
 ghost use Rattle.lis_catalog.specs.Catalog.{rec_at};
 ghost use Rattle.lis_fields.specs.Layouts.{are_blocks};
 ghost use Rattle.lis_model.specs.Changes.{new_file};
+ghost use Rattle.lis_model.specs.Derived.{derived_words};
 ghost use Rattle.lis_eval.specs.Room.{HasRoom};
 ghost use Rattle.lis_kept.specs.Sound.{AreSound};
 ghost use Rattle.lis_store.specs.Drafts.{drafted, draft_of};
 ghost use Rattle.lis_store.specs.ReplacingIn.{AreInForm, record_in, MayPut, MayComeIn, IsVacant, MakesRoom, LearnsOwn, SettlesIn, RefilesIn};
 
 use crate::adding::{learn_words, numbers_entailed, numbers_of};
-use crate::describing::Draft;
+use crate::describing::{Draft, FileWords};
 use crate::removing::unfile;
 use arrayvec::ArrayVec;
-use lis_derive::derive_words;
 use lis_eval::Scratch;
 use lis_fields::FileRec;
 use lis_kept::Metadata;
 use lis_limits::MAX_DESCRIPTION;
-use lis_words::{Name, Word};
+use lis_words::Name;
 
 // The numbers of the words that a file is given, and those of its description.
 #[derive(Drop)]
@@ -150,30 +150,30 @@ pub(crate) fn replace_draft(
     settle_in(metadata, scratch, &new_slot, draft, blocks);
 }
 
-/// As `replace_draft`, with the words that are derived from the file's bytes.
+/// As `replace_draft`, with the words of a file and its bytes.
 pub(crate) fn replace_record(
     metadata: &mut Metadata,
     scratch: &mut Scratch,
     slot: Option<u16>,
     name: &Name,
-    assigned: &[Word],
+    words: &FileWords,
     payload: &[u8],
     blocks: ArrayVec<u16, 16>,
 )
     requires form { AreInForm metadata.old }
-    requires may { MayPut metadata.old slot (draft_of (new_file name.now assigned.now payload.now)) }
+    requires derived { words.now.derived ≡ derived_words name.now payload.now }
+    requires may { MayPut metadata.old slot (draft_of (new_file name.now words.now.assigned.items payload.now)) }
     requires in_form { IsTrue (are_blocks metadata.old.limits.version (length payload.now) blocks.items) }
     requires below { IsTrue (list_all (λ n. nat_lt n metadata.old.limits.blocks) blocks.items) }
     requires scratch { HasRoom scratch.old metadata.old.limits }
     ensures scratch { HasRoom scratch.new metadata.old.limits }
-    ensures refiles { RefilesIn (record_in metadata.old slot) (draft_of (new_file name.now assigned.now payload.now)) blocks.items metadata.old metadata.new }
+    ensures refiles { RefilesIn (record_in metadata.old slot) (draft_of (new_file name.now words.now.assigned.items payload.now)) blocks.items metadata.old metadata.new }
 {
-    let derived = derive_words(name, payload);
     let draft = Draft {
         name,
         size: payload.len() as u64,
-        assigned,
-        own: derived.as_slice(),
+        assigned: words.assigned.as_slice(),
+        own: words.derived.as_slice(),
     };
     replace_draft(metadata, scratch, slot, draft, blocks);
 }

@@ -9,7 +9,7 @@ use lis_memdisk::MemStation;
 use lis_open::OpenFault;
 use lis_ports::Disk;
 use lis_shell::status::Status;
-use lis_shell::words::make_len;
+use lis_shell::words::{make_len, task_of};
 use std::alloc::{AllocError, Global};
 use std::test::Fail;
 
@@ -50,7 +50,10 @@ fn len_of(alloc: Global, words: &[&str]) -> Result<usize, AllocError> {
     for word in words {
         owned.push(String::from_str(alloc, word)?)?;
     }
-    Ok(make_len(&owned).unwrap_or(0) as usize)
+    match task_of(&owned) {
+        None => Ok(0),
+        Some(task) => Ok(make_len(&task).unwrap_or(0) as usize),
+    }
 }
 
 /// The bytes of an image without words and files that these words make.

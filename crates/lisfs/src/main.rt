@@ -1,6 +1,8 @@
 //! The program: it hands the real input and output to the top call, and ends with its exit code.
 #![tactic(auto)]
 
+ghost use Rattle.lis_shell.specs.Words.{MakesInRange};
+
 mod image;
 mod report;
 mod usage;
@@ -40,11 +42,13 @@ fn path_of(words: &[String]) -> &str {
 }
 
 /// The image that the task is about, if it is about one.
-fn image_of(rt: &HostRuntime, task: &Task, words: &[String]) -> io::Result<Option<ImageFile>> {
+fn image_of(rt: &HostRuntime, task: &Task, words: &[String]) -> io::Result<Option<ImageFile>>
+    requires { MakesInRange task.now }
+{
     match task {
         Task::Try(_) => Ok(None),
         Task::Make(_) | Task::Upgrade | Task::OnImage(_) => {
-            let image = image::open(rt, path_of(words), make_len(words))?;
+            let image = image::open(rt, path_of(words), make_len(task))?;
             Ok(Some(image))
         }
     }

@@ -4,6 +4,7 @@ ghost use Rattle.std.specs.Prelude.{◌≡◌, ◌≤◌, true, [], length, Err,
 ghost use Rattle.lis_content.specs.Large.{is_large};
 ghost use Rattle.lis_model.specs.declared.refusal.Refusal.{Refusal};
 ghost use Rattle.lis_model.specs.Changes.{new_file, file_added};
+ghost use Rattle.lis_model.specs.Derived.{derived_words};
 ghost use Rattle.lis_model.specs.State.{State, file_limit};
 ghost use Rattle.lis_model.specs.Step.{Situation, changed, add};
 ghost use Rattle.lis_eval.specs.Room.{HasRoom};
@@ -16,6 +17,7 @@ ghost use Rattle.lis_store.specs.ReplacingIn.{MayPutBytes, record_in, file_gone}
 use crate::admitting::{NewFile, may_add};
 use crate::change_fault::ChangeFault;
 use crate::contents::put_anew;
+use crate::describing::FileWords;
 use crate::replacing::replace_record;
 use crate::saving::{hold, most_held};
 use crate::store::Store;
@@ -23,7 +25,7 @@ use lis_content::is_large;
 use lis_eval::Scratch;
 use lis_place::Place;
 use lis_ports::Disk;
-use lis_words::{Name, Word};
+use lis_words::Name;
 
 impl Store {
     /// Makes a file of these bytes: `create` and `add` at the place. Where there are more bytes than a file may have, only their number counts.
@@ -47,18 +49,11 @@ impl Store {
         ensures keeps { ChangeKeeps self.old self.new result }
         ensures disk { ChangesDisk (D.meaning disk.old) (D.meaning disk.new) result }
     {
-        let assigned = may_add(&self.metadata, scratch, place, file)?;
+        let words = may_add(&self.metadata, scratch, place, file)?;
         if is_large(file.bytes.len() as u32) {
             self.commit(disk)?;
         }
-        self.put_file(
-            disk,
-            scratch,
-            None,
-            file.name,
-            assigned.as_slice(),
-            file.bytes,
-        )
+        self.put_file(disk, scratch, None, file.name, &words, file.bytes)
     }
 
     /// Puts a file in, in the place of the one in the slot if one is told. A large one is committed at once.
@@ -68,16 +63,17 @@ impl Store {
         scratch: &mut Scratch,
         slot: Option<u16>,
         name: &Name,
-        assigned: &[Word],
+        words: &FileWords,
         payload: &[u8],
     ) -> Result<(), ChangeFault>
-        requires may { MayPutBytes self.old.metadata slot (new_file name.now assigned.now payload.now) }
+        requires derived { words.now.derived ≡ derived_words name.now payload.now }
+        requires may { MayPutBytes self.old.metadata slot (new_file name.now words.now.assigned.items payload.now) }
         requires alone { is_large (length payload.now) ≡ true → self.old.journal.staged ≡ [] }
         requires scratch { HasRoom scratch.old self.old.metadata.limits }
         requires usable { IsUsable self.old (D.meaning disk.old) }
         ensures scratch { HasRoom scratch.new self.old.metadata.limits }
         ensures holds { (base : State) (now : Situation) → StoreHolds self.old (D.meaning disk.old) base now.state
-            → Holds base now (changed now (file_added (file_gone now.state (record_in self.old.metadata slot)) (new_file name.now assigned.now payload.now)))
+            → Holds base now (changed now (file_added (file_gone now.state (record_in self.old.metadata slot)) (new_file name.now words.now.assigned.items payload.now)))
             self.new (D.meaning disk.old) (D.meaning disk.new) result }
         ensures settled { is_large (length payload.now) ≡ true → OnOk result (self.new.journal.staged ≡ []) }
         ensures ended { SaveEnded self.new.is_broken result }
@@ -97,7 +93,7 @@ impl Store {
             scratch,
             slot,
             name,
-            assigned,
+            words,
             payload,
             blocks,
         );

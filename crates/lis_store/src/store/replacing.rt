@@ -61,7 +61,7 @@ impl Store {
         if is_large(payload.len() as u32) {
             self.commit(disk)?;
         }
-        self.put_file(disk, scratch, Some(slot), name, words.as_slice(), payload)
+        self.put_file(disk, scratch, Some(slot), name, &words, payload)
     }
 
     /// Gives a file another name: `rename` at the place. Its bytes are read, since words are derived from them.
@@ -102,7 +102,7 @@ impl Store {
             scratch,
             Some(slot),
             new,
-            words.as_slice(),
+            &words,
             self.bytes.bytes(),
             blocks,
         );

@@ -6,8 +6,8 @@ use Rattle.lis_fields.proofs.Widths.{not_zeros, zeros_of}
 use Rattle.lis_fields.proofs.Supers.{FitsSuper, super_fits, same_super, spelling_length, super_parts, super_joined}
 use Rattle.lis_fields.proofs.super_block.read_super.Goals as goal
 
-pub returns-then-bytes-ne-SUPER_LEN-clause-same : goal.returns-then-bytes-ne-SUPER_LEN-clause-same
-returns-then-bytes-ne-SUPER_LEN-clause-same c = λ told range is. absurd (c.if-bytes-ne-SUPER_LEN.true (spelling_length told c.args.bytes.now is))
+pub returns-then-bytes-ne-BLOCK_LEN-clause-same : goal.returns-then-bytes-ne-BLOCK_LEN-clause-same
+returns-then-bytes-ne-BLOCK_LEN-clause-same c = λ told range is. absurd (c.if-bytes-ne-BLOCK_LEN.true (spelling_length told c.args.bytes.now is))
 
 pub returns-then-not-are_zeros-clause-same : goal.returns-then-not-are_zeros-clause-same
 returns-then-not-are_zeros-clause-same c =

@@ -5,10 +5,10 @@ use Rattle.lis_line.proofs.segment.asked_last.Goals as goal
 
 pub returns : goal.returns
 returns c =
-    let size = c.unwrap_or.ensures ∙ ap (λ size. unwrap_or size 0) c.payload_size.ensures in
-    last_asks c.args.line.now c.asked.result c.requires (omega (arith, size, c.if-unwrap_or-gt0.false)) (c.asked.ensures no_payload)
+    let size = c.unwrap_or.ensures ∙ ap (λ size. unwrap_or size 0) c.asked-parsed.ensures.size in
+    last_asks c.args.line.now c.asked-parsed.result.request c.requires (omega (arith, size, c.if-unwrap_or-gt0.false)) (c.asked-parsed.ensures.asks no_payload)
 
 pub returns-then-unwrap_or-gt0 : goal.returns-then-unwrap_or-gt0
 returns-then-unwrap_or-gt0 c =
-    let size = c.unwrap_or.ensures ∙ ap (λ size. unwrap_or size 0) c.payload_size.ensures in
+    let size = c.unwrap_or.ensures ∙ ap (λ size. unwrap_or size 0) c.asked-parsed.ensures.size in
     last_cut c.args.line.now c.requires (omega (arith, size, c.if-unwrap_or-gt0.true))

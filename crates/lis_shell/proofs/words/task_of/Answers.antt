@@ -10,5 +10,5 @@ too_few [] few = refl
 too_few (word ∷ []) few = refl
 too_few (word ∷ second ∷ words) few = absurd (omega (arith, few))
 
-pub returns-in_default : goal.returns-in_default
-returns-in_default c = sym (too_few (map string_bytes c.args.words.now) (omega (arith, length-map c.args.words.now string_bytes, c.in_default.len_below)))
+pub returns-in_default-clause-task : goal.returns-in_default-clause-task
+returns-in_default-clause-task c = sym (too_few (map string_bytes c.args.words.now) (omega (arith, length-map c.args.words.now string_bytes, c.in_default.len_below)))

@@ -9,7 +9,7 @@ pub returns-then-blocks_taken-free_instead-clause-row : goal.returns-then-blocks
 returns-then-blocks_taken-free_instead-clause-row c = λ rec there.
     let k = c.args.metadata.now in
     let P : List (List ℕ) → Type 0 = λ ws. first_refusal (instead_checks k c.args.slot (draft_of (new_file c.args.name.now ws c.args.payload.now))) ≡ None in
-    let none = subst P (c.as_slice.ensures.value ∙ c.assigned_in-words.ensures.words rec there) c.in_ok-has_room_instead.ensures.row in
+    let none = subst P (c.as_slice.ensures.value ∙ c.assigned_in-assigned.ensures.words rec there) c.in_ok-derived.ensures.row in
     let version = ap (λ (l : Limits). blocks_taken l.version c.args.size) c.limits.ensures.value in
     let large : nat_lt (free_instead k rec) (blocks_taken k.limits.version c.args.size) ≡ true = lt-ltb (free_instead k rec) (blocks_taken k.limits.version c.args.size)
     (omega (arith, c.if-blocks_taken-free_instead.true, c.blocks_taken.ensures, c.free_instead.ensures rec there, version)) in

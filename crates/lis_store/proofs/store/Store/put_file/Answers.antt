@@ -32,30 +32,31 @@ returns-in_err-blocks-clause-holds g c = λ base now holds.
     let H : Stored → Type 0 = λ k. StoreHolds k m base now.state in
     let r = err_from_is_err_and c.from_residual.result c.from_residual.ensures.1 in
     lost_holds (ArrayVec ℕ) old c.self.invariant c.args.payload.now (record_in old.metadata c.args.slot) c.put_anew.new.metadata c.put_anew.new.journal c.put_anew.new.is_broken c.in_err-blocks.field-0.0 m after c.in_err-blocks.ensures.renewed c.in_err-blocks.ensures.ended base now
-    (changed now (file_added (file_gone now.state (record_in c.args.self.now.metadata c.args.slot)) (new_file c.args.name.now c.args.assigned.now c.args.payload.now))) c.from_residual.result (r.1 ∙ ap Err r.2) alone (subst H (sym c.self.view_is) holds)
+    (changed now (file_added (file_gone now.state (record_in c.args.self.now.metadata c.args.slot)) (new_file c.args.name.now c.args.words.now.assigned.items c.args.payload.now))) c.from_residual.result (r.1 ∙ ap Err r.2) alone (subst H (sym c.self.view_is) holds)
 
 pub replace_record-requires : goal.replace_record-requires
 replace_record-requires g c = record {
-  form = mid_form c.self.view_is c.args.slot c.args.name.now c.args.assigned.now c.args.payload.now c.in_ok-blocks.blocks.items c.self.invariant c.in_ok-blocks.ensures.sound c.requires.may.0 c.in_ok-blocks.ensures.renewed;
-  may = mid_first c.self.view_is c.args.slot c.args.name.now c.args.assigned.now c.args.payload.now c.in_ok-blocks.blocks.items c.self.invariant c.in_ok-blocks.ensures.sound c.requires.may.0 c.in_ok-blocks.ensures.renewed;
-  in_form = mid_in_form c.self.view_is c.args.slot c.args.name.now c.args.assigned.now c.args.payload.now c.in_ok-blocks.blocks.items c.self.invariant c.in_ok-blocks.ensures.sound c.requires.may.0 c.in_ok-blocks.ensures.renewed;
-  below = mid_below c.self.view_is c.args.slot c.args.name.now c.args.assigned.now c.args.payload.now c.in_ok-blocks.blocks.items c.self.invariant c.in_ok-blocks.ensures.sound c.requires.may.0 c.in_ok-blocks.ensures.renewed;
-  scratch = subst (λ (l : Limits). HasRoom c.args.scratch.now l) (sym (mid_limits c.self.view_is c.args.slot c.args.name.now c.args.assigned.now c.args.payload.now c.in_ok-blocks.blocks.items c.self.invariant c.in_ok-blocks.ensures.sound c.requires.may.0 c.in_ok-blocks.ensures.renewed)) c.requires.scratch;
+  form = mid_form c.self.view_is c.args.slot c.args.name.now c.args.words.now.assigned.items c.args.payload.now c.in_ok-blocks.blocks.items c.self.invariant c.in_ok-blocks.ensures.sound c.requires.may.0 c.in_ok-blocks.ensures.renewed;
+  derived = c.requires.derived;
+  may = mid_first c.self.view_is c.args.slot c.args.name.now c.args.words.now.assigned.items c.args.payload.now c.in_ok-blocks.blocks.items c.self.invariant c.in_ok-blocks.ensures.sound c.requires.may.0 c.in_ok-blocks.ensures.renewed;
+  in_form = mid_in_form c.self.view_is c.args.slot c.args.name.now c.args.words.now.assigned.items c.args.payload.now c.in_ok-blocks.blocks.items c.self.invariant c.in_ok-blocks.ensures.sound c.requires.may.0 c.in_ok-blocks.ensures.renewed;
+  below = mid_below c.self.view_is c.args.slot c.args.name.now c.args.words.now.assigned.items c.args.payload.now c.in_ok-blocks.blocks.items c.self.invariant c.in_ok-blocks.ensures.sound c.requires.may.0 c.in_ok-blocks.ensures.renewed;
+  scratch = subst (λ (l : Limits). HasRoom c.args.scratch.now l) (sym (mid_limits c.self.view_is c.args.slot c.args.name.now c.args.words.now.assigned.items c.args.payload.now c.in_ok-blocks.blocks.items c.self.invariant c.in_ok-blocks.ensures.sound c.requires.may.0 c.in_ok-blocks.ensures.renewed)) c.requires.scratch;
 }
 
 pub most_held-requires : goal.most_held-requires
 most_held-requires g c =
-    mid_short c.self.view_is c.args.slot c.args.name.now c.args.assigned.now c.args.payload.now c.in_ok-blocks.blocks.items c.self.invariant c.in_ok-blocks.ensures.sound c.requires.may.0 c.in_ok-blocks.ensures.renewed
+    mid_short c.self.view_is c.args.slot c.args.name.now c.args.words.now.assigned.items c.args.payload.now c.in_ok-blocks.blocks.items c.self.invariant c.in_ok-blocks.ensures.sound c.requires.may.0 c.in_ok-blocks.ensures.renewed
 
 pub hold-requires : goal.hold-requires
 hold-requires g c =
-    let asks = written_saves c.self.view_is c.args.slot c.args.name.now c.args.assigned.now c.args.payload.now c.in_ok-blocks.blocks.items c.self.invariant c.in_ok-blocks.ensures.sound c.requires.may.0 c.in_ok-blocks.ensures.renewed c.replace_record.ensures.refiles c.requires.usable.unbroken in
-    let image = mid_image c.self.view_is c.args.slot c.args.name.now c.args.assigned.now c.args.payload.now c.in_ok-blocks.blocks.items c.self.invariant c.in_ok-blocks.ensures.sound c.requires.may.0 c.in_ok-blocks.ensures.renewed in
+    let asks = written_saves c.self.view_is c.args.slot c.args.name.now c.args.words.now.assigned.items c.args.payload.now c.in_ok-blocks.blocks.items c.self.invariant c.in_ok-blocks.ensures.sound c.requires.may.0 c.in_ok-blocks.ensures.renewed c.replace_record.ensures.refiles c.requires.usable.unbroken in
+    let image = mid_image c.self.view_is c.args.slot c.args.name.now c.args.words.now.assigned.items c.args.payload.now c.in_ok-blocks.blocks.items c.self.invariant c.in_ok-blocks.ensures.sound c.requires.may.0 c.in_ok-blocks.ensures.renewed in
     record {
       sound = asks.settles;
       image = asks.image;
       usable = record {
-        unbroken = written_unbroken c.self.view_is c.args.slot c.args.name.now c.args.assigned.now c.args.payload.now c.in_ok-blocks.blocks.items c.self.invariant c.in_ok-blocks.ensures.sound c.requires.may.0 c.in_ok-blocks.ensures.renewed c.replace_record.ensures.refiles c.requires.usable.unbroken;
+        unbroken = written_unbroken c.self.view_is c.args.slot c.args.name.now c.args.words.now.assigned.items c.args.payload.now c.in_ok-blocks.blocks.items c.self.invariant c.in_ok-blocks.ensures.sound c.requires.may.0 c.in_ok-blocks.ensures.renewed c.replace_record.ensures.refiles c.requires.usable.unbroken;
         long = omega (arith, c.requires.usable.long, same_blocks image, c.in_ok-blocks.ensures.disk.run.len);
       };
       whole = search rules;
@@ -67,12 +68,12 @@ hold-requires g c =
 
 pub returns-clause-scratch : goal.returns-clause-scratch
 returns-clause-scratch g c =
-    subst (λ (l : Limits). HasRoom c.replace_record.new.scratch l) (mid_limits c.self.view_is c.args.slot c.args.name.now c.args.assigned.now c.args.payload.now c.in_ok-blocks.blocks.items c.self.invariant c.in_ok-blocks.ensures.sound c.requires.may.0 c.in_ok-blocks.ensures.renewed) c.replace_record.ensures.scratch
+    subst (λ (l : Limits). HasRoom c.replace_record.new.scratch l) (mid_limits c.self.view_is c.args.slot c.args.name.now c.args.words.now.assigned.items c.args.payload.now c.in_ok-blocks.blocks.items c.self.invariant c.in_ok-blocks.ensures.sound c.requires.may.0 c.in_ok-blocks.ensures.renewed) c.replace_record.ensures.scratch
 
 pub returns-clause-holds : goal.returns-clause-holds
 returns-clause-holds g c = λ base now holds.
     let new : Stored = record { metadata = c.hold.new.metadata; journal = c.hold.new.journal; is_broken = c.hold.new.is_broken } in
-    written_holds c.self.view_is c.args.slot c.args.name.now c.args.assigned.now c.args.payload.now c.in_ok-blocks.blocks.items c.self.invariant c.in_ok-blocks.ensures.sound c.requires.may.0 c.in_ok-blocks.ensures.renewed c.replace_record.ensures.refiles
+    written_holds c.self.view_is c.args.slot c.args.name.now c.args.words.now.assigned.items c.args.payload.now c.in_ok-blocks.blocks.items c.self.invariant c.in_ok-blocks.ensures.sound c.requires.may.0 c.in_ok-blocks.ensures.renewed c.replace_record.ensures.refiles
     base now holds c.requires.may.1 c.requires.alone new (g.D.Disk.meaning c.hold.new.disk) c.hold.result c.hold.ensures.saves
 
 pub returns-clause-settled : goal.returns-clause-settled
@@ -81,13 +82,13 @@ returns-clause-settled g c = λ large.
 
 pub returns-clause-keeps : goal.returns-clause-keeps
 returns-clause-keeps g c =
-    let limits = written_same c.self.view_is c.args.slot c.args.name.now c.args.assigned.now c.args.payload.now c.in_ok-blocks.blocks.items c.self.invariant c.in_ok-blocks.ensures.sound c.requires.may.0 c.in_ok-blocks.ensures.renewed c.replace_record.ensures.refiles in
-    let edits = written_edits c.self.view_is c.args.slot c.args.name.now c.args.assigned.now c.args.payload.now c.in_ok-blocks.blocks.items c.self.invariant c.in_ok-blocks.ensures.sound c.requires.may.0 c.in_ok-blocks.ensures.renewed c.replace_record.ensures.refiles in
+    let limits = written_same c.self.view_is c.args.slot c.args.name.now c.args.words.now.assigned.items c.args.payload.now c.in_ok-blocks.blocks.items c.self.invariant c.in_ok-blocks.ensures.sound c.requires.may.0 c.in_ok-blocks.ensures.renewed c.replace_record.ensures.refiles in
+    let edits = written_edits c.self.view_is c.args.slot c.args.name.now c.args.words.now.assigned.items c.args.payload.now c.in_ok-blocks.blocks.items c.self.invariant c.in_ok-blocks.ensures.sound c.requires.may.0 c.in_ok-blocks.ensures.renewed c.replace_record.ensures.refiles in
     keeps_saved c.self.view_is c.replace_record.new.metadata c.hold.result limits edits c.hold.ensures.sound c.hold.ensures.metadata (c.hold.ensures.image ∙ c.in_ok-blocks.ensures.renewed.image) c.hold.ensures.ended
 
 pub put_anew-requires : goal.put_anew-requires
 put_anew-requires g c =
-    let there = anew_there c.self.view_is c.args.slot (draft_of (new_file c.args.name.now c.args.assigned.now c.args.payload.now)) c.requires.may.0 in
-    let short = anew_small c.self.view_is c.args.slot (draft_of (new_file c.args.name.now c.args.assigned.now c.args.payload.now)) c.requires.may.0 in
+    let there = anew_there c.self.view_is c.args.slot (draft_of (new_file c.args.name.now c.args.words.now.assigned.items c.args.payload.now)) c.requires.may.0 in
+    let short = anew_small c.self.view_is c.args.slot (draft_of (new_file c.args.name.now c.args.words.now.assigned.items c.args.payload.now)) c.requires.may.0 in
     let enough = subst (λ (k : Stored). blocks_taken k.metadata.limits.version (length c.args.payload.now) ≤ free_for k.metadata (record_in k.metadata c.args.slot)) (sym c.self.view_is) c.requires.may.1 in
     search (rules, there, short, enough)

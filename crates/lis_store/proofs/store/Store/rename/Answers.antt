@@ -1,4 +1,4 @@
-use Rattle.lis_store.proofs.Common.{◌∙◌, length, Err, is_some, refl, sym, ap, subst, err_from_is_err_and, rules, State}
+use Rattle.lis_store.proofs.Common.{◌∙◌, length, Err, is_some, refl, sym, derived_words, ap, subst, err_from_is_err_and, rules, State}
 use Rattle.lis_store.specs.Stored.{Stored, IsSound, StoreHolds}
 use Rattle.lis_store.proofs.FileRead.{name_taken, rename_asks, read_lost, renaming_refused, renaming_holds}
 use Rattle.lis_store.proofs.Keeping.{keeps_lost, keeps_saved}
@@ -48,7 +48,10 @@ returns-in_err-words g c =
 pub replace_record-requires-clause-may : goal.replace_record-requires-clause-may
 replace_record-requires-clause-may g c =
     rename_asks c.self.view_is c.self.invariant c.args.place.now c.args.name.now c.in-Some.ensures.slot c.in-Some.ensures.here c.args.new.now c.bytes.ensures.bytes c.bytes-2.ensures.bytes c.in_default-read_file.ensures.size
-    c.slot_of.ensures.name c.as_slice.ensures.value c.in_ok-words.ensures.words c.in_ok-words.ensures.row
+    c.slot_of.ensures.name c.in_ok-words.ensures.words c.in_ok-words.ensures.row
+
+pub replace_record-requires-clause-derived : goal.replace_record-requires-clause-derived
+replace_record-requires-clause-derived g c = c.in_ok-words.ensures.derived ∙ ap (derived_words c.args.new.now) (c.bytes.ensures.bytes ∙ sym c.bytes-2.ensures.bytes)
 
 pub hold-requires : goal.hold-requires
 hold-requires g c =
@@ -66,7 +69,7 @@ returns-clause-holds g c = λ base s holds.
     let new : Stored = record { metadata = c.hold.new.metadata; journal = c.hold.new.journal; is_broken = c.hold.new.is_broken } in
     renaming_holds c.self.view_is c.self.invariant c.args.place.now c.args.name.now c.in-Some.ensures.slot c.in-Some.ensures.here c.args.new.now (g.D.Disk.meaning c.args.disk.now) base s holds (g.D.Disk.meaning c.read_file.new.disk)
     (record { reads = c.read_file.ensures.disk.reads; fits = c.read_file.ensures.fits })
-    c.in_default-read_file.ensures.read c.bytes-2.ensures.bytes c.bytes.ensures.bytes c.in_ok-words.ensures.row (λ rec is. c.as_slice.ensures.value ∙ c.in_ok-words.ensures.words rec is)
+    c.in_default-read_file.ensures.read c.bytes-2.ensures.bytes c.bytes.ensures.bytes c.in_ok-words.ensures.row c.in_ok-words.ensures.words
     c.replace_record.ensures.refiles c.blocks_in-blocks.ensures c.requires.usable.unbroken new (g.D.Disk.meaning c.hold.new.disk) c.hold.result c.hold.ensures.saves
 
 pub blocks_in-blocks-requires : goal.blocks_in-blocks-requires

@@ -56,7 +56,7 @@ returns-in_err-commit g c =
 pub put_file-requires-clause-may : goal.put_file-requires-clause-may
 put_file-requires-clause-may g c =
     let small : c.args.size ≤ file_limit c.self.inside.metadata.limits.version = omega (arith, c.if-size-file_limit.false, c.file_limit.ensures, ap (λ (l : Limits). file_limit l.version) c.limits.ensures.value) in
-    let words : (rec : FileRecord) → rec_at c.self.inside.metadata.catalog c.in-Some.slot ≡ Some rec → c.as_slice.result.now ≡ words_told c.self.inside.metadata.dict rec.tags = λ rec there. c.as_slice.ensures.value ∙ c.in_ok-words.ensures.words rec there in
+    let words : (rec : FileRecord) → rec_at c.self.inside.metadata.catalog c.in-Some.slot ≡ Some rec → c.in_ok-words.words.assigned.items ≡ words_told c.self.inside.metadata.dict rec.tags = c.in_ok-words.ensures.words in
     let kept : c.if-is_large.self.metadata ≡ c.args.self.now.metadata =
     elim c.if-is_large.branch [
       | then-is_large+in_ok-commit w ↦ ap (λ (k : Stored). k.metadata) w.self-is ∙ w.commit.ensures.metadata
@@ -72,12 +72,12 @@ returns-clause-holds g c = λ base s holds.
     let after = g.D.Disk.meaning c.put_file.new.disk in
     let old : Stored = record { metadata = c.self.inside.metadata; journal = c.self.inside.journal; is_broken = c.self.inside.is_broken } in
     let now : Situation = record { state = s; place = c.args.place.now } in
-    let file = new_file c.args.name.now c.as_slice.result.now c.args.payload.now in
+    let file = new_file c.args.name.now c.in_ok-words.words.assigned.items c.args.payload.now in
     let outcome = changed now (file_added (file_gone s (rec_at mid.metadata.catalog c.in-Some.slot)) file) in
     let H : Stored → Type 0 = λ k. StoreHolds k m base s in
     let held = subst H (sym c.self.view_is) holds in
     let small : c.args.size ≤ file_limit c.self.inside.metadata.limits.version = omega (arith, c.if-size-file_limit.false, c.file_limit.ensures, ap (λ (l : Limits). file_limit l.version) c.limits.ensures.value) in
-    let words : (rec : FileRecord) → rec_at c.self.inside.metadata.catalog c.in-Some.slot ≡ Some rec → c.as_slice.result.now ≡ words_told c.self.inside.metadata.dict rec.tags = λ rec there. c.as_slice.ensures.value ∙ c.in_ok-words.ensures.words rec there in
+    let words : (rec : FileRecord) → rec_at c.self.inside.metadata.catalog c.in-Some.slot ≡ Some rec → c.in_ok-words.words.assigned.items ≡ words_told c.self.inside.metadata.dict rec.tags = c.in_ok-words.ensures.words in
     let kept : c.if-is_large.self.metadata ≡ c.args.self.now.metadata =
     elim c.if-is_large.branch [
       | then-is_large+in_ok-commit w ↦ ap (λ (k : Stored). k.metadata) w.self-is ∙ w.commit.ensures.metadata
