@@ -6,11 +6,12 @@ not there, so the program itself keeps all other files out of it.
 import collections
 import contextlib
 import fcntl
+import hashlib
 import re
 import subprocess
 
 from lisfs_client import LINE, PROGRAM, Refused
-from lisfs_folder import changes, names, walk
+from lisfs_folder import bringing, changes, names, walk
 
 # So many commands, and bytes of files, are under way at most.
 AHEAD, AHEAD_BYTES = 2_048, 4_194_304
@@ -91,7 +92,8 @@ class NoRoom(Exception):
 
 class Carrying:
     """Carries changes into an image. `told` is called for each that was made, with a word, a name and more, the word being `same` where
-    nothing was made since there was no room for further words; `failed` is called with a path and why."""
+    nothing was made since there was no room for further words; `failed` is called with a path and why. First come `declare` and `remember`,
+    then `run`, and at the end `remember` again."""
 
     def __init__(self, sender, plan, largest, told, failed):
         self.sender, self.plan, self.largest, self.told, self.failed = sender, plan, largest, told, failed
@@ -102,13 +104,35 @@ class Carrying:
         self.is_full = self.has_no_file_room = False
         # Words that there was no room for, the files that they belong to, and mails that are named so that the program derives none.
         self.without = self.without_files = self.lean = 0
+        # The words of the image that name what was brought in, and whether there was no room for one.
+        self.memories, self.is_forgetful = set(bringing.words_of_memories(plan.marker, plan.dump.declared)), False
 
-    def run(self):
+    def declare(self):
         for head in self.plan.heads():
             self.sender.start(self._declare(head))
         self.sender.finish()
         if not self.plan.is_nothing() and changes.MARKER + b":" not in self.known:
             raise NoRoom("the image has no room for a further word, and a folder's files need one of their own")
+
+    def remember(self, word):
+        """From now on the image names the memory of this word, or none."""
+        self.sender.start(self._remember(word))
+        self.sender.finish()
+
+    def _remember(self, word):
+        olds = self.memories - {word}
+        if word is not None and word not in self.memories:
+            refusal = yield ROOT, (b"mkdir", word), None
+            if refusal is not None and olds:
+                # One of before makes room for it.
+                yield ROOT, (b"rmdir", olds.pop()), None
+                refusal = yield ROOT, (b"mkdir", word), None
+            self.is_forgetful = refusal is not None
+        for old in olds:
+            yield ROOT, (b"rmdir", old), None
+        self.memories = set() if word is None or self.is_forgetful else {word}
+
+    def run(self):
         for name in self.plan.gone:
             self.sender.start(self._remove(name))
         for change in self.plan.changes:
@@ -126,6 +150,7 @@ class Carrying:
     def _remove(self, name):
         refusal = yield self.place, (b"rm", name), None
         if refusal is None:
+            self.plan.removed(name)
             self.told("gone", name)
         else:
             self.failed(name.decode(), why(refusal))
@@ -149,6 +174,7 @@ class Carrying:
                     given = yield from self._complete(ROOT, name, gains, [word for word in given if word not in rest])
                     self._lacking(len(change.gains) - len(given))
                     self.lean += name != change.name
+                    self.plan.done(change, name)
                     return self.told("new", name, entry.found.path)
                 if refusal.number not in FEWER_WORDS_HELP:
                     return self._refused_file(entry, refusal)
@@ -169,12 +195,17 @@ class Carrying:
         content = walk.content(entry.found, self.largest)
         if len(content) > self.largest:
             raise OSError(0, f"more than {self.largest} bytes; a file has no more")
+        # What is brought in is what is there now.
+        entry.digest = hashlib.sha256(content).digest()
         return content
 
     # A file that is there.
 
     def _update(self, change):
         entry, name, refusal, done = change.entry, change.name, None, []
+        if change.was is not None and (yield self.place, (b"rename", change.was, name), None) is not None:
+            # It keeps its name.
+            name = change.was
         for begin in range(0, len(change.loses), PLACED):
             part = change.loses[begin:begin + PLACED]
             refusal = refusal or (yield self.place + b"/" + b"/".join(part), (b"mv", name, self.place), None)
@@ -189,7 +220,10 @@ class Carrying:
         given = yield from self._complete(self.place, name, self._declared(change.gains), [])
         self._lacking(len(change.gains) - len(given))
         done += ["+" + word.decode() for word in given]
-        if change.has_other_bytes:
+        self.plan.done(change, name)
+        if change.is_moved:
+            self.told("moved", name, entry.found.path)
+        elif change.has_other_bytes:
             self.told("changed", name, entry.found.path)
         else:
             self.told("words" if done else "same", name, " ".join(done))
@@ -255,7 +289,7 @@ def fitting(name, words):
 
 def known_words(plan):
     """The words that somebody has given, or declared, and that stay."""
-    gone, losing = set(plan.gone), {change.name: set(change.loses) for change in plan.changes if change.loses}
+    gone, losing = set(plan.gone), {change.was or change.name: set(change.loses) for change in plan.changes if change.loses}
     known = set(plan.dump.declared)
     for name, (_, words) in plan.dump.files.items():
         if name not in gone:

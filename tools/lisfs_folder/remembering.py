@@ -54,15 +54,7 @@ class Remembered:
             return
         body = json.dumps({"form": FORM, "version": version(), "folder": self.folder, "files": self._now}).encode()
         with contextlib.suppress(OSError):
-            os.makedirs(os.path.dirname(self.path), 0o700, exist_ok=True)
-            handle, temporary = tempfile.mkstemp(dir=os.path.dirname(self.path), prefix=".sync-")
-            try:
-                with open(handle, "wb") as file:
-                    file.write(hashlib.sha256(body).hexdigest().encode() + b"\n" + body)
-                os.replace(temporary, self.path)
-            except BaseException:
-                os.unlink(temporary)
-                raise
+            write_whole(self.path, hashlib.sha256(body).hexdigest().encode() + b"\n" + body)
 
     def _read(self):
         try:
@@ -96,8 +88,35 @@ class Nothing:
 
 
 def cache_folder():
-    top = os.environ.get("XDG_CACHE_HOME", "")
-    return os.path.join(top if os.path.isabs(top) else os.path.expanduser("~/.cache"), "lisfs")
+    return folder_of("XDG_CACHE_HOME", "~/.cache")
+
+
+def folder_of(variable, usual):
+    """The folder of this program's own files, where a variable of the environment says, or else at the usual place."""
+    top = os.environ.get(variable, "")
+    return os.path.join(top if os.path.isabs(top) else os.path.expanduser(usual), "lisfs")
+
+
+def write_whole(path, data, is_kept=False):
+    """Writes a file whole or not at all, for its owner alone; and on the medium before this returns, where it is to be kept."""
+    os.makedirs(os.path.dirname(path), 0o700, exist_ok=True)
+    handle, temporary = tempfile.mkstemp(dir=os.path.dirname(path), prefix=".sync-")
+    try:
+        with open(handle, "wb") as file:
+            file.write(data)
+            file.flush()
+            if is_kept:
+                os.fsync(file.fileno())
+        os.replace(temporary, path)
+    except BaseException:
+        os.unlink(temporary)
+        raise
+    if is_kept:
+        folder = os.open(os.path.dirname(path), os.O_RDONLY | os.O_DIRECTORY | os.O_CLOEXEC)
+        try:
+            os.fsync(folder)
+        finally:
+            os.close(folder)
 
 
 @functools.cache
