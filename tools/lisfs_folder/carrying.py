@@ -6,7 +6,6 @@ not there, so the program itself keeps all other files out of it.
 import collections
 import contextlib
 import fcntl
-import hashlib
 import re
 import subprocess
 
@@ -102,8 +101,9 @@ class Carrying:
         self.known = known_words(plan)
         # Whether no word can become known any more, and no file be made.
         self.is_full = self.has_no_file_room = False
-        # Words that there was no room for, the files that they belong to, and mails that are named so that the program derives none.
-        self.without = self.without_files = self.lean = 0
+        # Words that there was no room for, the files that they belong to, and mails that are named so that the program derives none; and words
+        # that would be too many for their files, with all that is entailed and derived.
+        self.without = self.without_files = self.lean = self.too_many = self.too_many_files = 0
         # The words of the image that name what was brought in, and whether there was no room for one.
         self.memories, self.is_forgetful = set(bringing.words_of_memories(plan.marker, plan.dump.declared)), False
 
@@ -171,8 +171,8 @@ class Carrying:
                 except OSError as error:
                     return self.failed(entry.found.path, error.strerror or str(error))
                 if refusal is None:
-                    given = yield from self._complete(ROOT, name, gains, [word for word in given if word not in rest])
-                    self._lacking(len(change.gains) - len(given))
+                    given, large = yield from self._complete(ROOT, name, gains, [word for word in given if word not in rest])
+                    self._lacking(len(change.gains) - len(given), large)
                     self.lean += name != change.name
                     self.plan.done(change, name)
                     return self.told("new", name, entry.found.path)
@@ -196,7 +196,7 @@ class Carrying:
         if len(content) > self.largest:
             raise OSError(0, f"more than {self.largest} bytes; a file has no more")
         # What is brought in is what is there now.
-        entry.digest = hashlib.sha256(content).digest()
+        entry.read_from(content)
         return content
 
     # A file that is there.
@@ -217,8 +217,8 @@ class Carrying:
                 return self.failed(entry.found.path, error.strerror or str(error))
         if refusal is not None:
             return self.failed(entry.found.path, why(refusal))
-        given = yield from self._complete(self.place, name, self._declared(change.gains), [])
-        self._lacking(len(change.gains) - len(given))
+        given, large = yield from self._complete(self.place, name, self._declared(change.gains), [])
+        self._lacking(len(change.gains) - len(given), large)
         done += ["+" + word.decode() for word in given]
         self.plan.done(change, name)
         if change.is_moved:
@@ -250,8 +250,9 @@ class Carrying:
 
     def _complete(self, place, name, gains, given):
         """Gives a file the words that it has not, as far as there is room: in few commands, or where these are refused one by one. Returns
-        all that it has then."""
+        all that it has then, and how many would be too many for it."""
         self.known.update(given)
+        large = 0
         missing = [word for word in gains if word not in given]
         parts = [missing[begin:begin + PLACED] for begin in range(0, len(missing), PLACED)]
         while parts:
@@ -264,15 +265,20 @@ class Carrying:
                 self.known.update(part)
             elif len(part) > 1:
                 parts[:0] = [[word] for word in part]
+            elif refusal.number == LARGE_DESCRIPTION:
+                large += 1
             elif refusal.number == NO_WORD_ROOM:
                 # Not even one word can become known, and so no other one.
                 self.is_full = True
                 self.known.difference_update(part)
-        return given
+        return given, large
 
-    def _lacking(self, count):
-        if count:
-            self.without += count
+    def _lacking(self, count, large):
+        if large:
+            self.too_many += large
+            self.too_many_files += 1
+        if count > large:
+            self.without += count - large
             self.without_files += 1
 
 

@@ -8,6 +8,7 @@ import collections
 import hashlib
 import os
 
+import derived
 from lisfs_folder import mails, music, walk
 from lisfs_folder.bringing import REMOVAL, Record, settled
 from lisfs_folder.forms import LONGEST, MOST_WORDS, folder_value
@@ -67,7 +68,7 @@ class Changes:
         self.kept, self.taken, self.gone_keys = set(), set(dump.files), {}
         self.records = settled(records or {}, self._digest)
         self._find_renamed()
-        keyed = [(key_of(entry, marker), entry) for entry in entries]
+        self.keyed = keyed = [(key_of(entry, marker), entry) for entry in entries]
         self.moved = set() if is_blind else self._find_moved(keyed)
         # The names of files that the folder has or had are those of their records alone.
         self.claimed = {record.name for record in self.records.values() if record.folder is not None}
@@ -250,6 +251,13 @@ class Changes:
         else:
             self.conflicts.append((name, GONE if record else UNKNOWN_GONE))
 
+    def cut(self):
+        """The files that have the folder's bytes and would have more derived words than the program keeps: the name of each, and how many words
+        it would have."""
+        found = [(self.records[key], entry.derived) for key, entry in self.keyed if key in self.records and entry.derived > derived.MOST]
+        return [(record.name, count) for record, count in found
+                if record.folder is not None and record.folder == record.image and derived.has_many(record.name.encode())]
+
     # What is done.
 
     def is_nothing(self):
@@ -288,5 +296,5 @@ def digest_of(entry):
     """The digest of a file's bytes as they are now, where they were not looked at."""
     if entry.digest is None:
         size = entry.found.size
-        entry.digest = hashlib.sha256(walk.content(entry.found, size)).digest()
+        entry.read_from(walk.content(entry.found, size))
     return entry.digest

@@ -16,10 +16,11 @@ import tempfile
 import time
 import unicodedata
 
+import derived
 from lisfs_folder import addresses, forms, mails, music, walk
 from lisfs_mount.dumps import STEP, WHOLE
 
-FORM = 1
+FORM = 2
 # So many bytes are read at most.
 LARGEST = 1 << 28
 
@@ -123,7 +124,7 @@ def write_whole(path, data, is_kept=False):
 def version():
     """Another one wherever a file may give something else: the sources that read it, and Python."""
     digest = hashlib.sha256(f"{sys.version} {unicodedata.unidata_version}".encode())
-    for module in (addresses, forms, mails, music):
+    for module in (addresses, derived, forms, mails, music):
         with open(module.__file__, "rb") as file:
             digest.update(file.read())
     return digest.hexdigest()
