@@ -1,7 +1,8 @@
 """The pages: HTML made of what an image tells. Each works without a script, and has no address but of these pages."""
 import collections
 
-from lisfs_mount.formulas import TEXT_LIMIT, head_of
+import derived
+from lisfs_mount.formulas import TEXT_LIMIT, head_of, words_in
 
 from lisfs_browse.contents import SHOWN, cut, mail_of, text_of
 from lisfs_browse.image import kind_of
@@ -77,9 +78,16 @@ class Pages:
         return self.whole(title, element("h1", title), about, element("p", sentence, class_="refusal", role="alert"),
                           element("p", link("Back", back[0], **back[1]) if back else link("To all files", "")))
 
+    def missing(self, words):
+        """That a search by these words can miss a file, where it can."""
+        described = ((file.name, file.words) for file in self.image.index.files.values())
+        told = derived.told_of_misses(words, described)
+        return element("p", f"{told}.", class_="hint") if told else None
+
     def wrong_place(self, typed, sentence):
         return self.whole("No such place", element("h1", "There is no such place"), element("p", element("code", typed)),
-                          element("p", sentence, class_="refusal", role="alert"), element("p", link("To all files", "")), typed=typed)
+                          element("p", sentence, class_="refusal", role="alert"), self.missing(words_in(typed)),
+                          element("p", link("To all files", "")), typed=typed)
 
     # A place.
 
@@ -153,7 +161,7 @@ class Pages:
         files = element("section", element("h2", "Files that no word covers", id="rest"), self.some_files(view), class_="rest",
                         aria_labelledby="rest") if view.locals else None
         heading = element("h1", counted(whole, "file"), " here" if place.steps else "")
-        return self.whole(plain(place.text), self.notice(done), self.path(place), heading,
+        return self.whole(plain(place.text), self.notice(done), self.path(place), heading, self.missing(words_in(place.text)),
                           element("p", link(f"All {counted(whole, 'file')} of this place", "files", at=place.text)) if whole else None,
                           element("div", narrowing if view.words or wanted else None, files, class_="columns") if whole else
                           element("p", "There is no file here.", class_="hint"),
@@ -239,7 +247,7 @@ class Pages:
             element("nav", element("span", "Way to it: "), element("ol", [element("li", step) for step in route]), class_="route",
                     aria_label="Way to the file"),
             element("div",
-                    element("section", element("h2", "Words", id="words"), self.described(file, place), class_="about",
+                    element("section", element("h2", "Words", id="words"), self.described(file, place), self.cut(file, content), class_="about",
                             aria_labelledby="words"),
                     element("section", element("h2", "What is in it", id="bytes"), self.shown(file, content, place, as_text),
                             class_="within",
@@ -267,6 +275,11 @@ class Pages:
         return [element("dl", [(element("dt", title), element("dd", element("ul", [item(word) for word in words], class_="tags")))
                                for title, words in (("given", given), ("by itself, or by another word", others + bare),
                                                     ("their heads", above)) if words])]
+
+    def cut(self, file, content):
+        """How many words a file would have, where the program keeps no more of them."""
+        told = derived.told_of_cut(file.name, content) if derived.is_full(file.words) else None
+        return element("p", f"{told}.", class_="hint") if told else None
 
     def shown(self, file, content, place, as_text):
         """The bytes of a file as text, never as more than that."""

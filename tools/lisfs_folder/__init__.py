@@ -7,6 +7,7 @@
 - `entries`: each file with its name, its size and its words.
 - `changes`: what is new, changed or gone, beside what an image holds.
 - `carrying`: the commands that bring it in, many ahead of their replies.
+- `bringing`: what earlier runs brought in, so that a change of the image is told from one of the folder.
 - `telling`: counts, lines, and the one line of progress.
 
 A text of a path is a `str` as the system gives it to Python; names and words of an image are bytes.

@@ -10,7 +10,7 @@ import re
 import subprocess
 
 from lisfs_client import LINE, PROGRAM, Refused
-from lisfs_folder import changes, names, walk
+from lisfs_folder import bringing, changes, names, walk
 
 # So many commands, and bytes of files, are under way at most.
 AHEAD, AHEAD_BYTES = 2_048, 4_194_304
@@ -91,7 +91,8 @@ class NoRoom(Exception):
 
 class Carrying:
     """Carries changes into an image. `told` is called for each that was made, with a word, a name and more, the word being `same` where
-    nothing was made since there was no room for further words; `failed` is called with a path and why."""
+    nothing was made since there was no room for further words; `failed` is called with a path and why. First come `declare` and `remember`,
+    then `run`, and at the end `remember` again."""
 
     def __init__(self, sender, plan, largest, told, failed):
         self.sender, self.plan, self.largest, self.told, self.failed = sender, plan, largest, told, failed
@@ -100,15 +101,38 @@ class Carrying:
         self.known = known_words(plan)
         # Whether no word can become known any more, and no file be made.
         self.is_full = self.has_no_file_room = False
-        # Words that there was no room for, the files that they belong to, and mails that are named so that the program derives none.
-        self.without = self.without_files = self.lean = 0
+        # Words that there was no room for, the files that they belong to, and mails that are named so that the program derives none; and words
+        # that would be too many for their files, with all that is entailed and derived.
+        self.without = self.without_files = self.lean = self.too_many = self.too_many_files = 0
+        # The words of the image that name what was brought in, and whether there was no room for one.
+        self.memories, self.is_forgetful = set(bringing.words_of_memories(plan.marker, plan.dump.declared)), False
 
-    def run(self):
+    def declare(self):
         for head in self.plan.heads():
             self.sender.start(self._declare(head))
         self.sender.finish()
         if not self.plan.is_nothing() and changes.MARKER + b":" not in self.known:
             raise NoRoom("the image has no room for a further word, and a folder's files need one of their own")
+
+    def remember(self, word):
+        """From now on the image names the memory of this word, or none."""
+        self.sender.start(self._remember(word))
+        self.sender.finish()
+
+    def _remember(self, word):
+        olds = self.memories - {word}
+        if word is not None and word not in self.memories:
+            refusal = yield ROOT, (b"mkdir", word), None
+            if refusal is not None and olds:
+                # One of before makes room for it.
+                yield ROOT, (b"rmdir", olds.pop()), None
+                refusal = yield ROOT, (b"mkdir", word), None
+            self.is_forgetful = refusal is not None
+        for old in olds:
+            yield ROOT, (b"rmdir", old), None
+        self.memories = set() if word is None or self.is_forgetful else {word}
+
+    def run(self):
         for name in self.plan.gone:
             self.sender.start(self._remove(name))
         for change in self.plan.changes:
@@ -126,6 +150,7 @@ class Carrying:
     def _remove(self, name):
         refusal = yield self.place, (b"rm", name), None
         if refusal is None:
+            self.plan.removed(name)
             self.told("gone", name)
         else:
             self.failed(name.decode(), why(refusal))
@@ -146,9 +171,10 @@ class Carrying:
                 except OSError as error:
                     return self.failed(entry.found.path, error.strerror or str(error))
                 if refusal is None:
-                    given = yield from self._complete(ROOT, name, gains, [word for word in given if word not in rest])
-                    self._lacking(len(change.gains) - len(given))
+                    given, large = yield from self._complete(ROOT, name, gains, [word for word in given if word not in rest])
+                    self._lacking(len(change.gains) - len(given), large)
                     self.lean += name != change.name
+                    self.plan.done(change, name)
                     return self.told("new", name, entry.found.path)
                 if refusal.number not in FEWER_WORDS_HELP:
                     return self._refused_file(entry, refusal)
@@ -169,12 +195,17 @@ class Carrying:
         content = walk.content(entry.found, self.largest)
         if len(content) > self.largest:
             raise OSError(0, f"more than {self.largest} bytes; a file has no more")
+        # What is brought in is what is there now.
+        entry.read_from(content)
         return content
 
     # A file that is there.
 
     def _update(self, change):
         entry, name, refusal, done = change.entry, change.name, None, []
+        if change.was is not None and (yield self.place, (b"rename", change.was, name), None) is not None:
+            # It keeps its name.
+            name = change.was
         for begin in range(0, len(change.loses), PLACED):
             part = change.loses[begin:begin + PLACED]
             refusal = refusal or (yield self.place + b"/" + b"/".join(part), (b"mv", name, self.place), None)
@@ -186,10 +217,13 @@ class Carrying:
                 return self.failed(entry.found.path, error.strerror or str(error))
         if refusal is not None:
             return self.failed(entry.found.path, why(refusal))
-        given = yield from self._complete(self.place, name, self._declared(change.gains), [])
-        self._lacking(len(change.gains) - len(given))
+        given, large = yield from self._complete(self.place, name, self._declared(change.gains), [])
+        self._lacking(len(change.gains) - len(given), large)
         done += ["+" + word.decode() for word in given]
-        if change.has_other_bytes:
+        self.plan.done(change, name)
+        if change.is_moved:
+            self.told("moved", name, entry.found.path)
+        elif change.has_other_bytes:
             self.told("changed", name, entry.found.path)
         else:
             self.told("words" if done else "same", name, " ".join(done))
@@ -216,8 +250,9 @@ class Carrying:
 
     def _complete(self, place, name, gains, given):
         """Gives a file the words that it has not, as far as there is room: in few commands, or where these are refused one by one. Returns
-        all that it has then."""
+        all that it has then, and how many would be too many for it."""
         self.known.update(given)
+        large = 0
         missing = [word for word in gains if word not in given]
         parts = [missing[begin:begin + PLACED] for begin in range(0, len(missing), PLACED)]
         while parts:
@@ -230,15 +265,20 @@ class Carrying:
                 self.known.update(part)
             elif len(part) > 1:
                 parts[:0] = [[word] for word in part]
+            elif refusal.number == LARGE_DESCRIPTION:
+                large += 1
             elif refusal.number == NO_WORD_ROOM:
                 # Not even one word can become known, and so no other one.
                 self.is_full = True
                 self.known.difference_update(part)
-        return given
+        return given, large
 
-    def _lacking(self, count):
-        if count:
-            self.without += count
+    def _lacking(self, count, large):
+        if large:
+            self.too_many += large
+            self.too_many_files += 1
+        if count > large:
+            self.without += count - large
             self.without_files += 1
 
 
@@ -255,7 +295,7 @@ def fitting(name, words):
 
 def known_words(plan):
     """The words that somebody has given, or declared, and that stay."""
-    gone, losing = set(plan.gone), {change.name: set(change.loses) for change in plan.changes if change.loses}
+    gone, losing = set(plan.gone), {change.was or change.name: set(change.loses) for change in plan.changes if change.loses}
     known = set(plan.dump.declared)
     for name, (_, words) in plan.dump.files.items():
         if name not in gone:

@@ -2,6 +2,7 @@
 import hashlib
 import os
 
+import derived
 from lisfs_folder import mails, music, names, remembering, walk
 from lisfs_folder.telling import counted
 
@@ -13,10 +14,18 @@ class Entry:
     """A file of a folder. `words` are those that its folders, its header or its tags give, the most important first; words of the heads in
     `unread` may be missing. `digest` is that of its bytes, or None where they were not looked at. `ident` is what its name is made of."""
 
-    __slots__ = ("found", "subject", "ident", "digest", "words", "unread")
+    __slots__ = ("found", "subject", "ident", "digest", "words", "unread", "derived")
 
     def __init__(self, found):
         self.found, self.subject, self.ident, self.digest, self.words, self.unread = found, None, None, None, (), ()
+        # How many words the program would derive of its bytes, where they were looked at and it derives some.
+        self.derived = 0
+
+    def read_from(self, content):
+        """Notes what its bytes give."""
+        self.digest = hashlib.sha256(content).digest()
+        name = b"x.eml" if self.is_mail else os.fsencode(self.found.parts[-1])
+        self.derived = len(derived.derived_words(name, content)) if derived.has_many(name) else 0
 
     @property
     def is_mail(self):
@@ -71,7 +80,7 @@ class Entries:
             # It may be here all the same, under a name that is not known.
             self.walk.is_blind = self.walk.is_blind or entry.is_mail
             return []
-        digest, message_id, subject, words = record
+        digest, message_id, subject, words, entry.derived = record
         entry.subject = subject if entry.is_mail else None
         if entry.is_mail and message_id:
             entry.ident = b"mail", message_id.encode(errors="surrogateescape")
@@ -88,10 +97,10 @@ class Entries:
             return None
         if len(content) > self.largest and not found.problem:
             found.problem = f"more than {self.largest} bytes; a file has no more"
-        mail, digest = mails.Mail(content), None
+        mail, digest, count = mails.Mail(content), None, 0
         if not found.problem:
-            found.size, digest = len(content), hashlib.sha256(content).hexdigest()
-        record = [digest, mail.message_id, mail.subject, [word.decode() for word in mail.words()]]
+            found.size, digest, count = len(content), hashlib.sha256(content).hexdigest(), len(derived.derived_words(b"x.eml", content))
+        record = [digest, mail.message_id, mail.subject, [word.decode() for word in mail.words()], count]
         self._remembered.keep(found, times, MAIL, record)
         return record
 

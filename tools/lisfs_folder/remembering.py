@@ -16,10 +16,11 @@ import tempfile
 import time
 import unicodedata
 
+import derived
 from lisfs_folder import addresses, forms, mails, music, walk
 from lisfs_mount.dumps import STEP, WHOLE
 
-FORM = 1
+FORM = 2
 # So many bytes are read at most.
 LARGEST = 1 << 28
 
@@ -54,15 +55,7 @@ class Remembered:
             return
         body = json.dumps({"form": FORM, "version": version(), "folder": self.folder, "files": self._now}).encode()
         with contextlib.suppress(OSError):
-            os.makedirs(os.path.dirname(self.path), 0o700, exist_ok=True)
-            handle, temporary = tempfile.mkstemp(dir=os.path.dirname(self.path), prefix=".sync-")
-            try:
-                with open(handle, "wb") as file:
-                    file.write(hashlib.sha256(body).hexdigest().encode() + b"\n" + body)
-                os.replace(temporary, self.path)
-            except BaseException:
-                os.unlink(temporary)
-                raise
+            write_whole(self.path, hashlib.sha256(body).hexdigest().encode() + b"\n" + body)
 
     def _read(self):
         try:
@@ -96,15 +89,42 @@ class Nothing:
 
 
 def cache_folder():
-    top = os.environ.get("XDG_CACHE_HOME", "")
-    return os.path.join(top if os.path.isabs(top) else os.path.expanduser("~/.cache"), "lisfs")
+    return folder_of("XDG_CACHE_HOME", "~/.cache")
+
+
+def folder_of(variable, usual):
+    """The folder of this program's own files, where a variable of the environment says, or else at the usual place."""
+    top = os.environ.get(variable, "")
+    return os.path.join(top if os.path.isabs(top) else os.path.expanduser(usual), "lisfs")
+
+
+def write_whole(path, data, is_kept=False):
+    """Writes a file whole or not at all, for its owner alone; and on the medium before this returns, where it is to be kept."""
+    os.makedirs(os.path.dirname(path), 0o700, exist_ok=True)
+    handle, temporary = tempfile.mkstemp(dir=os.path.dirname(path), prefix=".sync-")
+    try:
+        with open(handle, "wb") as file:
+            file.write(data)
+            file.flush()
+            if is_kept:
+                os.fsync(file.fileno())
+        os.replace(temporary, path)
+    except BaseException:
+        os.unlink(temporary)
+        raise
+    if is_kept:
+        folder = os.open(os.path.dirname(path), os.O_RDONLY | os.O_DIRECTORY | os.O_CLOEXEC)
+        try:
+            os.fsync(folder)
+        finally:
+            os.close(folder)
 
 
 @functools.cache
 def version():
     """Another one wherever a file may give something else: the sources that read it, and Python."""
     digest = hashlib.sha256(f"{sys.version} {unicodedata.unidata_version}".encode())
-    for module in (addresses, forms, mails, music):
+    for module in (addresses, derived, forms, mails, music):
         with open(module.__file__, "rb") as file:
             digest.update(file.read())
     return digest.hexdigest()

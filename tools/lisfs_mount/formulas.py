@@ -15,6 +15,15 @@ WORD = re.compile(rb"(?!\.)[A-Za-z0-9_.+@-]+(:[A-Za-z0-9_.+@-]*)?")
 TEST = re.compile(rb"size(>=|<)([0-9]{1,12})(?![0-9])")
 
 
+# What stands between the words of a formula.
+SIGNS = re.compile(rb"[/|!()]")
+
+
+def words_in(formula):
+    """The words of a formula's text, without its tests."""
+    return [word for word in dict.fromkeys(SIGNS.split(formula)) if word and not TEST.fullmatch(word)]
+
+
 class NotAFormula(ValueError):
     """The text is no formula."""
 

@@ -6,9 +6,8 @@ it can't be, the sentence names the line's own words.
 import difflib
 
 from lisfs_client import PAYLOAD, words_of
-from lisfs_mount.formulas import FILE_NAME, NAME_LIMIT, TEST, head_of, is_plain, is_word
+from lisfs_mount.formulas import FILE_NAME, NAME_LIMIT, TEST, head_of, is_plain, is_word, words_in
 from lisfs_shell.commands import COMMANDS, COUNT, FILES, MEANS, WORDS
-from lisfs_shell.session import words_in
 from showing import harmless
 
 BUILT_IN = (b"ext:", b"size:", b"from:", b"to:", b"subject:", b"includes:", b"defines:")

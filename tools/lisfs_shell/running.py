@@ -7,7 +7,9 @@ import shutil
 import stat
 import tempfile
 
+import derived
 from lisfs_client import CONTENT, LINE, PAYLOAD, Items, NotSent, Refused, words_of
+from lisfs_mount.formulas import words_in
 from lisfs_shell.commands import COMMANDS, all_in_lines, told
 from lisfs_shell.refusals import NAME_FORM, bad_line, is_file_name, sentence
 from lisfs_shell.session import NoWayBack
@@ -27,7 +29,7 @@ class Over(Exception):
 
 class Shell:
     def __init__(self, session, screen):
-        self.session, self.screen, self.interrupts = session, screen, screen.interrupts
+        self.session, self.screen, self.interrupts, self.has_told_misses = session, screen, screen.interrupts, False
         self.own = {b"find": self.find, b"put": self.put, b"get": self.get, b"help": self.help, b"exit": self.exit}
 
     # Lines.
@@ -43,8 +45,12 @@ class Shell:
             elif words[0] in self.own and len(line) <= LINE:
                 self.own[words[0]](line, words[1:])
             else:
-                self.show(words[0], self.session.carry_out(line, payload))
+                reply = self.session.carry_out(line, payload)
+                self.show(words[0], reply)
+                self.tell_cut(words, reply)
+            self.tell_misses(words)
         except Refused as refused:
+            self.tell_misses(words)
             raise Failed(sentence(refused, line, self.session)) from None
         except NotSent as error:
             raise Failed(f"{harmless(words[0])}: {error}") from None
@@ -56,6 +62,29 @@ class Shell:
         else:
             has_words = command in (b"ls", b"way")
             self.in_pieces([self.row(letter, harmless(text), has_words) for letter, text in reply.body])
+
+    def note(self, line):
+        """Something beside what was asked. Of a script it is told on standard error, so that its output is that of the program."""
+        if self.screen.asks:
+            self.screen.lines([line])
+        else:
+            self.screen.fault(f"shell: {line}")
+
+    def tell_cut(self, words, reply):
+        """Behind the words of a file, how many it would have, where the program keeps no more of them."""
+        if words[0] == b"props" and derived.is_full(text for _, text in reply.body):
+            if told := derived.told_of_cut(words[1], self.session.content(words[1])):
+                self.note(f"{harmless(words[1])}: {told}")
+
+    def tell_misses(self, words):
+        """Once, that a search can miss a file whose words are cut, also where it finds none."""
+        formula = words_in(words[1]) if words[0] in (b"cd", b"find") and len(words) == 2 else []
+        # Only such a word makes it worth to look at all files.
+        if self.has_told_misses or not any(word.partition(b":")[0] in derived.HEADS for word in formula):
+            return
+        if told := derived.told_of_misses(formula, self.session.described()):
+            self.has_told_misses = True
+            self.note(told)
 
     def row(self, letter, text, is_word, before=""):
         return f"{letter.decode()} {before}{self.screen.coloured(text, WORD_COLOUR) if is_word and letter == b'd' else text}"

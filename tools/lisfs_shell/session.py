@@ -4,26 +4,18 @@ Which files the image has is known from its dump, and from then on by the comman
 program says: `props` of a name is refused where the file is not there. So no formula is judged here.
 """
 import contextlib
-import re
 
 from lisfs_client import LINE, Refused, words_of
-from lisfs_mount.formulas import TEST, head_of, is_plain
+from lisfs_mount.formulas import head_of, is_plain, words_in
 
 ROOT = b"/"
 # So many commands are sent before the first reply is received.
 AHEAD = 128
 NOT_HERE = 10
-# What stands between the words of a formula.
-SIGNS = re.compile(rb"[/|!()]")
 
 
 class NoWayBack(Exception):
     """The place could not be come back to, so that it is not left."""
-
-
-def words_in(formula):
-    """The words of a formula, without its tests."""
-    return [word for word in dict.fromkeys(SIGNS.split(formula)) if word and not TEST.fullmatch(word)]
 
 
 class Session:
@@ -166,6 +158,11 @@ class Session:
             begun = {left for left, _ in self.axioms}
             self._known = self.changes, self.declared.union(begun, filter(None, map(head_of, begun)), *self._words.values())
         return self._known[1]
+
+    def described(self):
+        """Each file with all words that it has, as far as `known` could look."""
+        self.known()
+        return self._words.items()
 
     def is_assignable(self, word):
         """Whether a file may be given this word."""

@@ -1,0 +1,155 @@
+"""The words that a file has by itself, as the program derives them by docs/MODEL.md: of its name, its size and its bytes, the first 48 alone.
+
+The program keeps no word beyond these, and does not say that there were more. This reads a file once more to tell how many it would have, so that
+a person can be told which search may miss it. What a file has is the program's to say: nothing here is asked for that.
+"""
+import re
+
+# So many derived words a file has at most. So many bytes are looked at here for more, so that no file takes long: what is told is the least.
+MOST, LOOKED = 48, 131_072
+LONGEST = 60
+PLAIN = re.compile(rb"[A-Za-z0-9_.+@-]+")
+PLAIN_BYTES = b"ABCDEFGHIJKLMNOPQRSTUVWXYZabcdefghijklmnopqrstuvwxyz0123456789_.+@-"
+# The heads of words that bytes give.
+HEADS = frozenset((b"from", b"to", b"subject", b"includes", b"defines"))
+SUFFIX = re.compile(rb"[^/]*[^/]\.([A-Za-z0-9_+@-]+)", re.S)
+SIZES = ((0, b"size:empty"), (1_023, b"size:small"), (16_383, b"size:medium"))
+FIELD = re.compile(rb"([!-9;-~]+):")
+JOINT = re.compile(rb"\\\r?\n")
+KEYWORDS = frozenset((b"if", b"for", b"while", b"switch", b"return", b"sizeof"))
+# The pieces of a source, each by its first bytes. A literal ends with its byte, before a line feed or at the end.
+PIECE = re.compile(rb"(?P<blank>[ \t]+)|(?P<feed>\n)|(?P<white>[\v\f\r]+)|(?P<identifier>[A-Za-z_][A-Za-z0-9_]*)|(?P<number>[0-9][A-Za-z0-9_.]*)"
+                   rb"|(?P<comment>/\*.*?(?:\*/|\Z)|//[^\n]*)|(?P<literal>\"(?:[^\"\\\n]|\\[^\n])*\\?\"?|'(?:[^'\\\n]|\\[^\n])*\\?'?)|(?P<mark>.)", re.S)
+PATH = re.compile(rb"<([^>\n]*)>|\"([^\"\n]*)\"")
+
+
+def derived_words(name, content):
+    """The words that a file of this name and these bytes would have by itself, each once, in the order in which the program takes them. Of a
+    long file those of its beginning."""
+    suffix, size = suffix_of(name), len(content)
+    if size > LOOKED:
+        # No part of a token is taken for one.
+        content = content[:LOOKED].rstrip(PLAIN_BYTES)
+    found = [b"ext:" + suffix] if suffix else []
+    found.append(next((word for most, word in SIZES if size <= most), b"size:large"))
+    if suffix == b"eml":
+        found += mail_words(content)
+    elif suffix in (b"c", b"h"):
+        found += source_words(content)
+    return list(dict.fromkeys(word for word in found if len(word) <= LONGEST))
+
+
+def has_many(name):
+    """Whether a file of this name may have more words than the program keeps."""
+    return suffix_of(name) in (b"eml", b"c", b"h")
+
+
+def is_full(words):
+    """Whether a file with these words may have so many by itself that others were cut."""
+    return sum(word.partition(b":")[0] in HEADS and not word.endswith(b":") for word in words) >= MOST - 3
+
+
+def told_of_cut(name, content):
+    """How many of its words a file has, where some are cut, or None."""
+    count = len(derived_words(name, content)) if has_many(name) else 0
+    return f"{MOST} of at least {count:,} words that it has by itself: a search for one of the others misses it" if count > MOST else None
+
+
+def told_of_misses(words, described):
+    """What is to be told of a search by some words, where it can miss a file: the files are pairs of a name and all words. Else None."""
+    missing = [word for word in words if b":" in word and word.partition(b":")[0] in HEADS]
+    count = sum(has_many(name) and is_full(had) for name, had in described) if missing else 0
+    if not count:
+        return None
+    files = "1 file has" if count == 1 else f"{count:,} files have"
+    return f"{files} the most words that a file has by itself, {MOST}, and may say more: a search by {missing[0].decode()} can miss such a file"
+
+
+def suffix_of(name):
+    """What stands behind the last full stop of a name, or None."""
+    found = SUFFIX.fullmatch(name)
+    return found[1] if found else None
+
+
+def mail_words(content):
+    """The words of a mail's header, repeats included."""
+    found, kind = [], None
+    for line in content.split(b"\n"):
+        line = line.removesuffix(b"\r")
+        if not line:
+            break
+        if line[:1] in (b" ", b"\t"):
+            body = line if kind else b""
+        else:
+            field = FIELD.match(line)
+            kind, body = (field[1].lower(), line[field.end():]) if field else (None, b"")
+        if kind in (b"from", b"to", b"subject"):
+            # A token may go on in a folded line only where no blank begins that, which one does.
+            found += [kind + b":" + token.lower() for token in PLAIN.findall(body) if kind == b"subject" or b"@" in token]
+    return found
+
+
+def source_words(content):
+    """The words of a C source, repeats included."""
+    entries = list(entries_of(JOINT.sub(b"", content)))
+    found, braces, parens = [], 0, 0
+    for at, (kind, text) in enumerate(entries):
+        if kind == "path":
+            path = text.rpartition(b"/")[2]
+            found += [b"includes:" + path] if not path or PLAIN.fullmatch(path) else []
+        elif kind == "identifier":
+            if not braces and not parens and text not in KEYWORDS and is_defined(entries, at + 1):
+                found.append(b"defines:" + text)
+        else:
+            braces, parens = depth_after(braces, text, b"{", b"}"), depth_after(parens, text, b"(", b")")
+    return found
+
+
+def depth_after(depth, text, opening, closing):
+    return depth + 1 if text == opening else max(0, depth - 1) if text == closing else depth
+
+
+def is_defined(entries, at):
+    """Whether what stands behind an identifier makes it a definition: a parenthesis, and a brace behind the one that closes it. No identifier
+    between these two is judged, so that each entry is passed over once."""
+    depth, is_closed = 0, False
+    while at < len(entries):
+        kind, text = entries[at]
+        at += 1
+        if kind == "path":
+            continue
+        if is_closed:
+            return text == b"{"
+        if depth == 0 and text != b"(":
+            return False
+        depth = depth_after(depth, text, b"(", b")")
+        is_closed = depth == 0
+    return False
+
+
+def entries_of(source):
+    """The paths of includes, and the tokens outside directives: pairs of a kind and a text."""
+    context, at = "start", 0
+    while at < len(source):
+        path = PATH.match(source, at) if context == "include" else None
+        if path:
+            at, context = path.end(), "directive"
+            yield "path", path[1] if path[1] is not None else path[2]
+            continue
+        piece = PIECE.match(source, at)
+        at, kind, text = piece.end(), piece.lastgroup, piece[0]
+        if context in ("start", "code") and kind not in ("blank", "feed", "white", "comment") and not (context == "start" and text == b"#"):
+            yield kind, text
+        context = context_after(context, kind, text)
+
+
+def context_after(context, kind, text):
+    if kind == "feed":
+        return "start"
+    if kind in ("blank", "comment"):
+        return context
+    if context == "start":
+        return "start" if kind == "white" else "hash" if text == b"#" else "code"
+    if context == "hash":
+        return "include" if text == b"include" else "directive"
+    return "code" if context == "code" else "directive"
