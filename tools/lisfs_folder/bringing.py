@@ -3,7 +3,8 @@
 1. Each file of a folder has a record: its key, its name in the image, the name that `tools/sync` made for it, and two digests.
 2. The key is the path below the folder; of a mail of a maildir, which may move, it is the name that its Message-ID gives it.
 3. `folder` is the digest of the bytes that the folder had when both sides were last settled, and `image` that of the bytes which were brought
-   in. None says that there was no file. So a side has changed if it has other bytes than its digest says, or no file, or one that was not.
+   in. None says that there was no file, and None twice that a file was seen in the folder and did not come in. A side has changed if it has
+   other bytes than its digest says, or no file, or one that was not.
 4. Words that somebody gave stand in the image alone. They stay on the file, also when it is renamed, so no record has them.
 5. A file that somebody removed from the image keeps its record, and so it stays away. Both sides gone, the record goes.
 6. All records of a folder are one memory: a text, named after its own digest, in `$XDG_STATE_HOME/lisfs`, or in `~/.local/state/lisfs`.
@@ -130,9 +131,8 @@ def settled(records, digest_in):
         if record.coming is None:
             found[key] = record
         elif (now or REMOVAL) != record.coming:
-            # It was not done. A file that was to be new then has no record.
-            if (record.folder, record.image) != (None, None):
-                found[key] = record._replace(coming=None)
+            # It was not done.
+            found[key] = record._replace(coming=None)
         elif now:
             found[key] = Record(record.name, record.made, now, now)
     return found

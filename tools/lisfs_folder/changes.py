@@ -15,7 +15,8 @@ from lisfs_folder.forms import LONGEST, MOST_WORDS, folder_value
 
 MARKER, FOLDER = b"sync", b"in"
 HEADS = frozenset((FOLDER, *mails.HEADS, *music.HEADS))
-NO_BYTES = hashlib.sha256().hexdigest()
+# The digest of no bytes, and what is no digest.
+NO_BYTES, NOTHING = hashlib.sha256().hexdigest(), ""
 
 # A file as it is to be: the key of its record, its name, the name that the image has for it where that is another one, its entry, the words
 # that it loses and gains, whether it is new, whether it gets the folder's bytes, and whether it was found again elsewhere in the folder.
@@ -70,6 +71,8 @@ class Changes:
         self._find_renamed()
         self.keyed = keyed = [(key_of(entry, marker), entry) for entry in entries]
         self.moved = set() if is_blind else self._find_moved(keyed)
+        # Those of files that were only seen have served.
+        self.records = {key: record for key, record in self.records.items() if (record.folder, record.image) != (None, None)}
         # The names of files that the folder has or had are those of their records alone.
         self.claimed = {record.name for record in self.records.values() if record.folder is not None}
         for key, entry in [(key, entry) for key, entry in keyed if not self._held(key, entry)]:
@@ -246,7 +249,8 @@ class Changes:
             self.gone.append(name.encode())
             self.gone_keys[name.encode()] = key
         elif self.wishes.ours:
-            self.records[key or "image:" + name] = Record(name, name, None, record.image if record else None)
+            # Where it is not known what was brought in, no bytes are those.
+            self.records[key or "image:" + name] = Record(name, name, None, record.image if record else NOTHING)
             self.edited.append(name)
         else:
             self.conflicts.append((name, GONE if record else UNKNOWN_GONE))
@@ -265,15 +269,23 @@ class Changes:
 
     def coming(self):
         """The records before the changes, with what is coming to each file."""
-        found = dict(self.records)
+        found = self.seen()
         for change in self.changes:
             # A new file that was not read yet is not read for this alone: where it comes in, the next run finds both sides alike.
             if change.has_other_bytes and change.entry.digest is not None:
                 name = (change.was or change.name).decode()
-                before = found.get(change.key, Record(name, name, None, None))
+                before = self.records.get(change.key, Record(name, name, None, None))
                 found[change.key] = before._replace(coming=change.entry.digest.hex())
         for name, key in self.gone_keys.items():
             found[key or "image:" + name.decode()] = found.get(key, Record(name.decode(), name.decode(), None, None))._replace(coming=REMOVAL)
+        return found
+
+    def seen(self):
+        """The records, and those of files that are in the folder and not in the image. Such a file is none that moved, when there is room."""
+        found = dict(self.records)
+        for key, entry in self.keyed:
+            name = entry.names(self.marker, False)[0].decode()
+            found.setdefault(key, Record(name, name, None, None))
         return found
 
     def done(self, change, name):
