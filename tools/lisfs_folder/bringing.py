@@ -39,8 +39,10 @@ Record = collections.namedtuple("Record", "name made folder image coming", defau
 
 def begin_of_word(marker):
     """What the word of a memory begins with, for the folder of this marker."""
-    name = marker.partition(b":")[2]
-    return WORD + name[:LONGEST - len(WORD) - 1 - DIGITS] + b"-"
+    name, room = marker.partition(b":")[2], LONGEST - len(WORD) - 1 - DIGITS
+    if len(name) > room:
+        name = name[:room - 9] + b"." + hashlib.sha256(name).hexdigest()[:8].encode()
+    return WORD + name + b"-"
 
 
 def words_of_memories(marker, declared):
@@ -58,8 +60,8 @@ class Memory:
     def read(self, declared):
         """The records that belong to an image with these words, or None where they are not known."""
         found = [records for word in words_of_memories(self.marker, declared) if (records := self._read(word)) is not None]
-        # Of two the one with something coming is of the run that was stopped. It holds for the files of both.
-        return max(found, key=lambda records: any(record.coming is not None for record in records.values()), default=None)
+        # Of two the one with nothing coming was written after all changes of its run.
+        return min(found, key=lambda records: any(record.coming is not None for record in records.values()), default=None)
 
     def write(self, records):
         """Keeps records, and returns the word by which an image names them. Raises `OSError`."""

@@ -70,7 +70,9 @@ class Changes:
         self.records = settled(records or {}, self._digest)
         self._find_renamed()
         self.keyed = keyed = [(key_of(entry, marker), entry) for entry in entries]
-        self.moved = set() if is_blind else self._find_moved(keyed)
+        self.waiting = set()
+        self.moved = self._find_moved(keyed)
+        self._tell_mails_apart(keyed)
         # Those of files that were only seen have served.
         self.records = {key: record for key, record in self.records.items() if (record.folder, record.image) != (None, None)}
         # The names of files that the folder has or had are those of their records alone.
@@ -113,9 +115,40 @@ class Changes:
                 if fits and key not in found:
                     found[key] = fits[0]
                     lost[digest].remove(fits[0])
+        # A file that can't be read may be one that moved.
+        self.is_blind = self.is_blind or any(entry.found.problem for _, entry in new)
+        if self.is_blind:
+            # It may be a second one with these bytes: which of both, the next run that sees all can tell.
+            self.waiting = set(found)
+            return {}
+        entries = dict(keyed)
         for key, old in found.items():
-            self.records[key] = self.records.pop(old)
-        return set(found)
+            record = self.records.pop(old)
+            if self._digest(record.name) is None:
+                # A run that was stopped may have renamed it already.
+                others = {other.name for other in self.records.values()}
+                fits = [name.decode() for name in entries[key].names(self.marker, self.is_lean)]
+                record = record._replace(name=next((name for name in fits if self._digest(name) and name not in others), record.name))
+            self.records[key] = record
+        return found
+
+    def _tell_mails_apart(self, keyed):
+        """Of mails with one Message-ID, one more or one less gives others another key: each whose bytes are those of another's record gets that."""
+        digests = {key: entry.digest.hex() for key, entry in keyed if entry.is_mail and entry.digest is not None}
+        lost, found = {}, {}
+        for key, record in sorted(self.records.items()):
+            if key.startswith("mail:") and record.folder and digests.get(key) != record.folder:
+                lost.setdefault(record.folder, []).append(key)
+        for key, digest in sorted(digests.items()):
+            if lost.get(digest) and (key not in self.records or self.records[key].folder != digest):
+                found[key] = lost[digest].pop(0)
+        had = {key: self.records.pop(key) for key in {*found, *found.values()} if key in self.records}
+        for key, old in found.items():
+            self.records[key] = had.pop(old)
+        # What these keys had before is of mails that are gone, or that have other bytes and no record.
+        free = [key for key in found.values() if key not in self.records]
+        for key, record in sorted(had.items()):
+            self.records[free.pop(0)] = record
 
     # Files of the folder.
 
@@ -174,7 +207,7 @@ class Changes:
         else:
             if self.wishes.ours:
                 # That the folder has other bytes was seen, and the image has others than were brought in as before.
-                self.records[key] = Record(name, made, folder, record.image if record else None)
+                self.records[key] = Record(name, made, folder, NOTHING)
                 self.edited.append(name)
             else:
                 self.conflicts.append((f"{name}: {entry.found.path}", BOTH if record else UNKNOWN))
@@ -208,6 +241,10 @@ class Changes:
 
     def _fresh(self, key, entry):
         if entry.found.problem:
+            self.refused.append(entry)
+            return
+        if key in self.waiting:
+            entry.found.problem = "it may have moved, and not all of the folder could be read"
             self.refused.append(entry)
             return
         all_names = entry.names(self.marker, self.is_lean)
@@ -270,6 +307,10 @@ class Changes:
     def coming(self):
         """The records before the changes, with what is coming to each file."""
         found = self.seen()
+        # One that moved is known by its old place until it has its new name and words.
+        for key, old in self.moved.items():
+            if key in found:
+                found[old] = found.pop(key)
         for change in self.changes:
             # A new file that was not read yet is not read for this alone: where it comes in, the next run finds both sides alike.
             if change.has_other_bytes and change.entry.digest is not None:
@@ -284,6 +325,9 @@ class Changes:
         """The records, and those of files that are in the folder and not in the image. Such a file is none that moved, when there is room."""
         found = dict(self.records)
         for key, entry in self.keyed:
+            if entry.found.problem:
+                # It may yet turn out to be one that moved.
+                continue
             name = entry.names(self.marker, False)[0].decode()
             found.setdefault(key, Record(name, name, None, None))
         return found
@@ -291,6 +335,9 @@ class Changes:
     def done(self, change, name):
         """A change was made, and the file has this name now."""
         before, digest = self.records.get(change.key), change.entry.digest.hex() if change.has_other_bytes else None
+        if before is None and digest is None:
+            # Only words of a file in conflict, of which nothing is known.
+            return
         is_made = before is None or before.name == before.made or name in change.entry.names(self.marker, self.is_lean)
         made = name.decode() if is_made else before.made
         self.records[change.key] = Record(name.decode(), made, digest or before.folder, digest or before.image)
