@@ -1,0 +1,535 @@
+"""Speaks to a program that carries out sessions, as `lisfs run IMAGE` and `lisfs rooms IMAGE` do: commands out, replies in.
+
+    with Program([PROGRAM, "run", "files.lis"]) as program:
+        program.mkdir(b"music")
+        program.add(b"song", b"la la\n", b"music")
+        print(program.cat(b"song").body)
+
+    with Program([PROGRAM, "rooms", "files.lis"], rooms=True) as program:
+        first, second = program.room(0), program.room(1)
+        first.cd(b"music")
+        print(second.pwd().body)
+
+The protocol. A command is a line of words with a blank between two, of at most 1,024 bytes. Behind an `add` or `write` line whose third
+word is a count N stand its payload, N bytes whatever they are, and a line feed. Each command has one reply, and replies come in the order
+of the commands. A reply is body lines and then the line `ok`, or it is the one line `no NN WORDS`: a refusal, and nothing was changed. A
+body line is a letter, a blank and a text. The reply of `cat` is the line `b N`, the N bytes, a line feed and `ok`.
+What `run` has begun to reply to is kept. The program ends with 0 at the end of its input. At a fault, as where it can't open its image, it
+ends with another status, in the middle of anything, and says why on standard error.
+`rooms` carries out the sessions of eight rooms, each with a place of its own, as one. A line begins with the tag of its room, `@` and a digit
+from 0 to 7, and a blank, which count among its bytes, and behind its reply stands the line of the tag. A line of more bytes, or without a
+tag, is of no room: it is refused, has no payload, and the line `@-` stands behind its reply.
+
+- A reply is handed out only when it is there whole. A refusal is raised as `Refused`, with its number. The end of the program is raised
+  as `Ended`, with its status and what it said; as `Locked`, which is an `Ended` too, where another program has the image's lock.
+- What would be another command than the one that was meant is not sent: `NotSent` is raised before the first byte goes out.
+- A line goes out whole or not at all, also where this process is killed, since a half line at the end of the input is a line. Of a cut
+  payload the program makes nothing.
+- Any number of commands can be sent ahead (`send`) before a reply is received (`receive`): while the program takes no more, its replies
+  are read and kept in memory. `ask`, and the call for each command, send one and receive its reply.
+- A `Program` is for one thread at a time.
+- What speaks for somebody else, as a server does, cuts what it was given into commands (`Items`), and hands on bytes.
+- `view` and `put` run the words of these names, and hand out, or write, a whole view.
+"""
+import collections
+import contextlib
+import fcntl
+import os
+import re
+import select
+import signal
+import subprocess
+import tempfile
+import threading
+
+# The checkout, if this module lies in one.
+CHECKOUT = os.path.dirname(os.path.dirname(os.path.dirname(os.path.abspath(__file__))))
+# The program that the caller names, or the one that the checkout builds.
+PROGRAM = os.environ.get("LISFS_PROGRAM") or os.path.join(CHECKOUT, "crates/lisfs/out/lisfs")
+# The most bytes of a line before its line feed, and of a payload.
+LINE, PAYLOAD = 1_024, 1_048_576
+# How many rooms there are, and the most bytes of a line of one without its tag.
+ROOMS, ROOM_LINE = 8, LINE - len(b"@0 ")
+# What `tools/serve` tells one client too many.
+FULL = b"full: eight clients are here\n"
+# No line of a reply is as long.
+SHOWN = 2_048
+# How long a program that has closed its output may take to end, in seconds.
+PATIENCE = 60
+LINES, CONTENT = "lines", "content"
+COUNT = re.compile(rb"[0-9]{1,12}")
+WORD = re.compile(rb"[^ \t]+")
+NO_WORD = re.compile(rb"[ \t\r\n]")
+BODY_LINE = re.compile(rb"([a-z]) (.*)")
+CONTENT_LINE = re.compile(rb"b (0|[1-9][0-9]{0,6})")
+REFUSAL_LINE = re.compile(rb"no ([0-9]{2}) (.+)")
+VIEW = re.compile(rb"(?:\+[^\n]*\n|@[1-9][0-9]* [1-9][0-9]*\n)*(?:!\n)?")
+# The line of a tag, and each front of it.
+TAG_LINE = re.compile(rb"(@([0-7-]\n?)?)?")
+TAG_SIZE = len(b"@0\n")
+
+
+# Where `kind` is CONTENT, `body` is the bytes of a file. Where it is LINES, it is a list of pairs, the letter and the text of each body line.
+Reply = collections.namedtuple("Reply", "kind body")
+
+
+def missing():
+    """What to do if the program is not there, else None."""
+    if os.path.exists(PROGRAM):
+        return None
+    if os.path.exists(os.path.join(CHECKOUT, "crates.txt")):
+        return "build the program first: ./lisfs try 64 64 8 </dev/null"
+    return f"no program at {PROGRAM}: set LISFS_PROGRAM to the path of a built lisfs"
+
+
+class Refused(Exception):
+    """The program refused a command, and changed nothing."""
+
+    def __init__(self, number, words):
+        super().__init__(f"no {number:02} {words}")
+        self.number, self.words = number, words
+
+
+class Ended(Exception):
+    """The program has ended: with this status, or by a signal, whose number is then negative, and with this text on standard error."""
+
+    def __init__(self, status, text):
+        super().__init__(": ".join([f"the program ended with {status}"] + text.splitlines()))
+        self.status, self.text = status, text
+
+
+class Locked(Ended):
+    """The program has ended, or a lock was not had, since another program has the lock of the image."""
+
+
+def ended(status, text):
+    """The error of a program that has ended."""
+    return (Locked if status == 3 and text.endswith(": in use by another lisfs\n") else Ended)(status, text)
+
+
+class NotSent(ValueError):
+    """Nothing was sent: it would not have been the command that was meant."""
+
+
+class NotAReply(Exception):
+    """What was shown is no reply, so this is no program of that kind. No later reply can be told."""
+
+
+def words_of(line):
+    """The words of a line, which is given without its line feed. One CR at its end is no part of them."""
+    return WORD.findall(line.removesuffix(b"\r"))
+
+
+def count_of(words):
+    """The word of a line that counts the bytes of the payload behind it, or None where none follows."""
+    return words[2] if len(words) > 2 and words[0] in (b"add", b"write") and COUNT.fullmatch(words[2]) else None
+
+
+def item(words, payload=None, longest=LINE):
+    """The bytes of a command: its line, and its payload, each with its line feed."""
+    for word in words:
+        if not word or NO_WORD.search(word):
+            raise NotSent(f"{word!r} is not one word of a line")
+    line = b" ".join(words)
+    if not 0 < len(line) <= longest:
+        raise NotSent(f"a line has 1 to {longest} bytes, and this one {len(line)}")
+    size = count_of(words)
+    if payload is None and size is None:
+        return line + b"\n", b""
+    if payload is None or size is None:
+        raise NotSent(f"`{line.decode(errors='backslashreplace')}` {'takes no' if size is None else 'needs a'} payload")
+    if int(size) != len(payload) or len(payload) > PAYLOAD:
+        raise NotSent(f"the line says {int(size)} bytes, and the payload has {len(payload)}; it has at most {PAYLOAD}")
+    return line + b"\n", payload + b"\n"
+
+
+class Items:
+    """Cuts an input into commands as `lisfs run` does, where a line has at most so many bytes. A line without words is none. A line is judged
+    without a CR at its end, and handed on with it: the program drops one itself, and would judge another line where one was dropped before.
+    What is kept of a command has the same reply as all of it: of a line that is too long its first bytes, in place of a payload that is too
+    large the smallest such one, and of what stands behind a payload in place of a line feed one byte."""
+
+    def __init__(self, longest=LINE):
+        # What was not taken, without the line that a payload follows, which stands by itself.
+        self._longest, self._given, self._line = longest, bytearray(), None
+        # Of this payload so many bytes are kept, and so many still to be dropped, with these in their place.
+        self._kept, self._dropped, self._in_place = 0, 0, b""
+
+    def feed(self, data):
+        self._given += data
+
+    def take(self):
+        """The line and the payload of the first command, each with its line feed, or None where it isn't there whole."""
+        while self._line is None:
+            if (end := self._given.find(b"\n")) < 0:
+                # So many bytes tell that a line is too long.
+                del self._given[self._longest + 1:]
+                return None
+            line = bytes(self._given[:min(end, self._longest + 1)])
+            del self._given[:end + 1]
+            if len(line) > self._longest:
+                return line + b"\n", b""
+            words = words_of(line)
+            if count := count_of(words):
+                self._await_payload(line, int(count))
+            elif words:
+                return line + b"\n", b""
+        return self._with_payload()
+
+    def is_cut(self):
+        """Where no command can be taken: whether the input, if it ends here, ends within a payload."""
+        return self._line is not None and (self._dropped > 0 or len(self._given) < self._kept)
+
+    def lacks_feed(self):
+        """Where no command can be taken: whether the input, if it ends here, lacks a line feed and nothing else."""
+        return bool(self._given) if self._line is None else not self.is_cut()
+
+    def _await_payload(self, line, count):
+        self._line, self._kept, self._dropped, self._in_place = line, count, 0, b""
+        if count > PAYLOAD:
+            begin, end = [word.span() for word in WORD.finditer(line.removesuffix(b"\r"))][2]
+            self._line = line[:begin] + b"%d" % (PAYLOAD + 1) + line[end:]
+            self._kept, self._dropped, self._in_place = 0, count, bytes(PAYLOAD + 1)
+
+    def _with_payload(self):
+        dropped = min(self._dropped, len(self._given))
+        del self._given[:dropped]
+        self._dropped -= dropped
+        if self.is_cut():
+            return None
+        if (end := self._given.find(b"\n", self._kept)) < 0:
+            # Behind a wrong byte all is dropped up to a line feed.
+            del self._given[self._kept + 1:]
+            return None
+        payload = self._in_place + self._given[:min(end, self._kept + 1)]
+        del self._given[:end + 1]
+        line, self._line = self._line, None
+        return line + b"\n", payload + b"\n"
+
+
+class Replies:
+    """Cuts what a program shows into replies. Where it has tags, the line of one stands behind each."""
+
+    def __init__(self, has_tags=False):
+        # What was not taken, and how many of its bytes are whole lines of the first reply.
+        self.shown, self.at, self._has_tags = bytearray(), 0, has_tags
+
+    def take(self):
+        """The bytes of the first reply, and its tag or None, or None in place of both where they aren't there whole."""
+        while (end := self.shown.find(b"\n", self.at)) >= 0:
+            line, end = bytes(self.shown[self.at:end]), end + 1
+            if line == b"ok" or self.at == 0 and REFUSAL_LINE.fullmatch(line):
+                return self._cut(end)
+            if size := CONTENT_LINE.fullmatch(line) if self.at == 0 else None:
+                return self._content(end, int(size[1]))
+            if line.startswith(b"b ") or not BODY_LINE.fullmatch(line):
+                raise NotAReply(f"{line[:80]!r} is no line of a reply here")
+            self.at = end
+        if len(self.shown) - self.at >= SHOWN:
+            raise NotAReply(f"a line without an end: {bytes(self.shown[self.at:self.at + 80])!r}")
+        return None
+
+    def _content(self, begin, size):
+        end = begin + size + len(b"\nok\n")
+        if size > PAYLOAD:
+            raise NotAReply(f"a content of {size} bytes")
+        if len(self.shown) < end:
+            return None
+        if self.shown[begin + size:end] != b"\nok\n":
+            raise NotAReply(f"{bytes(self.shown[begin + size:end])!r} behind a content")
+        return self._cut(end)
+
+    def _cut(self, end):
+        tag = bytes(self.shown[end:end + TAG_SIZE]) if self._has_tags else b""
+        if not TAG_LINE.fullmatch(tag):
+            raise NotAReply(f"{tag!r} is no tag behind a reply")
+        if self._has_tags and len(tag) < TAG_SIZE:
+            return None
+        whole = bytes(self.shown[:end])
+        del self.shown[:end + len(tag)]
+        self.at = 0
+        return whole, tag[:-1] or None
+
+
+def reply_of(whole):
+    """What the bytes of a whole reply say. Raises `Refused` for a refusal."""
+    first, _, rest = whole.partition(b"\n")
+    if refusal := REFUSAL_LINE.fullmatch(first):
+        raise Refused(int(refusal[1]), refusal[2].decode(errors="backslashreplace"))
+    if CONTENT_LINE.fullmatch(first):
+        return Reply(CONTENT, rest[:-len(b"\nok\n")])
+    return Reply(LINES, [BODY_LINE.fullmatch(line).groups() for line in whole.split(b"\n")[:-2]])
+
+
+class Commands:
+    """Something that can be asked commands: a call for each. The words are bytes, and so is a content."""
+
+    def ask(self, *words, payload=None):
+        """Sends a command and receives its reply."""
+        raise NotImplementedError
+
+    def mkdir(self, word): return self.ask(b"mkdir", word)
+    def rmdir(self, word): return self.ask(b"rmdir", word)
+    def axiom(self, left, right): return self.ask(b"axiom", left, right)
+    def unaxiom(self, left, right): return self.ask(b"unaxiom", left, right)
+    def create(self, name, *words): return self.ask(b"create", name, *words)
+    def add(self, name, content, *words): return self.ask(b"add", name, b"%d" % len(content), *words, payload=content)
+    def write(self, name, content): return self.ask(b"write", name, b"%d" % len(content), payload=content)
+    def cat(self, name): return self.ask(b"cat", name)
+    def mv(self, name, formula): return self.ask(b"mv", name, formula)
+    def rename(self, name, other): return self.ask(b"rename", name, other)
+    def rm(self, name): return self.ask(b"rm", name)
+    def cd(self, formula): return self.ask(b"cd", formula)
+    def pwd(self): return self.ask(b"pwd")
+    def ls(self): return self.ask(b"ls")
+    def props(self, name): return self.ask(b"props", name)
+    def way(self, name): return self.ask(b"way", name)
+    def stat(self): return self.ask(b"stat")
+
+
+class Program(Commands):
+    """A program that runs. `command` is its path and its words, and `rooms` says that it serves rooms. The signals `unheard` never reach it,
+    so that who gets them with it, as from a terminal, can let it come to its end. Where it can't be started, the `OSError` of that is raised.
+
+    At the end of a `with` block it is closed. One that is no session, as `lisfs make`, is run by `Program(command).close()`.
+    """
+
+    def __init__(self, command, rooms=False, unheard=()):
+        # What it says is kept in a file, which never fills up as a pipe would.
+        self._said = tempfile.TemporaryFile()
+        # They are held back while it begins, so that none that is ours is lost, as where they were ignored here meanwhile.
+        before = signal.pthread_sigmask(signal.SIG_BLOCK, unheard)
+
+        def begin():
+            for number in unheard:
+                signal.signal(number, signal.SIG_IGN)
+            signal.pthread_sigmask(signal.SIG_SETMASK, before)
+
+        try:
+            self._child = subprocess.Popen(command, stdin=subprocess.PIPE, stdout=subprocess.PIPE, stderr=self._said, bufsize=0,
+                                           preexec_fn=begin if unheard else None)
+        finally:
+            signal.pthread_sigmask(signal.SIG_SETMASK, before)
+        os.set_blocking(self._child.stdin.fileno(), False)
+        self._has_rooms, self._replies, self._is_cut, self._end = rooms, Replies(rooms), False, None
+        # The parts that were not written yet, and the tag that is to stand behind each reply that was not received.
+        self._unsent, self._awaited = collections.deque(), collections.deque()
+
+    def __enter__(self):
+        return self
+
+    def __exit__(self, kind, *_):
+        # An error of the block is not hidden by the end of the program.
+        with contextlib.suppress(Ended) if kind else contextlib.nullcontext():
+            self.close()
+
+    def room(self, number):
+        """The room of this number, which can be asked commands."""
+        return Room(self, number)
+
+    def ask(self, *words, payload=None, room=None):
+        """Sends a command and receives its reply. The words are bytes, and so is the payload."""
+        if self._awaited and not self._end:
+            raise RuntimeError("the replies of earlier commands come first: receive them")
+        self.send(*words, payload=payload, room=room)
+        return self.receive()
+
+    def send(self, *words, payload=None, room=None):
+        """Sends a command ahead. Its reply is received later, behind those of the commands before it, of whatever rooms."""
+        if self._has_rooms and room is None:
+            raise NotSent("a command of no room")
+        self.send_bytes(*item(words, payload, ROOM_LINE if self._has_rooms else LINE), room)
+
+    def receive(self):
+        """Waits for the next reply. Raises `Refused` where it is a refusal."""
+        return reply_of(self.receive_bytes())
+
+    def send_bytes(self, line, payload=b"", room=None, wait=True):
+        """Sends bytes as they are: one command that has one reply, with its line feeds, behind the tag of a room where one is given. Also
+        where this raises `Ended`, earlier replies can still be received. Without `wait`, what the program doesn't take now is kept in
+        memory, and `push` sends it."""
+        if room is not None and not (self._has_rooms and room in range(ROOMS)):
+            raise NotSent(f"there is no room {room}")
+        if self._end:
+            raise self._ending()
+        if self._is_cut:
+            raise NotSent("a command before was cut off, and this one would be a part of it")
+        tag = b"@-" if room is None or len(line) > ROOM_LINE + 1 else b"@%d" % room
+        line = line if room is None else b"@%d " % room + line
+        self._is_cut = True
+        # A pipe takes so many bytes whole or not at all.
+        self._unsent += [line + payload] if len(line) + len(payload) <= select.PIPE_BUF else [line, payload]
+        while self.push() and wait:
+            self._make_way()
+        self._awaited.append(tag if self._has_rooms else None)
+        self._is_cut = False
+
+    def push(self):
+        """Sends what the program takes now of what was kept. Whether something is left."""
+        if self._end:
+            raise self._ending()
+        while self._unsent:
+            try:
+                taken = os.write(self._child.stdin.fileno(), self._unsent[0])
+            except BlockingIOError:
+                return True
+            except BrokenPipeError:
+                raise self._ending() from None
+            if taken < len(self._unsent[0]):
+                self._unsent[0] = memoryview(self._unsent[0])[taken:]
+            else:
+                self._unsent.popleft()
+        return False
+
+    def receive_bytes(self, wait=True):
+        """The bytes of the next reply, also of a refusal, without its tag. Without `wait`, None where it isn't there whole now."""
+        while (taken := self._replies.take()) is None:
+            if not self._end and not self._awaited and wait:
+                raise RuntimeError("no command waits for a reply")
+            if not self._end and not wait and not self._is_readable(0):
+                return None
+            if self._end or not self._read():
+                raise self._ending()
+        whole, tag = taken
+        if not self._awaited:
+            raise NotAReply(f"a reply to no command: {whole[:80]!r}")
+        if tag != (awaited := self._awaited.popleft()):
+            raise NotAReply(f"{tag!r} behind the reply to a command of {awaited!r}")
+        return whole
+
+    def fileno(self):
+        """Where replies come from, to wait for one by `select`. A reply may have been read before: `receive_bytes(wait=False)` tells."""
+        return self._child.stdout.fileno()
+
+    def input_fileno(self):
+        """Where commands go, to wait by `select` until `push` can send more."""
+        return self._child.stdin.fileno()
+
+    def close(self):
+        """Ends the input, and waits until the program has carried out all that was sent. Raises `Ended` where its status is not 0.
+        Replies that were not received still can be."""
+        while not self._end and not self._is_cut and self.push():
+            self._make_way()
+        end = self._ending()
+        if end.status:
+            raise end
+
+    def kill(self):
+        """Ends the program at once, in the middle of anything. What it has replied to is kept."""
+        self._child.kill()
+        self._ending()
+
+    def kill_after(self, seconds):
+        """From now on the program has so long to end, whatever is waited for meanwhile, and is killed then. What it has replied to is kept."""
+        timer = threading.Timer(seconds, self._child.kill)
+        timer.daemon = True
+        timer.start()
+
+    def _make_way(self):
+        """Waits until the program takes more. It may do so only when somebody reads what it shows."""
+        if self._is_readable(None, or_writable=True) and not self._read():
+            raise self._ending()
+
+    def _is_readable(self, seconds, or_writable=False):
+        """Whether there is something to read, or the end. Waits so long for it, or until something can be written."""
+        poll = select.poll()
+        poll.register(self._child.stdout, select.POLLIN)
+        if or_writable:
+            poll.register(self._child.stdin, select.POLLOUT)
+        return self._child.stdout.fileno() in dict(poll.poll(None if seconds is None else seconds * 1_000))
+
+    def _read(self):
+        """Takes in what is shown, after waiting for it. Whether there was more than the end."""
+        data = os.read(self._child.stdout.fileno(), 65_536)
+        self._replies.shown += data
+        return bool(data)
+
+    def _ending(self):
+        """The error that tells the end of the program, which is waited for where it has not come."""
+        if not self._end:
+            self._child.stdin.close()
+            while self._read():
+                pass
+            try:
+                self._child.wait(PATIENCE)
+            except subprocess.TimeoutExpired:
+                self._child.kill()
+            self._said.seek(0)
+            self._end = self._child.wait(), self._said.read().decode(errors="backslashreplace")
+            self._child.stdout.close()
+            self._said.close()
+        return ended(*self._end)
+
+
+class Room(Commands):
+    """A room of a program that serves rooms. The replies to what is sent ahead in all rooms are received from the program, in order."""
+
+    def __init__(self, program, number):
+        self._program, self.number = program, number
+
+    def ask(self, *words, payload=None):
+        return self._program.ask(*words, payload=payload, room=self.number)
+
+    def send(self, *words, payload=None):
+        self._program.send(*words, payload=payload, room=self.number)
+
+
+def shown_by(command, data=b""):
+    """What a program shows that reads this input and ends. Raises `Ended` where its status is not 0."""
+    with tempfile.TemporaryFile() as given:
+        # Where this process is killed, a pipe would end early, and the program take a part for the whole.
+        given.write(data)
+        given.seek(0)
+        ran = subprocess.run(command, stdin=given, capture_output=True, check=False)
+    if ran.returncode:
+        raise ended(ran.returncode, ran.stderr.decode(errors="backslashreplace"))
+    return ran.stdout
+
+
+def view(image, name, formula):
+    """The view of a file's lines that satisfy a formula, as `lisfs view` shows it. Raises `Refused` where it is a refusal."""
+    shown = shown_by([PROGRAM, "view", image, name, formula])
+    if not VIEW.fullmatch(shown):
+        only_reply(shown)
+        raise NotAReply(f"{shown[:80]!r} is no view")
+    return shown
+
+
+def put(image, name, formula, edited):
+    """Writes a file by an edited view of it, as `lisfs put` does. Raises `Refused` where it is a refusal."""
+    only_reply(shown_by([PROGRAM, "put", image, name, formula], edited))
+
+
+def only_reply(shown):
+    """The one reply that some bytes are."""
+    replies = Replies()
+    replies.shown += shown
+    if not (taken := replies.take()) or replies.shown:
+        raise NotAReply(f"{shown[:80]!r} is not one reply")
+    return reply_of(taken[0])
+
+
+@contextlib.contextmanager
+def held(image):
+    """Holds the lock of an image while the block runs, so that no program writes it in the meantime. Raises `Locked` where one has it."""
+    with open(image, "rb") as file:
+        try:
+            fcntl.flock(file, fcntl.LOCK_EX | fcntl.LOCK_NB)
+        except BlockingIOError:
+            raise Locked(3, f"lisfs: disk fault\n{image}: in use by another lisfs\n") from None
+        yield
+
+
+@contextlib.contextmanager
+def shown(command):
+    """What a program shows that takes no commands, as `lisfs dump IMAGE`: a binary stream, to be read in the block. Raises `Ended` where its
+    status is not 0, also in the place of an error of the block, since what was shown is then cut off."""
+    with tempfile.TemporaryFile() as said, subprocess.Popen(command, stdin=subprocess.DEVNULL, stdout=subprocess.PIPE, stderr=said) as child:
+        try:
+            yield child.stdout
+        finally:
+            while child.stdout.read(65_536):
+                pass
+            if status := child.wait():
+                said.seek(0)
+                raise ended(status, said.read().decode(errors="backslashreplace"))

@@ -1,0 +1,226 @@
+"""Lets an editor change the lines of a file of which a formula holds, and leaves all others as they are.
+
+usage: tools/edit IMAGE NAME F
+
+The editor, which is the command in `$VISUAL`, or else in `$EDITOR`, or else `vi`, is given what `lisfs view IMAGE NAME F` shows, in a file
+whose name ends with NAME. Where that was changed when the editor ends, `lisfs put IMAGE NAME F` writes it. While the editor is open the
+image is not locked. So the view is looked at once more before it is written, and where it is another one by then, nothing is.
+
+The status is 0 where the file was written, or nothing was changed, which is said. It is 1 where something is amiss, as one line on standard
+error tells: the editor failed, the view has changed meanwhile, it is refused, the image is in use. An editor that leaves an empty file, or
+something else than a plain file, has nothing written: all shown lines are taken away by `lisfs put IMAGE NAME F < /dev/null`.
+
+The editor's file stays where an editor was started, the status is 1 and the editor has not removed it: the line then names it. Else it is
+removed, also where the editor has returned at once and still shows it: nothing was changed by then, and what it stores later is in no file.
+
+SIGTERM and SIGHUP end it with 1, and an editor that still runs goes on. But where the writing has begun it comes to its end first, and the
+status is that of the writing.
+"""
+import os
+import shlex
+import shutil
+import signal
+import stat
+import subprocess
+import sys
+import tempfile
+
+from lisfs.client import Ended, Locked, NotAReply, Refused, missing, put, view
+from lisfs.showing import harmless
+
+# How the program ends where it has certainly written nothing, beside being locked out: wrong words, no image, a fault of the input, no memory,
+# and a view that is too long.
+WRITES_NOTHING = (1, 2, 4, 6, 7)
+# The most bytes of an edited view.
+LIMIT = 8_388_608
+
+
+class Failed(Exception):
+    """What is amiss, in one line."""
+
+
+class Stopped(Exception):
+    """This program is to end, and has written nothing."""
+
+
+class Stops:
+    """Signals by which this program is to end. They are noted, and told where somebody asks; or at once, the first of them, while `heed` runs.
+    So none comes between something that was done and the line that tells it."""
+
+    def __init__(self):
+        self.number, self.is_heeded = None, False
+        for number in (signal.SIGTERM, signal.SIGHUP):
+            # What is ignored, as by `nohup`, stays so.
+            if signal.getsignal(number) == signal.SIG_DFL:
+                signal.signal(number, self._come)
+
+    def _come(self, number, _):
+        self.number = self.number or number
+        if self.is_heeded:
+            self.ask()
+
+    def ask(self):
+        if self.number:
+            self.is_heeded = False
+            raise Stopped(f"ended by signal {self.number}")
+
+    def heed(self, call):
+        """What a call answers that may take long."""
+        self.is_heeded = True
+        try:
+            self.ask()
+            return call()
+        finally:
+            self.is_heeded = False
+
+
+def tell(line):
+    print(f"edit: {harmless(line)}", file=sys.stderr)
+
+
+def wrong_word(*words):
+    """Which of its words the program takes for wrong, where their number is right."""
+    for what, word in zip(("IMAGE", "NAME", "F"), map(os.fsencode, words)):
+        try:
+            word.decode()
+        except UnicodeDecodeError:
+            return f"{what} is no UTF-8: {word!r}"
+    return f"{words[1]}: no file name"
+
+
+def cause_of(error, image, name, formula):
+    """What an error of the program says, in one line."""
+    if isinstance(error, Refused):
+        return f"{name}: {error}"
+    if isinstance(error, Locked):
+        return f"{image}: in use by another lisfs"
+    if isinstance(error, Ended) and error.status == 1:
+        return wrong_word(image, name, formula) if "lisfs view " in error.text else "the program has no word `view`: build it again"
+    if isinstance(error, Ended):
+        return ": ".join(error.text.splitlines()) or str(error)
+    if isinstance(error, OSError):
+        return f"{error.filename}: {error.strerror}" if error.filename else error.strerror or str(error)
+    return str(error)
+
+
+def editor():
+    """The command that is the editor."""
+    for text in (os.environ.get("VISUAL", ""), os.environ.get("EDITOR", ""), "vi"):
+        try:
+            if command := shlex.split(text):
+                return command
+        except ValueError as error:
+            raise Failed(f"the editor {text}: {error}") from None
+
+
+def draft_of(name, shown):
+    """A file with this view, in a folder of its own: for what an editor puts beside it, and so that no name says anything to an editor or to
+    another user. Its end is that of the name, by which editors know what they show."""
+    folder = None
+    try:
+        folder = tempfile.mkdtemp(prefix="edit-")
+        path = os.path.join(folder, f"view-{name}")
+        with open(path, "xb", opener=lambda at, flags: os.open(at, flags, 0o600)) as file:
+            file.write(shown)
+    except OSError as error:
+        if folder:
+            shutil.rmtree(folder, ignore_errors=True)
+        raise Failed(f"a file for the view: {error.strerror}") from None
+    return path
+
+
+def started(command, path):
+    """The editor."""
+    try:
+        return subprocess.Popen([*command, path])
+    except OSError as error:
+        raise Failed(f"the editor {command[0]}: {error.strerror}") from None
+
+
+def edited(stops, editing, path):
+    """What the editor leaves."""
+    if status := stops.heed(editing.wait):
+        raise Failed(f"the editor ended with {status}" if status > 0 else f"the editor was killed by signal {-status}")
+    try:
+        return content_of(path)
+    except OSError as error:
+        raise Failed(f"what the editor left: {error.strerror}") from None
+
+
+def content_of(path):
+    """The bytes of a plain file, and of more than an edited view may have one too many. A pipe might give none for ever, and a link any file's."""
+    if not stat.S_ISREG(os.lstat(path).st_mode):
+        raise Failed("what the editor left: no plain file")
+    with open(path, "rb", opener=lambda at, flags: os.open(at, flags | os.O_NONBLOCK | os.O_NOFOLLOW)) as file:
+        return file.read(LIMIT + 1)
+
+
+def what_is_left(path):
+    """What stands where the editor's file was."""
+    if os.path.isfile(path) and not os.path.islink(path):
+        return f"the edited text is in {path}"
+    return f"what the editor left is at {path}" if os.path.lexists(path) else "the edited text is gone"
+
+
+def written(stops, image, name, formula, shown, text):
+    """Writes the edited text, where the view is still the one that was shown."""
+    try:
+        if stops.heed(lambda: view(image, name, formula)) != shown:
+            raise Failed(f"{name}: its view has changed meanwhile")
+    except (Refused, Ended, NotAReply, OSError) as error:
+        raise Failed(cause_of(error, image, name, formula)) from None
+    stops.ask()
+    put(image, name, formula, text)
+
+
+def was_maybe_written(error):
+    """Whether it isn't known of an error if the file was written."""
+    if isinstance(error, Ended):
+        return not isinstance(error, Locked) and error.status not in WRITES_NOTHING
+    return isinstance(error, NotAReply)
+
+
+def edit(stops, image, name, formula):
+    command, shown = editor(), stops.heed(lambda: view(image, name, formula))
+    for number in (signal.SIGINT, signal.SIGQUIT):
+        # From now on what is typed to stop something is for the editor alone. A program that is started doesn't take over a handler, as it
+        # would an order to ignore a signal.
+        signal.signal(number, lambda *_: None)
+    path, editing, has_begun = draft_of(name, shown), None, False
+    try:
+        stops.ask()
+        editing = started(command, path)
+        text = edited(stops, editing, path)
+        if text == shown:
+            tell(f"{name}: nothing was changed")
+        elif not text:
+            raise Failed(f"{name}: the editor left an empty file, and only `lisfs put` takes all shown lines away")
+        else:
+            stops.ask()
+            has_begun = True
+            written(stops, image, name, formula, shown, text)
+    except (Failed, Stopped, Refused, Ended, NotAReply, OSError) as error:
+        cause = cause_of(error, image, name, formula)
+        if not editing:
+            shutil.rmtree(os.path.dirname(path), ignore_errors=True)
+            raise Failed(cause) from None
+        done = "it is not known whether it was written" if has_begun and was_maybe_written(error) else "nothing was written"
+        raise Failed(f"{cause}: {done}, and {what_is_left(path)}") from None
+    shutil.rmtree(os.path.dirname(path), ignore_errors=True)
+
+
+def main():
+    if len(sys.argv) != 4:
+        sys.exit(__doc__)
+    if what := missing():
+        sys.exit(f"edit: {what}")
+    words = sys.argv[1:]
+    try:
+        edit(Stops(), *words)
+    except (Failed, Stopped, Refused, Ended, NotAReply, OSError) as error:
+        tell(cause_of(error, *words))
+        return 1
+    except KeyboardInterrupt:
+        tell("stopped before the editor began")
+        return 1
+    return 0

@@ -1,0 +1,242 @@
+"""Makes a session out of a folder or a maildir: the words that are needed, and an `add` line with its bytes for each file.
+
+usage: tools/import [--word WORD].. [--by-folder] [--without PATTERN].. [--v2] [--verbose] FOLDER > session
+       ./lisfs run files.lis < session
+
+--word gives each file this word, and may stand more than once. --by-folder gives a file a word for each folder that it lies in below
+FOLDER. A mail gets words of its header (`date:2024-06`, `list:`, `who:`, `about:`), and a piece of music those of its tags (`artist:`,
+`album:`, `genre:`, `year:`), for which Debian's python3-mutagen is needed. Letters that are no ASCII are written with others, in small
+letters. A file is given 16 words at most: the first of those that --word says, those of its folders, and those of its own.
+
+A folder with `cur` and `new` in it is a maildir, and so is a folder below with these and `tmp`: the mails of these two are taken, and those
+of its folders `.NAME.NAME`; each is named after its file without the flags, and ends with `.eml`. Elsewhere a file named `.eml` is a mail.
+--without passes over files and folders with such a name, as `.git` or `*.o`, and may stand more than once. --v2 is for an image of version
+2: it takes files of up to 1,048,576 bytes, where else 65,536 are the most.
+
+A name has 1 to 60 letters, digits and `_ - . + @`; each other byte becomes `_`, and where two files would have one name the later gets
+a number. A folder's word is made likewise, of 60 bytes at most and without full stops ahead; letters that are no ASCII are written with
+others. What is not taken (a file that is too large, one that can't be read, a link, a device), what gets another name or word, and what is
+left out is counted on standard error at the end; --verbose tells each, one a line. The status is 0 where all was taken, 1 where something
+was not, and 2 for wrong use. For which limits an image has room is told by the program itself, where it is built: it knows which words it
+derives. No bytes of files are kept: each is read when its turn comes.
+
+No symbolic link below FOLDER is followed. To bring the same folder in again and again, use `tools/sync`.
+"""
+import argparse
+import os
+import sys
+import tempfile
+
+from lisfs.client import PROGRAM, Ended, NotAReply, Program
+from lisfs.folder import walk
+from lisfs.folder.carrying import ROOT, Sender, fitting, session_word
+from lisfs.folder.changes import head_of
+from lisfs.folder.entries import Entries
+from lisfs.folder.forms import LONGEST, MOST_WORDS, folder_value, is_word, mapped
+from lisfs.folder.telling import Telling, counted, left_out
+from lisfs.showing import harmless
+
+# The most bytes of a file, by the version of the image.
+LARGEST = {1: 65_536, 2: 1_048_576}
+# A file with more blocks of content takes one more, for their numbers.
+SLOT_BLOCKS = 16
+
+
+class Import:
+    def __init__(self, words, by_folder, version, telling):
+        self.words, self.by_folder, self.version, self.largest, self.telling = words, by_folder, version, LARGEST[version], telling
+        self.files, self.names, self.declared = [], set(), {}
+        self.taken = self.blocks = self.renamed = self.beyond = self.beyond_files = self.looked = 0
+        # The folders whose word is another than their name, or none, and the words that stand for two folders.
+        self.odd_folders, self.double_words, self.told_words, self.entries = set(), set(), {}, None
+
+    def tell(self, line):
+        self.telling.tell(line)
+
+    def name_for(self, wanted, path):
+        """A name of its own for a file, and the cause where it is another than the file's."""
+        name = mapped(wanted)[-LONGEST:].decode()
+        if name in (".", ".."):
+            name = "_" + name
+        number, free = 1, name
+        while free in self.names:
+            number += 1
+            stem, dot, end = name.rpartition(".")
+            stem, end = (stem, dot + end) if stem else (name, "")
+            free = stem[:LONGEST - len(f"-{number}{end}")] + f"-{number}" + end
+        self.names.add(free)
+        if free != os.path.basename(path):
+            self.renamed += 1
+            cause = "the name is taken" if free != name else "the form of a name"
+            self.telling.tell_file(f"named otherwise: {harmless(path)}: {free} ({cause})")
+        return free.encode()
+
+    def word_for(self, folder):
+        """The word of a folder. Where it is another than the folder's name, or none, that is told once."""
+        whole = folder_value(folder)
+        word = whole[:LONGEST]
+        if word != os.fsencode(folder) and folder not in self.odd_folders:
+            self.odd_folders.add(folder)
+            cause = "60 bytes are the most" if word != whole else "the form of a word"
+            self.telling.tell_file(f"a folder's word: {harmless(folder)}: {word.decode()} ({cause})" if word else
+                                   f"no word for a folder: {harmless(folder)}")
+        return word
+
+    def words_of(self, folders):
+        """The words that all are given, and one for each folder."""
+        words = list(self.words)
+        for folder in folders if self.by_folder else []:
+            word = self.word_for(folder)
+            if not word:
+                continue
+            if self.told_words.setdefault(word, folder) != folder:
+                self.double_words.add(word)
+                self.telling.tell_file(f"one word for two folders: {word.decode()}: {harmless(folder)} and {harmless(self.told_words[word])}")
+                self.told_words[word] = folder
+            words.append(word)
+        return words
+
+    def look(self):
+        self.looked += 1
+        self.telling.progress(lambda: f"{counted(self.looked, 'file')} looked at")
+
+    def read(self, folder, without):
+        """What there is to take, and the words that it needs."""
+        self.entries = Entries(folder, self.largest, self.words_of, self.telling.leave, self.look, without)
+        self.entries.read()
+        for entry in self.entries.all:
+            found = entry.found
+            if found.problem:
+                self.telling.leave(found.path, found.problem)
+                continue
+            words = entry.words[:MOST_WORDS]
+            if len(entry.words) > MOST_WORDS:
+                self.beyond += len(entry.words) - MOST_WORDS
+                self.beyond_files += 1
+                self.telling.tell_file(f"left out: {harmless(found.path)}: {b' '.join(entry.words[MOST_WORDS:]).decode()}")
+            name = self.name_for(os.path.basename(found.path) if found.base is None else found.base[-56:] + ".eml", found.path)
+            self.declared.update(dict.fromkeys(head_of(word) + b":" if b":" in word else word for word in words))
+            self.files.append((found, name, words))
+
+    def commands(self):
+        """Each command of the session with its payload or None. A file that can't be read by now is left out."""
+        for word in self.declared:
+            yield (b"mkdir", word), None
+        for found, name, words in self.files:
+            try:
+                content = walk.content(found, self.largest)
+            except OSError as error:
+                self.telling.leave(found.path, error.strerror or str(error))
+                continue
+            if len(content) > self.largest:
+                self.telling.leave(found.path, f"more than {self.largest} bytes; a file has no more")
+                continue
+            self.taken += 1
+            self.blocks += blocks_of(len(content))
+            line, rest = fitting(name, words)
+            yield (b"add", name, b"%d" % len(content), *line[1:]), content
+            if rest:
+                yield (b"mv", name, b"/".join(rest)), None
+            self.telling.progress(lambda: f"{self.taken} of {counted(len(self.files), 'file')}")
+
+    def carry(self, out, largest):
+        """Writes the session, and lets the largest image take it too."""
+        for words, payload in self.commands():
+            out.write(b" ".join(words) + b"\n")
+            if payload is not None:
+                out.write(payload)
+                out.write(b"\n")
+            largest.take(words, payload)
+        out.flush()
+
+    def report(self, largest):
+        files = max(64, 1 << (max(1, self.taken) - 1).bit_length())
+        self.tell(f"{self.taken} files taken, {self.telling.not_taken.total()} not taken, {self.renamed} named otherwise")
+        if self.telling.not_taken:
+            self.tell(f"not taken: {self.telling.causes()}")
+        if self.odd_folders:
+            self.tell(f"{counted(len(self.odd_folders), 'folder')} with another word than the name, or with none")
+        if self.double_words:
+            self.tell(f"{counted(len(self.double_words), 'word')} for more folders than one")
+        left_out(self.tell, self.beyond, self.beyond_files, "a file is given 16 at most")
+        self.entries.tell_tags(self.tell)
+        if files > 4096 or self.blocks > 32768:
+            return self.tell(f"no image holds all of it: it takes {self.taken} of 4096 files and {self.blocks} of 32768 blocks")
+        if largest.why:
+            return self.tell(f"the words that are derived from files are not counted, since {largest.why}")
+        if largest.refused:
+            return self.tell(f"no image holds all of it: the largest one refuses {counted(largest.refused, 'line')}")
+        limits = [str(files), str(max(64, -(-largest.known // 64) * 64)), str(max(1, self.blocks))] + largest.version
+        self.tell(f"an empty image has room for it from these limits on: {' '.join(limits)}")
+
+
+class Largest:
+    """The largest image there is, where the program is built: `known` is how many words it knows at the end, those derived from files among
+    them, and `refused` how many lines it refused. `why` says why it can't tell."""
+
+    def __init__(self, folder, version):
+        self.version, self.known, self.refused, self.why = ["v2"] if version == 2 else [], 0, 0, None
+        self._image, self._program, self._sender = os.path.join(folder, "image"), None, None
+        if os.path.exists(PROGRAM):
+            self._try(self._begin)
+        else:
+            self.why = "the program is not built"
+
+    def take(self, words, payload):
+        self._try(lambda: self._sender.start(self._job(words, payload)))
+
+    def end(self):
+        self._try(self._sum_up)
+
+    def _try(self, call):
+        try:
+            if not self.why:
+                call()
+        except (Ended, NotAReply, OSError) as error:
+            self.why = str(error)
+
+    def _begin(self):
+        Program([PROGRAM, "make", self._image, "4096", "8192", "32768", *self.version]).close()
+        self._program = Program([PROGRAM, session_word(), self._image])
+        self._sender = Sender(self._program)
+
+    def _job(self, words, payload):
+        refusal = yield ROOT, words, payload
+        self.refused += refusal is not None
+
+    def _sum_up(self):
+        self._sender.finish()
+        self.known = int(dict(text.split() for _, text in self._program.stat().body)[b"known"])
+        self._program.close()
+
+
+def blocks_of(size):
+    needed = -(-size // 4096)
+    return needed + 1 if needed > SLOT_BLOCKS else needed
+
+
+def main():
+    parser = argparse.ArgumentParser(usage=__doc__.split("usage: ", 1)[1])
+    parser.add_argument("--word", action="append", default=[])
+    parser.add_argument("--by-folder", action="store_true")
+    parser.add_argument("--without", action="append", default=[])
+    parser.add_argument("--v2", action="store_true")
+    parser.add_argument("--verbose", action="store_true")
+    parser.add_argument("folder")
+    words = parser.parse_args()
+    given = list(dict.fromkeys(map(os.fsencode, words.word)))
+    for word in given:
+        if not is_word(word):
+            parser.error(f"{harmless(word)} can't be given to a file")
+    if len(given) > MOST_WORDS:
+        parser.error(f"a file is given {MOST_WORDS} words at most")
+    if not os.path.isdir(words.folder):
+        parser.error(f"{harmless(words.folder)} is no folder")
+    taking = Import(given, words.by_folder, 2 if words.v2 else 1, Telling("import", sys.stderr, words.verbose))
+    taking.read(words.folder, words.without)
+    with tempfile.TemporaryDirectory() as folder:
+        largest = Largest(folder, taking.version)
+        taking.carry(sys.stdout.buffer, largest)
+        largest.end()
+    taking.report(largest)
+    return 1 if taking.telling.not_taken else 0

@@ -1,0 +1,307 @@
+"""The commands that bring changes into an image, many ahead of their replies.
+
+A file that is a folder's own is removed, written and given other words at the place of the folder's marker alone: what hasn't this word is
+not there, so the program itself keeps all other files out of it.
+"""
+import collections
+import contextlib
+import fcntl
+import re
+import subprocess
+
+from lisfs.client import LINE, PROGRAM, Refused
+from lisfs.folder import bringing, changes, names, walk
+
+# So many commands, and bytes of files, are under way at most.
+AHEAD, AHEAD_BYTES = 2_048, 4_194_304
+# How many bytes the pipe to the program should hold, so that many commands lie in it at once.
+PIPE = 1_048_576
+# So many words stand in one place at most.
+PLACED = 8
+ROOT = b"/"
+NO_WORD_ROOM, TOO_LARGE, NO_FILE_ROOM, NO_SPACE, LARGE_DESCRIPTION = 22, 20, 21, 24, 19
+FEWER_WORDS_HELP = (NO_WORD_ROOM, LARGE_DESCRIPTION)
+WHY = {
+    9: "the name is taken", 10: "it is not there any more", TOO_LARGE: "it is too large for this image",
+    NO_FILE_ROOM: "no room for more files", NO_WORD_ROOM: "no room for more words", NO_SPACE: "no room for its bytes",
+    LARGE_DESCRIPTION: "more words than a file may have",
+}
+
+
+def session_word():
+    """The word of the program by which changes go: `load`, which keeps many at a time, where its usage names it, and else `run`."""
+    usage = subprocess.run([PROGRAM], stdin=subprocess.DEVNULL, capture_output=True, check=False).stderr
+    return "load" if re.search(rb"^\S+ load IMAGE\b", usage, re.M) else "run"
+
+
+class Sender:
+    """Carries out jobs. A job is a generator: it yields a place, a command there and its bytes or None, and is given the refusal, or None.
+    The place is where the program is by then, so that `cd` stands between only where another one is needed."""
+
+    def __init__(self, program):
+        self._program, self._place, self._waiting, self._bytes = program, ROOT, collections.deque(), 0
+        # A system may allow less.
+        with contextlib.suppress(OSError):
+            fcntl.fcntl(program.input_fileno(), fcntl.F_SETPIPE_SZ, PIPE)
+
+    def start(self, job):
+        self._go_on(job, None)
+        while len(self._waiting) > AHEAD or self._bytes > AHEAD_BYTES:
+            self._take()
+
+    def finish(self):
+        """Until each job has come to its end."""
+        while self._waiting:
+            self._take()
+
+    def _go_on(self, job, refusal):
+        try:
+            place, words, payload = job.send(refusal)
+        except StopIteration:
+            return
+        if place != self._place:
+            self._send(None, (b"cd", place), None)
+            self._place = place
+        self._send(job, words, payload)
+
+    def _send(self, job, words, payload):
+        self._program.send(*words, payload=payload)
+        size = len(payload or b"")
+        self._bytes += size
+        self._waiting.append((job, words[0], size))
+
+    def _take(self):
+        job, command, size = self._waiting.popleft()
+        self._bytes -= size
+        try:
+            self._program.receive()
+            refusal = None
+        except Refused as error:
+            refusal = error
+        if job is not None:
+            self._go_on(job, refusal)
+        elif refusal is not None:
+            # All that is under way would be done elsewhere. A place of words that files have is never refused.
+            raise RuntimeError(f"{command.decode()}: {refusal}")
+
+
+class NoRoom(Exception):
+    """The image has no room even for the word by which the folder's files are known."""
+
+
+class Carrying:
+    """Carries changes into an image. `told` is called for each that was made, with a word, a name and more, the word being `same` where
+    nothing was made since there was no room for further words; `failed` is called with a path and why. First come `declare` and `remember`,
+    then `run`, and at the end `remember` again."""
+
+    def __init__(self, sender, plan, largest, told, failed):
+        self.sender, self.plan, self.largest, self.told, self.failed = sender, plan, largest, told, failed
+        self.place = ROOT + plan.marker
+        # Words of which a file can be given more without a further one becoming known.
+        self.known = known_words(plan)
+        # Whether no word can become known any more, and no file be made.
+        self.is_full = self.has_no_file_room = False
+        # Words that there was no room for, the files that they belong to, and mails that are named so that the program derives none; and words
+        # that would be too many for their files, with all that is entailed and derived.
+        self.without = self.without_files = self.lean = self.too_many = self.too_many_files = 0
+        # The words of the image that name what was brought in, and whether there was no room for one.
+        self.memories, self.is_forgetful = set(bringing.words_of_memories(plan.marker, plan.dump.declared)), False
+
+    def declare(self):
+        for head in self.plan.heads():
+            self.sender.start(self._declare(head))
+        self.sender.finish()
+        if not self.plan.is_nothing() and changes.MARKER + b":" not in self.known:
+            raise NoRoom("the image has no room for a further word, and a folder's files need one of their own")
+
+    def remember(self, word):
+        """From now on the image names the memory of this word, or none."""
+        self.sender.start(self._remember(word))
+        self.sender.finish()
+
+    def _remember(self, word):
+        olds = self.memories - {word}
+        if word is not None and word not in self.memories:
+            refusal = yield ROOT, (b"mkdir", word), None
+            if refusal is not None and olds:
+                # One of before makes room for it.
+                yield ROOT, (b"rmdir", olds.pop()), None
+                refusal = yield ROOT, (b"mkdir", word), None
+            self.is_forgetful = refusal is not None
+        for old in olds:
+            yield ROOT, (b"rmdir", old), None
+        self.memories = set() if word is None or self.is_forgetful else {word}
+
+    def run(self):
+        for name in self.plan.gone:
+            self.sender.start(self._remove(name))
+        for change in self.plan.changes:
+            if change.is_new and self.has_no_file_room:
+                self.failed(change.entry.found.path, WHY[NO_FILE_ROOM])
+            else:
+                self.sender.start(self._add(change) if change.is_new else self._update(change))
+        self.sender.finish()
+
+    def _declare(self, head):
+        refusal = yield ROOT, (b"mkdir", head + b":"), None
+        if refusal is None:
+            self.known.add(head + b":")
+
+    def _remove(self, name):
+        refusal = yield self.place, (b"rm", name), None
+        if refusal is None:
+            self.plan.removed(name)
+            self.told("gone", name)
+        else:
+            self.failed(name.decode(), why(refusal))
+
+    # A file that is new.
+
+    def _add(self, change):
+        entry, gains, refusal = change.entry, self._declared(change.gains), None
+        all_names = [change.name]
+        if entry.is_mail and change.name.endswith(names.EML):
+            # Of a mail that isn't named so the program derives no words.
+            all_names.append(names.lean(change.name))
+        for name in all_names:
+            for given in self._tries(gains, name == all_names[-1]):
+                line, rest = fitting(name, [self.plan.marker, *given])
+                try:
+                    refusal = yield ROOT, *self._added(entry, line)
+                except OSError as error:
+                    return self.failed(entry.found.path, error.strerror or str(error))
+                if refusal is None:
+                    given, large = yield from self._complete(ROOT, name, gains, [word for word in given if word not in rest])
+                    self._lacking(len(change.gains) - len(given), large)
+                    self.lean += name != change.name
+                    self.plan.done(change, name)
+                    return self.told("new", name, entry.found.path)
+                if refusal.number not in FEWER_WORDS_HELP:
+                    return self._refused_file(entry, refusal)
+        return self._refused_file(entry, refusal)
+
+    def _refused_file(self, entry, refusal):
+        if refusal.number == NO_FILE_ROOM:
+            self.has_no_file_room = True
+        self.failed(entry.found.path, why(refusal))
+
+    def _added(self, entry, line):
+        """The line that makes a file, and its bytes as they are now."""
+        content = self._content(entry)
+        name, *words = line
+        return (b"add", name, b"%d" % len(content), *words), content
+
+    def _content(self, entry):
+        content = walk.content(entry.found, self.largest)
+        if len(content) > self.largest:
+            raise OSError(0, f"more than {self.largest} bytes; a file has no more")
+        # What is brought in is what is there now.
+        entry.read_from(content)
+        return content
+
+    # A file that is there.
+
+    def _update(self, change):
+        entry, name, refusal, done = change.entry, change.name, None, []
+        if change.was is not None and (yield self.place, (b"rename", change.was, name), None) is not None:
+            # It keeps its name.
+            name = change.was
+        for begin in range(0, len(change.loses), PLACED):
+            part = change.loses[begin:begin + PLACED]
+            refusal = refusal or (yield self.place + b"/" + b"/".join(part), (b"mv", name, self.place), None)
+        done += ["-" + word.decode() for word in change.loses] if refusal is None else []
+        if change.has_other_bytes and refusal is None:
+            try:
+                refusal = yield self.place, *self._written(entry, name)
+            except OSError as error:
+                return self.failed(entry.found.path, error.strerror or str(error))
+        if refusal is not None:
+            return self.failed(entry.found.path, why(refusal))
+        given, large = yield from self._complete(self.place, name, self._declared(change.gains), [])
+        self._lacking(len(change.gains) - len(given), large)
+        done += ["+" + word.decode() for word in given]
+        self.plan.done(change, name)
+        if change.is_moved:
+            self.told("moved", name, entry.found.path)
+        elif change.has_other_bytes:
+            self.told("changed", name, entry.found.path)
+        else:
+            self.told("words" if done else "same", name, " ".join(done))
+        return None
+
+    def _written(self, entry, name):
+        content = self._content(entry)
+        return (b"write", name, b"%d" % len(content)), content
+
+    # Words that there may be no room for.
+
+    def _declared(self, words):
+        """Those of some words whose heads are declared: for a head too there may be no room."""
+        return [word for word in words if changes.head_of(word) + b":" in self.known]
+
+    def _tries(self, gains, to_the_end):
+        """Lists of words to make a file with, each tried where the one before was refused: with all words, with those that are known
+        already; and at the end, where one is wanted, without any."""
+        known = [word for word in gains if word in self.known]
+        tries = [known] if self.is_full else [list(gains), known]
+        for number, words in enumerate(tries + [[]] if to_the_end else tries):
+            if number == 0 or words != tries[number - 1]:
+                yield words
+
+    def _complete(self, place, name, gains, given):
+        """Gives a file the words that it has not, as far as there is room: in few commands, or where these are refused one by one. Returns
+        all that it has then, and how many would be too many for it."""
+        self.known.update(given)
+        large = 0
+        missing = [word for word in gains if word not in given]
+        parts = [missing[begin:begin + PLACED] for begin in range(0, len(missing), PLACED)]
+        while parts:
+            part = [word for word in parts.pop(0) if not self.is_full or word in self.known]
+            if not part:
+                continue
+            refusal = yield place, (b"mv", name, b"/".join(part)), None
+            if refusal is None:
+                given = given + part
+                self.known.update(part)
+            elif len(part) > 1:
+                parts[:0] = [[word] for word in part]
+            elif refusal.number == LARGE_DESCRIPTION:
+                large += 1
+            elif refusal.number == NO_WORD_ROOM:
+                # Not even one word can become known, and so no other one.
+                self.is_full = True
+                self.known.difference_update(part)
+        return given, large
+
+    def _lacking(self, count, large):
+        if large:
+            self.too_many += large
+            self.too_many_files += 1
+        if count > large:
+            self.without += count - large
+            self.without_files += 1
+
+
+def fitting(name, words):
+    """A name and as many words as fit the line that makes a file, and the words that don't."""
+    room, line = LINE - len(b"add  1048576") - len(name), [name]
+    for number, word in enumerate(words):
+        room -= len(word) + 1
+        if room < 0:
+            return line, words[number:]
+        line.append(word)
+    return line, []
+
+
+def known_words(plan):
+    """The words that somebody has given, or declared, and that stay."""
+    gone, losing = set(plan.gone), {change.was or change.name: set(change.loses) for change in plan.changes if change.loses}
+    known = set(plan.dump.declared)
+    for name, (_, words) in plan.dump.files.items():
+        if name not in gone:
+            known.update(words - losing[name] if name in losing else words)
+    return known
+
+
+def why(refusal):
+    return WHY.get(refusal.number, str(refusal))

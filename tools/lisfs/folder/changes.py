@@ -1,0 +1,359 @@
+"""What is new, changed or gone in a folder, and what was changed in the image, beside what earlier runs brought in.
+
+The files of an image that are a folder's own have its marker, a word `sync:NAME`. Words of the heads in `HEADS` are the folder's too, on
+these files: all others that they have somebody gave them, and they stay. The records of `bringing` say what was brought in: what changed in
+the folder alone is brought in, what changed in the image alone stays, and what changed on both sides is a conflict, which is left.
+"""
+import collections
+import hashlib
+import os
+
+from lisfs import derived
+from lisfs.folder import mails, music, walk
+from lisfs.folder.bringing import REMOVAL, Record, settled
+from lisfs.folder.forms import LONGEST, MOST_WORDS, folder_value
+
+MARKER, FOLDER = b"sync", b"in"
+HEADS = frozenset((FOLDER, *mails.HEADS, *music.HEADS))
+# The digest of no bytes, and what is no digest.
+NO_BYTES, NOTHING = hashlib.sha256().hexdigest(), ""
+
+# A file as it is to be: the key of its record, its name, the name that the image has for it where that is another one, its entry, the words
+# that it loses and gains, whether it is new, whether it gets the folder's bytes, and whether it was found again elsewhere in the folder.
+Change = collections.namedtuple("Change", "key name was entry loses gains is_new has_other_bytes is_moved")
+# What to do with a conflict, where it is not to be left: keep what the image has, or take what the folder has. And whether files that were
+# removed from the image come again.
+Wishes = collections.namedtuple("Wishes", "ours theirs restore", defaults=(False, False, False))
+# Why a conflict is one.
+BOTH, GONE = "changed in the folder and in the image", "gone from the folder, and changed in the image"
+UNKNOWN, UNKNOWN_GONE = "not the same in the folder and in the image", "not in the folder"
+
+
+def head_of(word):
+    return word.partition(b":")[0]
+
+
+def folder_words(folders):
+    """The words for the folders that a file lies in."""
+    values = [folder_value(name)[:LONGEST - len(FOLDER) - 1] for name in folders]
+    return [FOLDER + b":" + value for value in values if value]
+
+
+def key_of(entry, marker):
+    """What the record of a file is known by."""
+    return "mail:" + entry.names(marker, False)[0].decode() if entry.is_mail else "file:" + entry.found.key
+
+
+def base_of(key):
+    """The name that a key ends with."""
+    return os.path.basename(key.partition(":")[2])
+
+
+class Changes:
+    """`changes` are those of files that the folder has, `gone` the names of those that it has no more, and `same` counts the others.
+    Entries that can't be taken are `refused`: what the image holds of them stays. `beyond` counts the words that are too many for a file,
+    and `beyond_files` the files that they belong to.
+
+    `conflicts` are pairs of a text and why, `edited` the names of files that stay as the image has them, `away` the paths of those that stay
+    away from it, and `renamed` pairs of names, the second of which somebody gave a file in the image. `unseen` counts files that are not
+    removed, since not all of the folder was seen. `records` say what is so before any change, and what was done after it."""
+
+    def __init__(self, entries, dump, marker, is_lean=False, records=None, wishes=Wishes(), is_blind=False):
+        self.marker, self.dump, self.is_lean, self.wishes, self.is_blind = marker, dump, is_lean, wishes, is_blind
+        self.changes, self.gone, self.refused = [], [], []
+        self.conflicts, self.edited, self.away, self.renamed = [], [], [], []
+        self.same = self.beyond = self.beyond_files = self.unseen = 0
+        self.own_names = {name for name, (_, words) in dump.files.items() if marker in words}
+        self.own = len(self.own_names)
+        # Names in the image that a file of the folder has, and those that no new one can have.
+        self.kept, self.taken, self.gone_keys = set(), set(dump.files), {}
+        self.records = settled(records or {}, self._digest)
+        self._find_renamed()
+        self.keyed = keyed = [(key_of(entry, marker), entry) for entry in entries]
+        self.waiting = set()
+        self.moved = self._find_moved(keyed)
+        self._tell_mails_apart(keyed)
+        # Those of files that were only seen have served.
+        self.records = {key: record for key, record in self.records.items() if (record.folder, record.image) != (None, None)}
+        # The names of files that the folder has or had are those of their records alone.
+        self.claimed = {record.name for record in self.records.values() if record.folder is not None}
+        for key, entry in [(key, entry) for key, entry in keyed if not self._held(key, entry)]:
+            self._fresh(key, entry)
+        self._left({key for key, _ in keyed})
+        self.gone.sort()
+        self.changes.sort(key=lambda change: (change.is_new, change.name))
+
+    def _digest(self, name):
+        """The digest of one of the folder's files in the image, or None where it is not there."""
+        return self.dump.digests[name.encode()].hex() if name.encode() in self.own_names else None
+
+    # Files with another name than before.
+
+    def _find_renamed(self):
+        """Files that somebody renamed in the image are found again by their bytes."""
+        free = {}
+        for name in sorted(self.own_names - {record.name.encode() for record in self.records.values()}):
+            free.setdefault(self._digest(name.decode()), []).append(name.decode())
+        for key, record in sorted(self.records.items()):
+            if self._digest(record.name) is None and (names := free.get(record.image)):
+                self.records[key] = record._replace(name=names.pop(0))
+                self.renamed.append((record.name, self.records[key].name))
+
+    def _find_moved(self, keyed):
+        """Files that were renamed or moved in the folder are found again by their bytes: first those whose own name is the same, and then all
+        others that are not empty. Returns their keys now."""
+        present, lost = {key for key, _ in keyed}, {}
+        for key, record in sorted(self.records.items()):
+            if key not in present and record.folder is not None:
+                lost.setdefault(record.folder, []).append(key)
+        new = [(key, entry) for key, entry in keyed if key not in self.records and not entry.found.problem] if lost else []
+        found = {}
+        for is_same_name in (True, False):
+            for key, entry in sorted(new, key=lambda pair: pair[0]):
+                digest = self._folder_digest(entry)
+                fits = [old for old in lost.get(digest, ()) if base_of(old) == base_of(key) or not is_same_name and digest != NO_BYTES]
+                if fits and key not in found:
+                    found[key] = fits[0]
+                    lost[digest].remove(fits[0])
+        # A file that can't be read may be one that moved.
+        self.is_blind = self.is_blind or any(entry.found.problem for _, entry in new)
+        if self.is_blind:
+            # It may be a second one with these bytes: which of both, the next run that sees all can tell.
+            self.waiting = set(found)
+            return {}
+        entries = dict(keyed)
+        for key, old in found.items():
+            record = self.records.pop(old)
+            if self._digest(record.name) is None:
+                # A run that was stopped may have renamed it already.
+                others = {other.name for other in self.records.values()}
+                fits = [name.decode() for name in entries[key].names(self.marker, self.is_lean)]
+                record = record._replace(name=next((name for name in fits if self._digest(name) and name not in others), record.name))
+            self.records[key] = record
+        return found
+
+    def _tell_mails_apart(self, keyed):
+        """Of mails with one Message-ID, one more or one less gives others another key: each whose bytes are those of another's record gets that."""
+        digests = {key: entry.digest.hex() for key, entry in keyed if entry.is_mail and entry.digest is not None}
+        lost, found = {}, {}
+        for key, record in sorted(self.records.items()):
+            if key.startswith("mail:") and record.folder and digests.get(key) != record.folder:
+                lost.setdefault(record.folder, []).append(key)
+        for key, digest in sorted(digests.items()):
+            if lost.get(digest) and (key not in self.records or self.records[key].folder != digest):
+                found[key] = lost[digest].pop(0)
+        had = {key: self.records.pop(key) for key in {*found, *found.values()} if key in self.records}
+        for key, old in found.items():
+            self.records[key] = had.pop(old)
+        # What these keys had before is of mails that are gone, or that have other bytes and no record.
+        free = [key for key in found.values() if key not in self.records]
+        for key, record in sorted(had.items()):
+            self.records[free.pop(0)] = record
+
+    # Files of the folder.
+
+    def _held(self, key, entry):
+        """Judges a file that was brought in, or that the image has without a record. Whether it is one."""
+        record, name = self.records.get(key), self._name_in_image(key, entry)
+        if name is not None:
+            self.kept.add(name.encode())
+        if record is None and name is None:
+            return False
+        folder = None if entry.found.problem else self._folder_digest(entry)
+        if folder is None:
+            self.refused.append(entry)
+        elif name is None:
+            return self._stays_away(key, entry, folder)
+        else:
+            self._judge(key, entry, name, folder)
+        return True
+
+    def _name_in_image(self, key, entry):
+        """The name of a file in the image, by its record, or else the first of those that it may have."""
+        if record := self.records.get(key):
+            return record.name if self._digest(record.name) else None
+        names = [name.decode() for name in entry.names(self.marker, self.is_lean)]
+        return next((name for name in names if self._digest(name) and name.encode() not in self.kept and name not in self.claimed), None)
+
+    def _folder_digest(self, entry):
+        """The digest of a file of the folder, or None where it can't be read, which is then its problem."""
+        try:
+            return digest_of(entry).hex()
+        except OSError as error:
+            entry.found.problem = error.strerror or str(error)
+            return None
+
+    def _stays_away(self, key, entry, folder):
+        """Whether a file that somebody removed from the image stays away: until it changes, or is wanted again."""
+        if self.records[key].folder != folder or self.wishes.restore:
+            del self.records[key]
+            return False
+        self.away.append(entry.found.path)
+        return True
+
+    def _judge(self, key, entry, name, folder):
+        record, image = self.records.get(key), self._digest(name)
+        made = record.made if record else name
+        if record is None:
+            self.records.pop("image:" + name, None)
+        if folder == image:
+            self.records[key] = Record(name, made, folder, folder)
+            self._change(key, entry, name, is_same=True)
+        elif record and record.folder == folder:
+            self.edited.append(name)
+            self._change(key, entry, name)
+        elif record and record.image == image or self.wishes.theirs:
+            self._change(key, entry, name, has_other_bytes=True)
+        else:
+            if self.wishes.ours:
+                # That the folder has other bytes was seen, and the image has others than were brought in as before.
+                self.records[key] = Record(name, made, folder, NOTHING)
+                self.edited.append(name)
+            else:
+                self.conflicts.append((f"{name}: {entry.found.path}", BOTH if record else UNKNOWN))
+            self._change(key, entry, name)
+
+    def _change(self, key, entry, name, has_other_bytes=False, is_same=False):
+        """Notes what a file gets that the image has: bytes, words, and a name where it moved in the folder and nobody gave it one."""
+        words = self.dump.files[name.encode()][1]
+        theirs = {word for word in words if word != self.marker and (head_of(word) not in HEADS or head_of(word) in entry.unread)}
+        wanted = self._fitting(entry, MOST_WORDS - 1 - len(theirs))
+        loses = tuple(sorted(words - theirs - set(wanted) - {self.marker}))
+        gains = tuple(word for word in wanted if word not in words)
+        other, is_moved = self._name_after_move(key, entry), key in self.moved
+        if has_other_bytes or loses or gains or is_moved:
+            was = name.encode() if other else None
+            self.changes.append(Change(key, other or name.encode(), was, entry, loses, gains, False, has_other_bytes, is_moved))
+        else:
+            self.same += is_same
+
+    def _name_after_move(self, key, entry):
+        """The name that a file gets which moved in the folder, or None where it keeps its own."""
+        record = self.records.get(key)
+        if key not in self.moved or record.name != record.made:
+            return None
+        names = entry.names(self.marker, self.is_lean)
+        if record.made.encode() in names:
+            return None
+        other = next((name for name in names[:2] if name not in self.taken), None)
+        self.taken.add(other)
+        return other
+
+    def _fresh(self, key, entry):
+        if entry.found.problem:
+            self.refused.append(entry)
+            return
+        if key in self.waiting:
+            entry.found.problem = "it may have moved, and not all of the folder could be read"
+            self.refused.append(entry)
+            return
+        all_names = entry.names(self.marker, self.is_lean)
+        name = next((name for name in all_names[:2] if name not in self.taken), None)
+        if name is None:
+            # Two digests are equal, or somebody has taken both names.
+            entry.found.problem = f"the name {all_names[1].decode()} is taken"
+            self.refused.append(entry)
+            return
+        self.taken.add(name)
+        self.changes.append(Change(key, name, None, entry, (), self._fitting(entry, MOST_WORDS - 1), True, True, False))
+
+    def _fitting(self, entry, most):
+        """The words that a file is given, so many at most."""
+        most = max(most, 0)
+        if len(entry.words) > most:
+            self.beyond += len(entry.words) - most
+            self.beyond_files += 1
+        return entry.words[:most]
+
+    # Files that the folder has no more.
+
+    def _left(self, present):
+        if self.is_blind:
+            # They may be where nothing was seen, and so their records stay.
+            self.unseen = len(self.own_names - self.kept)
+            return
+        keys = {record.name: key for key, record in self.records.items() if key not in present}
+        for name in sorted(self.own_names - self.kept):
+            self._judge_left(keys.get(name.decode()), name.decode())
+        for key in [key for key, record in self.records.items() if key not in present and self._digest(record.name) is None]:
+            del self.records[key]
+
+    def _judge_left(self, key, name):
+        record = self.records.get(key)
+        if record and record.folder is None:
+            self.edited.append(name)
+        elif record and record.image == self._digest(name) or self.wishes.theirs:
+            self.gone.append(name.encode())
+            self.gone_keys[name.encode()] = key
+        elif self.wishes.ours:
+            # Where it is not known what was brought in, no bytes are those.
+            self.records[key or "image:" + name] = Record(name, name, None, record.image if record else NOTHING)
+            self.edited.append(name)
+        else:
+            self.conflicts.append((name, GONE if record else UNKNOWN_GONE))
+
+    def cut(self):
+        """The files that have the folder's bytes and would have more derived words than the program keeps: the name of each, and how many words
+        it would have."""
+        found = [(self.records[key], entry.derived) for key, entry in self.keyed if key in self.records and entry.derived > derived.MOST]
+        return [(record.name, count) for record, count in found
+                if record.folder is not None and record.folder == record.image and derived.has_many(record.name.encode())]
+
+    # What is done.
+
+    def is_nothing(self):
+        return not self.changes and not self.gone
+
+    def coming(self):
+        """The records before the changes, with what is coming to each file."""
+        found = self.seen()
+        # One that moved is known by its old place until it has its new name and words.
+        for key, old in self.moved.items():
+            if key in found:
+                found[old] = found.pop(key)
+        for change in self.changes:
+            # A new file that was not read yet is not read for this alone: where it comes in, the next run finds both sides alike.
+            if change.has_other_bytes and change.entry.digest is not None:
+                name = (change.was or change.name).decode()
+                before = self.records.get(change.key, Record(name, name, None, None))
+                found[change.key] = before._replace(coming=change.entry.digest.hex())
+        for name, key in self.gone_keys.items():
+            found[key or "image:" + name.decode()] = found.get(key, Record(name.decode(), name.decode(), None, None))._replace(coming=REMOVAL)
+        return found
+
+    def seen(self):
+        """The records, and those of files that are in the folder and not in the image. Such a file is none that moved, when there is room."""
+        found = dict(self.records)
+        for key, entry in self.keyed:
+            if entry.found.problem:
+                # It may yet turn out to be one that moved.
+                continue
+            name = entry.names(self.marker, False)[0].decode()
+            found.setdefault(key, Record(name, name, None, None))
+        return found
+
+    def done(self, change, name):
+        """A change was made, and the file has this name now."""
+        before, digest = self.records.get(change.key), change.entry.digest.hex() if change.has_other_bytes else None
+        if before is None and digest is None:
+            # Only words of a file in conflict, of which nothing is known.
+            return
+        is_made = before is None or before.name == before.made or name in change.entry.names(self.marker, self.is_lean)
+        made = name.decode() if is_made else before.made
+        self.records[change.key] = Record(name.decode(), made, digest or before.folder, digest or before.image)
+
+    def removed(self, name):
+        self.records.pop(self.gone_keys[name], None)
+
+    def heads(self):
+        """The heads that have to be declared, in the order of their importance."""
+        wanted = dict.fromkeys(head_of(word) for change in self.changes for word in change.gains)
+        return [head for head in [MARKER, *wanted] if head + b":" not in self.dump.declared] if self.changes else []
+
+
+def digest_of(entry):
+    """The digest of a file's bytes as they are now, where they were not looked at."""
+    if entry.digest is None:
+        size = entry.found.size
+        entry.read_from(walk.content(entry.found, size))
+    return entry.digest

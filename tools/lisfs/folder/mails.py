@@ -1,0 +1,136 @@
+"""Words out of the header of a mail, with encoded words decoded.
+
+- `date:2024-06` of its Date;
+- `list:` and what List-Id has in `< >`;
+- `who:` and the name, or else the address, of each that From, To and Cc name;
+- `about:` and each word of its Subject that has three letters or digits and a letter, and says something.
+
+A mail is anybody's, so what it costs is bounded: of a header so many bytes, lines and letters of a field are looked at, each a few times, and
+no more than so many go to Python's own `email` package, which takes time with the square of what it is given.
+"""
+import email.header
+import email.policy
+import email.utils
+import functools
+import itertools
+import re
+
+from lisfs.folder import addresses
+from lisfs.folder.forms import LONGEST, folded, runs, valued
+
+HEADS = (b"date", b"list", b"who", b"about")
+# So many bytes of a mail are looked at for its header, so many lines of that, so many letters of one field, and of some of the fields fewer.
+HEADER, LINES, FIELD = 262_144, 4_096, 16_384
+SUBJECT, SHORT = 2_048, 512
+END = re.compile(rb"\r?\n\r?\n")
+LINE = re.compile(r"[^\r\n]*(?:\r\n?|\n|\Z)")
+# What a line of a header begins with: the name of a field, or what continues the field before.
+BEGIN = re.compile(r"([!-9;-~]*):|[\t ]|From ")
+FIELDS = frozenset(("date", "list-id", "from", "to", "cc", "subject", "message-id"))
+# So many people are kept with their words, since the same ones write again and again.
+KEPT = 2_048
+# What is in front of an answer or what is handed on, and words of English and German that are in every subject.
+SAYS_NOTHING = frozenset("""
+    re fwd fw aw wg antw sv vs tr rv
+    the and for with from your you our are was were has have had not this that these those but all can could will would about into its
+    his her their they them who what when where how why out off get got any may one more than then also been being did does
+    der die das den dem des ein eine einen einem einer und oder aber mit von vom zum zur fuer bei aus auf ist sind war nicht auch als wie
+    wir sie ihr ihre ihren ihnen mein meine unser unsere uns dass nach noch nur wird werden haben hat
+""".split())
+MESSAGE_ID = re.compile(r"<\s*([^<>\s]+)\s*>")
+LIST_ID = re.compile(r"<\s*([^<>\s]+)\s*>\s*$")
+ADDRESS = re.compile(r"[^\s@<>,;:\"]+@[^\s@<>,;:\"]+")
+NOT_IN_A_WORD = re.compile(r"[^a-z0-9_.+@-]")
+
+
+class Mail:
+    """What the header of a mail says: `message_id` as text or None, `subject` as text, and `words`, the most important first."""
+
+    def __init__(self, content):
+        header = content[:HEADER]
+        if end := END.search(header):
+            header = header[:end.end()]
+        # Bytes that are no ASCII should be UTF-8; where they are not, they mostly are Latin-1.
+        try:
+            text = header.decode()
+        except UnicodeDecodeError:
+            text = header.decode("latin-1")
+        self._fields = fields_of(text)
+        found = MESSAGE_ID.search(raw := self._raw("Message-ID"))
+        self.message_id = found[1] if found else raw.strip() or None
+        self.subject = subject_of(self._raw("Subject"))
+
+    def _raw(self, name):
+        """A field's text as it stands, or none."""
+        return self._fields.get(name.lower(), "")
+
+    def words(self):
+        found = [self._date(), self._list(), people(self._raw("From")), self._about(), people(self._raw("To")),
+                 people(self._raw("Cc"))]
+        return list(dict.fromkeys(word for words in found for word in words))
+
+    def _date(self):
+        try:
+            date = email.utils.parsedate_tz(self._raw("Date")[:SHORT])
+        except Exception:
+            date = None
+        return [b"date:%04d-%02d" % date[:2]] if date and 1970 <= date[0] <= 2099 and 1 <= date[1] <= 12 else []
+
+    def _list(self):
+        found = LIST_ID.search(self._raw("List-Id"))
+        return of_address(b"list", found[1]) if found else []
+
+    def _about(self):
+        said = [run for run in runs(self.subject) if len(run) >= 3 and not run.isdigit() and run not in SAYS_NOTHING]
+        return [b"about:" + run[:LONGEST - len("about:")].encode() for run in said]
+
+
+def fields_of(header):
+    """The first field of each name in `FIELDS`, as it stands. A line that is none of a header ends it, as for the `email` package."""
+    found, lines = {}, None
+    for line in itertools.islice(LINE.finditer(header), LINES):
+        begin = BEGIN.match(line[0])
+        if not begin:
+            break
+        if begin[0] in (" ", "\t"):
+            if lines is not None:
+                lines.append(line[0])
+            continue
+        name, lines = (begin[1] or "").lower(), None
+        if name in FIELDS and name not in found:
+            lines = found[name] = [line[0][begin.end():].lstrip(" \t")]
+    return {name: "".join(of).rstrip("\r\n")[:FIELD] for name, of in found.items()}
+
+
+def subject_of(raw):
+    """A Subject as it is meant. A header may be anything, and the package has no list of what it raises then."""
+    raw = re.sub(r"[\r\n]+", "", raw)
+    if len(raw) > SUBJECT:
+        raw = raw[:SUBJECT].rpartition(" ")[0] or raw[:SUBJECT]
+    for decode in (lambda: email.policy.default.header_factory("Subject", raw), lambda: email.header.make_header(email.header.decode_header(raw))):
+        try:
+            return str(decode())
+        except Exception:
+            pass
+    return raw
+
+
+def people(raw):
+    """The words of those whom a field names."""
+    return [word for shown, address in addresses.people(raw) for word in of_person(shown, address)]
+
+
+@functools.lru_cache(KEPT)
+def of_person(shown, address):
+    """The word of somebody's name, which is turned where it says `LAST, FIRST`; or else that of the address."""
+    if ADDRESS.fullmatch(shown.strip()):
+        shown, address = "", address if "@" in address else shown.strip()
+    last, comma, first = shown.partition(",")
+    text = " ".join(folded(f"{first} {last}" if comma else shown).split())
+    return valued(b"who", text) if sum(map(str.isalpha, text)) > 1 else of_address(b"who", address)
+
+
+def of_address(head, address):
+    """The word of an address, or of what looks like one."""
+    value = NOT_IN_A_WORD.sub("_", address.strip().lower()).strip("_")[:LONGEST - len(head) - 1]
+    return [head + b":" + value.encode()] if value.strip("_@") else []

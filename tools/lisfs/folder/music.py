@@ -1,0 +1,80 @@
+"""Words out of the tags of a piece of music, which `mutagen` reads (Debian's `python3-mutagen`): `artist:`, `album:`, `genre:`, `year:`."""
+import importlib
+import io
+import os
+import re
+import sys
+
+from lisfs.folder.forms import valued
+
+HEADS = (b"artist", b"album", b"genre", b"year")
+SUFFIXES = {".mp3", ".ogg", ".oga", ".opus", ".spx", ".flac", ".m4a", ".m4b", ".mp4", ".aac", ".wma", ".wav", ".aif", ".aiff", ".ape",
+            ".wv", ".mpc", ".tta", ".dsf"}
+# The names of a tag in the kinds of files.
+TAGS = {
+    b"artist": ("artist", "TPE1", "\xa9ART", "Author", "Artist"),
+    b"album": ("album", "TALB", "\xa9alb", "WM/AlbumTitle", "Album"),
+    b"genre": ("genre", "TCON", "\xa9gen", "WM/Genre", "Genre"),
+    b"year": ("date", "year", "TDRC", "TYER", "\xa9day", "WM/Year", "Year", "Date"),
+}
+YEAR = re.compile(r"(?<![0-9])[0-9]{4}(?![0-9])")
+# Where Debian's packages lie, which another Python that is first on the path doesn't see.
+DEBIAN = "/usr/lib/python3/dist-packages"
+
+
+def is_music(path):
+    return os.path.splitext(path)[1].lower() in SUFFIXES
+
+
+def reader():
+    """The module, or None where it isn't there."""
+    try:
+        return importlib.import_module("mutagen")
+    except ImportError:
+        pass
+    sys.path.append(DEBIAN)
+    try:
+        return importlib.import_module("mutagen")
+    except ImportError:
+        return None
+    finally:
+        sys.path.remove(DEBIAN)
+
+
+def words(mutagen, path, content):
+    """The words of a piece's tags, the most important first. A file that is no music, or a broken one, has none: then it is None."""
+    file = io.BytesIO(content)
+    # The package looks at the ending too.
+    file.name = path
+    try:
+        piece = mutagen.File(file)
+        tags = None if piece is None else piece.tags
+    except Exception:
+        # The package raises errors of its own, and at some broken files others.
+        return None
+    if piece is None:
+        return None
+    found = []
+    for head in HEADS:
+        for text in texts(tags, TAGS[head]):
+            if head == b"year":
+                year = YEAR.search(text)
+                found += [b"year:" + year[0].encode()] if year else []
+            else:
+                found += valued(head, text)
+    return list(dict.fromkeys(found))
+
+
+def texts(tags, names):
+    """The texts of the first of these tags that is there."""
+    for name in names if tags is not None else ():
+        try:
+            value = tags[name]
+        except Exception:
+            continue
+        # A genre of ID3 may be a number; `genres` are its names.
+        several = getattr(value, "genres", None) or getattr(value, "text", value)
+        several = several if isinstance(several, (list, tuple)) else [several]
+        if several := [text for text in map(str, several) if text.strip()]:
+            return several
+    return []

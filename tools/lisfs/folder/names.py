@@ -1,0 +1,51 @@
+"""The names that files have in an image: the same at every run, whatever other files are there and in whatever order they are found.
+
+A file is named after its path below the folder, with `+` between two parts, where these bytes tell the path. Else the name is what can be
+shown of the path, its end first, and a digest of all of it: `PATH-DIGEST.SUFFIX`. A mail of a maildir is named `SUBJECT-DIGEST.eml`, the
+digest being that of its Message-ID, or of its path where it has none.
+"""
+import hashlib
+import os
+import re
+
+from lisfs.folder.forms import LONGEST, joined, plain
+
+# How many digits of a digest a name has. Two of some thousand files have equal ones once in a hundred thousand folders.
+DIGITS = 10
+# Where a path has other bytes, or a name would end as one with a digest does, its bytes alone don't tell it.
+CLEAR = re.compile(rb"[A-Za-z0-9_.@-]+(?:/[A-Za-z0-9_.@-]+)*")
+DIGESTED = re.compile(rb"-[0-9a-f]{10}(?:\.[A-Za-z0-9_@-]{1,12})?$")
+SUFFIX = re.compile(rb"(?<=[^.+])\.[A-Za-z0-9_@-]{1,12}$")
+EML = b".eml"
+
+
+def digest_of(*parts):
+    """Some digits that stand for these texts."""
+    return hashlib.sha256(b"\0".join(parts)).hexdigest()[:DIGITS].encode()
+
+
+def of_path(key):
+    """The name of a file by its path below the folder."""
+    path = os.fsencode(key)
+    name = path.replace(b"/", b"+")
+    is_clear = CLEAR.fullmatch(path) and len(name) <= LONGEST and name not in (b".", b"..") and not DIGESTED.search(name)
+    return name if is_clear else digested(key, digest_of(b"path", path))
+
+
+def digested(key, digest):
+    """A name that shows the end of a path, and has a digest."""
+    name = b"+".join(plain(part) for part in key.split(os.sep))
+    found = SUFFIX.search(name)
+    suffix = found[0] if found else b""
+    room = LONGEST - len(b"-" + digest + suffix)
+    return name[:len(name) - len(suffix)][-room:] + b"-" + digest + suffix
+
+
+def of_mail(subject, digest):
+    """The name of a mail by its subject, and by what it is known by."""
+    return (joined(subject, LONGEST - len(b"-" + digest + EML)) or b"mail") + b"-" + digest + EML
+
+
+def lean(name):
+    """The name of a mail of which the program derives no words, and which has none itself."""
+    return name.removesuffix(EML)

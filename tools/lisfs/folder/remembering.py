@@ -1,0 +1,151 @@
+"""What mails and pieces of music gave at an earlier run, so that those that have not changed since need not be read again.
+
+A file is taken for the one of then where its path, its size, its number and its times of modification and of change are the same, and where
+these times were old enough then that each later change has other ones. All of it is only a cache: what is missing, damaged, of another folder
+or of another version of what reads files is not believed, and is made again. It lies in `$XDG_CACHE_HOME/lisfs`, or else in
+`~/.cache/lisfs`, may be removed at any time, and has what its owner alone may read.
+"""
+import contextlib
+import functools
+import hashlib
+import json
+import os
+import stat
+import sys
+import tempfile
+import time
+import unicodedata
+
+from lisfs import derived
+from lisfs.folder import addresses, forms, mails, music, walk
+from lisfs.dumps import STEP, WHOLE
+
+FORM = 2
+# So many bytes are read at most.
+LARGEST = 1 << 28
+
+
+class Remembered:
+    """What the files below a folder gave. A record is what `json` can write, and `rules` says by what it was made."""
+
+    def __init__(self, folder):
+        self.folder = os.path.realpath(folder)
+        name = hashlib.sha256(os.fsencode(self.folder)).hexdigest()[:32]
+        self.path = os.path.join(cache_folder(), f"sync-{name}.json")
+        self._was = self._read()
+        self._now, self._is_other = {}, False
+
+    def record(self, found, rules):
+        """What a file gave, or None where that is not known."""
+        had = self._was.get(os.path.join(*found.parts))
+        if not had or found.kind is None or had[:2] != [times_of(found.kind), rules]:
+            return None
+        self._now[os.path.join(*found.parts)] = had
+        return had[2]
+
+    def keep(self, found, times, rules, record):
+        """Keeps what a file gave that had these times, None being times that don't tell it from a later one."""
+        if times:
+            self._now[os.path.join(*found.parts)] = [times, rules, record]
+            self._is_other = True
+
+    def save(self):
+        """Writes all that is known now, whole or not at all. Where it can't be written the next run reads the files."""
+        if not self._is_other and len(self._now) == len(self._was):
+            return
+        body = json.dumps({"form": FORM, "version": version(), "folder": self.folder, "files": self._now}).encode()
+        with contextlib.suppress(OSError):
+            write_whole(self.path, hashlib.sha256(body).hexdigest().encode() + b"\n" + body)
+
+    def _read(self):
+        try:
+            descriptor = os.open(self.path, os.O_RDONLY | os.O_NOFOLLOW | os.O_NONBLOCK | os.O_CLOEXEC)
+            with open(descriptor, "rb") as file:
+                kind = os.fstat(descriptor)
+                # What somebody else could have written is not believed.
+                if not stat.S_ISREG(kind.st_mode) or kind.st_uid != os.geteuid() or kind.st_mode & 0o022 or kind.st_size > LARGEST:
+                    return {}
+                digest, _, body = file.read().partition(b"\n")
+            if digest.decode() != hashlib.sha256(body).hexdigest():
+                return {}
+            given = json.loads(body)
+            is_ours = (given["form"], given["version"], given["folder"]) == (FORM, version(), self.folder)
+            return dict(given["files"]) if is_ours else {}
+        except (OSError, ValueError, LookupError, TypeError, RecursionError):
+            return {}
+
+
+class Nothing:
+    """Remembers nothing."""
+
+    def record(self, found, rules):
+        return None
+
+    def keep(self, found, times, rules, record):
+        pass
+
+    def save(self):
+        pass
+
+
+def cache_folder():
+    return folder_of("XDG_CACHE_HOME", "~/.cache")
+
+
+def folder_of(variable, usual):
+    """The folder of this program's own files, where a variable of the environment says, or else at the usual place."""
+    top = os.environ.get(variable, "")
+    return os.path.join(top if os.path.isabs(top) else os.path.expanduser(usual), "lisfs")
+
+
+def write_whole(path, data, is_kept=False):
+    """Writes a file whole or not at all, for its owner alone; and on the medium before this returns, where it is to be kept."""
+    os.makedirs(os.path.dirname(path), 0o700, exist_ok=True)
+    handle, temporary = tempfile.mkstemp(dir=os.path.dirname(path), prefix=".sync-")
+    try:
+        with open(handle, "wb") as file:
+            file.write(data)
+            file.flush()
+            if is_kept:
+                os.fsync(file.fileno())
+        os.replace(temporary, path)
+    except BaseException:
+        os.unlink(temporary)
+        raise
+    if is_kept:
+        folder = os.open(os.path.dirname(path), os.O_RDONLY | os.O_DIRECTORY | os.O_CLOEXEC)
+        try:
+            os.fsync(folder)
+        finally:
+            os.close(folder)
+
+
+@functools.cache
+def version():
+    """Another one wherever a file may give something else: the sources that read it, and Python."""
+    digest = hashlib.sha256(f"{sys.version} {unicodedata.unidata_version}".encode())
+    for module in (addresses, derived, forms, mails, music):
+        with open(module.__file__, "rb") as file:
+            digest.update(file.read())
+    return digest.hexdigest()
+
+
+def times_of(kind):
+    """What tells a file from a changed one."""
+    return [kind.st_size, kind.st_ino, kind.st_mtime_ns, kind.st_ctime_ns]
+
+
+def settled(before, after, now):
+    """The times of a file that was looked at before and after it was read, the reading having begun now; or None where a change of
+    it may have the same ones."""
+    newest = max(before.st_mtime_ns, before.st_ctime_ns)
+    is_old = newest + (STEP if newest % 10**9 else WHOLE) < now
+    return times_of(before) if is_old and times_of(before) == times_of(after) else None
+
+
+def read(found, most):
+    """The bytes of a file, as `walk.content` gives them, and its times, or None in place of these."""
+    with walk.opened(found) as file:
+        before, now = os.fstat(file.fileno()), time.time_ns()
+        content = file.read(most + 1)
+        return content, settled(before, os.fstat(file.fileno()), now)

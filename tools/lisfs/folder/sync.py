@@ -1,0 +1,315 @@
+"""Brings a folder or a maildir into an image, again and again: what is new, what has changed, and what is gone.
+
+usage: tools/sync [--as NAME] [--without PATTERN].. [--flat] [--lean] [--dry-run] [--verbose] [--all-gone] [--no-cache] [--ours | --theirs] [--restore] IMAGE FOLDER
+
+The files that are the folder's own have the word `sync:NAME` in the image. --as says which NAME, of at most 55 letters, digits and
+`_ - . + @`; else it is the folder's name and four digits that stand for where it lies. Only files with this word are written, given other
+words or removed: what others put in stays as it is. Words that somebody gave to the folder's files stay too, but for those that begin with
+one of the heads below, which are the folder's.
+
+What was changed in the image is never written over and never removed. A file that has other bytes in the image alone keeps them. One that
+has other bytes there and in the folder, or is gone from the folder, is a conflict: it is named, and left. --ours settles conflicts by what
+the image has, and --theirs by what the folder has. A file that was renamed in the image keeps that name. One that was removed from it stays
+away until it changes in the folder; --restore brings such files back. A file that was renamed or moved in the folder is found again by its
+bytes, and keeps the words that it was given.
+
+What was brought in is kept in `$XDG_STATE_HOME/lisfs`, or in `~/.local/state/lisfs`, and the image has a plain word `synced-NAME-DIGEST` that
+names it. Where that is not there, as after an older `tools/sync`, each difference is a conflict.
+
+A file is named after its path below the folder, with `+` in place of `/`; where that is no name, it is made one with a digest. A folder
+with `cur` and `new` in it is a maildir, and so is a folder below with these and `tmp`. A mail there is named after its Subject and a digest
+of its Message-ID, or of its path where it has none, and ends with `.eml`. So names are the same at each run.
+
+--without passes over files and folders with such a name, as `.git` or `*.o`, and may stand more than once. The image itself is passed over
+too, where it lies in the folder. No symbolic link below the folder is followed.
+
+What a mail or a piece of music gave is kept in `$XDG_CACHE_HOME/lisfs`, or in `~/.cache/lisfs`, so that the next run reads those alone whose
+size or times are others. --no-cache reads all of them, and keeps nothing.
+
+Words are given to files, in this order, 15 at most beside `sync:NAME`:
+  in:FOLDER       for each folder that it lies in, unless --flat is given
+  date:2024-06    of a mail, the month of its Date
+  list:           its List-Id
+  who:            those who wrote it, by name or else by address
+  about:          the words of its Subject that say something
+  who:            those who got it
+  artist:, album:, genre:, year:  of a piece of music, by its tags, for which Debian's python3-mutagen is needed
+Where the image has no room for more words, a file goes in with fewer, and a mail where need be without `.eml` in its name, so that the
+program derives no words of it. --lean names new mails so from the start: an image then has room for the words of more mails.
+
+Words that do not fit are counted: those beyond the 16 that a file is given, the 128 that it has in all, and the 48 that the program derives
+for it. A search by a derived word can miss a file whose words are cut.
+
+--dry-run says what would be done, one line a file, and does nothing. --verbose says what is done likewise. Counts are told at the end, and
+on a terminal the progress. Where none of its files is in the folder any more, as where a disk is not mounted, nothing is done, but with
+--all-gone. Where not all of the folder could be read, nothing is removed.
+
+The status is 0 where all was taken, 1 where something was not, and 2 for wrong use. It may be stopped at any moment: the next run goes on.
+Nothing of it is proved. It uses the word `load` of the program, where that has it, and else `run`.
+"""
+import argparse
+import contextlib
+import hashlib
+import os
+import signal
+import struct
+import sys
+
+from lisfs import derived
+from lisfs.client import PROGRAM, Ended, Locked, NotAReply, Program
+from lisfs.folder.bringing import Memory
+from lisfs.folder.carrying import Carrying, NoRoom, Sender, session_word
+from lisfs.folder.changes import MARKER, Changes, Wishes, folder_words
+from lisfs.folder.entries import Entries
+from lisfs.folder.forms import LONGEST, PLAIN, folder_value
+from lisfs.folder.remembering import Nothing, Remembered
+from lisfs.folder.telling import Telling, counted, left_out
+from lisfs.dumps import NotADump, dumped, opened
+from lisfs.mount.image import limits_of
+from lisfs.showing import harmless, write_line
+
+STOPS = (signal.SIGTERM, signal.SIGHUP)
+# So many conflicts are named in any case.
+NAMED = 10
+
+
+class Failed(Exception):
+    """What is amiss, in one line."""
+
+
+class Stopped(BaseException):
+    """A signal came by which this program is to end."""
+
+
+def default_name(folder):
+    """The folder's name, and digits that stand for where it lies: two folders of one name have their own files each."""
+    path = os.path.realpath(folder)
+    name = folder_value(os.path.basename(path))[:40] or b"root"
+    return name + b"-" + hashlib.sha256(os.fsencode(path)).hexdigest()[:4].encode()
+
+
+class Sync:
+    def __init__(self, words, telling):
+        self.image, self.folder, self.words, self.telling = words.image, words.folder, words, telling
+        name = os.fsencode(words.name) if words.name is not None else default_name(words.folder)
+        self.marker = MARKER + b":" + name
+        self.memory, self.unkept = Memory(self.marker), None
+        self.counts, self.done, self.plan, self.carrying, self.entries, self.known = dict.fromkeys(
+            ("new", "changed", "moved", "words", "gone"), 0), 0, None, None, None, None
+
+    def run(self):
+        largest = self.look()
+        looked = 0
+
+        def look():
+            nonlocal looked
+            looked += 1
+            self.telling.progress(lambda: f"{counted(looked, 'file')} looked at")
+
+        words = (lambda _: []) if self.words.flat else folder_words
+        remembered = Nothing() if self.words.no_cache else Remembered(self.folder)
+        self.entries = Entries(self.folder, largest, words, self.telling.leave, look, self.words.without, os.stat(self.image), remembered)
+        self.entries.read()
+        if self.words.dry_run:
+            self.make_plan(dumped(self.image, with_digests=True))
+            self.would()
+        else:
+            remembered.save()
+            program, dump = opened(self.image, word=session_word(), with_digests=True)
+            with program:
+                self.make_plan(dump)
+                self.carry(program, largest)
+
+    def look(self):
+        """Whether the image can be opened, before anything takes long, and the most bytes that a file of it may have."""
+        Program([PROGRAM, "run", self.image]).close()
+        try:
+            return limits_of(self.image).file_bytes
+        except (OSError, struct.error) as error:
+            raise Failed(f"{self.image}: {error}") from None
+
+    def make_plan(self, dump):
+        wishes = Wishes(self.words.ours, self.words.theirs, self.words.restore)
+        self.known = self.memory.read(dump.declared)
+        plan = Changes(self.entries.all, dump, self.marker, self.words.lean, self.known, wishes, self.entries.walk.is_blind)
+        if plan.own and not plan.kept and not plan.is_blind and not self.words.all_gone:
+            raise Failed(f"nothing was done: none of the {counted(plan.own, 'file')} of {self.marker.decode()} is in {self.folder} any "
+                         "more; --all-gone removes them all the same")
+        self.plan = plan
+        for entry in plan.refused:
+            self.telling.leave(entry.found.path, entry.found.problem)
+
+    def carry(self, program, largest):
+        self.carrying = Carrying(Sender(program), self.plan, largest, self.told, self.failed)
+        self.carrying.declare()
+        before, coming = set(self.carrying.memories), None
+        if not self.plan.is_nothing():
+            coming = self.remember(self.plan.coming())
+        self.carrying.run()
+        # Where nothing is known and nothing was brought in, another one's memory stays.
+        if self.plan.records or self.known is not None:
+            if self.remember(self.plan.seen()) != coming and coming is not None and coming not in before:
+                self.memory.forget(coming)
+
+    def remember(self, records):
+        """Keeps what was brought in, and has the image name it by a word, which it returns. Where that can't be, the image names nothing."""
+        try:
+            word = self.memory.write(records) if records else None
+        except OSError as error:
+            word, self.unkept = None, f"{error.filename or self.memory.top}: {error.strerror}"
+        self.carrying.remember(word)
+        return word
+
+    def would(self):
+        for name in self.plan.gone:
+            self.told("gone", name)
+        for change in self.plan.changes:
+            path = change.entry.found.path
+            if change.is_new:
+                self.told("new", change.name, path)
+            elif change.is_moved:
+                self.told("moved", change.name, path)
+            elif change.has_other_bytes:
+                self.told("changed", change.name, path)
+            else:
+                given = ["-" + word.decode() for word in change.loses] + ["+" + word.decode() for word in change.gains]
+                self.told("words", change.name, " ".join(given))
+
+    def told(self, what, name, more=""):
+        self.count()
+        if what == "same":
+            self.plan.same += 1
+            return
+        self.counts[what] += 1
+        self.telling.tell_file(f"{what}: {name.decode()}" + (f": {harmless(more)}" if more else ""))
+
+    def failed(self, path, why):
+        self.count()
+        self.telling.leave(path, why)
+
+    def count(self):
+        self.done += 1
+        self.telling.progress(lambda: f"{self.done} of {len(self.plan.changes) + len(self.plan.gone)} changes")
+
+    def report(self):
+        """The counts, as far as they are known."""
+        tell, marker = self.telling.tell, self.marker.decode()
+        if self.plan is not None:
+            names = {"new": "new", "changed": "changed", "moved": "moved", "words": "with other words", "gone": "gone"}
+            parts = [f"{self.counts[what]} {name}" for what, name in names.items() if self.counts[what]]
+            same = f"{self.plan.same} as they were"
+            if parts:
+                tell(f"{marker}: {'would be ' if self.words.dry_run else ''}{', '.join(parts)}, {same}")
+            else:
+                tell(f"{marker}: nothing changed, {same}")
+            self.report_image()
+            left_out(tell, self.plan.beyond, self.plan.beyond_files, "a file is given 16 at most")
+            self.report_cut()
+        if self.carrying is not None:
+            left_out(tell, self.carrying.too_many, self.carrying.too_many_files, "a file has 128 at most, with those that it has by itself")
+            left_out(tell, self.carrying.without, self.carrying.without_files, "no room for more words")
+        if self.carrying is not None and self.carrying.lean:
+            tell(f"{counted(self.carrying.lean, 'mail')} named without .eml: no room for the words that the program derives")
+        if self.entries is not None:
+            self.entries.tell_tags(tell)
+        if self.telling.not_taken:
+            tell(f"not taken: {self.telling.causes()}")
+        if self.plan is not None and self.plan.unseen:
+            tell(f"{counted(self.plan.unseen, 'file')} not removed, since not all of the folder could be read")
+        if self.unkept is not None:
+            tell(f"what was brought in could not be kept: {harmless(self.unkept)}: the next run takes each difference for a conflict")
+        elif self.carrying is not None and self.carrying.is_forgetful:
+            tell("no room for the word that names what was brought in: the next run takes each difference for a conflict")
+
+    def report_cut(self):
+        """What the program derives no words of, since there are too many."""
+        cut = self.plan.cut()
+        for name, count in cut:
+            self.telling.tell_file(f"cut: {name}: {derived.MOST} of at least {count:,} words that it has by itself")
+        if cut:
+            self.telling.tell(f"at least {counted(sum(count - derived.MOST for _, count in cut), 'word')} of {counted(len(cut), 'file')} cut: a file "
+                              f"has {derived.MOST} by itself at most, so a search by from:, to:, subject:, includes: or defines: can miss it")
+
+    def report_image(self):
+        """What was changed in the image, and stays."""
+        tell, plan = self.telling.tell, self.plan
+        for was, name in plan.renamed:
+            self.telling.tell_file(f"renamed in the image: {name}: it was {was}")
+        for name in plan.edited:
+            self.telling.tell_file(f"changed in the image: {name}")
+        for path in plan.away:
+            self.telling.tell_file(f"removed from the image: {harmless(path)}")
+        if plan.edited:
+            tell(f"{counted(len(plan.edited), 'file')} changed in the image: left as the image has {'it' if len(plan.edited) == 1 else 'them'}")
+        if plan.away:
+            tell(f"{counted(len(plan.away), 'file')} removed from the image: left out until changed in the folder, or --restore")
+        if plan.conflicts:
+            if self.known is None and plan.own:
+                tell("nothing is known of earlier runs, so no difference tells who made it")
+            named = plan.conflicts if self.telling.is_verbose else plan.conflicts[:NAMED]
+            for text, why in named:
+                tell(f"conflict: {harmless(text)}: {why}")
+            more = f" ({len(plan.conflicts) - len(named)} not named: --verbose)" if len(named) < len(plan.conflicts) else ""
+            tell(f"{counted(len(plan.conflicts), 'conflict')} left{more}: --ours keeps what the image has, --theirs takes what the folder has")
+
+    def is_whole(self):
+        return not (self.telling.not_taken or self.plan.unseen or self.plan.conflicts or self.unkept
+                    or self.carrying and (self.carrying.without or self.carrying.too_many or self.carrying.lean or self.carrying.is_forgetful))
+
+
+def cause(error, image):
+    """What is amiss, in one line."""
+    if isinstance(error, Locked):
+        return f"{image} is in use by another lisfs"
+    if isinstance(error, Ended):
+        return str(error)
+    if isinstance(error, NotAReply):
+        return f"{PROGRAM} does not reply as it should: {error}"
+    if isinstance(error, (KeyboardInterrupt, Stopped)):
+        return "stopped"
+    return str(error)
+
+
+def stop(*_):
+    raise Stopped
+
+
+def main():
+    parser = argparse.ArgumentParser(usage=__doc__.split("usage: ", 1)[1])
+    parser.add_argument("--as", dest="name")
+    parser.add_argument("--without", action="append", default=[])
+    parser.add_argument("--flat", action="store_true")
+    parser.add_argument("--lean", action="store_true")
+    parser.add_argument("--dry-run", action="store_true")
+    parser.add_argument("--verbose", action="store_true")
+    parser.add_argument("--all-gone", action="store_true")
+    parser.add_argument("--no-cache", action="store_true")
+    sides = parser.add_mutually_exclusive_group()
+    sides.add_argument("--ours", action="store_true")
+    sides.add_argument("--theirs", action="store_true")
+    parser.add_argument("--restore", action="store_true")
+    parser.add_argument("image")
+    parser.add_argument("folder")
+    words = parser.parse_args()
+    longest = LONGEST - len(MARKER + b":")
+    if words.name is not None and not (PLAIN.fullmatch(os.fsencode(words.name)) and len(words.name) <= longest):
+        parser.error(f"{harmless(words.name)} is no name: it has 1 to {longest} letters, digits and _ - . + @")
+    if not os.path.isdir(words.folder):
+        parser.error(f"{harmless(words.folder)} is no folder")
+    for number in STOPS:
+        # What is ignored, as by `nohup`, stays so.
+        if signal.getsignal(number) == signal.SIG_DFL:
+            signal.signal(number, stop)
+    telling = Telling("sync", sys.stdout, words.verbose or words.dry_run)
+    syncing, amiss = Sync(words, telling), None
+    try:
+        syncing.run()
+    except (Ended, Failed, NoRoom, NotADump, NotAReply, OSError, RuntimeError, KeyboardInterrupt, Stopped) as error:
+        amiss = cause(error, words.image) + ("; the next run goes on" if syncing.carrying else "")
+    telling.clear()
+    with contextlib.suppress(BrokenPipeError):
+        syncing.report()
+        sys.stdout.flush()
+    if amiss:
+        write_line(sys.stderr, f"sync: {amiss}")
+    return 0 if amiss is None and syncing.is_whole() else 1

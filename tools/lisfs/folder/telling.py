@@ -1,0 +1,64 @@
+"""What a tool says: lines, counts by their cause, and on a terminal one line of progress that is written again and again."""
+import collections
+import errno
+import os
+import sys
+import time
+
+from lisfs.showing import harmless, write_line
+
+# How often the line of progress is written, in seconds.
+PAUSE = 0.1
+
+
+class Telling:
+    """Lines of a tool, on `stream`. Those of one file are written where `is_verbose` says so. `not_taken` counts files by the cause."""
+
+    def __init__(self, tool, stream, is_verbose):
+        self.tool, self.stream, self.is_verbose, self.not_taken = tool, stream, is_verbose, collections.Counter()
+        self._is_terminal, self._at, self._is_written = sys.stderr.isatty(), 0, False
+
+    def tell(self, line):
+        self.clear()
+        write_line(self.stream, f"{self.tool}: {line}")
+
+    def tell_file(self, line):
+        if self.is_verbose:
+            self.tell(line)
+
+    def leave(self, path, why):
+        """A file that is not taken."""
+        self.not_taken[cause_of(why)] += 1
+        self.tell_file(f"not taken: {harmless(path)}: {why}")
+
+    def causes(self):
+        return ", ".join(f"{count} {cause}" for cause, count in sorted(self.not_taken.items()))
+
+    def progress(self, text):
+        if self._is_terminal and time.monotonic() > self._at + PAUSE:
+            self._at, self._is_written = time.monotonic(), True
+            print(f"\r\033[K{self.tool}: {text()}", end="", file=sys.stderr, flush=True)
+
+    def clear(self):
+        if self._is_written:
+            print("\r\033[K", end="", file=sys.stderr, flush=True)
+            self._is_written = False
+
+
+def cause_of(why):
+    """A cause without what is one file's alone."""
+    if "; a file has" in why:
+        return "too large"
+    if why == os.strerror(errno.ENOENT):
+        return "gone while the folder was read"
+    return "the name is taken" if why.startswith("the name ") else why
+
+
+def left_out(tell, words, files, why):
+    """Tells how many words of how many files were left out, where some were."""
+    if words:
+        tell(f"{counted(words, 'word')} of {counted(files, 'file')} left out: {why}")
+
+
+def counted(count, word):
+    return f"{count} {word}" if count == 1 else f"{count} {word}s"

@@ -1,0 +1,129 @@
+"""How a folder gets to show a file system, and to show it no more: by the system's own calls where that is allowed, as to root, and else
+by `fusermount3`, which may do it for its caller's own folders. Also the loop that answers until it is over.
+"""
+import array
+import contextlib
+import ctypes
+import errno
+import os
+import select
+import shutil
+import signal
+import socket
+import subprocess
+import threading
+import time
+
+from lisfs.mount.kernel import Unmounted
+
+DEVICE = "/dev/fuse"
+HELPER = "fusermount3"
+NO_SETUID, NO_DEVICES, DETACH = 2, 4, 2
+# How long what is under way at a stop has to come to its end, in seconds.
+PATIENCE = 2
+LIBRARY = ctypes.CDLL(None, use_errno=True)
+
+
+class NotMounted(Exception):
+    """The folder doesn't show it, and why."""
+
+
+def mounted(folder, source, others=False):
+    """Lets `folder` show what is answered at the device that is returned."""
+    options = ["default_permissions"] + (["allow_other"] if others else [])
+    if not os.path.exists(DEVICE):
+        raise NotMounted(f"{DEVICE} is missing: this system has no FUSE")
+    try:
+        return _by_call(folder, source, options)
+    except PermissionError as error:
+        if not shutil.which(HELPER):
+            raise NotMounted(f"{folder}: {error.strerror}, and there is no {HELPER}, which would be allowed to") from None
+        return _by_helper(folder, source, options)
+    except OSError as error:
+        raise NotMounted(f"{folder}: {error.strerror}") from None
+
+
+def _by_call(folder, source, options):
+    device = os.open(DEVICE, os.O_RDWR)
+    words = ",".join([f"fd={device}", "rootmode=40000", f"user_id={os.getuid()}", f"group_id={os.getgid()}"] + options)
+    if LIBRARY.mount(os.fsencode(source), os.fsencode(folder), b"fuse.lisfs", NO_SETUID | NO_DEVICES, words.encode()):
+        number = ctypes.get_errno()
+        os.close(device)
+        raise OSError(number, os.strerror(number))
+    return device
+
+
+def _by_helper(folder, source, options):
+    """The helper mounts, and sends the device over a socket that it is told the number of."""
+    ours, theirs = socket.socketpair()
+    # A comma in the name of the source would end an option.
+    words = ",".join(options + ["subtype=lisfs", "fsname=" + source.replace("\\", "\\\\").replace(",", "\\,")])
+    with ours, theirs:
+        ran = subprocess.run([HELPER, "-o", words, "--", folder], pass_fds=[theirs.fileno()], stdin=subprocess.DEVNULL, capture_output=True,
+                             env={**os.environ, "_FUSE_COMMFD": str(theirs.fileno())}, check=False)
+        if ran.returncode:
+            raise NotMounted(" ".join(ran.stderr.decode(errors="replace").split()) or f"{HELPER} ended with {ran.returncode}")
+        _, sent, _, _ = ours.recvmsg(1, socket.CMSG_SPACE(4))
+    for level, kind, data in sent:
+        if (level, kind) == (socket.SOL_SOCKET, socket.SCM_RIGHTS):
+            device = array.array("i", data)[0]
+            os.set_inheritable(device, False)
+            return device
+    raise NotMounted(f"{HELPER} sent no device")
+
+
+def detach(folder):
+    """Takes the mount off the folder. What is still open goes on until it is closed."""
+    if LIBRARY.umount2(os.fsencode(folder), DETACH) and ctypes.get_errno() == errno.EPERM and shutil.which(HELPER):
+        subprocess.run([HELPER, "-u", "-z", "--", folder], stdin=subprocess.DEVNULL, capture_output=True, check=False)
+
+
+@contextlib.contextmanager
+def stops():
+    """A descriptor that can be read from as soon as somebody wants an end: by a signal of the terminal, or of the system."""
+    ours, theirs = os.pipe()
+    for end in (ours, theirs):
+        os.set_blocking(end, False)
+    before = {number: signal.signal(number, lambda *_: None) for number in (signal.SIGINT, signal.SIGTERM, signal.SIGHUP)}
+    former = signal.set_wakeup_fd(theirs)
+    try:
+        yield ours
+    finally:
+        signal.set_wakeup_fd(former)
+        for number, handler in before.items():
+            signal.signal(number, handler)
+        os.close(ours)
+        os.close(theirs)
+
+
+def answered(connection, folder, stop, program):
+    """Answers until the folder is unmounted, and closes the device. A stop, or the end of the program, unmounts it; whether it was not the
+    latter."""
+    # What can be read may be taken back before it is, as where the asker is killed, and then a read would wait, and no stop be seen.
+    os.set_blocking(connection.device, False)
+    poll = select.poll()
+    for descriptor in (connection.device, stop, program):
+        poll.register(descriptor, select.POLLIN)
+    until, is_wanted, ending = None, True, threading.Thread(target=detach, args=[folder], daemon=True)
+    try:
+        while until is None or time.monotonic() < until:
+            ready = dict(poll.poll(None if until is None else 100))
+            if until is None and (stop in ready or program in ready):
+                # Elsewhere than here, since what is unmounted may have something to ask first.
+                ending.start()
+                until, is_wanted = time.monotonic() + PATIENCE, program not in ready
+                poll.unregister(stop)
+                poll.unregister(program)
+            if connection.device in ready:
+                connection.serve()
+    except Unmounted:
+        pass
+    except BaseException:
+        detach(folder)
+        raise
+    finally:
+        os.close(connection.device)
+    if until is not None:
+        # Nothing holds it up now, since nobody waits for an answer any more.
+        ending.join()
+    return is_wanted

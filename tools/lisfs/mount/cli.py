@@ -1,0 +1,73 @@
+"""Lets a folder show an image, so that programs that know nothing of it work with its files. docs/MOUNT.md says what they see.
+
+usage: tools/mount [--derived] [--allow-other] IMAGE DIR
+
+It goes on until `umount DIR`, Ctrl-C or a SIGTERM, and says on standard error when DIR can be used. What was written by then and not closed is
+stored, or named where that fails. --derived shows the words that files have by themselves as folders too; without it they are below `:by`.
+--allow-other lets other users look, as far as modes allow: files begin as 0600 and folders as 0700.
+
+It carries out each change by one `lisfs run IMAGE`, and an answer comes after its `ok`. What stands between a program and these commands
+is not proved. The status is 0 after an end that was wanted, with all that was written in the image, 1 where something is amiss, which is told,
+and 2 for wrong use.
+"""
+import argparse
+import os
+import sys
+
+from lisfs.client import Ended, Locked, NotAReply, missing
+from lisfs.mount.attach import NotMounted, answered, mounted, stops
+from lisfs.dumps import NotADump, opened
+from lisfs.mount.image import Image, limits_of
+from lisfs.mount.kernel import Connection
+from lisfs.mount.tree import Tree
+from lisfs.showing import write_line
+
+
+def tell(line):
+    write_line(sys.stderr, f"mount: {line}")
+
+
+def run(image, folder, with_derived, others):
+    """The status."""
+    if what := missing():
+        raise NotMounted(what)
+    if not os.path.isdir(folder):
+        os.stat(folder)
+        raise NotMounted(f"{folder}: not a folder")
+    program, dump = opened(image)
+    # However it goes, nobody has the image any more at the end.
+    with stops() as stop, program:
+        tree = Tree(Image(program, dump, limits_of(image)), with_derived, os.stat(image).st_mtime_ns, others)
+        # From the root on, since `.` is the folder below what is mounted on it.
+        whole = os.path.abspath(folder)
+        connection = Connection(mounted(whole, image, others), tree)
+        tell(f"{image} is at {folder}")
+        try:
+            is_wanted = answered(connection, whole, stop, program.fileno())
+        finally:
+            tree.finish()
+    if not is_wanted:
+        tell(f"{image}: the program has ended")
+    return 0 if is_wanted and not tree.has_lost else 1
+
+
+def main():
+    parser = argparse.ArgumentParser(usage=__doc__.split("usage: ", 1)[1])
+    parser.add_argument("--derived", action="store_true")
+    parser.add_argument("--allow-other", action="store_true")
+    parser.add_argument("image")
+    parser.add_argument("folder")
+    words = parser.parse_args()
+    try:
+        return run(words.image, words.folder, words.derived, words.allow_other)
+    except Locked:
+        tell(f"{words.image}: in use by another lisfs")
+    except Ended as end:
+        tell(": ".join(end.text.splitlines()) or str(end))
+    except (NotMounted, NotADump, NotAReply) as error:
+        tell(error)
+    except OSError as error:
+        tell(f"{error.filename or words.image}: {error.strerror}")
+    except KeyboardInterrupt:
+        tell("stopped before it began")
+    return 1

@@ -1,0 +1,409 @@
+"""An open image: the session that runs over it, and what is known of it beside.
+
+Each change is one command of the program, and is known here once its `ok` is there. The words of a file that was changed are asked for
+when somebody needs them, those of many files in one go. Between two calls the session's place is the root, where all files are.
+
+A new file that somebody writes is known here before: it waits for its bytes, so that one `add` makes it whole, where `create` and `write`
+would be two changes. It waits only where nothing can keep the program from making it, and until anything else is to be changed or asked.
+"""
+import collections
+import contextlib
+import errno
+import struct
+
+from lisfs.client import LINE, NotSent, Refused
+from lisfs.formulas import NAME_LIMIT, TEST, head_of, is_plain, is_word
+
+# So many bytes of files are kept in memory, those that were looked at last.
+KEPT = 32 * 1_048_576
+FILE_LIMIT = {1: 65_536, 2: 1_048_576}
+# The most words that a file is given, and that it has.
+GIVEN_LIMIT, WORDS_LIMIT = 16, 128
+
+Limits = collections.namedtuple("Limits", "files words blocks file_bytes")
+
+
+def limits_of(path):
+    """The limits that the first block of an image says, which the program has looked at."""
+    with open(path, "rb") as file:
+        head = file.read(25)
+    return Limits(*struct.unpack_from("<3I", head, 12), FILE_LIMIT[2 if head[24] == 2 else 1])
+
+
+class File:
+    """A file of the image. `words` are all that it has, as the program says, and `given` those that it surely was given. `refusal` is what
+    kept a file that waited from being made, and None of all others."""
+
+    def __init__(self, name, size, number, given):
+        self.name, self.size, self.number, self.words, self.given, self.is_gone = name, size, number, frozenset(), frozenset(given), False
+        self.refusal = None
+
+
+class Image:
+    def __init__(self, program, dump, limits):
+        self.program, self.limits = program, limits
+        # What entails what by axioms: of each left side the right ones.
+        self.declared, self.axioms = set(dump.declared), {}
+        for left, right in dump.axioms:
+            self.axioms.setdefault(left, set()).add(right)
+        # By their names, all of them, those that have a word, and those whose words are not known since they were changed.
+        self.files, self.everything, self.having, self.stale = {}, set(), {}, set()
+        # The declared words that lost their last file and were in no listing since.
+        self.unseen = set()
+        self.contents, self.content_bytes, self.numbers = collections.OrderedDict(), 0, 0
+        # The file that waits, or None. How many words a new file at a place may bring, and how many more there surely is room for.
+        self.waiting, self.brought, self.spare = None, {}, 0
+        for name, (size, words) in dump.files.items():
+            self._take(name, size, words)
+
+    def _take(self, name, size, given):
+        self.numbers += 1
+        file = self.files[name] = File(name, size, self.numbers, given)
+        self.everything.add(file)
+        self.stale.add(file)
+        return file
+
+    # What is known of words.
+
+    def is_derived(self, word):
+        """Nobody gives a file such a word: it comes from the name, the size or the bytes. Its head can't be declared."""
+        head = head_of(word)
+        return head is not None and head not in self.declared
+
+    def is_known(self, word):
+        """Whether a formula may have it."""
+        if is_plain(word) or word in self.declared:
+            return word in self.declared
+        self._refresh()
+        return word in self.having or word in self.axioms or any(head_of(left) == word for left in self.axioms)
+
+    def entailed(self, words):
+        """These words, and all that they entail."""
+        found, left = set(), list(words)
+        while left:
+            word = left.pop()
+            if word not in found:
+                found.add(word)
+                left += self.axioms.get(word, ())
+                left += self._by_itself(word)
+        return found
+
+    def _by_itself(self, word):
+        """What a word entails without an axiom: a value its head, and a declared test the weaker ones."""
+        test = TEST.fullmatch(word)
+        if not test:
+            head = head_of(word)
+            return [head] if head else []
+        weaker = []
+        for other in self.declared:
+            of = TEST.fullmatch(other)
+            if of and of[1] == test[1] and (int(of[2]) < int(test[2]) if of[1] == b">=" else int(of[2]) > int(test[2])):
+                weaker.append(other)
+        return weaker
+
+    # What is known of files.
+
+    def _refresh(self):
+        """Asks for the words of the files that were changed."""
+        self.settle()
+        if not self.stale:
+            return
+        files = list(self.stale)
+        for file in files:
+            self.program.send(b"props", file.name)
+        for file in files:
+            self._index(file, frozenset(text for _, text in self.program.receive().body))
+        self.stale.clear()
+
+    def _index(self, file, words):
+        for word in file.words - words:
+            self.having[word].discard(file)
+            if not self.having[word]:
+                del self.having[word]
+                if word in self.declared:
+                    self.unseen.add(word)
+        for word in words - file.words:
+            self.having.setdefault(word, set()).add(file)
+        file.words = words
+
+    def extension(self, place):
+        """The files of a place."""
+        self._refresh()
+        found = self.everything
+        for step in place.steps:
+            found = found & step.files(self)
+        return found
+
+    def is_here(self, file, place):
+        if place.words is not None and file.given.issuperset(place.words):
+            return True
+        self._refresh()
+        return all(step.meets(file) for step in place.steps)
+
+    def listing(self, place, with_derived=False):
+        """The words and the files that a place shows: the words of the program's listing, or those of them that files were given; the
+        declared words that no file has, where they belong; and the files that none of the shown words covers."""
+        here = self.extension(place)
+        found = self._increments(place, here)
+        words = [word for word in found if with_derived or not self.is_derived(word)]
+        covered = set().union(*(self.having.get(word, ()) for word in words))
+        # A word's folder goes before a file of the same name, which `:all` shows.
+        files = [file for file in here - covered if file.name not in self.declared]
+        unused = self._unused_at(place, found)
+        self.unseen.difference_update(unused)
+        return sorted(words + unused), sorted(files, key=lambda file: file.name)
+
+    def _increments(self, place, here):
+        if not here:
+            return []
+        if not place.steps:
+            reply = self.program.ls()
+        else:
+            reply = self._told((b"cd", place.text), (b"ls",), (b"cd", b"/"))[1]
+        return [text for letter, text in reply.body if letter == b"d"]
+
+    def _told(self, *commands):
+        """The replies to commands that change nothing, sent ahead of each other. Raises the first refusal."""
+        for command in commands:
+            self.program.send(*command)
+        replies, refusal = [], None
+        for _ in commands:
+            try:
+                replies.append(self.program.receive())
+            except Refused as refused:
+                refusal = refusal or refused
+        if refusal:
+            raise refusal
+        return replies
+
+    def _unused_at(self, place, shown):
+        """The declared words that no file has and that belong to a place of words: they entail what it says, and no other word that is shown
+        there. So a listing would show them if a file had each, and steps along listings lead to each."""
+        if place.words is None:
+            return []
+        said, unused = self.entailed(place.words), self.declared - self.having.keys()
+        entailed = {word: self.entailed([word]) for word in unused - said}
+        found = {word for word, entails in entailed.items() if entails.issuperset(place.words)}
+        covers = found.union(shown)
+        return [word for word in found if entailed[word].isdisjoint(covers - {word})]
+
+    def counts(self):
+        self.settle()
+        return {name: int(count) for name, count in (text.split() for _, text in self.program.stat().body)}
+
+    def content(self, file):
+        if file is self.waiting:
+            return b""
+        content = self.contents.get(file)
+        if content is None:
+            content = self.program.cat(file.name).body
+            self._keep(file, content)
+        else:
+            self.contents.move_to_end(file)
+        return content
+
+    def _keep(self, file, content):
+        self._drop(file)
+        self.contents[file] = content
+        self.content_bytes += len(content)
+        while self.content_bytes > KEPT:
+            self._drop(next(iter(self.contents)))
+
+    def _drop(self, file):
+        self.content_bytes -= len(self.contents.pop(file, b""))
+
+    # Changes.
+
+    def _begin_change(self):
+        """What brings words brings no more than a file has."""
+        self.settle()
+        self.spare -= WORDS_LIMIT
+
+    @contextlib.contextmanager
+    def _at(self, place):
+        """Goes to a place, and back to the root. Nothing is sent before the reply to `cd`: where it is refused, a command behind it would
+        be carried out at the root."""
+        if place.steps:
+            self.program.cd(place.text)
+        try:
+            yield
+        finally:
+            if place.steps:
+                self.program.cd(b"/")
+
+    def _words_given(self, place):
+        """The words that a file gets by being made here."""
+        if place.words is None:
+            raise OSError(errno.EPERM, "not a place of words")
+        return [word for word in place.words if not word.endswith(b":") and not self.is_derived(word)]
+
+    def begin(self, name, place):
+        """A new file at a place, which is about to be written."""
+        self.settle()
+        given = self._words_given(place)
+        if not self._is_sure(name, place, given):
+            return self.create(name, place)
+        # What it may bring is no more there for others.
+        self.spare -= self._most_brought(place, given, name)
+        self.waiting = self._take(name, 0, given)
+        return self.waiting
+
+    def settle(self):
+        """Makes the file that waits, without bytes. Where the program has ended it still waits, so that no later call takes it for made."""
+        if file := self.waiting:
+            try:
+                self.program.create(file.name, *sorted(file.given))
+            except Refused as refused:
+                self.waiting, file.refusal = None, refused
+                self._forget(file)
+                raise
+            self.waiting = None
+
+    def _is_sure(self, name, place, given):
+        """Whether the program would make an empty file with these words, by `create` or by `add`."""
+        if name in self.files or len(self.files) >= self.limits.files or not len(place.words) == len(given) <= GIVEN_LIMIT:
+            return False
+        if len(b" ".join((b"add", name, b"%d" % self.limits.file_bytes, *given))) > LINE:
+            return False
+        count = self._most_brought(place, given, name)
+        if self.spare < count:
+            self.spare = self.limits.words - self.counts()[b"known"]
+        return count <= min(WORDS_LIMIT, self.spare)
+
+    def _most_brought(self, place, given, name):
+        """No new file with these words and this name has more words, as long as nothing is declared."""
+        ending = b"ext:" + name.rpartition(b".")[2]
+        key = place.words, ending if ending in self.axioms else b"ext:?"
+        if key not in self.brought:
+            tests = [word for word in self.declared if not is_plain(word) and not head_of(word)]
+            is_declared = all(word in self.declared or head_of(word) in self.declared for word in given)
+            words = [*given, *tests, b"size:empty", key[1]]
+            self.brought[key] = len(self.entailed(words)) if is_declared else WORDS_LIMIT + 1
+        return self.brought[key]
+
+    def create(self, name, place):
+        """Makes an empty file at a place."""
+        self._begin_change()
+        given = self._words_given(place)
+        try:
+            self.program.create(name, *given)
+        except NotSent:
+            # The line would be too long; at its place it has the name alone.
+            with self._at(place):
+                self.program.create(name)
+        file = self._take(name, 0, given)
+        # A head, and a word that comes from the file itself, are not given: without them it would be elsewhere.
+        if len(given) < len(place.words) and not self.is_here(file, place):
+            self.remove(file)
+            raise OSError(errno.EPERM, "a file that is made here would not be here")
+        return file
+
+    def write(self, file, content):
+        is_new = file is self.waiting
+        if is_new and content:
+            self._add(file, content)
+        else:
+            self._begin_change()
+            if not is_new:
+                self.program.write(file.name, content)
+        file.size = len(content)
+        self.stale.add(file)
+        self._keep(file, content)
+
+    def _add(self, file, content):
+        self.spare -= WORDS_LIMIT
+        try:
+            self.program.add(file.name, content, *sorted(file.given))
+        except Refused:
+            # It is there, as it was said to be, and what was written is not.
+            self.settle()
+            raise
+        self.waiting = None
+
+    def remove(self, file):
+        self._begin_change()
+        self.program.rm(file.name)
+        self._forget(file)
+
+    def _forget(self, file):
+        self._index(file, frozenset())
+        self._drop(file)
+        self.stale.discard(file)
+        self.everything.discard(file)
+        del self.files[file.name]
+        file.is_gone = True
+
+    def rename(self, file, name):
+        self._begin_change()
+        self.program.rename(file.name, name)
+        del self.files[file.name]
+        file.name = name
+        self.files[name] = file
+        self.stale.add(file)
+
+    def replace(self, file, content, other):
+        """`other` gets these bytes, and `file` its name; what was `other` is gone. A stop between leaves the new bytes, and the old name
+        as well."""
+        self._begin_change()
+        self.program.write(other.name, content)
+        self.program.rm(file.name)
+        name = other.name
+        self._forget(other)
+        del self.files[file.name]
+        file.name, file.size, file.given = name, len(content), other.given
+        self.files[name] = file
+        self.stale.add(file)
+        self._keep(file, content)
+
+    def move(self, file, source, target):
+        """The file loses the words of one place, and gains those of the other."""
+        self._begin_change()
+        with self._at(source):
+            self.program.mv(file.name, target.text)
+        file.given = frozenset()
+        self.stale.add(file)
+
+    def declare(self, word, place):
+        if len(word) > NAME_LIMIT:
+            raise OSError(errno.ENAMETOOLONG, "a word is as long as a name")
+        if not is_word(word):
+            raise OSError(errno.EINVAL, "no word")
+        if place.words is None or not all(is_plain(word) for word in place.words):
+            raise OSError(errno.EPERM, "not a place of plain words")
+        # A name would then stand for two things.
+        if word in self.files:
+            raise OSError(errno.EEXIST, "a file has this name")
+        self._begin_change()
+        with self._at(place):
+            self.program.mkdir(word)
+        self.declared.add(word)
+        self.brought.clear()
+        if place.words:
+            self.axioms[word] = set(place.words)
+
+    def take_back(self, word, place):
+        """Declares a word no more that no file has, and that belongs to a place. Another one that nothing here has is left as it is.
+
+        Words below it go with it where they lost their last file and were in no listing since: while all files of a folder had such a
+        word, it narrowed nothing, so that who removed these files never saw it.
+        """
+        inner = place.step(word)
+        if self.extension(inner):
+            raise OSError(errno.ENOTEMPTY, "files are here")
+        below = self._unused_at(inner, ())
+        if not self.unseen.issuperset(below):
+            raise OSError(errno.ENOTEMPTY, "words are here")
+        if word not in self._unused_at(place, self._increments(place, self.extension(place))):
+            return
+        for other in below:
+            self.take_back(other, inner)
+        self._begin_change()
+        if any(word in rights or left != word and head_of(left) == word for left, rights in self.axioms.items()):
+            raise OSError(errno.ENOTEMPTY, "an axiom names it")
+        for right in sorted(self.axioms.get(word, ())):
+            self.program.unaxiom(word, right)
+            self.axioms[word].discard(right)
+        self.program.rmdir(word)
+        self.axioms.pop(word, None)
+        self.declared.discard(word)
+        self.brought.clear()

@@ -1,0 +1,701 @@
+"""What a file system is asked, answered over an image: names, attributes, and what is written until it is whole.
+
+A folder is a place. A file stands in each folder that it meets, and has there an inode of its own, so that `mv music/x .` is a change and
+an editor, which sees two links, writes in place. What is written is kept as a draft, which all writers of a file share; one `write` command
+takes it whole into the image when somebody closes the file or syncs it. Who opened the file at the same path sees the draft, as
+programs expect of each other; at other paths there are the bytes of the image, so that `cp music/x x` reads them though it emptied its
+own target.
+
+It is for one thread. An `OSError` is the answer where something is not to be.
+"""
+import errno
+import functools
+import hashlib
+import os
+import stat
+import sys
+import time
+
+from lisfs.client import Ended, NotAReply, NotSent, Refused
+from lisfs.formulas import FILE_NAME, NAME_LIMIT, PART_LIMIT, ROOT, NotAFormula, TooLarge, Word, formula, head_of
+from lisfs.mount.kernel import KEEP_CACHE, NO_FLUSH, Attributes, Entry, Space
+from lisfs.showing import write_line
+
+ALL, BY = b":all", b":by"
+# What a folder shows: words that files were given, these and derived ones, or no words and every file.
+GIVEN, DERIVED, FILES = b"", BY, ALL
+FOLDER_KIND, FILE_KIND = 4, 8
+# For so long the kernel may keep attributes, since it is told when they change.
+KEPT_SECONDS = 3_600
+NO_REPLACEMENT = 1
+LINKS, FOLDER_LINKS = 2, 1
+SPREAD, INODES = 0x9E3779B97F4A7C15, (1 << 63) - 1
+
+ERRORS = {number: kind for kind, numbers in (
+    (errno.EINVAL, (1, 5, 15)), (errno.ENAMETOOLONG, (2, 7)), (errno.EIO, (3, 4)), (errno.ENOENT, (6, 10, 12, 17)), (errno.EPERM, (8, 14, 25)),
+    (errno.EEXIST, (9, 11, 16)), (errno.ENOTEMPTY, (13,)), (errno.EMLINK, (18, 19)), (errno.EFBIG, (20,)), (errno.ENOSPC, (21, 22, 23, 24)),
+) for number in numbers}
+
+
+def fault(number, why):
+    return OSError(number, why)
+
+
+def answering(call):
+    """What the program says, as an error of the system."""
+    @functools.wraps(call)
+    def answer(*given):
+        try:
+            return call(*given)
+        except Refused as refused:
+            raise fault(ERRORS.get(refused.number, errno.EIO), str(refused)) from None
+        except (TooLarge, NotSent) as error:
+            raise fault(errno.ENAMETOOLONG, str(error)) from None
+        except NotAFormula as error:
+            raise fault(errno.ENOENT, str(error)) from None
+        except NotAReply as error:
+            # No later reply can be told, so that nothing more is to be asked.
+            given[0].image.program.kill()
+            raise fault(errno.EIO, str(error)) from None
+        except Ended as end:
+            raise fault(errno.EIO, str(end)) from None
+    return answer
+
+
+class Looks:
+    """What an image doesn't keep of a file or a folder: it lives for one mount."""
+
+    def __init__(self, mode, user, group, now):
+        self.mode, self.user, self.group = mode, user, group
+        self.accessed = self.modified = self.changed = now
+
+
+class Draft:
+    """What was written to a file and is not in the image yet."""
+
+    def __init__(self):
+        # The bytes, once somebody wrote. Whether they are other ones than those of the image; whether all that happened is that
+        # somebody emptied it by opening it; and whether they were refused since the last change.
+        self.content, self.is_dirty, self.is_emptied, self.is_refused = None, False, False, False
+        self.writers, self.modified = 0, None
+
+    def is_written(self, now):
+        self.is_dirty, self.is_emptied, self.is_refused, self.modified = True, False, False, now
+
+
+class Folder:
+    """A place under one path. `:by/music` and `music/:by` show the same, and are two: a folder stands in one other."""
+
+    def __init__(self, number, path, place, kind):
+        self.number, self.key, self.place, self.kind, self.lookups = number, path, place, kind, 0
+        self.inode = inode_of(path)
+
+
+class Leaf:
+    """A file as it stands in one folder."""
+
+    def __init__(self, number, folder, file):
+        self.number, self.key, self.file, self.lookups = number, (folder.key, file), file, 0
+        self.inode = leaf_inode(folder, file)
+        # How many have it open to write, and which bytes of the file the kernel may have kept.
+        self.writers, self.version = 0, -1
+
+
+class Handle:
+    def __init__(self, node, writes):
+        self.node, self.file, self.writes = node, node.file, writes
+
+
+class Shelf:
+    """An open folder: what it showed when it was read from its beginning."""
+
+    def __init__(self, folder):
+        self.folder, self.entries = folder, []
+
+
+def inode_of(path):
+    """The same each time, without a table of all paths that were ever looked at."""
+    return int.from_bytes(hashlib.blake2b(path, digest_size=8).digest(), "little") & INODES
+
+
+def leaf_inode(folder, file):
+    return (folder.inode + file.number * SPREAD) & INODES
+
+
+def is_open_in(process, inode):
+    """Whether a process has a file of this inode open to write. It is asked by the numbers alone: a look at the file would be a question to
+    us."""
+    folder = f"/proc/{process}/fdinfo"
+    try:
+        for number in os.listdir(folder):
+            with open(os.path.join(folder, number), encoding="ascii") as info:
+                rows = dict(row.rstrip().partition(":\t")[::2] for row in info)
+            if rows.get("ino") == str(inode) and int(rows["flags"], 8) & os.O_ACCMODE != os.O_RDONLY:
+                return True
+    except OSError:
+        pass
+    return False
+
+
+class Tree:
+    """The modes with which folders and files begin are such that others than who mounts see nothing, where others may look at all."""
+
+    def __init__(self, image, with_derived=False, now=None, others=False):
+        self.image, self.user, self.group = image, os.getuid(), os.getgid()
+        self.folder_mode, self.file_mode = (0o700, 0o600) if others else (0o755, 0o644)
+        self.touched = now or time.time_ns()
+        root = Folder(1, b"", ROOT, DERIVED if with_derived else GIVEN)
+        root.lookups = 1
+        self.nodes, self.keys, self.looks, self.handles, self.numbers = {1: root}, {root.key: root}, {}, {}, 1
+        for file in image.everything:
+            self._begin(file, self.file_mode, self.user, self.group)
+        # Is told the number of each node whose attributes are others than those that were handed out.
+        self.changed = lambda number: None
+        # The thread that asks, where it is known, and of each folder whose attributes were handed out since the last change the thread
+        # that has them. 0 is none that is known, or several.
+        self.asker, self.handed = 0, {}
+        # Whether something that was written is not in the image, and nobody was told by an error.
+        self.has_lost = False
+
+    def _begin(self, file, mode, user, group):
+        file.looks, file.draft, file.handles, file.nodes = Looks(mode, user, group, self.touched), None, 0, set()
+        # What it had when it was removed while it was open; and a count of its changes.
+        file.kept, file.version = None, 0
+
+    # Nodes.
+
+    def _folder(self, number):
+        node = self.nodes[number]
+        if not isinstance(node, Folder):
+            raise fault(errno.ENOTDIR, "a file")
+        return node
+
+    def _number(self):
+        self.numbers += 1
+        return self.numbers
+
+    def _enter(self, folder, name):
+        """The node of the folder `name` in a folder."""
+        path = folder.key + b"/" + name
+        node = self.keys.get(path)
+        if node is None:
+            kind, place = (name, folder.place) if name in (ALL, BY) else (folder.kind, folder.place.step(name))
+            node = Folder(self._number(), path, place, kind)
+            self.keys[node.key] = self.nodes[node.number] = node
+        node.lookups += 1
+        return node
+
+    def _leaf(self, folder, file):
+        node = self.keys.get((folder.key, file))
+        if node is None:
+            node = Leaf(self._number(), folder, file)
+            self.keys[node.key] = self.nodes[node.number] = node
+            file.nodes.add(node)
+        node.lookups += 1
+        return node
+
+    def forget(self, number, count):
+        node = self.nodes.get(number)
+        if node is None:
+            return
+        node.lookups -= count
+        if node.lookups <= 0 and number != 1:
+            del self.nodes[number]
+            if self.keys.get(node.key) is node:
+                del self.keys[node.key]
+            if isinstance(node, Leaf):
+                node.file.nodes.discard(node)
+
+    def _file_at(self, folder, name):
+        """The file of this name in a folder, or None."""
+        if folder.kind != FILES and name in self.image.declared:
+            return None
+        file = self.image.files.get(name)
+        return file if file and self.image.is_here(file, folder.place) else None
+
+    def _is_folder(self, folder, name):
+        """Whether a folder opens under this name: a formula of words that are known, or a value of a declared head."""
+        if folder.kind == FILES:
+            return False
+        if name in (ALL, BY) or name in self.image.declared:
+            return True
+        if FILE_NAME.fullmatch(name):
+            # A plain word that is not declared, or none.
+            return False
+        try:
+            read = formula(name)
+        except NotAFormula:
+            return False
+        if isinstance(read, Word) and head_of(name) in self.image.declared:
+            return True
+        return all(self.image.is_known(word) for word in read.words)
+
+    # Attributes.
+
+    def _entry(self, node):
+        if isinstance(node, Folder):
+            looks = self._looks_of(node)
+            found = Attributes(node.inode, 0, 0, looks.accessed, looks.modified, looks.changed, stat.S_IFDIR | looks.mode, FOLDER_LINKS,
+                               looks.user, looks.group)
+            self.handed[node.number] = self.asker if self.handed.get(node.number, self.asker) == self.asker else 0
+            return Entry(node.number, found, KEPT_SECONDS)
+        file, looks, draft = node.file, node.file.looks, self._draft_of(node)
+        size = file.size if draft is None or draft.content is None else len(draft.content)
+        modified = looks.modified if draft is None or draft.modified is None else draft.modified
+        found = Attributes(node.inode, size, -(-size // 4096) * 8, looks.accessed, modified, max(looks.changed, modified),
+                           stat.S_IFREG | looks.mode, 0 if file.is_gone else LINKS, looks.user, looks.group)
+        # What writers at other paths do to a draft is not told write by write.
+        return Entry(node.number, found, KEPT_SECONDS if draft is None or draft.writers == node.writers else 0)
+
+    def _looks_of(self, node):
+        """Of a file, or of a folder, whose time may be set, and is another one with the next change: any may be one of what it shows."""
+        if isinstance(node, Leaf):
+            return node.file.looks
+        looks = self.looks.get(node.key) or Looks(self.folder_mode, self.user, self.group, self.touched)
+        if looks.changed < self.touched:
+            looks.modified = looks.changed = self.touched
+        return looks
+
+    def _draft_of(self, node):
+        """The draft as far as it is seen at this path."""
+        return node.file.draft if node.writers else None
+
+    @answering
+    def lookup(self, number, name):
+        folder = self._folder(number)
+        if file := self._file_at(folder, name):
+            return self._entry(self._leaf(folder, file))
+        if self._is_folder(folder, name):
+            return self._entry(self._enter(folder, name))
+        if NAME_LIMIT < len(name) and (len(name) > PART_LIMIT or FILE_NAME.fullmatch(name)):
+            raise fault(errno.ENAMETOOLONG, "a name has at most 60 bytes")
+        raise fault(errno.ENOENT, "no such name")
+
+    @answering
+    def getattr(self, number):
+        return self._entry(self.nodes[number])
+
+    @answering
+    def setattr(self, number, changes, handle=None):
+        node = self.nodes[number]
+        if changes.size is not None:
+            self._resize(node, changes.size, handle)
+        looks = self._looks_of(node)
+        for name in ("mode", "user", "group", "accessed", "modified"):
+            if (value := getattr(changes, name)) is not None:
+                setattr(looks, name, value)
+        looks.changed = time.time_ns()
+        if isinstance(node, Leaf):
+            draft = self._draft_of(node)
+            if changes.modified is not None and draft and draft.modified is not None:
+                draft.modified = changes.modified
+            self._tell(node.file)
+        else:
+            self.looks[node.key] = looks
+            self.changed(number)
+        return self._entry(node)
+
+    def _tell(self, file, but=None):
+        """The kernel knows itself what it did at one path, and is told of the others."""
+        for node in file.nodes:
+            if node is not but:
+                self.changed(node.number)
+
+    def _now_changed(self, folder=None):
+        """What folders show is something else, in any of them. Of the one in which a call makes or removes a name the kernel knows it by
+        itself, from the answer on. An older answer that another thread has not taken in yet would then count as a newer one."""
+        self.touched, kept = time.time_ns(), {}
+        for number, asker in self.handed.items():
+            if folder and number == folder.number and asker and asker == self.asker:
+                kept[number] = asker
+            else:
+                self.changed(number)
+        self.handed = kept
+
+    @answering
+    def statfs(self):
+        counts, limits = self.image.counts(), self.image.limits
+        return Space(limits.blocks, counts[b"free"], limits.files, limits.files - counts[b"files"], 4096, NAME_LIMIT)
+
+    # Folders.
+
+    @answering
+    def opendir(self, number):
+        handle = self._number()
+        self.handles[handle] = Shelf(self._folder(number))
+        return handle
+
+    @answering
+    def readdir(self, handle, offset):
+        """All entries. From the beginning they are made anew, and later ones are of that list, whatever is removed meanwhile."""
+        shelf = self.handles[handle]
+        if not offset or not shelf.entries:
+            shelf.entries = self._entries(shelf.folder)
+        return shelf.entries
+
+    def _entries(self, folder):
+        if folder.kind == FILES:
+            words, files = [], sorted(self.image.extension(folder.place), key=lambda file: file.name)
+        else:
+            words, files = self.image.listing(folder.place, folder.kind == DERIVED)
+        entries = [(folder.inode, FOLDER_KIND, b"."), (inode_of(folder.key.rpartition(b"/")[0]), FOLDER_KIND, b"..")]
+        entries += [(inode_of(folder.key + b"/" + word), FOLDER_KIND, word) for word in words]
+        return entries + [(leaf_inode(folder, file), FILE_KIND, file.name) for file in files]
+
+    def releasedir(self, handle):
+        del self.handles[handle]
+
+    @answering
+    def fsyncdir(self):
+        """What a folder shows is in the image then, also a new file that somebody is about to write."""
+        self.image.settle()
+
+    @answering
+    def mkdir(self, number, name, mode, caller):
+        folder = self._folder(number)
+        if folder.kind == FILES:
+            raise fault(errno.EPERM, "no words are here")
+        if name in (ALL, BY):
+            raise fault(errno.EEXIST, "it is here already")
+        self.image.declare(name, folder.place)
+        self._now_changed()
+        node = self._enter(folder, name)
+        self.looks[node.key] = Looks(mode & 0o7777, caller.user, caller.group, self.touched)
+        return self._entry(node)
+
+    @answering
+    def rmdir(self, number, name):
+        folder = self._folder(number)
+        if name in (ALL, BY):
+            raise fault(errno.EPERM, "it is everywhere")
+        if self._file_at(folder, name):
+            raise fault(errno.ENOTDIR, "a file")
+        if not self._is_folder(folder, name):
+            raise fault(errno.ENOENT, "no such folder")
+        self.image.take_back(name, folder.place)
+        path = folder.key + b"/" + name
+        self.looks.pop(path, None)
+        # To the kernel this node is dead, and a folder that opens at its path again is another one.
+        self.keys.pop(path, None)
+        self._now_changed()
+
+    # Names of files.
+
+    def _new_name(self, folder, name):
+        if name in (ALL, BY) or name in self.image.declared:
+            raise fault(errno.EEXIST if folder.kind == FILES else errno.EISDIR, "a folder has this name")
+        if not FILE_NAME.fullmatch(name):
+            raise fault(errno.EINVAL, "a name has letters, digits and _ - . + @")
+        if len(name) > NAME_LIMIT:
+            raise fault(errno.ENAMETOOLONG, "a name has at most 60 bytes")
+
+    def _made(self, make, folder, name, mode, caller):
+        self._new_name(folder, name)
+        file = make(name, folder.place)
+        self._now_changed(folder)
+        self._begin(file, mode & 0o7777, caller.user, caller.group)
+        return self._leaf(folder, file)
+
+    @answering
+    def mknod(self, number, name, mode, caller):
+        if stat.S_IFMT(mode) not in (0, stat.S_IFREG):
+            raise fault(errno.EPERM, "an image keeps files alone")
+        return self._entry(self._made(self.image.create, self._folder(number), name, mode, caller))
+
+    @answering
+    def create(self, number, name, flags, mode, caller):
+        folder = self._folder(number)
+        file = self._file_at(folder, name)
+        if file and flags & os.O_EXCL:
+            raise fault(errno.EEXIST, "it is here already")
+        make = self.image.begin if flags & os.O_ACCMODE != os.O_RDONLY else self.image.create
+        node = self._leaf(folder, file) if file else self._made(make, folder, name, mode, caller)
+        handle = self._opened(node, flags)
+        return self._entry(node), handle
+
+    @answering
+    def unlink(self, number, name):
+        folder = self._folder(number)
+        file = self._found(folder, name)
+        kept = self._kept(file)
+        self.image.remove(file)
+        self._is_gone(file, kept, folder)
+
+    def _found(self, folder, name):
+        file = self._file_at(folder, name)
+        if file is None:
+            is_folder = self._is_folder(folder, name)
+            raise fault(errno.EPERM if is_folder else errno.ENOENT, "a folder" if is_folder else "no such file")
+        return file
+
+    def _kept(self, file):
+        """What somebody who has the file open may still read of it when it is gone."""
+        return self.image.content(file) if file.handles else b""
+
+    def _is_gone(self, file, kept, folder=None):
+        file.kept = kept
+        self._now_changed(folder)
+        self._tell(file)
+
+    @answering
+    def rename(self, number, old, target_number, new, flags):
+        source, target = self._folder(number), self._folder(target_number)
+        if flags & ~NO_REPLACEMENT:
+            raise fault(errno.EINVAL, "not this kind of renaming")
+        file, other = self._found(source, old), self._file_at(target, new)
+        if other and flags & NO_REPLACEMENT:
+            raise fault(errno.EEXIST, "it is here already")
+        if other and other is not file:
+            self._replace(file, other)
+        else:
+            self._move(file, source.place, target, new)
+        self._now_changed()
+        self._tell(file)
+
+    def _replace(self, file, other):
+        """The other file gets the bytes, as far as they were written, and keeps its words. Who has this one open goes on with them."""
+        draft, kept = file.draft, self._kept(other)
+        content = bytes(draft.content) if draft and draft.content is not None else self.image.content(file)
+        self.image.replace(file, content, other)
+        self._is_gone(other, kept)
+        if draft and draft.is_dirty:
+            self._is_stored(file, None)
+
+    def _move(self, file, place, target, new):
+        """A stop between the two commands that this may take leaves the file with its new name, where it was."""
+        old, words = file.name, [at.words and set(at.words) for at in (place, target.place)]
+        is_elsewhere = place.text != target.place.text and words[0] != words[1]
+        if is_elsewhere and None in words:
+            raise fault(errno.EPERM, "not a place of words")
+        if new != old:
+            self._new_name(target, new)
+            self.image.rename(file, new)
+        if is_elsewhere:
+            try:
+                self.image.move(file, place, target.place)
+            except Refused:
+                if new != old:
+                    self.image.rename(file, old)
+                raise
+
+    @answering
+    def link(self, number, target_number, name):
+        """A second folder of a file is more words."""
+        file, target = self.nodes[number].file, self._folder(target_number)
+        if name != file.name:
+            raise fault(errno.EPERM, "a file has one name")
+        if self.image.is_here(file, target.place):
+            raise fault(errno.EEXIST, "it is here already")
+        self.image.move(file, ROOT, target.place)
+        self._now_changed()
+        self._tell(file)
+        return self._entry(self._leaf(target, file))
+
+    # Bytes of files.
+
+    @answering
+    def open(self, number, flags):
+        node = self.nodes[number]
+        if node.file.is_gone:
+            raise fault(errno.ENOENT, "it was removed")
+        handle = self._opened(node, flags)
+        if self.handles[handle].writes:
+            return handle, 0
+        is_kept = node.version == node.file.version and not node.writers
+        node.version = node.file.version
+        return handle, NO_FLUSH | (KEEP_CACHE if is_kept else 0)
+
+    def _opened(self, node, flags):
+        handle = self._number()
+        writes = bool(flags & os.O_ACCMODE != os.O_RDONLY or flags & os.O_TRUNC)
+        file = node.file
+        self.handles[handle] = Handle(node, writes)
+        file.handles += 1
+        if writes:
+            file.draft = file.draft or Draft()
+            file.draft.writers += 1
+            node.writers += 1
+            if file.draft.writers != node.writers:
+                # It is seen here from now on, and written at two paths.
+                self._tell(file)
+            if flags & os.O_TRUNC:
+                self._empty(node)
+        return handle
+
+    def _empty(self, node):
+        file, draft = node.file, node.file.draft
+        was_dirty = draft.is_dirty
+        if file.size if draft.content is None else draft.content:
+            draft.content = bytearray()
+            draft.is_written(time.time_ns())
+            draft.is_emptied = not was_dirty
+            self._is_written(node)
+        else:
+            # Nothing to store, and a time that programs look at.
+            file.looks.modified = time.time_ns()
+            self._tell(file)
+
+    def _is_written(self, node):
+        node.file.version += 1
+        for other in node.file.nodes:
+            if other.writers and other is not node:
+                self.changed(other.number)
+
+    def _must_be_made(self, file):
+        """Raises what kept a new file from being made. Nothing of it is kept, so that no call may say so."""
+        if file.refusal:
+            if file.draft:
+                file.draft.is_refused = True
+            raise file.refusal
+
+    def _content(self, node):
+        """The bytes as they are seen at this path."""
+        draft, file = self._draft_of(node), node.file
+        self._must_be_made(file)
+        if draft and draft.content is not None:
+            return draft.content
+        return file.kept if file.is_gone else self.image.content(file)
+
+    def _drafted(self, file):
+        """The bytes that are written to."""
+        self._must_be_made(file)
+        if file.draft.content is None:
+            file.draft.content = bytearray(file.kept if file.is_gone else self.image.content(file))
+        return file.draft.content
+
+    @answering
+    def read(self, handle, offset, size):
+        return self._content(self.handles[handle].node)[offset:offset + size]
+
+    @answering
+    def write(self, handle, offset, data, flags):
+        node = self.handles[handle].node
+        file, content = node.file, self._drafted(node.file)
+        if flags & os.O_APPEND:
+            offset = len(content)
+        self._fits(offset + len(data))
+        if offset > len(content):
+            content.extend(bytes(offset - len(content)))
+        content[offset:offset + len(data)] = data
+        file.draft.is_written(time.time_ns())
+        self._is_written(node)
+        return len(data)
+
+    def _fits(self, size):
+        if size > self.image.limits.file_bytes:
+            raise fault(errno.EFBIG, "a file has at most so many bytes")
+
+    def _resize(self, node, size, handle):
+        """Through an open file the draft changes, as by a write. By its path the file is changed in the image at once, with what was
+        written to it."""
+        if not isinstance(node, Leaf):
+            raise fault(errno.EISDIR, "a folder")
+        self._fits(size)
+        if handle is not None and self.handles[handle].writes:
+            return self._cut(node, size)
+        temporary = self.handles[self._opened(node, os.O_WRONLY)]
+        try:
+            self._cut(node, size)
+            self._commit(node)
+        finally:
+            # A draft of its own is dropped where it was refused.
+            self._end_writing(temporary)
+
+    def _cut(self, node, size):
+        content = self._drafted(node.file)
+        if size < len(content):
+            del content[size:]
+        else:
+            content.extend(bytes(size - len(content)))
+        node.file.draft.is_written(time.time_ns())
+        self._is_written(node)
+
+    @answering
+    def flush(self, handle, process):
+        """Somebody closes the file. A shell opens the file of `> x`, makes it the output of what it runs, and closes the first of the two,
+        before a byte is written: that is no end of the writing."""
+        handle = self.handles[handle]
+        self._must_be_made(handle.file)
+        if handle.writes and self._is_unstored(handle.file):
+            draft = handle.file.draft
+            if draft.is_dirty and not draft.is_emptied or not is_open_in(process, handle.node.inode):
+                self._commit(handle.node)
+
+    def _is_unstored(self, file):
+        """Whether it has other bytes than in the image, or isn't there yet."""
+        return file.draft.is_dirty or file is self.image.waiting
+
+    @answering
+    def fsync(self, handle):
+        node = self.handles[handle].node
+        self._must_be_made(node.file)
+        if node.file.draft and self._is_unstored(node.file):
+            self._commit(node)
+
+    def _commit(self, node):
+        """Stores the draft whole. Where it is refused it stays, and can be tried again."""
+        file = node.file
+        self._must_be_made(file)
+        if not file.is_gone:
+            try:
+                self.image.write(file, bytes(file.draft.content or b""))
+            except Refused:
+                file.draft.is_refused = True
+                raise
+        self._is_stored(file, node)
+
+    def _is_stored(self, file, node):
+        file.looks.modified = file.draft.modified or file.looks.modified
+        file.draft.is_dirty = file.draft.is_emptied = file.draft.is_refused = False
+        file.version += 1
+        self._tell(file, node)
+
+    @answering
+    def release(self, handle):
+        """Nobody has this handle any more."""
+        self._end_writing(self.handles.pop(handle))
+
+    def _end_writing(self, handle):
+        file, draft, node = handle.file, handle.file.draft, handle.node
+        file.handles -= 1
+        if not handle.writes:
+            return
+        node.writers -= 1
+        draft.writers -= 1
+        if draft.writers:
+            if not node.writers:
+                # The image's bytes are seen here again.
+                self.changed(node.number)
+            return
+        try:
+            # What was written through memory, behind the last close. What a close was refused is dropped: its caller was told.
+            if self._is_unstored(file) and not draft.is_refused:
+                self._commit(node)
+        except Refused as refused:
+            self._lose(file, f"what was written behind the last close is lost: {refused}")
+        finally:
+            if file.is_gone and draft.content is not None:
+                file.kept = bytes(draft.content)
+            file.draft = None
+            if draft.is_dirty:
+                file.version += 1
+                self._tell(file)
+
+    def _lose(self, file, why):
+        self.has_lost = True
+        write_line(sys.stderr, f"mount: {file.name.decode()}: {why}")
+
+    def finish(self):
+        """Stores what was written and not closed, when nobody asks any more, as a close would. Tells each file that can't be stored."""
+        self.changed = lambda number: None
+        written = {handle.file: handle.node for handle in self.handles.values() if isinstance(handle, Handle) and handle.writes}
+        for file, node in written.items():
+            if file.refusal or not file.is_gone and self._is_unstored(file):
+                try:
+                    self._store(node)
+                except OSError as error:
+                    self._lose(file, f"what was written and not closed is lost: {error.strerror}")
+
+    @answering
+    def _store(self, node):
+        self._commit(node)

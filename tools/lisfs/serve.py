@@ -1,0 +1,435 @@
+"""Serves an image to up to eight clients at a time over a Unix socket, each as if it had `lisfs run IMAGE` to itself.
+
+usage: tools/serve IMAGE SOCKET
+       tools/talk SOCKET < session
+
+A client is a connection to the socket. It sends what it would give to `run`, and gets the replies of `run`. It begins at the root and has a
+place of its own; the files are the same for all. It differs from `run` in two things:
+
+- A line has at most 1,021 bytes before its line feed. A longer one is refused as 2.
+- A command is carried out when it has come whole, with its line feeds. Of the half command of a client that ends nothing is done. Where it
+  was cut off within a payload, a client that still reads is told `no 03 cut payload`; a last line without a line feed has no reply.
+
+Of each client one command at a time is under way, and the next one is looked at when the reply to it went out. So a client waits for seven
+others at most, and one that does not read holds up nobody. A ninth client is told so in one line, and its connection is closed.
+
+The socket is its owner's alone. That of a server that is gone is replaced. SIGTERM, SIGINT and SIGHUP end the server in good order: what is
+under way is carried out and replied to, the connections are closed, the socket is removed, and the status is 0. Where the program ends, the
+server hands out what was replied to, closes the connections, and ends with the status of the program and what it said.
+
+It waits at most 5 seconds, or as many as `$LISFS_PATIENCE` says: at its beginning for the lock of the file SOCKET.lock, as another server has it
+that begins at the same socket; behind a signal for the program, which is killed where it has not ended by then (the status is 137, and what was
+replied to is kept); and at its end for clients that don't read. The lock file is there while a server begins, and no longer.
+"""
+import collections
+import contextlib
+import fcntl
+import functools
+import os
+import select
+import selectors
+import signal
+import socket
+import stat
+import sys
+import time
+
+from lisfs.client import FULL, PROGRAM, ROOM_LINE, ROOMS, Ended, Items, NotAReply, Program, item
+from lisfs.showing import harmless
+
+READ, WRITE = selectors.EVENT_READ, selectors.EVENT_WRITE
+ENDING = (signal.SIGTERM, signal.SIGINT, signal.SIGHUP)
+ROOT = item([b"cd", b"/"])
+# What `run` shows where its input ends within a payload. The program can't be told of such an end, since its own input goes on.
+CUT = b"no 03 cut payload\n"
+# How many bytes are read at once.
+PIECE = 65_536
+# The most bytes of a socket's path.
+PATH = 107
+
+
+def fail(cause):
+    """Ends the server with 1, and says why."""
+    sys.exit(harmless(f"serve: {cause}"))
+
+
+def patience(text):
+    """How long, in seconds, the beginning waits for another server that begins there, and the end for the program and for clients."""
+    with contextlib.suppress(ValueError):
+        if 0 <= (seconds := float(text)) <= 1_000_000:
+            return seconds
+    fail(f"LISFS_PATIENCE: no number of seconds: {text}")
+
+
+PATIENCE = patience(os.environ.get("LISFS_PATIENCE") or "5")
+
+
+class Signals:
+    """The signals that end the server, whatever it waits for: a byte can be read when one has come, and the program has so long to end."""
+
+    def __init__(self):
+        self.has_come, self._program = False, None
+        # What is ignored, as by `nohup`, stays so.
+        self.numbers = [number for number in ENDING if signal.getsignal(number) != signal.SIG_IGN]
+        self._come, sent = os.pipe()
+        os.set_blocking(sent, False)
+        signal.set_wakeup_fd(sent, warn_on_full_buffer=False)
+        for number in self.numbers:
+            signal.signal(number, self._hear)
+
+    def fileno(self):
+        return self._come
+
+    def _hear(self, *_):
+        if self._program and not self.has_come:
+            self._program.kill_after(PATIENCE)
+        self.has_come = True
+
+    def end(self, program):
+        """From now on they end this program too."""
+        self._program = program
+        if self.has_come:
+            program.kill_after(PATIENCE)
+
+    def wait(self, seconds):
+        """Waits so long for one, and ends the server where one has come."""
+        if select.select([self], [], [], seconds)[0]:
+            sys.exit(0)
+
+
+class Client:
+    """A connection, with what came and was not carried out, and what is to be sent."""
+
+    def __init__(self, connection):
+        self.connection, self.items, self.unsent, self.has_ended = connection, Items(ROOM_LINE), memoryview(b""), False
+
+    def send(self):
+        """Sends what the client takes now. Whether it is still there."""
+        try:
+            self.unsent = self.unsent[self.connection.send(self.unsent):]
+        except BlockingIOError:
+            pass
+        except OSError:
+            return False
+        return True
+
+    def is_gone(self):
+        """Whether it has closed its connection, also for reading."""
+        poll = select.poll()
+        poll.register(self.connection, 0)
+        return bool(poll.poll(0))
+
+
+class Room:
+    """A room of the program. It is fresh where its place is still that of a new client, and awaits a reply to one command at most."""
+
+    def __init__(self, number):
+        self.number, self.client, self.is_fresh, self.is_awaiting = number, None, True, False
+
+
+class Server:
+    def __init__(self, program, listener):
+        self.program, self.listener, self.is_ending, self.has_more = program, listener, False, False
+        self.rooms = [Room(number) for number in range(ROOMS)]
+        # The room and the client of each command that was sent and not replied to, in order.
+        self.awaited = collections.deque()
+        self.selector = selectors.DefaultSelector()
+        self.watch(program, READ, self.take_replies)
+        self.watch(listener, READ, self.take_client)
+
+    def watch(self, file, events, call):
+        """From now on these events of a file lead to this call, or none do."""
+        if file not in self.selector.get_map():
+            if events:
+                self.selector.register(file, events, call)
+        elif events:
+            self.selector.modify(file, events, call)
+        else:
+            self.selector.unregister(file)
+
+    def serve(self):
+        """Goes on until `end` was called and all that was under way is replied to. Raises `Ended` where the program ends before."""
+        while not self.is_ending or self.awaited:
+            for key, _ in self.selector.select(0 if self.has_more else None):
+                key.data()
+            if self.has_more:
+                self.take_replies()
+
+    def end(self, signals):
+        """Takes no more commands, since a signal has come."""
+        os.read(signals.fileno(), PIECE)
+        self.is_ending = True
+        self.watch(self.listener, 0, None)
+        for room in self.rooms:
+            self.go_on(room)
+
+    def take_client(self):
+        free = [room for room in self.rooms if not room.client]
+        if not free and any(room.client.is_gone() for room in self.rooms):
+            # It leaves its room soon, when something is read from it or sent. Until then who comes waits.
+            self.watch(self.listener, 0, None)
+            return
+        try:
+            connection, _ = self.listener.accept()
+        except OSError:
+            # It is gone again.
+            return
+        connection.setblocking(False)
+        if free:
+            room = min(free, key=lambda room: room.is_awaiting)
+            room.client, room.is_fresh = Client(connection), False
+            self.go_on(room)
+        else:
+            with contextlib.suppress(OSError):
+                connection.send(FULL)
+            connection.close()
+
+    def leave(self, room):
+        """Closes the connection of a room. The reply that it may await goes to nobody."""
+        self.watch(room.client.connection, 0, None)
+        room.client.connection.close()
+        room.client = None
+        if not self.is_ending:
+            self.watch(self.listener, READ, self.take_client)
+
+    def read(self, room, client):
+        """Takes in what a client sends."""
+        try:
+            data = client.connection.recv(PIECE)
+        except BlockingIOError:
+            return
+        except OSError:
+            self.leave(room)
+            return
+        client.items.feed(data)
+        if not data:
+            client.has_ended = True
+            client.unsent = memoryview(CUT if client.items.is_cut() else b"")
+        self.go_on(room)
+
+    def take_replies(self):
+        """Hands on some replies that are there: no more than so many, so that everything else has its turn before the next ones."""
+        for _ in range(ROOMS):
+            reply = self.program.receive_bytes(wait=False)
+            self.has_more = reply is not None
+            if not self.has_more:
+                return
+            room, client = self.awaited.popleft()
+            room.is_awaiting = False
+            if client and room.client is client:
+                client.unsent = memoryview(reply)
+            self.go_on(room)
+
+    def go_on(self, room):
+        """Does what can be done in a room: sends what is unsent, then the next command, and closes it behind the last one."""
+        client = room.client
+        if client and client.unsent and not client.send():
+            self.leave(room)
+        elif client and not client.unsent and not room.is_awaiting and not self.is_ending:
+            self.begin_next(room, client)
+        if room.client:
+            wanted = WRITE if client.unsent else READ if not (room.is_awaiting or self.is_ending) else 0
+            self.watch(client.connection, wanted, functools.partial(self.on_client, room, client))
+
+    def on_client(self, room, client):
+        # A call before may have closed it.
+        if room.client is client:
+            if client.unsent:
+                self.go_on(room)
+            else:
+                self.read(room, client)
+
+    def begin_next(self, room, client):
+        if not room.is_fresh:
+            room.is_fresh = True
+            self.ask(room, None, *ROOT)
+        elif taken := client.items.take():
+            self.ask(room, client, *taken)
+        elif client.has_ended:
+            self.leave(room)
+
+    def ask(self, room, client, line, payload):
+        self.program.send_bytes(line, payload, room.number, wait=False)
+        room.is_awaiting = True
+        self.awaited.append((room, client))
+        self.push()
+
+    def push(self):
+        """Sends the program what it takes, and goes on when it takes more."""
+        self.watch(self.program.input_fileno(), WRITE if self.program.push() else 0, self.push)
+
+    def close(self):
+        """Hands out what was replied to, to clients that take it soon, and closes all connections."""
+        self.is_ending = True
+        # Of a program that has ended whole replies may be left.
+        with contextlib.suppress(Ended, NotAReply):
+            self.take_replies()
+        until = time.monotonic() + PATIENCE
+        with selectors.DefaultSelector() as selector:
+            for room in self.rooms:
+                if room.client and room.client.unsent:
+                    selector.register(room.client.connection, WRITE, room.client)
+            while selector.get_map() and (left := until - time.monotonic()) > 0:
+                for key, _ in selector.select(left):
+                    if not key.data.send() or not key.data.unsent:
+                        selector.unregister(key.fileobj)
+        for room in self.rooms:
+            if room.client:
+                self.leave(room)
+
+
+@contextlib.contextmanager
+def lock_held(path, signals):
+    """Holds the lock of a socket's own lock file while the block runs, so that of two servers that begin at once one finds the other. No other
+    program has a reason to lock this file, as it has to lock a folder. Its name is gone when the lock is: who has waited for a file without
+    a name tries again."""
+    at, until = f"{path}.lock", time.monotonic() + PATIENCE
+    while not (lock := tried_lock(at)):
+        if time.monotonic() > until:
+            fail(f"{path}: another server begins there: it has the lock of {at}")
+        signals.wait(0.05)
+    try:
+        yield
+    finally:
+        if has_name(lock, at):
+            os.unlink(at)
+        os.close(lock)
+
+
+def tried_lock(at):
+    """The lock file, which is there and locked, or None where another server has it. Ends where something else is there."""
+    lock = os.open(at, os.O_RDWR | os.O_CREAT | os.O_NOFOLLOW | os.O_NONBLOCK | os.O_CLOEXEC, 0o600)
+    found = os.fstat(lock)
+    if not stat.S_ISREG(found.st_mode) or found.st_uid != os.geteuid() or found.st_size:
+        fail(f"{at}: it is there, and no lock file of yours")
+    with contextlib.suppress(BlockingIOError):
+        fcntl.flock(lock, fcntl.LOCK_EX | fcntl.LOCK_NB)
+        if has_name(lock, at):
+            return lock
+    os.close(lock)
+    return None
+
+
+def has_name(lock, at):
+    with contextlib.suppress(FileNotFoundError):
+        return os.path.samestat(os.fstat(lock), os.lstat(at))
+    return False
+
+
+def is_served(path):
+    """Whether somebody listens at a socket."""
+    with socket.socket(socket.AF_UNIX) as probe:
+        probe.setblocking(False)
+        try:
+            probe.connect(path)
+        except ConnectionRefusedError:
+            return False
+        except BlockingIOError:
+            # So many wait for an answer that no more may.
+            return True
+    return True
+
+
+def clear(path):
+    """Removes the socket of a server that is gone. Ends where something else is there."""
+    try:
+        kind = os.lstat(path).st_mode
+    except FileNotFoundError:
+        return
+    if not stat.S_ISSOCK(kind):
+        fail(f"{path}: it is there, and no socket")
+    if is_served(path):
+        fail(f"{path}: a server is there")
+    os.unlink(path)
+
+
+def bound(listener, path):
+    """Makes the socket, which nobody but its owner may ever use. It is made aside, so that where it is there it is listened at."""
+    aside = f"{path}.{os.getpid()}"
+    if len(os.fsencode(aside)) > PATH:
+        aside = path
+    for at in (path, aside):
+        clear(at)
+    mask = os.umask(0o177)
+    try:
+        listener.bind(aside)
+    finally:
+        os.umask(mask)
+    with contextlib.ExitStack() as made:
+        made.callback(os.unlink, aside)
+        listener.listen()
+        if aside == path:
+            made.pop_all()
+        else:
+            give_name(aside, path)
+
+
+def give_name(aside, path):
+    """Lets the socket stand at its path too. What somebody made there meanwhile stays, but for the socket of a server that is gone."""
+    while True:
+        try:
+            os.link(aside, path)
+            return
+        except FileExistsError:
+            clear(path)
+
+
+@contextlib.contextmanager
+def listening(path, signals):
+    """Listens at a socket, which is there while the block runs."""
+    listener = socket.socket(socket.AF_UNIX)
+    with lock_held(path, signals):
+        bound(listener, path)
+        made = os.lstat(path)
+    listener.setblocking(False)
+    try:
+        yield listener
+    finally:
+        with contextlib.suppress(FileNotFoundError):
+            if os.path.samestat(made, os.lstat(path)):
+                os.unlink(path)
+        listener.close()
+
+
+def serve(image, path, signals):
+    # The program gets none of the signals, also where a terminal sends them to all: it ends with its input.
+    with Program([PROGRAM, "rooms", image], rooms=True, unheard=signals.numbers) as program:
+        signals.end(program)
+        # Clients come when the image is open.
+        program.room(0).cd(b"/")
+        with listening(path, signals) as listener:
+            server = Server(program, listener)
+            server.watch(signals, READ, functools.partial(server.end, signals))
+            try:
+                server.serve()
+                # Ahead of the clients, who may be waited for as long as it.
+                program.close()
+            except NotAReply:
+                program.kill()
+                raise
+            finally:
+                server.close()
+
+
+def cause_of(end, image, signals):
+    """Why the program has ended."""
+    if signals.has_come and end.status == -signal.SIGKILL:
+        return f"serve: {image}: the program had not ended {PATIENCE:g} seconds behind a signal, and was killed; what was replied to is kept\n"
+    return end.text or f"serve: {end}\n"
+
+
+def main():
+    if len(sys.argv) != 3 or sys.argv[1].startswith("-"):
+        sys.exit(__doc__)
+    image, path = sys.argv[1:]
+    signals = Signals()
+    try:
+        serve(image, path, signals)
+    except Ended as end:
+        sys.stderr.write(harmless(cause_of(end, image, signals), "\n"))
+        return end.status if end.status >= 0 else 128 - end.status
+    except NotAReply as error:
+        fail(f"the program is none of this kind: {error}")
+    except OSError as error:
+        fail(f"{error.filename or path}: {error.strerror or error}")
+    return 0

@@ -1,0 +1,91 @@
+"""A prompt over an image: it shows the place, completes words and names by Tab, tells refusals in sentences, and counts bytes.
+
+usage: tools/shell IMAGE
+
+`help` tells the commands: those of `lisfs run`, and `put` and `get`, which take files in and out, `find`, and `ls -c`, which counts. Ctrl-C
+stops a line, and Ctrl-D ends. The lines that were typed are kept in `$XDG_STATE_HOME/lisfs/shell_history`, or below `~/.local/state`. Where
+`$NO_COLOR` says anything there are no colours.
+
+Where standard input or output is no terminal, the lines of the input are carried out without a prompt, with bytes behind `add` and `write`
+lines as `lisfs run` takes them. What is refused is told on standard error, and the lines behind it are carried out all the same.
+
+The status is 0 at the end, and 1 where a line of a script was refused, something else is amiss, or at wrong use. Where the program ends, as
+where another one has the image or at a fault of the disk, it is that of the program, or 128 and the number of the signal that killed it.
+Ctrl-C ends a script with 130. Nothing of this is proved.
+"""
+import os
+import sys
+
+from lisfs.client import Ended, Locked, NotAReply, missing
+from lisfs.dumps import NotADump, opened
+from lisfs.mount.image import limits_of
+from lisfs.shell.completing import Completer
+from lisfs.shell.running import Shell, as_a_script, at_a_prompt
+from lisfs.shell.session import Session
+from lisfs.shell.terminal import History, Interrupts, Screen, Stopped, history_path
+from lisfs.showing import harmless
+
+STOPPED = 130
+
+
+def run(image, screen):
+    """The status."""
+    program, dump = opened(image)
+    # Ctrl-C is for the shell alone, and the program comes to its end.
+    with program:
+        session = Session(program, dump, limits_of(image), screen.interrupts.ask)
+        shell = Shell(session, screen)
+        try:
+            if not screen.asks:
+                return 0 if as_a_script(shell) else 1
+            screen.lines([f"{harmless(os.fsencode(image))}: {len(dump.files):,} files. `help` tells the commands, Ctrl-D ends."])
+            Completer(session, screen).install()
+            at_a_prompt(shell, History(history_path()))
+            return 0
+        except NotAReply:
+            # No later reply can be told.
+            program.kill()
+            raise
+
+
+def cause_of(end):
+    """Why the program has ended."""
+    if end.status < 0:
+        return f"the program was killed by signal {-end.status}; what was replied to is kept"
+    return ": ".join(end.text.splitlines()) or f"the program has ended with {end.status}; what was replied to is kept"
+
+
+def status_of(end):
+    return 128 - end.status if end.status < 0 else end.status or 1
+
+
+def main():
+    if len(sys.argv) != 2 or sys.argv[1].startswith("-"):
+        sys.exit(__doc__)
+    if what := missing():
+        sys.exit(f"shell: {what}")
+    if sys.stdin is None or sys.stdout is None:
+        sys.exit("shell: standard input or output is closed")
+    for stream in (sys.stdin, sys.stdout):
+        stream.reconfigure(errors="surrogateescape")
+    image, screen = sys.argv[1], Screen(Interrupts())
+    shown = harmless(os.fsencode(image))
+    try:
+        status, cause = run(image, screen), None
+    except Locked as end:
+        others = "another `tools/shell`, `tools/mount` or `tools/serve`"
+        status, cause = status_of(end), f"{shown}: another program has it open, as {others}: end that first"
+    except Ended as end:
+        # Ctrl-C ends what reads the image at the beginning.
+        status, cause = (STOPPED, "stopped") if screen.interrupts.has_come else (status_of(end), cause_of(end))
+    except NotAReply as error:
+        status, cause = 1, f"the program is none of this kind: {error}"
+    except (KeyboardInterrupt, Stopped):
+        status, cause = STOPPED, "stopped"
+    except NotADump as error:
+        status, cause = 1, str(error)
+    except OSError as error:
+        status, cause = 1, f"{error.filename or shown}: {error.strerror}"
+    if cause:
+        screen.fault(f"shell: {cause}")
+    return status

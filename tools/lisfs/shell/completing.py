@@ -1,0 +1,150 @@
+"""What Tab makes of a line: commands, the words that the place offers and others that are known, files of the place, and paths of the system."""
+import os
+import re
+import shutil
+
+from lisfs.client import Ended, NotAReply, NotSent
+from lisfs.shell.commands import COMMAND, COMMANDS, DECLARED, FILE, FORMULA, GIVEN, KNOWN, NEW_FILE, PATH
+from lisfs.shell.refusals import is_file_name
+from lisfs.shell.terminal import Stopped, readline
+from lisfs.showing import harmless
+
+BLANKS = b" \t\n"
+# The most of what may stand there that is shown.
+SHOWN = 120
+# A word of a line in which a backslash stands before a blank.
+PIECE = re.compile(rb"(?:\\.|[^\\ \t\n])*\\?", re.S)
+ESCAPED = re.compile(rb"([\\ \t\n'\"])")
+
+
+def in_columns(texts, width):
+    """Lines of texts, in order from above to below."""
+    columns = max(1, shutil.get_terminal_size().columns // width)
+    rows = -(-len(texts) // columns)
+    return ["".join(f"{text:{width}}" for text in texts[row::rows]).rstrip() for row in range(rows)]
+
+
+def unescaped(piece):
+    return re.sub(rb"\\(.)", rb"\1", piece, flags=re.S)
+
+
+def pieces(line):
+    """The words of a line with a backslash before some blanks, and where each begins. The last one is that which is being typed, and may be empty."""
+    found, at = [], 0
+    while True:
+        while line[at:at + 1] and line[at:at + 1] in BLANKS:
+            at += 1
+        piece = PIECE.match(line, at)
+        found.append((at, piece[0]))
+        if piece.end() >= len(line):
+            return found
+        at = piece.end()
+
+
+class Completer:
+    """`complete` and `show` are what Python's `readline` calls."""
+
+    def __init__(self, session, screen):
+        self.session, self.screen, self.interrupts, self.found = session, screen, screen.interrupts, []
+
+    def install(self):
+        if readline:
+            readline.set_completer(self.complete)
+            readline.set_completion_display_matches_hook(self.show)
+            readline.set_completer_delims(BLANKS.decode())
+            readline.parse_and_bind("tab: complete")
+
+    def complete(self, _, state):
+        if state == 0:
+            line = os.fsencode(readline.get_line_buffer())
+            with self.interrupts.working():
+                try:
+                    found = self.candidates(line[:readline.get_endidx()], readline.get_begidx())
+                except (Stopped, Ended, NotAReply, NotSent, OSError):
+                    # What it is the next command tells.
+                    found = []
+            self.found = [os.fsdecode(one) for one in found]
+        return self.found[state] if state < len(self.found) else None
+
+    def show(self, begun, found, _):
+        """Shows what may stand there, as far as a screen has room, and the line again. Of a formula or a path the last word is shown."""
+        at = max(map(begun.rfind, "/|!(")) + 1
+        texts = [harmless(os.fsencode(one[at:].rstrip())) for one in found[:SHOWN]]
+        lines = in_columns(texts, max(map(len, texts)) + 2) + ([f"and {len(found) - SHOWN:,} more"] if len(found) > SHOWN else [])
+        line = readline.get_line_buffer()
+        self.screen.again(lines, line, len(os.fsencode(line)[readline.get_endidx():].decode(errors="replace")))
+
+    def candidates(self, line, begin):
+        """What may stand in place of the line's end from `begin` on, in byte order. The line ends where the cursor is."""
+        typed = pieces(line)
+        start, piece = typed[-1]
+        found = self._whole(typed[:-1], piece)
+        # A word of the line in which a blank is escaped may begin before what is to be replaced.
+        return sorted({one[max(0, begin - start):] for one in found if one.startswith(piece)})
+
+    def _whole(self, before, piece):
+        if not before:
+            return [name.encode() + (b" " if command.parts else b"") for name, command in COMMANDS.items()]
+        command = COMMANDS.get(before[0][1].decode(errors="replace"))
+        given = [one for _, one in before[1:]]
+        if command is None or not command.parts:
+            return []
+        if given[:1] == [b"-w"]:
+            given = given[1:]
+        if len(given) >= len(command.parts) and not command.repeats:
+            return []
+        part = command.parts[min(len(given), len(command.parts) - 1)]
+        has_more = command.repeats or len(given) + 1 < len(command.parts)
+        return self._of(part, piece, given, b" " if has_more else b"")
+
+    def _of(self, part, piece, given, behind):
+        if part == FORMULA:
+            return self._formulas(piece)
+        if part == PATH:
+            return paths(piece, behind)
+        if part == FILE:
+            return [name + behind for name in self.session.names_here(piece)]
+        if part == COMMAND:
+            return [name.encode() for name in COMMANDS]
+        if part == NEW_FILE:
+            # That of the file that is taken in.
+            name = os.path.basename(unescaped(given[0])) if given else b""
+            return [name + behind] if is_file_name(name) else []
+        if part == GIVEN:
+            return [word + b" " for word in self._words(piece) if self.session.is_assignable(word)]
+        if part == KNOWN:
+            return [word + behind for word in self._words(piece)]
+        return [word + behind for word in self.session.declared] if part == DECLARED else []
+
+    def _words(self, stem, formula=b""):
+        """The words that a place offers, and with some of its letters any word that is known."""
+        offered = self.session.offered(formula)
+        return {*offered, *self.session.known()} if stem else offered
+
+    def _formulas(self, text):
+        """The last word of a formula. What the place offers to which the steps before it lead, those within parentheses not counted."""
+        at = max(map(text.rfind, (b"/", b"|", b"!", b"("))) + 1
+        base, stem, depth, step = text[:at], text[at:], 0, 0
+        for k, byte in enumerate(base):
+            depth += (byte == ord("(")) - (byte == ord(")"))
+            if byte == ord("/") and depth == 0:
+                step = k
+        # A single slash at the beginning is the root itself.
+        context = base[:step] or (b"/" if base.startswith(b"/") else b"")
+        return [base + word for word in self._words(stem, context)] + ([b".."] if b"..".startswith(text) and text else [])
+
+
+def paths(piece, behind):
+    """The paths of the system that begin so: each as it would be typed, a folder with a slash behind it."""
+    folder, slash, stem = piece.rpartition(b"/")
+    found = []
+    try:
+        names = sorted(os.listdir(os.path.expanduser(unescaped(folder + slash)) or b"."))
+    except OSError:
+        return []
+    for name in names:
+        if name.startswith(b".") and not stem.startswith(b"."):
+            continue
+        path = os.path.join(os.path.expanduser(unescaped(folder + slash)), name)
+        found.append(folder + slash + ESCAPED.sub(rb"\\\1", name) + (b"/" if os.path.isdir(path) else behind))
+    return found

@@ -1,0 +1,222 @@
+"""What the program refuses, in a sentence for a person, with the word or the name that is meant.
+
+The program tells a number. Which of several words is meant is found out here, by what is known of the image and by asking the program; where
+it can't be, the sentence names the line's own words.
+"""
+import difflib
+
+from lisfs.client import PAYLOAD, words_of
+from lisfs.formulas import FILE_NAME, NAME_LIMIT, TEST, head_of, is_plain, is_word, words_in
+from lisfs.shell.commands import COMMANDS, COUNT, FILES, MEANS, WORDS
+from lisfs.showing import harmless
+
+BUILT_IN = (b"ext:", b"size:", b"from:", b"to:", b"subject:", b"includes:", b"defines:")
+NAME_FORM = "1 to 60 letters, digits and _ - . + @"
+
+
+def is_file_name(name):
+    return len(name) <= NAME_LIMIT and FILE_NAME.fullmatch(name) is not None and name not in (b".", b"..")
+
+
+def said(*words):
+    """Words of a line, as they are named in a sentence."""
+    return ", ".join(map(harmless, words))
+
+
+def meant(word, among):
+    """A question for the word that may have been meant."""
+    near = difflib.get_close_matches(harmless(word), map(harmless, among), 1, 0.75)
+    return f"; is it `{near[0]}`?" if near else ""
+
+
+def sentence(refused, line, session):
+    """What a refusal of a line means. Where the session has ended, `Ended` may be raised."""
+    words = words_of(line)
+    command, given = words[0].decode(errors="replace"), words[1:]
+    # A number that is not known here is one of a later program.
+    return SENTENCES.get(refused.number, lambda *_: f"{harmless(line)}: {refused.words}")(command, given, session)
+
+
+def bad_line(command, given, _):
+    if command not in COMMANDS:
+        near = meant(command.encode(), [name.encode() for name in COMMANDS])
+        return f"{harmless(command.encode())}: there is no such command{near or '; `help` tells of all'}"
+    form, parts = COMMANDS[command], COMMANDS[command].parts
+    if len(given) >= form.needed and (form.repeats or len(given) <= len(parts)):
+        for word, part in zip(given, parts + parts[-1:] * len(given)):
+            if part in FILES and not is_file_name(word):
+                return f"{harmless(word)}: no name of a file, which has {NAME_FORM}"
+            if part == COUNT and not (word.isdigit() and len(word) <= 12):
+                return f"{harmless(word)}: no count of bytes"
+            if part in WORDS and not is_word(word) and not TEST.fullmatch(word):
+                return f"{harmless(word)}: no word: `music`, `year:`, `year:2003` or a test, as `size>=1000`; a part has {NAME_FORM}"
+    return f"{command}: it is said so: {form.form}"
+
+
+def long_line(command, given, session):
+    return f"{harmless(command.encode())[:60]}: the line has more than 1,024 bytes"
+
+
+def cut_payload(command, given, session):
+    return f"{said(*given[:1])}: the input ends within its {said(*given[1:2])} bytes"
+
+
+def payload_end(command, given, session):
+    return f"{said(*given[:1])}: no line ends behind its {said(*given[1:2])} bytes, so that their count is wrong; the rest of that line is dropped"
+
+
+def formula(command, given, session):
+    return f"{said(given[-1])}: no formula: words with `/` (and), `|` (or), `!` (not) and parentheses, without blanks"
+
+
+def unknown(command, given, session):
+    if command in ("cd", "find"):
+        words = session.unknown(given[-1])
+    elif command == "mkdir":
+        words = [word for word in words_in(session.place) if word not in session.declared]
+        return f"{said(*words or given)}: this word of the place is not declared any more; `cd /` first"
+    elif command == "axiom":
+        words = [given[1]] if given[1] not in session.declared else [given[0]]
+    else:
+        place = words_in(session.place) if command != "mv" or not given[1].startswith(b"/") else []
+        words = [word for word in dict.fromkeys(words_given(command, given) + place)
+                 if is_word(word) and not word.endswith(b":") and not is_built_in(word) and not session.is_assignable(word)]
+    if not words:
+        return f"{said(*given[-1:])}: some word of it is not known"
+    first = words[0]
+    is_value = not is_plain(first) and not first.endswith(b":") and not TEST.fullmatch(first)
+    if is_built_in(first) or is_value and head_of(first) in session.declared:
+        return f"{said(*words)}: no file has it"
+    needed = head_of(first) if is_value else first
+    if first in session.names:
+        return f"{said(first)}: this is the name of a file, and no word"
+    near = meant(first, session.known() if command in ("cd", "find") else session.declared)
+    if len(words) > 1:
+        return f"{said(*words)}: these words are not known{near}"
+    return f"{said(first)}: this word is not known{near or f'; `mkdir {harmless(needed)}` declares it'}"
+
+
+def words_given(command, given):
+    """The words of a line that a file is to be given."""
+    return words_in(given[1]) if command == "mv" else given[2:] if command == "add" else given[1:]
+
+
+def is_built_in(word):
+    return head_of(word) in BUILT_IN
+
+
+def large_formula(command, given, session):
+    return f"{said(*given[-1:])}: too large: a place has at most 64 words and signs, and 1,024 bytes"
+
+
+def not_a_place(command, given, session):
+    place = harmless(session.place)
+    if command == "mkdir":
+        return f"{said(*given)}: a word is declared at the root or at a place of plain words, and not at {place}"
+    if command == "mv":
+        return f"{said(*given[:1])}: not from {place} to {said(given[1])}: one of them has `|`, `!` or a test in it, and so no words of its own"
+    return f"{said(*given[:1])}: no file is made at {place}, which has `|`, `!` or a test in it, and so no words to give it"
+
+
+def name_taken(command, given, session):
+    return f"{said(given[1] if command == 'rename' else given[0])}: there is a file of this name already"
+
+
+def no_such_file(command, given, session):
+    name = given[0]
+    if name in session.names:
+        return f"{said(name)}: this file is not here, but elsewhere; all files are at `/`"
+    hint = f"; it is a word: `cd {said(name)}`" if name in session.declared else meant(name, session.names)
+    return f"{said(name)}: there is no file of this name{hint}"
+
+
+def declared(command, given, session):
+    return f"{said(*given)}: this word is declared already"
+
+
+def not_declared(command, given, session):
+    return f"{said(*given)}: no such word is declared{meant(given[0], session.declared)}"
+
+
+def in_use(command, given, session):
+    axioms = [pair for pair in sorted(session.axioms) if given[0] in pair or head_of(pair[0]) == given[0]]
+    if axioms:
+        return f"{said(*given)}: an axiom names it: {said(axioms[0][0])} entails {said(axioms[0][1])}"
+    return f"{said(*given)}: a file has this word: `find /{said(*given)}`"
+
+
+def not_assignable(command, given, session):
+    if command == "mkdir":
+        return f"{said(*given)}: a value is not declared, but its head is: `mkdir {said(head_of(given[0]) or given[0])}`"
+    if command == "rmdir":
+        return f"{said(*given)}: a value is not declared; it goes with the last file that has it"
+    if command == "axiom":
+        return f"{said(given[1])}: only a plain word can be entailed, and no head, value or test"
+    words = words_given(command, given)
+    if tests := [word for word in words if TEST.fullmatch(word)]:
+        return f"{said(tests[0])}: a file has this by its size, and is not given it"
+    heads = [word for word in words if word.endswith(b":")] or words
+    return f"{said(heads[0])}: a file is given a value of this head, as `{said(heads[0])}x`"
+
+
+def cycle(command, given, session):
+    left, right = map(harmless, given)
+    return f"{left}: a word entails itself" if left == right else f"{left}, {right}: {right} entails {left} already, and this would be a circle"
+
+
+def axiom_there(command, given, session):
+    return f"{said(*given)}: there is this axiom already"
+
+
+def no_such_axiom(command, given, session):
+    return f"{said(*given)}: there is no axiom that {said(given[0])} entails {said(given[1])}"
+
+
+def too_many_given(command, given, session):
+    return f"{said(*given[:1])}: a file is given at most 16 words, those of the place counted"
+
+
+def too_many_had(command, given, session):
+    whose = "some file" if command in ("mkdir", "axiom") else "it"
+    return f"{said(*given[:1])}: {whose} would have more than 128 words, with all that they entail"
+
+
+def file_too_large(command, given, session):
+    count = int(given[1])
+    # Of more than a line can count there is no number.
+    many = f"{count:,}" if count <= PAYLOAD else f"more than {PAYLOAD:,}"
+    return f"{said(*given[:1])}: it has {many} bytes, and a file of this image at most {session.limits.file_bytes:,}"
+
+
+def no_file_room(command, given, session):
+    return f"{said(*given[:1])}: the image has no room for another file: `rm` one, or take a larger image"
+
+
+def no_word_room(command, given, session):
+    return f"{said(*given[:1])}: the image has no room for more words: take some back, or take a larger image"
+
+
+def no_axiom_room(command, given, session):
+    return f"{said(*given)}: the image has no room for another axiom: take one back, or take a larger image"
+
+
+def no_space(command, given, session):
+    return f"{said(*given[:1])}: the image has no room for its bytes: `rm` files with bytes, or take a larger image"
+
+
+def built_in(command, given, session):
+    words = given if command in ("mkdir", "rmdir") else words_given(command, given)
+    words = [word for word in words if is_built_in(word)] or given
+    return f"{said(*words)}: files have such words by themselves, and nobody gives or declares them"
+
+
+def of_a_view(number):
+    return lambda command, given, session: f"{said(*given[:1])}: {MEANS[number]}"
+
+
+SENTENCES = {
+    1: bad_line, 2: long_line, 3: cut_payload, 4: payload_end, 5: formula, 6: unknown, 7: large_formula, 8: not_a_place, 9: name_taken,
+    10: no_such_file, 11: declared, 12: not_declared, 13: in_use, 14: not_assignable, 15: cycle, 16: axiom_there, 17: no_such_axiom,
+    18: too_many_given, 19: too_many_had, 20: file_too_large, 21: no_file_room, 22: no_word_room, 23: no_axiom_room, 24: no_space, 25: built_in,
+    26: of_a_view(26), 27: of_a_view(27),
+}

@@ -1,0 +1,291 @@
+"""Carries out the lines of somebody at a terminal, or of a script: those of the program, and those that the shell has of its own."""
+import collections
+import contextlib
+import os
+import shlex
+import shutil
+import stat
+import tempfile
+
+from lisfs import derived
+from lisfs.client import CONTENT, LINE, PAYLOAD, Items, NotSent, Refused, words_of
+from lisfs.formulas import words_in
+from lisfs.shell.commands import COMMANDS, all_in_lines, told
+from lisfs.shell.refusals import NAME_FORM, bad_line, is_file_name, sentence
+from lisfs.shell.session import NoWayBack
+from lisfs.shell.terminal import INPUT, WORD as WORD_COLOUR, Stopped
+from lisfs.showing import harmless
+
+PIECE = 65_536
+
+
+class Failed(Exception):
+    """What is amiss with a line, in a sentence."""
+
+
+class Over(Exception):
+    """No more lines are wanted."""
+
+
+class Shell:
+    def __init__(self, session, screen):
+        self.session, self.screen, self.interrupts, self.has_told_misses = session, screen, screen.interrupts, False
+        self.own = {b"find": self.find, b"put": self.put, b"get": self.get, b"help": self.help, b"exit": self.exit}
+
+    # Lines.
+
+    def carry_out(self, line, payload=b""):
+        """Raises `Failed` where it is refused or something is amiss, `Stopped` at Ctrl-C, and `Over` where it is the last one."""
+        words = words_of(line)
+        if not words:
+            return
+        try:
+            if words == [b"ls", b"-c"]:
+                self.counts()
+            elif words[0] in self.own and len(line) <= LINE:
+                self.own[words[0]](line, words[1:])
+            else:
+                reply = self.session.carry_out(line, payload)
+                self.show(words[0], reply)
+                self.tell_cut(words, reply)
+            self.tell_misses(words)
+        except Refused as refused:
+            self.tell_misses(words)
+            raise Failed(sentence(refused, line, self.session)) from None
+        except NotSent as error:
+            raise Failed(f"{harmless(words[0])}: {error}") from None
+        self.interrupts.ask()
+
+    def show(self, command, reply):
+        if reply.kind == CONTENT:
+            self.screen.content(reply.body)
+        else:
+            has_words = command in (b"ls", b"way")
+            self.in_pieces([self.row(letter, harmless(text), has_words) for letter, text in reply.body])
+
+    def note(self, line):
+        """Something beside what was asked. Of a script it is told on standard error, so that its output is that of the program."""
+        if self.screen.asks:
+            self.screen.lines([line])
+        else:
+            self.screen.fault(f"shell: {line}")
+
+    def tell_cut(self, words, reply):
+        """Behind the words of a file, how many it would have, where the program keeps no more of them."""
+        if words[0] == b"props" and derived.is_full(text for _, text in reply.body):
+            if told := derived.told_of_cut(words[1], self.session.content(words[1])):
+                self.note(f"{harmless(words[1])}: {told}")
+
+    def tell_misses(self, words):
+        """Once, that a search can miss a file whose words are cut, also where it finds none."""
+        formula = words_in(words[1]) if words[0] in (b"cd", b"find") and len(words) == 2 else []
+        # Only such a word makes it worth to look at all files.
+        if self.has_told_misses or not any(word.partition(b":")[0] in derived.HEADS for word in formula):
+            return
+        if told := derived.told_of_misses(formula, self.session.described()):
+            self.has_told_misses = True
+            self.note(told)
+
+    def row(self, letter, text, is_word, before=""):
+        return f"{letter.decode()} {before}{self.screen.coloured(text, WORD_COLOUR) if is_word and letter == b'd' else text}"
+
+    def in_pieces(self, lines):
+        """Many lines, a screen or two at a time, so that Ctrl-C ends them."""
+        for at in range(0, len(lines), 100):
+            self.screen.lines(lines[at:at + 100])
+
+    # The shell's own commands.
+
+    def counts(self):
+        words, files = self.session.listing()
+        count = collections.Counter(word for _, had in self.session.files() for word in had)
+        width = max((len(str(count[word])) for word in words), default=0)
+        self.in_pieces([self.row(b"d", harmless(word), True, f"{count[word]:>{width}} ") for word in words]
+                       + [self.row(b"f", harmless(name), False, " " * (width + 1) if words else "") for name in files])
+
+    def find(self, _, given):
+        if len(given) > 1:
+            raise Failed(bad_line("find", given, self.session))
+        try:
+            with self.session.away(given[0]) if given else contextlib.nullcontext():
+                names = [name for name, _ in self.session.files()]
+        except NoWayBack:
+            raise Failed("find: there is no way back to this place, which is too long or has a word that nothing has any more: "
+                         "say a formula that goes on from here, or `cd` elsewhere first") from None
+        self.in_pieces([harmless(name) for name in names])
+
+    def help(self, _, given):
+        if not given:
+            return self.screen.lines(all_in_lines())
+        name = given[0].decode(errors="replace")
+        if len(given) > 1 or name not in COMMANDS:
+            raise Failed(bad_line("help" if len(given) > 1 else name, given, self.session))
+        self.screen.lines(told(name))
+
+    def exit(self, _, given):
+        if given:
+            raise Failed(bad_line("exit", given, self.session))
+        raise Over
+
+    def put(self, line, _):
+        words = self.in_quotes(line)
+        is_sure = words[:1] == [b"-w"]
+        path, *words = words[is_sure:] or self.wrong("put")
+        name, words = words[0] if words else os.path.basename(path.rstrip(b"/")), words[1:]
+        if not is_file_name(name):
+            raise Failed(f"{harmless(name)}: no name of a file, which has {NAME_FORM}: say one behind the path: put FILE AS")
+        content, told = self.content_of(path), ""
+        if self.session.is_here(name):
+            if not is_sure and not self.screen.says_yes(f"{harmless(name)} is here already, with its words: write these bytes to it?"):
+                raise Failed(f"{harmless(name)}: there is a file of this name already" + ("" if self.screen.asks else "; `put -w` writes to it"))
+            self.judged(b"write", name, content, [], lambda: self.session.write(name, content))
+            told = "; its words stay as they were" if words else ""
+        else:
+            self.judged(b"add", name, content, words, lambda: self.session.add(name, content, *words))
+        self.screen.lines([f"{harmless(name)}: {len(content):,} bytes{told}"])
+
+    def judged(self, command, name, content, words, call):
+        """A command with bytes, which is told as the line that it is."""
+        try:
+            call()
+        except Refused as refused:
+            raise Failed(sentence(refused, b" ".join([command, name, b"%d" % len(content), *words]), self.session)) from None
+
+    def content_of(self, path):
+        """The bytes of a file of the system, where a file may have so many."""
+        path, most = os.path.expanduser(path), self.session.limits.file_bytes
+        try:
+            found = os.stat(path)
+            if not stat.S_ISREG(found.st_mode):
+                raise Failed(f"{harmless(path)}: no plain file")
+            with open(path, "rb") as file:
+                content = file.read(PAYLOAD + 1)
+        except OSError as error:
+            raise Failed(f"{harmless(path)}: {error.strerror}") from None
+        if len(content) > most:
+            raise Failed(f"{harmless(path)}: it has {max(found.st_size, len(content)):,} bytes, and a file of this image at most {most:,}")
+        return content
+
+    def get(self, line, _):
+        words = self.in_quotes(line)
+        if not 1 <= len(words) <= 2:
+            self.wrong("get")
+        if not is_file_name(words[0]):
+            raise Failed(bad_line("get", words, self.session))
+        content = self.session.content(words[0])
+        path = os.path.expanduser(words[1] if len(words) > 1 else words[0])
+        path = os.path.join(path, words[0]) if os.path.isdir(path) else path
+        try:
+            self.write_to(path, content)
+        except OSError as error:
+            raise Failed(f"{harmless(path)}: {error.strerror}") from None
+        self.screen.lines([f"{harmless(path)}: {len(content):,} bytes"])
+
+    def write_to(self, path, content):
+        """Writes a file of the system: a new one, or in place of another where that is wanted."""
+        if not os.path.lexists(path):
+            try:
+                with open(path, "xb") as file:
+                    file.write(content)
+            except FileExistsError:
+                raise
+            except BaseException:
+                with contextlib.suppress(OSError):
+                    os.unlink(path)
+                raise
+            return
+        if not os.path.isfile(path):
+            raise Failed(f"{harmless(path)}: it is there already, and no plain file")
+        if not self.screen.says_yes(f"{harmless(path)} is there already: write over it?"):
+            raise Failed(f"{harmless(path)}: it is there already, and is left as it was")
+        # The old bytes stand until the new ones are whole.
+        path = os.path.realpath(path)
+        descriptor, new = tempfile.mkstemp(dir=os.path.dirname(path))
+        try:
+            with open(descriptor, "wb") as file:
+                file.write(content)
+            shutil.copymode(path, new)
+            os.replace(new, path)
+        except BaseException:
+            with contextlib.suppress(OSError):
+                os.unlink(new)
+            raise
+
+    def in_quotes(self, line):
+        """The words behind the command, with quotes and backslashes as in other shells."""
+        try:
+            words = [os.fsencode(word) for word in shlex.split(os.fsdecode(line.removesuffix(b"\r")))]
+        except ValueError:
+            raise Failed(f"{harmless(line.strip())}: a quote is not closed") from None
+        if b"\0" in line:
+            raise Failed(f"{harmless(line.strip())}: no path has such a byte")
+        return words[1:]
+
+    def wrong(self, name):
+        raise Failed(f"{name}: it is said so: {COMMANDS[name].form}")
+
+
+def at_a_prompt(shell, history):
+    """Goes on until Ctrl-D or `exit`."""
+    while True:
+        try:
+            text = shell.screen.typed(shell.screen.prompt(shell.session.place))
+        except EOFError:
+            return shell.screen.lines([""])
+        except (KeyboardInterrupt, Stopped):
+            shell.interrupts.forget()
+            shell.screen.lines([""])
+            continue
+        try:
+            # What was pasted may be several lines.
+            for line in text.split(b"\n"):
+                history.add(line)
+                words = words_of(line)
+                if words[:1] in ([b"add"], [b"write"]):
+                    raise Failed(f"{words[0].decode()}: bytes can't be typed here: `put FILE {harmless(b' '.join(words[1:2])) or 'NAME'}` takes "
+                                 "those of a file, and `create` makes an empty one")
+                shell.carry_out(line)
+        except Failed as failed:
+            shell.screen.fault(str(failed))
+        except Stopped:
+            shell.interrupts.forget()
+            shell.screen.lines([""])
+        except Over:
+            return None
+
+
+def from_input():
+    return os.read(INPUT, PIECE)
+
+
+def commands(read, interrupts):
+    """The commands of what is read, each a line and the bytes behind it, and at last `None` where these are cut off."""
+    items, data = Items(LINE), None
+    # A last line, and last bytes, may lack their line feed.
+    while data != b"" or items.lacks_feed():
+        if data == b"":
+            items.feed(b"\n")
+        else:
+            with interrupts.typing():
+                data = read()
+            items.feed(data)
+        while taken := items.take():
+            yield taken[0][:-1], taken[1]
+    if items.is_cut():
+        yield None
+
+
+def as_a_script(shell, read=from_input):
+    """Carries out the lines that are read, with bytes behind them as `lisfs run` takes them. Whether none was refused."""
+    is_fine = True
+    for taken in commands(read, shell.interrupts):
+        try:
+            if taken is None:
+                raise Failed("the input ends within the bytes of a file")
+            shell.carry_out(*taken)
+        except Failed as failed:
+            is_fine = False
+            shell.screen.fault(f"shell: {failed}")
+        except Over:
+            break
+    return is_fine

@@ -1,0 +1,184 @@
+"""What a person at a terminal sees and types: output, colours, Ctrl-C, and the lines of earlier days."""
+import contextlib
+import os
+import shutil
+import signal
+import sys
+
+try:
+    import readline
+except ImportError:
+    # A Python without it: lines are typed as the terminal lets one.
+    readline = None
+
+from lisfs.showing import harmless
+
+INPUT, OUTPUT, ERRORS = 0, 1, 2
+# So many lines are kept of earlier days.
+REMEMBERED = 2_000
+# So many characters of a text are shown before somebody looks whether Ctrl-C has come.
+PIECE = 4_096
+WORD, PLACE, FAULT = "1;34", "1;32", "31"
+
+
+class Stopped(Exception):
+    """Ctrl-C has come: the line is over."""
+
+
+class Interrupts:
+    """Ctrl-C. While a line is typed it breaks the typing off. Else it is noted, and told where somebody asks: so no command is broken off in its
+    middle, and the session goes on."""
+
+    def __init__(self):
+        self.has_come = self._is_typing = False
+        if signal.getsignal(signal.SIGINT) != signal.SIG_IGN:
+            signal.signal(signal.SIGINT, self._come)
+
+    def _come(self, *_):
+        if self._is_typing:
+            self._is_typing = False
+            raise KeyboardInterrupt
+        self.has_come = True
+
+    def ask(self):
+        if self.has_come:
+            raise Stopped
+
+    def forget(self):
+        self.has_come = False
+
+    @contextlib.contextmanager
+    def typing(self):
+        """In the block `KeyboardInterrupt` may be raised; `Stopped`, where Ctrl-C has come before."""
+        self._is_typing = True
+        try:
+            self.ask()
+            yield
+        finally:
+            self._is_typing = False
+
+    @contextlib.contextmanager
+    def working(self):
+        """A part of the typing that is not to be broken off, as where the program is asked for words."""
+        was_typing, self._is_typing = self._is_typing, False
+        try:
+            yield
+        finally:
+            self.has_come, self._is_typing = False, was_typing
+
+
+class Screen:
+    """Where the shell shows what there is."""
+
+    def __init__(self, interrupts):
+        self.interrupts = interrupts
+        self.is_terminal, self.asks = os.isatty(OUTPUT), os.isatty(INPUT) and os.isatty(OUTPUT)
+        may_be = not os.environ.get("NO_COLOR") and os.environ.get("TERM", "dumb") != "dumb"
+        self._has_colours = {stream: may_be and os.isatty(stream) for stream in (OUTPUT, ERRORS)}
+        self.encoding, self._prompt = sys.stdout.encoding or "utf-8", ""
+
+    def coloured(self, text, colour, stream=OUTPUT):
+        return f"\x1b[{colour}m{text}\x1b[0m" if self._has_colours[stream] else text
+
+    def put(self, data, stream=OUTPUT):
+        """Shows bytes as they are."""
+        left = memoryview(data)
+        while left:
+            left = left[os.write(stream, left[:65_536]):]
+            self.interrupts.ask()
+
+    def lines(self, lines):
+        self.put("".join(line + "\n" for line in lines).encode(self.encoding, "backslashreplace"))
+
+    def content(self, data):
+        """Shows the bytes of a file: on a terminal harmlessly, and so that a new line follows."""
+        if not self.is_terminal:
+            return self.put(data)
+        text = harmless(data, "\n\t")
+        text += "" if text.endswith("\n") or not text else "\n"
+        for at in range(0, len(text), PIECE):
+            self.put(text[at:at + PIECE].encode(self.encoding, "backslashreplace"))
+
+    def fault(self, line):
+        """Tells what is amiss, on standard error."""
+        with contextlib.suppress(OSError):
+            text = self.coloured(harmless(line), FAULT, ERRORS) + "\n"
+            os.write(ERRORS, text.encode(self.encoding, "backslashreplace"))
+
+    def prompt(self, place):
+        """The end of it where it is long. What a terminal does not show is marked, so that the line's length is known."""
+        text, most = harmless(place if place.startswith(b"/") else b"/" + place), max(20, shutil.get_terminal_size().columns // 2)
+        text = text if len(text) <= most else ".." + text[-most + 2:]
+        shown = f"\1\x1b[{PLACE}m\2{text}\1\x1b[0m\2" if readline and self._has_colours[OUTPUT] else text
+        return shown + "> "
+
+    def again(self, lines, typed, behind):
+        """Shows lines below the one that is being typed, and then that one again, with the cursor before so many characters."""
+        prompt = self._prompt.replace("\1", "").replace("\2", "")
+        text = "\n" + "".join(line + "\n" for line in lines) + prompt + harmless(os.fsencode(typed)) + "\b" * behind
+        with self.interrupts.working(), contextlib.suppress(Stopped):
+            self.put(text.encode(self.encoding, "backslashreplace"))
+
+    def typed(self, prompt):
+        """A line that is typed, as bytes; lines where they were pasted. Raises `EOFError` at Ctrl-D and `KeyboardInterrupt` at Ctrl-C."""
+        self._prompt = prompt
+        self.interrupts.forget()
+        with self.interrupts.typing():
+            return os.fsencode(input(prompt))
+
+    def says_yes(self, question):
+        """Whether the answer to a question is yes. Without a terminal it is no."""
+        if not self.asks:
+            return False
+        try:
+            return self.typed(f"{question} [y/N] ").strip().lower() in (b"y", b"yes")
+        except (EOFError, KeyboardInterrupt, Stopped):
+            self.lines([""])
+            return False
+
+
+def history_path():
+    """The file of the lines of earlier days."""
+    state = os.environ.get("XDG_STATE_HOME", "")
+    # One that does not begin at the root is to be passed over.
+    state = state if os.path.isabs(state) else os.path.expanduser("~/.local/state")
+    return os.path.join(state, "lisfs", "shell_history")
+
+
+class History:
+    """Lines of earlier days, in a file that its owner alone reads. Where it can't be read or written, there are those of today."""
+
+    def __init__(self, path):
+        self.path, self.last = path, None
+        if readline:
+            readline.set_auto_history(False)
+            readline.clear_history()
+            # What is pasted is looked at before it is carried out.
+            readline.parse_and_bind("set enable-bracketed-paste on")
+            with contextlib.suppress(OSError, ValueError):
+                self._begin()
+
+    def _begin(self):
+        with contextlib.suppress(FileNotFoundError):
+            with open(self.path, "rb") as file:
+                lines = file.read().splitlines()
+            for line in lines[-REMEMBERED:]:
+                readline.add_history(os.fsdecode(line))
+            if len(lines) > 2 * REMEMBERED:
+                self._write(lines[-REMEMBERED:], os.O_TRUNC)
+
+    def _write(self, lines, flags):
+        os.makedirs(os.path.dirname(self.path), 0o700, exist_ok=True)
+        descriptor = os.open(self.path, os.O_WRONLY | os.O_CREAT | os.O_CLOEXEC | flags, 0o600)
+        with open(descriptor, "wb") as file:
+            os.fchmod(descriptor, 0o600)
+            file.write(b"".join(line + b"\n" for line in lines))
+
+    def add(self, line):
+        """Keeps a line, each as it comes, so that none is lost where the terminal is."""
+        if not readline or not line.strip() or line == self.last:
+            return
+        self.last = line
+        with contextlib.suppress(OSError, ValueError):
+            readline.add_history(os.fsdecode(line))
+            self._write([line], os.O_APPEND)

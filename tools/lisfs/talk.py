@@ -1,0 +1,119 @@
+"""Gives standard input to a server (`tools/serve`), and shows its replies, as `lisfs run` does with an image.
+
+usage: tools/talk SOCKET < session
+
+It ends with 0 when its input has ended and all replies were shown. A last line may lack its line feed, and so may a last payload. Where
+there is no server, where it has eight clients already, and where it ends before, a line on standard error says so, and the status is 1.
+On a terminal what is no text is shown as `^X`, `\\xNN` or `\\uNNNN`; elsewhere replies are handed out as they are.
+"""
+import os
+import select
+import signal
+import socket
+import sys
+
+from lisfs.client import FULL, ROOM_LINE, Items, NotAReply, Replies
+from lisfs.showing import harmless
+
+INPUT, OUTPUT, PIECE = 0, 1, 65_536
+
+
+def fail(path, cause):
+    sys.exit(harmless(f"talk: {path}: {cause}"))
+
+
+class Talk:
+    def __init__(self, connection):
+        self.is_terminal = os.isatty(OUTPUT)
+        self.connection, self.items, self.replies = connection, Items(ROOM_LINE), Replies()
+        self.unsent, self.has_ended, self.asked, self.answered = memoryview(b""), False, 0, 0
+
+    def run(self):
+        """Goes on until the server closes the connection. Whether all was replied to."""
+        while True:
+            reading = [self.connection] + ([] if self.has_ended or self.unsent else [INPUT])
+            readable, writable, _ = select.select(reading, [self.connection] if self.unsent else [], [])
+            if self.connection in readable and not self.show():
+                return self.has_ended and self.asked == self.answered
+            if self.connection in writable:
+                self.send()
+            if INPUT in readable:
+                self.read()
+
+    def read(self):
+        """Takes in a piece of the input. At its end the last line is ended."""
+        data = os.read(INPUT, PIECE)
+        if data:
+            self.take(data)
+        else:
+            self.has_ended = True
+            while self.items.lacks_feed():
+                self.take(b"\n")
+            # The server tells of a payload that is cut off.
+            self.asked += self.items.is_cut()
+        self.send()
+
+    def take(self, data):
+        self.unsent = memoryview(bytes(self.unsent) + data)
+        self.items.feed(data)
+        while self.items.take():
+            self.asked += 1
+
+    def send(self):
+        """Sends what the server takes now, and behind the last of it the end."""
+        try:
+            if self.unsent:
+                self.unsent = self.unsent[self.connection.send(self.unsent):]
+            if self.has_ended and not self.unsent:
+                self.connection.shutdown(socket.SHUT_WR)
+        except BlockingIOError:
+            pass
+        except OSError:
+            # The server takes no more. What it has replied to is there, and then its end.
+            self.unsent = memoryview(b"")
+
+    def show(self):
+        """Shows the replies that came whole. Whether more can come."""
+        try:
+            data = self.connection.recv(PIECE)
+        except BlockingIOError:
+            return True
+        except ConnectionResetError:
+            return False
+        self.replies.shown += data
+        while taken := self.replies.take():
+            self.answered += 1
+            left = self.shown(taken[0])
+            while left:
+                left = left[os.write(OUTPUT, left):]
+        return bool(data)
+
+    def shown(self, reply):
+        """The bytes of a reply as they are shown: on a terminal harmlessly, since a file may have any bytes."""
+        return harmless(reply, "\n\t").encode(sys.stdout.encoding, "backslashreplace") if self.is_terminal else reply
+
+
+def talk(path):
+    connection = socket.socket(socket.AF_UNIX)
+    try:
+        connection.connect(path)
+    except OSError as error:
+        fail(path, f"no server is there: {error.strerror or error}")
+    connection.setblocking(False)
+    talking = Talk(connection)
+    try:
+        if not talking.run():
+            fail(path, "the server ended before all was replied to")
+    except NotAReply as error:
+        fail(path, FULL.decode().rstrip() if talking.replies.shown == FULL else error)
+
+
+def main():
+    if len(sys.argv) != 2 or sys.argv[1].startswith("-"):
+        sys.exit(__doc__)
+    signal.signal(signal.SIGINT, signal.SIG_DFL)
+    try:
+        talk(sys.argv[1])
+    except OSError as error:
+        sys.exit(f"talk: {error.strerror or error}")
+    return 0

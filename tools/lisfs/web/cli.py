@@ -1,0 +1,105 @@
+"""Shows an image in a web browser, narrowed by clicks: the words of each place with how many files each leaves, the files, and what is in them.
+
+usage: tools/browse IMAGE [--port N] [--write]
+
+It prints one address, which a browser on this machine opens, and serves pages there until Ctrl-C or a SIGTERM. The address has a random token:
+whoever knows it sees the image, and nobody else. --port says at which port, in place of a free one. --write lets the pages change things.
+
+A request has to come within 20 seconds, and an answer to be taken within 60, or as many as `$LISFS_PATIENCE` says. At most 200 connections are
+open; when one more comes, a connection that has not sent an admitted request is closed first.
+It carries out each question and each change by one `lisfs run IMAGE`, which holds the image's lock all the while, and shows a change as done
+after its `ok`. What stands between a browser and these commands is not proved. The status is 0 after an end that was wanted, 1 where something
+is amiss, which one line tells, and 2 for wrong use.
+"""
+import argparse
+import functools
+import os
+import signal
+import socket
+import sys
+
+from lisfs.web.connections import WAITING, Connections
+from lisfs.web.image import Image
+from lisfs.web.site import Site
+from lisfs.client import Ended, Locked, NotAReply, missing
+from lisfs.dumps import NotADump, opened
+from lisfs.mount.image import limits_of
+from lisfs.showing import write_line
+
+
+class NotServed(Exception):
+    """Nothing can be served, for a cause that one line tells."""
+
+
+def tell(line):
+    write_line(sys.stderr, f"browse: {line}")
+
+
+def come_signals():
+    """Where a byte can be read when one of the signals has come that end it. One that is ignored, as by `nohup`, stays so."""
+    come, sent = os.pipe()
+    os.set_blocking(sent, False)
+    signal.set_wakeup_fd(sent, warn_on_full_buffer=False)
+    for number in (signal.SIGINT, signal.SIGTERM, signal.SIGHUP):
+        if signal.getsignal(number) != signal.SIG_IGN:
+            signal.signal(number, lambda *_: None)
+    return come
+
+
+def listening(port):
+    """Where clients of this machine come."""
+    try:
+        return socket.create_server(("127.0.0.1", port), backlog=WAITING)
+    except OSError as error:
+        raise NotServed(f"port {port}: {os.strerror(error.errno)}") from None
+
+
+def serve(path, port, can_write):
+    """The status."""
+    with listening(port) as listener:
+        program, dump = opened(path)
+        site = None
+        try:
+            # However it goes, nobody has the image any more at the end.
+            with program:
+                site = Site(Image(program, dump, limits_of(path)), os.path.basename(path), can_write, listener.getsockname()[1])
+                connections, come = Connections(site, listener), come_signals()
+                connections.watch(come, functools.partial(connections.end, come))
+                print(site.address, flush=True)
+                connections.serve()
+        except Ended:
+            # A page has told of it.
+            if not site or not site.end:
+                raise
+    return 1 if site.end else 0
+
+
+def port_of(text):
+    port = int(text)
+    if not 0 <= port < 65_536:
+        raise ValueError(text)
+    return port
+
+
+def main():
+    parser = argparse.ArgumentParser(usage=__doc__.split("usage: ", 1)[1])
+    parser.add_argument("--port", type=port_of, default=0)
+    parser.add_argument("--write", action="store_true")
+    parser.add_argument("image")
+    words = parser.parse_args()
+    try:
+        if what := missing():
+            tell(what)
+            return 1
+        return serve(words.image, words.port, words.write)
+    except Locked:
+        tell(f"{words.image}: in use by another lisfs")
+    except Ended as end:
+        tell(": ".join(end.text.splitlines()) or str(end))
+    except (NotServed, NotADump, NotAReply) as error:
+        tell(error)
+    except OSError as error:
+        tell(f"{error.filename or words.image}: {error.strerror}")
+    except KeyboardInterrupt:
+        tell("stopped before it began")
+    return 1

@@ -1,0 +1,179 @@
+"""Many clients at once, in one thread: none of them, however slow or large, holds up another one or takes more than its share.
+
+A connection brings one request and takes one answer. The head of a request has so many bytes at most; its body is read only where the site has
+admitted the head, and has as many as the head says. What is not there whole after some seconds is closed. Where too many connections are open,
+one makes room for a new one: one of which no request was admitted first, so that who only connects keeps nobody out. A request is answered
+whole before the next one: the program below carries out one command after the other.
+"""
+import contextlib
+import email.utils
+import http
+import os
+import selectors
+import sys
+import time
+import traceback
+
+from lisfs.web.site import HEAD, POLICY, Wrong
+from lisfs.showing import harmless, write_line
+
+READ, WRITE = selectors.EVENT_READ, selectors.EVENT_WRITE
+# So many connections are open at most, and so many wait to be opened. So many bytes are read at once, and of a refused request still, so that
+# who sends them sees the answer.
+MOST, WAITING = 200, 128
+PIECE, PASSED_OVER = 65_536, 16_777_216
+
+
+def patience(seconds):
+    """How long something may take: so many seconds, or as many as the environment says."""
+    text = os.environ.get("LISFS_PATIENCE") or str(seconds)
+    with contextlib.suppress(ValueError):
+        if 0 < (wanted := float(text)) <= 1_000_000:
+            return wanted
+    sys.exit(f"browse: LISFS_PATIENCE: no number of seconds: {harmless(text)}")
+
+
+# A request, an answer, and the end of a connection.
+REQUEST, ANSWER, END = patience(20), patience(60), patience(5)
+
+
+def spelled(answer, can_write):
+    """The bytes of an answer. Each has all that keeps a browser from taking it for something else, or showing it elsewhere."""
+    # With `no-referrer` a browser would say of a form that it comes from nowhere, as a page from elsewhere could let it say too.
+    rows = [f"HTTP/1.1 {answer.status} {http.HTTPStatus(answer.status).phrase}", f"Date: {email.utils.formatdate(usegmt=True)}",
+            f"Content-Type: {answer.kind}", f"Content-Length: {len(answer.body)}", "Connection: close", "Cache-Control: no-store",
+            f"Content-Security-Policy: {POLICY}", "X-Content-Type-Options: nosniff",
+            f"Referrer-Policy: {'same-origin' if can_write else 'no-referrer'}",
+            "X-Frame-Options: DENY", "Cross-Origin-Resource-Policy: same-origin", "Cross-Origin-Opener-Policy: same-origin"]
+    rows += [f"{name}: {value}" for name, value in answer.headers]
+    if any("\r" in row or "\n" in row for row in rows):
+        raise ValueError("a header of two lines")
+    return "\r\n".join(rows).encode("latin-1") + b"\r\n\r\n" + answer.body
+
+
+class Connection:
+    def __init__(self, socket):
+        self.socket, self.given, self.request, self.length, self.unsent, self.passed = socket, bytearray(), None, 0, memoryview(b""), 0
+        # Whether it waits for a request, and when it is closed.
+        self.is_asking, self.until = True, time.monotonic() + REQUEST
+
+
+class Connections:
+    """Serves a site at a listening socket until it is told to end."""
+
+    def __init__(self, site, listener):
+        self.site, self.listener, self.is_ending, self.open = site, listener, False, {}
+        listener.setblocking(False)
+        self.selector = selectors.DefaultSelector()
+        self.selector.register(listener, READ, self._take)
+
+    def watch(self, file, call):
+        self.selector.register(file, READ, call)
+
+    def end(self, come):
+        """Answers nothing more, since a signal has come."""
+        os.read(come, PIECE)
+        self.is_ending = True
+
+    def serve(self):
+        while not self.is_ending:
+            now = time.monotonic()
+            for connection in [connection for connection in self.open.values() if connection.until <= now]:
+                self._close(connection)
+            soonest = min((connection.until for connection in self.open.values()), default=None)
+            for key, _ in self.selector.select(None if soonest is None else max(0, soonest - now)):
+                # Some call before may have closed this one.
+                if key.fileobj is self.listener or key.fd not in self.open or self.open[key.fd].socket is key.fileobj:
+                    key.data()
+        for connection in list(self.open.values()):
+            self._close(connection)
+
+    def _take(self):
+        with contextlib.suppress(OSError):
+            socket, _ = self.listener.accept()
+            socket.setblocking(False)
+            if len(self.open) >= MOST and not self._make_room():
+                socket.close()
+                return
+            connection = self.open[socket.fileno()] = Connection(socket)
+            self.selector.register(socket, READ, lambda: self._serve(connection))
+
+    def _make_room(self):
+        """Closes a connection that is not being answered: one without an admitted request, or else one that has its answer, or else one whose
+        request is not there whole; and of these the one that has waited longest. Whether there was one."""
+        waiting = [connection for connection in self.open.values() if connection.request is None or not connection.unsent]
+        if waiting:
+            self._close(min(waiting, key=lambda connection: (connection.request is not None, connection.is_asking, connection.until)))
+        return bool(waiting)
+
+    def _close(self, connection):
+        if self.open.get(connection.socket.fileno()) is connection:
+            del self.open[connection.socket.fileno()]
+            self.selector.unregister(connection.socket)
+            connection.socket.close()
+
+    def _serve(self, connection):
+        try:
+            if connection.unsent:
+                self._send(connection)
+            elif connection.is_asking:
+                self._read(connection)
+            else:
+                self._pass_over(connection)
+        except BlockingIOError:
+            pass
+        except OSError:
+            self._close(connection)
+        except Exception:
+            # A mistake of the reader of requests ends one of them.
+            write_line(sys.stderr, traceback.format_exc().rstrip("\n"), "\n")
+            self._close(connection)
+
+    def _read(self, connection):
+        data = connection.socket.recv(PIECE)
+        if not data:
+            self._close(connection)
+            return
+        connection.given += data
+        try:
+            if connection.request is None and not self._admit(connection):
+                return
+        except Wrong as wrong:
+            self._answer(connection, self.site.refused(wrong))
+            return
+        if len(connection.given) >= connection.length:
+            self._answer(connection, self.site.answer(connection.request, bytes(connection.given[:connection.length])))
+
+    def _admit(self, connection):
+        """Whether the head of the request is there whole."""
+        end = connection.given.find(b"\r\n\r\n", 0, HEAD)
+        if end < 0:
+            if len(connection.given) >= HEAD:
+                raise Wrong(431, "The request is too large.")
+            return False
+        head = bytes(connection.given[:end + 4])
+        del connection.given[:end + 4]
+        connection.request, connection.length = self.site.admitted(head)
+        return True
+
+    def _answer(self, connection, answer):
+        connection.unsent, connection.given = memoryview(spelled(answer, self.site.can_write)), bytearray()
+        connection.is_asking, connection.until = False, time.monotonic() + ANSWER
+        with contextlib.suppress(BlockingIOError):
+            self._send(connection)
+        if connection.unsent:
+            self.selector.modify(connection.socket, WRITE, self.selector.get_key(connection.socket).data)
+
+    def _send(self, connection):
+        connection.unsent = connection.unsent[connection.socket.send(connection.unsent):]
+        if not connection.unsent:
+            # Bytes that nobody reads would make the system take the answer back, so the other side is read until it closes too.
+            connection.socket.shutdown(1)
+            connection.until = time.monotonic() + END
+            self.selector.modify(connection.socket, READ, self.selector.get_key(connection.socket).data)
+
+    def _pass_over(self, connection):
+        data = connection.socket.recv(PIECE)
+        connection.passed += len(data)
+        if not data or connection.passed > PASSED_OVER:
+            self._close(connection)

@@ -1,0 +1,182 @@
+"""An open image: what is asked of the program for a page, the changes, and the index of counts, which is kept in step with them.
+
+What a place is, and what it shows, the program says. The index says how many files each word leaves, and which files the place has; whether
+the two agree is looked at each time: the files that no word covers are those that the program shows, and each word leaves some files and not
+all. The image is locked by the session, so nobody else changes it. Between two calls the session's place is the root, where all files are.
+"""
+import collections
+
+from lisfs.client import Refused, item
+from lisfs.formulas import head_of, is_word
+
+from lisfs.index import Index
+from lisfs.web.places import Place, is_test
+
+# A place, its files as a row of bits, the words of its listing with the number of files that each leaves, and the files that no word covers.
+View = collections.namedtuple("View", "place here words locals")
+
+
+class Differs(Exception):
+    """The index and the program say different things of a place, also where the index was just made."""
+
+
+class WrongWord(ValueError):
+    """What was typed can't be one word of a command, or no word that a file is given."""
+
+
+class Image:
+    def __init__(self, program, dump, limits):
+        self.program, self.limits, self.index = program, limits, Index()
+        self.declared, self.axioms = set(dump.declared), set(dump.axioms)
+        for name, (size, words) in dump.files.items():
+            self.index.add(name, size, words)
+        self._describe(self.index.files.values())
+
+    # Questions.
+
+    def told(self, *commands):
+        """The replies to commands that change no place, or go to one and back, sent ahead of each other. Raises the first refusal."""
+        for command in commands:
+            # Nothing is sent where one of them can't be.
+            item(command)
+        for command in commands:
+            self.program.send(*command)
+        replies, refusal = [], None
+        for command in commands:
+            try:
+                replies.append(self.program.receive().body)
+            except Refused as refused:
+                refused.command = command[0]
+                refusal = refusal or refused
+        if refusal:
+            raise refusal
+        return replies
+
+    def _describe(self, files):
+        """Asks for the words of files."""
+        files = list(files)
+        for file, words in zip(files, self.told(*((b"props", file.name) for file in files))):
+            self.index.describe(file, frozenset(text for _, text in words))
+
+    def look(self, formula):
+        """A place and what it shows. Raises `Refused` where the formula leads to none."""
+        _, printed, listing, _ = self.told((b"cd", formula), (b"pwd",), (b"ls",), (b"cd", b"/"))
+        place = Place(printed[0][1])
+        for is_anew in (False, True):
+            here = place.files(self.index)
+            words = [(text, (self.index.having(text) & here).bit_count()) for letter, text in listing if letter == b"d"]
+            shown = [text for letter, text in listing if letter == b"f"]
+            if self._agrees(here, words, shown):
+                return View(place, here, words, [self.index.files[name] for name in shown])
+            if not is_anew:
+                self._describe(self.index.files.values())
+        raise Differs(place.text)
+
+    def _agrees(self, here, words, shown):
+        whole, covered = here.bit_count(), 0
+        for word, count in words:
+            if not 0 < count < whole:
+                return False
+            covered |= self.index.having(word)
+        return [file.name for file in self.index.of(here & ~covered)] == shown
+
+    def file(self, name):
+        """A file of the index, the words of a route to it and its bytes."""
+        way, content = self.told((b"way", name), (b"cat", name))
+        return self.index.files[name], [text for _, text in way], content
+
+    def counts(self):
+        return {name.decode(): int(count) for name, count in (text.split() for _, text in self.told((b"stat",))[0])}
+
+    # Changes. Each is one command; where it is refused nothing was changed. Where one goes to a place first, nothing is sent before the
+    # reply to that: a command behind a refused `cd` would be carried out at the root.
+
+    def _change(self, *command, at=b"/"):
+        item(command)
+        if at != b"/":
+            self.told((b"cd", at))
+        try:
+            self.told(command)
+        finally:
+            if at != b"/":
+                self.told((b"cd", b"/"))
+
+    def _file(self, name):
+        """The file of a name. Where there is none, the program says so."""
+        if name not in self.index.files:
+            self.told((b"props", name))
+        return self.index.files[name]
+
+    def give(self, name, word):
+        """Gives a file a word. Whether it had it already, by itself or by another word."""
+        file = self._file(name)
+        if not is_word(word):
+            raise WrongWord(word)
+        had = word in file.words
+        self._change(b"mv", name, b"/" + word)
+        file.given |= {word}
+        self._describe([file])
+        return had
+
+    def take(self, name, word):
+        """Takes a word from a file. Whether it has it still, since another word entails it."""
+        file = self._file(name)
+        if not is_word(word):
+            raise WrongWord(word)
+        self._change(b"mv", name, b"/", at=b"/" + word)
+        file.given -= {word}
+        self._describe([file])
+        return word in file.words
+
+    def rename(self, name, other):
+        file = self._file(name)
+        self._change(b"rename", name, other)
+        self.index.rename(file, other)
+        self._describe([file])
+
+    def remove(self, name):
+        file = self._file(name)
+        self._change(b"rm", name)
+        self.index.drop(file)
+
+    def add(self, name, content, words):
+        try:
+            self.program.add(name, content, *words)
+        except Refused as refused:
+            refused.command = b"add"
+            raise
+        self._describe([self.index.add(name, len(content), words)])
+
+    def declare(self, word, place):
+        """Declares a word under those of a place."""
+        self._change(b"mkdir", word, at=place.text)
+        self.declared.add(word)
+        self.axioms |= {(word, right) for right in place.words}
+        if is_test(word):
+            self._describe(self.index.files.values())
+
+    def take_back(self, word):
+        """Declares a word no more."""
+        files = self.index.of(self.index.having(word))
+        self._change(b"rmdir", word)
+        self.declared.discard(word)
+        self._describe(files)
+
+    def axiom(self, left, right):
+        self._change(b"axiom", left, right)
+        self.axioms.add((left, right))
+        self._describe(self.index.of(self.index.having(left)))
+
+    def unaxiom(self, left, right):
+        files = self.index.of(self.index.having(left))
+        self._change(b"unaxiom", left, right)
+        self.axioms.discard((left, right))
+        self._describe(files)
+
+
+def kind_of(word):
+    """The group of a listing's word: `tests`, the head of a value, `heads` for heads themselves, and `words` for all others."""
+    if is_test(word):
+        return b"tests"
+    head = head_of(word)
+    return b"words" if head is None else b"heads" if head == word else head

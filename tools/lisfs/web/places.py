@@ -1,0 +1,142 @@
+"""A place as a page shows it: its steps, and of each the parts that `|` joins, so that each can be taken out, negated and joined by itself.
+
+It is made of the text by which the program prints a place (`pwd`), so that a step with `|` stands in parentheses and `!` binds one part. What
+the program makes of the texts that are made here is for it to say. Which files a place means is worked out here too, over an index.
+"""
+import re
+
+from lisfs.formulas import TEST, WORD
+
+
+class NotAPlace(ValueError):
+    """The text is none that the program prints."""
+
+
+def split(text, mark):
+    """The pieces between the marks that stand in no parentheses."""
+    pieces, depth, begin = [], 0, 0
+    for at in range(len(text)):
+        byte = text[at:at + 1]
+        depth += (byte == b"(") - (byte == b")")
+        if byte == mark and not depth:
+            pieces.append(text[begin:at])
+            begin = at + 1
+    return pieces + [text[begin:]]
+
+
+def is_enclosed(text):
+    """Whether one pair of parentheses stands round all of it."""
+    depth = 0
+    for at in range(len(text)):
+        depth += (text[at:at + 1] == b"(") - (text[at:at + 1] == b")")
+        if not depth:
+            return text[:1] == b"(" and at == len(text) - 1
+    return False
+
+
+def alternatives(step):
+    """The parts that `|` joins, in order: `((a|b)|c)` has three."""
+    parts = split(step[1:-1], b"|") if is_enclosed(step) else [step]
+    if len(parts) == 1:
+        return [step]
+    return [alternative for part in parts for alternative in alternatives(part)]
+
+
+def negation(part):
+    return part[1:] if part.startswith(b"!") else b"!" + part
+
+
+class Place:
+    def __init__(self, printed):
+        self.steps = [] if printed == b"/" else [alternatives(step) for step in split(printed, b"/")]
+        self.text = text_of(self.steps)
+        # The words of a place that has only words, and else None.
+        simple = [step[0] for step in self.steps if len(step) == 1 and WORD.fullmatch(step[0])]
+        self.words = tuple(dict.fromkeys(simple)) if len(simple) == len(self.steps) else None
+
+    # The texts of places nearby. `step` and `part` are numbers.
+
+    def with_word(self, word):
+        return text_of(self.steps + [[word]])
+
+    def without(self, step, part):
+        left = self.steps[step][:part] + self.steps[step][part + 1:]
+        return text_of(self.steps[:step] + ([left] if left else []) + self.steps[step + 1:])
+
+    def negated(self, step, part):
+        parts = list(self.steps[step])
+        parts[part] = negation(parts[part])
+        return text_of(self.steps[:step] + [parts] + self.steps[step + 1:])
+
+    def joined(self, step):
+        """With `or` between a step and the next one."""
+        return text_of(self.steps[:step] + [self.steps[step] + self.steps[step + 1]] + self.steps[step + 2:])
+
+    def parted(self, step, part):
+        """With `and` between a part and the next one."""
+        parts = self.steps[step]
+        return text_of(self.steps[:step] + [parts[:part + 1], parts[part + 1:]] + self.steps[step + 1:])
+
+    def files(self, index):
+        """The files of the place, as a row of bits."""
+        found = index.everything
+        for step in self.steps:
+            row = 0
+            for part in step:
+                row |= Reader(part, index).whole()
+            found &= row
+        return found
+
+
+def text_of(steps):
+    """The formula of some steps, from the root on."""
+    return b"/" + b"/".join(b"(" + b"|".join(step) + b")" if len(step) > 1 else step[0] for step in steps)
+
+
+class Reader:
+    """Reads a formula, and works out which files of an index it holds of. A formula of a place is no deeper than a place has nodes."""
+
+    def __init__(self, text, index):
+        self.text, self.index, self.at = text, index, 0
+
+    def whole(self):
+        row = self._path()
+        if self.at != len(self.text):
+            raise NotAPlace(self.text)
+        return row
+
+    def _takes(self, byte):
+        is_there = self.text[self.at:self.at + 1] == byte
+        self.at += is_there
+        return is_there
+
+    def _path(self):
+        row = self._either()
+        while self._takes(b"/"):
+            row &= self._either()
+        return row
+
+    def _either(self):
+        row = self._one()
+        while self._takes(b"|"):
+            row |= self._one()
+        return row
+
+    def _one(self):
+        if self._takes(b"!"):
+            return self.index.everything & ~self._one()
+        if self._takes(b"("):
+            row = self._path()
+            if not self._takes(b")"):
+                raise NotAPlace(self.text)
+            return row
+        for form, row in ((TEST, lambda found: self.index.sized(found[1] == b">=", int(found[2]))),
+                          (WORD, lambda found: self.index.having(found[0]))):
+            if found := form.match(self.text, self.at):
+                self.at = found.end()
+                return row(found)
+        raise NotAPlace(self.text)
+
+
+def is_test(word):
+    return re.fullmatch(TEST, word) is not None

@@ -1,0 +1,372 @@
+"""Who may ask, and which page or change is asked for.
+
+Whoever knows the printed address may ask, and nobody else: not another user of the machine, and not a page that this user's browser shows from
+elsewhere. The address has a token. It is answered by a cookie and a redirect, so that the token stays in no address bar. All pages lie below a
+path that is random too, to which the cookie is bound: a browser sends a cookie to each port of a machine, and so to the server of somebody else
+there, but not below another path. A form has a token of its own, since a cookie goes along with whatever a browser sends.
+
+No path of a request is ever one of a file: each page stands in a table.
+"""
+import collections
+import hmac
+import http.server
+import io
+import os
+import re
+import secrets
+import sys
+import traceback
+import urllib.parse
+
+from lisfs.client import Ended, NotAReply, NotSent, Refused
+from lisfs.formulas import FILE_NAME, NAME_LIMIT, TEXT_LIMIT
+from lisfs.showing import write_line
+
+from lisfs.web.image import Differs, WrongWord
+from lisfs.web.markup import address
+from lisfs.web.pages import DONE, Pages, place_of
+from lisfs.web.sentences import sentence
+
+# The most bytes of a request before its body; of a body without a file, and with one beside the file's own; the most fields of either.
+HEAD, BODY, BESIDE, FIELDS = 16_384, 65_536, 65_536, 64
+HTML, TEXT, BYTES = "text/html; charset=utf-8", "text/plain; charset=utf-8", "application/octet-stream"
+STATIC = {"style.css": "text/css; charset=utf-8", "script.js": "text/javascript; charset=utf-8", "icon.svg": "image/svg+xml"}
+POLICY = ("default-src 'none'; style-src 'self'; script-src 'self'; img-src 'self'; connect-src 'self'; form-action 'self'; base-uri 'none'; "
+          "frame-ancestors 'none'")
+ONCE = ("Host", "Origin", "Content-Length", "Content-Type", "Cookie", "Sec-Fetch-Site")
+COOKIE = "lisfs"
+TITLES = {404: "Not here", 409: "Refused", 500: "A mistake"}
+# What a page names that tells of a refusal.
+MEANT = ("name", "other", "word", "words", "left", "right")
+
+# `headers` are pairs, beside those that each answer has.
+Answer = collections.namedtuple("Answer", "status kind body headers", defaults=((),))
+
+
+class Wrong(Exception):
+    """A request that is refused: a status, and a sentence for who asked. Who is known is shown a page, with a link to the first one."""
+
+    def __init__(self, status, told, is_known=False):
+        super().__init__(told)
+        self.status, self.told, self.is_known = status, told, is_known
+
+
+class Request(http.server.BaseHTTPRequestHandler):
+    """The line and the headers of a request, read by Python's own server, without one."""
+
+    def __init__(self, head):
+        # Nothing of the base is called but what reads the head out of memory.
+        self.rfile, self.wfile, self.wrong, self.command = io.BytesIO(head), io.BytesIO(), None, ""
+        self.raw_requestline = self.rfile.readline()
+        if not self.parse_request():
+            raise Wrong(*(self.wrong or (400, "This is no request.")))
+
+    def send_error(self, code, message=None, explain=None):
+        self.wrong = code, "This is no request that is served here."
+
+    def header(self, name):
+        """What a header says, or None where it isn't there. One that may stand once stands once."""
+        found = self.headers.get_all(name, [])
+        if len(found) > 1 and name in ONCE:
+            raise Wrong(400, f"The request says {name} more than once.")
+        return found[0] if found else None
+
+
+def fields(text):
+    """The fields of an address or a form, each as bytes, the first of each name."""
+    try:
+        pairs = urllib.parse.parse_qsl(text, keep_blank_values=True, encoding="utf-8", errors="surrogateescape", max_num_fields=FIELDS)
+    except ValueError:
+        raise Wrong(400, "There are too many fields.") from None
+    found = {}
+    for name, value in pairs:
+        found.setdefault(name, value.encode("utf-8", "surrogateescape"))
+    return found
+
+
+def parts(body, kind):
+    """The fields of a form with a file, each as bytes, and the name of the file as `filename`."""
+    boundary = re.search(r'boundary="?([A-Za-z0-9\'()+_,./:=?-]{1,70})"?', kind)
+    if not boundary:
+        raise Wrong(400, "The form has no boundary.")
+    pieces, found = re.split(rb"\r\n--%s(?=\r\n|--)" % re.escape(boundary[1].encode()), b"\r\n" + body, maxsplit=FIELDS), {}
+    if len(pieces) > FIELDS or pieces[-1][:2] != b"--":
+        raise Wrong(400, "The form is cut off.")
+    for piece in pieces[1:-1]:
+        head, gap, value = piece.partition(b"\r\n\r\n")
+        name = re.search(rb'(?i)\r\ncontent-disposition:[^\r\n]*; ?name="([^"\r\n]*)"(?:; ?filename="([^"\r\n]*)")?', head)
+        if not gap or not name:
+            raise Wrong(400, "The form is none.")
+        found.setdefault(name[1].decode(errors="replace"), value)
+        if name[2] is not None:
+            found.setdefault("filename", name[2])
+    return found
+
+
+def same(given, wanted):
+    """Whether a secret is the right one, in the same time whatever it is."""
+    return hmac.compare_digest((given or "").encode("utf-8", "surrogateescape"), wanted.encode())
+
+
+def number_in(given, name):
+    """The number of a page, from 0 on."""
+    text = given.get(name, b"1")
+    return int(text) - 1 if re.fullmatch(rb"[1-9][0-9]{0,5}", text) else 0
+
+
+def name_for(wanted):
+    """A file's name out of that which it has elsewhere: each other byte becomes `_`, as `tools/import` does."""
+    return re.sub(rb"[^A-Za-z0-9_.+@-]", b"_", re.split(rb"[/\\]", wanted)[-1])[-NAME_LIMIT:]
+
+
+class Site:
+    def __init__(self, image, name, can_write, port):
+        self.image, self.can_write, self.end = image, can_write, None
+        self.token, self.cookie, form = (secrets.token_urlsafe(24) for _ in range(3))
+        self.top = f"/{secrets.token_urlsafe(12)}/"
+        self.pages, self.form = Pages(image, name, can_write, form), form
+        self.hosts = {f"127.0.0.1:{port}"} | ({"127.0.0.1"} if port == 80 else set())
+        self.address = f"http://127.0.0.1:{port}/?token={self.token}"
+        self.static = {}
+        for file, kind in STATIC.items():
+            with open(os.path.join(os.path.dirname(__file__), file), "rb") as data:
+                self.static[file] = Answer(200, kind, data.read())
+        self.shown = {"": self.place, "words": self.words, "files": self.files, "rest": self.rest, "file": self.file, "bytes": self.bytes,
+                      "remove": self.removing, "declared": self.declared}
+        self.changed = {"give": self.give, "take": self.take, "rename": self.rename, "remove": self.remove, "upload": self.upload,
+                        "declare": self.declare, "undeclare": self.undeclare, "axiom": self.axiom, "unaxiom": self.unaxiom}
+
+    # Who may ask.
+
+    def admitted(self, head):
+        """The request whose head this is, and how many bytes of a body it has. Raises `Wrong` where it is not to be answered; before that
+        nothing of its body is read."""
+        if b"\0" in head or re.search(rb"\r(?!\n)", head):
+            raise Wrong(400, "This is no request.")
+        request = Request(head)
+        if request.header("Host") not in self.hosts:
+            raise Wrong(403, "This address is not served here. Open the address that tools/browse has printed.")
+        if request.header("Origin") not in (None, "http://" + request.header("Host")):
+            raise Wrong(403, "A page from elsewhere may not ask here.")
+        if request.command not in ("GET", "POST"):
+            raise Wrong(405, "Only pages and forms are served here.")
+        if not request.path.startswith("/") or "#" in request.path:
+            raise Wrong(400, "This is no address.")
+        request.page, _, request.query = request.path.partition("?")
+        is_entry = request.page == "/" and request.command == "GET" and same(fields(request.query).get("token", b"").decode("latin-1"),
+                                                                             self.token)
+        if not is_entry:
+            self._must_be_known(request)
+        try:
+            return request, self._length(request)
+        except Wrong as wrong:
+            wrong.is_known = True
+            raise
+
+    def _must_be_known(self, request):
+        if request.header("Sec-Fetch-Site") not in (None, "same-origin", "none"):
+            # Who knows the path of the pages has come by the printed address, shown as a link somewhere. From here on it is our own page that
+            # leads, so that the browser sends its cookie.
+            raise Wrong(403, "A page from elsewhere may not lead here. Open the address that tools/browse has printed.",
+                        request.command == "GET" and request.page.startswith(self.top))
+        cookies = [cookie.strip().partition("=") for cookie in (request.header("Cookie") or "").split(";")]
+        if not any(name == COOKIE and same(value, self.cookie) for name, _, value in cookies):
+            raise Wrong(403, "This page needs its token. Open the address that tools/browse has printed.")
+        if not request.page.startswith(self.top):
+            raise Wrong(404, "There is no such page.")
+
+    def _length(self, request):
+        """How many bytes the body has."""
+        if request.command == "GET":
+            return 0
+        if request.header("Transfer-Encoding") is not None or not re.fullmatch(r"[0-9]{1,9}", request.header("Content-Length") or ""):
+            raise Wrong(411, "The request does not say how long it is.")
+        if request.header("Origin") is None:
+            raise Wrong(403, "A form has to say where it comes from.")
+        if not self.can_write:
+            raise Wrong(403, "Nothing is changed here: tools/browse was started without --write.")
+        is_upload = request.page == self.top + "upload"
+        if (length := int(request.header("Content-Length"))) > (self.image.limits.file_bytes + BESIDE if is_upload else BODY):
+            raise Wrong(413, sentence(20) if is_upload else "The form is too large.")
+        return length
+
+    # What is asked for.
+
+    def answer(self, request, body):
+        """The answer to a request that was admitted."""
+        if request.page == "/":
+            return Answer(303, TEXT, b"", (("Location", self.top),
+                                           ("Set-Cookie", f"{COOKIE}={self.cookie}; Path={self.top}; HttpOnly; SameSite=Strict")))
+        page = request.page[len(self.top):]
+        if request.command == "GET" and page in self.static:
+            return self.static[page]
+        try:
+            return self._found(request, page, body)
+        except Wrong as wrong:
+            wrong.is_known = True
+            return self.refused(wrong)
+        except Refused as refused:
+            told, status = sentence(refused.number, getattr(refused, "command", None)), 404 if refused.number == 10 else 409
+        except WrongWord:
+            told, status = sentence(1), 409
+        except NotSent:
+            told, status = "This can't be said in one line: a word has no blanks, and a line has 1,024 bytes.", 409
+        except Differs:
+            told, status = "The counts here do not agree with the program. Start tools/browse again, and tell its makers.", 500
+        except NotAReply:
+            # No later reply can be told, so that nothing more is to be asked.
+            self.image.program.kill()
+            return self._over("what it showed was no reply")
+        except Ended as end:
+            return self._over(": ".join(end.text.splitlines()) or str(end))
+        except Exception:
+            # A mistake of these pages ends one of them, and not the session.
+            write_line(sys.stderr, traceback.format_exc().rstrip("\n"), "\n")
+            told, status = "These pages have a mistake here, which standard error tells. Nothing else is touched by it.", 500
+        given = self._given(request, body)
+        meant = [given[name] for name in MEANT if given.get(name)]
+        return Answer(status, HTML, self.pages.told(TITLES[status], told, self._back(given), meant).encode())
+
+    def refused(self, wrong):
+        """The answer to a request that is refused. To who is not known it says nothing that not everybody may know."""
+        if not wrong.is_known:
+            return Answer(wrong.status, TEXT, f"{wrong.told}\n".encode())
+        return Answer(wrong.status, HTML, self.pages.told("Not here" if wrong.status == 404 else "Refused", wrong.told).encode())
+
+    def _over(self, cause):
+        if not self.end:
+            self.end = cause
+            write_line(sys.stderr, f"browse: the program has ended: {cause}")
+        return Answer(503, HTML, self.pages.told(
+            "The program has ended",
+            f"The program that holds the image has ended: {self.end}. Each change that was done is kept. Of one under way it is "
+            "not known. End tools/browse by Ctrl-C and start it again.").encode())
+
+    def _found(self, request, page, body):
+        given = fields(request.query)
+        if request.command == "GET":
+            if page not in self.shown:
+                raise Wrong(404, "There is no such page.")
+            return self.shown[page](given)
+        if page not in self.changed:
+            raise Wrong(404, "There is no such form.")
+        given = self._form(request, body)
+        if not same(given.get("token", b"").decode("latin-1"), self.form):
+            raise Wrong(403, "The form is not of this run of tools/browse. Load its page again.")
+        return self.changed[page](given)
+
+    def _form(self, request, body):
+        kind = request.header("Content-Type") or ""
+        if kind.startswith("multipart/form-data"):
+            return parts(body, kind)
+        if kind != "application/x-www-form-urlencoded":
+            raise Wrong(415, "This is no form.")
+        return fields(body.decode("latin-1"))
+
+    def _given(self, request, body):
+        """The fields of a request that was looked at before."""
+        try:
+            return self._form(request, body) if request.command == "POST" else fields(request.query)
+        except Wrong:
+            return {}
+
+    def _back(self, given):
+        """Where a page leads back to that tells of a refusal: to the file or the place of the form."""
+        if given.get("name", b"") in self.image.index.files:
+            return "file", {"name": given["name"], "at": given.get("at")}
+        return ("declared", {}) if given.get("to") == b"declared" or "left" in given else ("", {"at": given.get("at")})
+
+    def _page(self, text, status=200):
+        return Answer(status, HTML, text.encode())
+
+    def _done(self, page, done, **given):
+        return Answer(303, TEXT, b"", (("Location", self.top + address(page, done=done, **given).removeprefix("./")),))
+
+    # Pages.
+
+    def _look(self, given):
+        return self.image.look(given.get("at") or b"/")
+
+    def place(self, given):
+        try:
+            view = self._look(given)
+        except (Refused, NotSent) as error:
+            told = sentence(error.number if isinstance(error, Refused) else 7 if len(given["at"]) > TEXT_LIMIT else 5)
+            return self._page(self.pages.wrong_place(given.get("at", b""), told), 404)
+        return self._page(self.pages.place(view, given.get("q", b""), self._told(given)))
+
+    def _told(self, given):
+        done = given.get("done", b"").decode("latin-1")
+        return done if done in DONE else None
+
+    def words(self, given):
+        return self._page(self.pages.words(self._look(given), given.get("group", b"words"), given.get("q", b""), number_in(given, "page")))
+
+    def files(self, given):
+        return self._page(self.pages.files(self._look(given), given.get("q", b""), number_in(given, "page")))
+
+    def rest(self, given):
+        return self._page(self.pages.rest(self._look(given), given.get("q", b""), number_in(given, "page")))
+
+    def file(self, given):
+        file, way, content = self.image.file(given.get("name", b""))
+        return self._page(self.pages.file(file, way, content, place_of(given.get("at", b"/")), given.get("as") == b"text",
+                                          self._told(given)))
+
+    def bytes(self, given):
+        file, _, content = self.image.file(given.get("name", b""))
+        # A file's name has letters, digits and six signs, none of which a header knows.
+        return Answer(200, BYTES, content, (("Content-Disposition", f'attachment; filename="{file.name.decode()}"'),))
+
+    def removing(self, given):
+        if not self.can_write:
+            raise Wrong(403, "Nothing is changed here: tools/browse was started without --write.")
+        file, _, _ = self.image.file(given.get("name", b""))
+        return self._page(self.pages.removing(file, place_of(given.get("at", b"/"))))
+
+    def declared(self, given):
+        return self._page(self.pages.declared(given.get("q", b""), number_in(given, "page"), self._told(given)))
+
+    # Changes.
+
+    def give(self, given):
+        had = self.image.give(given.get("name", b""), given.get("word", b""))
+        return self._done("file", "had" if had else "given", name=given["name"], at=given.get("at"))
+
+    def take(self, given):
+        has = self.image.take(given.get("name", b""), given.get("word", b""))
+        return self._done("file", "still" if has else "taken", name=given["name"], at=given.get("at"))
+
+    def rename(self, given):
+        self.image.rename(given.get("name", b""), given.get("other", b""))
+        return self._done("file", "renamed", name=given["other"], at=given.get("at"))
+
+    def remove(self, given):
+        self.image.remove(given.get("name", b""))
+        return self._done("", "removed", at=given.get("at"))
+
+    def upload(self, given):
+        name, content = given.get("name") or name_for(given.get("filename", b"")), given.get("file", b"")
+        if not FILE_NAME.fullmatch(name):
+            raise WrongWord(name)
+        self.image.add(name, content, list(dict.fromkeys(given.get("words", b"").split())))
+        return self._done("file", "added", name=name, at=given.get("at"))
+
+    def declare(self, given):
+        place = place_of(given.get("at", b"/"))
+        if place.words is None:
+            raise Wrong(409, sentence(8, b"mkdir"))
+        self.image.declare(given.get("word", b""), place)
+        return self._done("declared", "declared") if given.get("to") == b"declared" else self._done("", "declared", at=place.text)
+
+    def undeclare(self, given):
+        self.image.take_back(given.get("word", b""))
+        return self._done("declared", "undeclared")
+
+    def axiom(self, given):
+        self.image.axiom(given.get("left", b""), given.get("right", b""))
+        return self._done("declared", "axiom")
+
+    def unaxiom(self, given):
+        self.image.unaxiom(given.get("left", b""), given.get("right", b""))
+        return self._done("declared", "unaxiom")

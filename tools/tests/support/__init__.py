@@ -1,0 +1,31 @@
+"""What tests and measures share, and the one place from which they find the rest: importing it puts the package `lisfs` and the modules of
+`bench/` on the path. Scripts in `bench/`, `.ci/` and `docs/` reach it by a link of this name beside them.
+
+- `waiting`: waits for what must come, from processes, pipes and sockets.
+- `costs`: processor time beside a yardstick.
+- `inputs`: random inputs, and how the client and the program differ over them.
+- `peers`: a server and its clients.
+- `terminals`: a program at a terminal, and a person at one.
+- `visitors`: a client of the pages, as a browser is one.
+- `chromium`: a headless browser.
+- `shell_tables`: scripts for the prompt, and what they show.
+- `mount`: what a mount is asked, and what it answers.
+"""
+import os
+import sys
+
+TESTS = os.path.dirname(os.path.dirname(os.path.realpath(__file__)))
+TOOLS = os.path.dirname(TESTS)
+TOP = os.path.dirname(TOOLS)
+
+sys.path[:0] = [TOOLS, os.path.join(TOP, "bench")]
+
+
+def tool(name):
+    """The path of a tool."""
+    return os.path.join(TOOLS, name)
+
+
+def with_package(**more):
+    """The environment in which a Python program of a test finds the package."""
+    return {**os.environ, "PYTHONPATH": TOOLS, **more}

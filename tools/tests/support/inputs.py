@@ -1,0 +1,170 @@
+"""Inputs of sessions, made by chance, and in what the client and the program differ over one. For tests alone.
+
+An input shows in its replies where it is cut: `cat` shows bytes, `ls` names, and whatever is no command is refused.
+"""
+import itertools
+import random
+import re
+import shutil
+
+import runs
+import sessions
+from lisfs.client import LINE, PAYLOAD, PROGRAM, ROOM_LINE, Ended, Items, NotAReply, Program, Replies, shown_by, words_of
+
+NAMES, WORDS = (b"a", b"b", b"c.txt"), (b"w", b"v", b"y:1")
+COMMANDS = (b"ls", b"pwd", b"cat N", b"cat N", b"props N", b"rm N", b"create N W", b"cd W", b"cd /", b"cd ..", b"mkdir W", b"rename N N", b"stat",
+            b"frob", b"add", b"write N", b"ok", b"@1 ls", b"no 01 bad line", b"\0", b"\xff\xfe", b"")
+# Lines that a payload of S bytes follows, also where the line is refused; and such as it does not follow.
+WITH_PAYLOAD = (b"add N S W", b"add N S W", b"add N S", b"write N S", b"write N S W", b"add . S", b"write N/ S", b"add N S" + b" w v" * 9)
+WITHOUT = (b"Add N S", b"rm N S", b"add S N", b"add  S", b"\0add N S", b"add\0 N S", b"add\r N S", b"add\x0b N S", b"xadd N S")
+# What no count is, of a count S.
+NO_COUNTS = (b"S" + b"0" * 12, b"0" * 13, b"-S", b"+S", b"Sx", b"0xS", b"S.", b"\0S", b"S\0", b"\xffS", b"S,0", b"1e1")
+# Behind a payload; the first of them alone is right.
+BEHIND = (b"\n",) * 9 + (b"\r\n", b"\r\r\n", b"x\n", b" \n", b"ls", b"wrong\0end\r\n", b"y" * 1_100 + b"\n")
+SIZES = (0, 0, 1, 2, 3, 7, 40, 300, 5_000)
+LARGE = (65_536, 65_537, PAYLOAD, PAYLOAD + 1, PAYLOAD + 2, PAYLOAD + 70_000)
+
+
+def filled(chance, form, said=b""):
+    """A form with a name for each `N`, a word for each `W`, and this in place of `S`."""
+    for letter, choices in ((rb"\bN\b", NAMES), (rb"\bW\b", WORDS)):
+        form = re.sub(letter, lambda _, choices=choices: chance.choice(choices), form)
+    return form.replace(b"S", said)
+
+
+def spaced(chance, line):
+    """The same words with other blanks between and around them, and with CRs at the end, of which one is no part of the line."""
+    if chance.random() < 0.3:
+        between = chance.choice((b"\t", b"  ", b" \t ", b"\t\t"))
+        line = chance.choice((b"", b" ", b"\t")) + line.replace(b" ", between) + chance.choice((b"", b" ", b"\t"))
+    return line + chance.choice((b"",) * 6 + (b"\r", b"\r", b"\r", b"\r\r", b"\r\r\r", b" \r", b"\r ", b"\r\0"))
+
+
+def lengthened(chance, line):
+    """A line of about as many bytes as it may have, by blanks or by a word, and with a CR or without one."""
+    size = chance.choice((LINE, ROOM_LINE)) + chance.randrange(-2, 4)
+    end = chance.choice((b"", b"\r", b"\r\r", b" x"))
+    fill = chance.choice((b" ", b"\t", b" x", b" w", b"\0"))
+    return line + (fill * size)[:max(0, size - len(line) - len(end))] + end
+
+
+def random_content(chance, size):
+    """So many bytes, some of which look like lines of a session or of a reply."""
+    pieces = chance.choice((b"\0", b"\n", b"\r\n", b"\r", b"ok\n", b"ls\nrm a\n", b"add b 3\r\r\n", b"\xff\xc3x", chance.randbytes(max(1, size))))
+    return (pieces * (size // len(pieces) + 1))[:size]
+
+
+def with_payload(chance):
+    """A line that asks for a payload, or nearly does, and bytes behind it: the right number of them, or others."""
+    size = chance.choice(SIZES) if chance.random() < 0.98 else chance.choice(LARGE)
+    said = chance.choice((b"%d", b"%d", b"%d", b"0%d", b"%012d")) % size
+    if chance.random() < 0.1:
+        said = chance.choice(NO_COUNTS).replace(b"S", said)
+    line = filled(chance, chance.choice(WITH_PAYLOAD if chance.random() < 0.85 else WITHOUT), said)
+    line = lengthened(chance, line) if chance.random() < 0.1 else spaced(chance, line)
+    content = random_content(chance, max(0, size + chance.choice((0,) * 12 + (-1, 1, 5))))
+    return line + b"\n" + content + chance.choice(BEHIND)
+
+
+def random_part(chance):
+    if chance.random() < 0.45:
+        return with_payload(chance)
+    line = filled(chance, chance.choice(COMMANDS))
+    return (lengthened(chance, line) if chance.random() < 0.15 else spaced(chance, line)) + b"\n"
+
+
+def random_input(chance):
+    """An input of some lines and payloads, which may end anywhere in the last one."""
+    parts = [random_part(chance) for _ in range(chance.randrange(1, 25))]
+    if chance.random() < 0.4:
+        parts[-1] = parts[-1][:chance.randrange(len(parts[-1]) + 1)]
+    return b"".join(parts)
+
+
+# What an image has before a session by chance.
+BEFORE = b"mkdir w\nmkdir v\nmkdir y:\nadd a 5 w\nfirst\ncreate b v y:1\n"
+CUT = b"no 03 cut payload\n"
+# The room of each command of a session by chance, in turn.
+ROOMS_BY_TURNS = (0, 0, 5, 2)
+
+
+def differences(number):
+    """In what the client and the program differ over the session of this number. It makes its images in the folder in which it is called."""
+    chance, limits = random.Random(number), ("64", "64", "40", "v2") if number % 2 else ("64", "64", "8")
+    Program([PROGRAM, "make", "image", *limits]).close()
+    shown_by([PROGRAM, "run", "image"], BEFORE)
+    data, found = random_input(chance), []
+    for name, by_the_client, by_itself in (("run", in_commands, as_it_is), ("rooms", in_rooms, tagged)):
+        images = [shutil.copy("image", f"{name}{k}") for k in range(2)]
+        got, wanted = by_the_client(images[0], data, chance), by_itself(images[1], data)
+        if got != wanted:
+            at = next((k for k, pair in enumerate(zip(got, wanted)) if pair[0] != pair[1]), min(len(got), len(wanted)))
+            found.append((name, "replies", at, got[at:at + 3], wanted[at:at + 3]))
+        if len({runs.content(image) for image in images}) > 1 and len({shown_by([PROGRAM, "dump", image]) for image in images}) > 1:
+            found.append((name, "dumps"))
+    return found
+
+
+def taken_in_pieces(items, data, chance):
+    """The commands of an input that comes in pieces."""
+    most = chance.choice((5, 1_000, 70_000)) if len(data) < 20_000 else 300_000
+    while data:
+        size = chance.randrange(1, most)
+        items.feed(data[:size])
+        data = data[size:]
+        while taken := items.take():
+            yield taken
+
+
+def as_it_is(image, data):
+    return sessions.replies_of(shown_by([PROGRAM, "run", image], data))
+
+
+def in_commands(image, data, chance):
+    """The replies to what the client makes of an input, whose last line and last payload may lack their line feeds."""
+    with Program([PROGRAM, "run", image]) as program:
+        items = Items(LINE)
+        for taken in itertools.chain(taken_in_pieces(items, data, chance), at_the_end(items)):
+            program.send_bytes(*taken)
+    return received(program) + [CUT] * items.is_cut()
+
+
+def received(program):
+    """All replies of a program that has ended. Of one that took other commands than it was sent there are fewer, or others, or more."""
+    replies = []
+    try:
+        while True:
+            replies.append(program.receive_bytes())
+    except Ended:
+        return replies
+    except NotAReply as error:
+        return [*replies, error]
+
+
+def at_the_end(items):
+    while items.lacks_feed():
+        items.feed(b"\n")
+        while taken := items.take():
+            yield taken
+
+
+def in_rooms(image, data, chance):
+    """The replies to the commands that come whole, in rooms by turns."""
+    with Program([PROGRAM, "rooms", image], rooms=True) as program:
+        for taken, room in zip(taken_in_pieces(Items(ROOM_LINE), data, chance), itertools.cycle(ROOMS_BY_TURNS)):
+            program.send_bytes(*taken, room)
+    return received(program)
+
+
+def tagged(image, data):
+    """The same of a program that is given the input as it is, but for lines without words, and with a tag ahead of each command."""
+    ends, given = sessions.ends_of(data, ROOM_LINE), b""
+    for (begin, end), room in zip(itertools.pairwise([0, *ends]), itertools.cycle(ROOMS_BY_TURNS)):
+        while (feed := data.index(b"\n", begin)) - begin <= ROOM_LINE and not words_of(data[begin:feed]):
+            begin = feed + 1
+        given += b"@%d " % room + data[begin:end]
+    replies, found = Replies(has_tags=True), []
+    replies.shown += shown_by([PROGRAM, "rooms", image], given)
+    while taken := replies.take():
+        found.append(taken[0])
+    return found

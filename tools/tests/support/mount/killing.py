@@ -1,0 +1,134 @@
+"""Kills of a mount, of the program below it and of both, under three that write, and what is in the image then. For tests alone."""
+import contextlib
+import errno
+import os
+import random
+import signal
+import subprocess
+import threading
+import time
+
+from lisfs.mount import attach
+from support.mount.answers import NEW, WR, Mount, check, directly, make, told_by
+from support.mount.asking import Real
+from lisfs.formulas import Place
+from support.mount.sending import has_inodes
+from support.waiting import LONG, children, is_running, until
+
+# How often it is killed. `KILLS=25` tries more.
+KILLS = int(os.environ.get("KILLS") or 9)
+
+
+class Keeper:
+    """Changes files of its own, and knows what the image may hold when it is stopped: what was acknowledged, or with the change under way."""
+
+    def __init__(self, ways, seed, letter):
+        self.ways, self.chance, self.files, self.others, self.letter = ways, random.Random(seed), {}, [], letter
+        # How many changes were begun, and how many acknowledged.
+        self.count = self.done = 0
+
+    def change(self):
+        chance, files = self.chance, self.files
+        name, word, self.count = f"{self.letter}{chance.randrange(8)}", chance.choice("abc"), self.count + 1
+        data = b"%d " % self.count * chance.choice((1, 30, 3000))
+        kind = chance.choice(("put", "sync", "shell", "move", "remove", "replace")) if name in files else chance.choice(("put", "sync"))
+        after, between, self.kind = dict(files), dict(files), kind
+        if kind in ("put", "sync", "shell"):
+            words = files[name][1] if name in files else frozenset(word)
+            after[name] = data, words
+            between[name] = (b"", words) if name not in files or kind == "shell" and not has_inodes() else files[name]
+            path = name if name in files else f"{word}/{name}"
+            call = lambda: {"put": self.ways.put, "sync": self.synced, "shell": self.shell}[kind](path, data)
+        elif kind == "move":
+            after[name] = files[name][0], frozenset(word)
+            call = lambda: self.ways.rename("/".join(sorted(files[name][1]) + [name]), f"{word}/{name}")
+        elif kind == "remove":
+            del after[name]
+            call = lambda: self.ways.unlink(name)
+        else:
+            other = chance.choice(sorted(files))
+            if other == name:
+                return
+            after[other] = between[other] = files[name][0], files[other][1]
+            del after[name]
+            call = lambda: self.ways.rename(name, other)
+        self.others = [between, after]
+        call()
+        self.files, self.others, self.done = after, [], self.done + 1
+
+    def synced(self, path, data):
+        """What `fsync` has acknowledged counts, and the close behind it tells nothing more."""
+        handle = self.ways.open(path, WR | NEW)
+        try:
+            self.ways.write(handle, data, 0)
+            self.ways.sync(handle)
+            self.files, self.others = self.others[1], []
+        finally:
+            told_by(self.ways.close, handle)
+
+    def shell(self, name, data):
+        """By a program that looks whether its output could be closed, as a shell itself doesn't."""
+        done = subprocess.run(["bash", "-c", 'exec cat > "$0"', self.ways.at(name)], input=data, capture_output=True, check=False)
+        if done.returncode:
+            raise OSError(errno.EIO, done.stderr)
+
+    def go_on(self):
+        with contextlib.suppress(OSError):
+            while True:
+                self.change()
+        # No more will come.
+        self.count = float("inf")
+
+
+def killed(keepers, processes, chance):
+    """Lets all of them make changes, and kills these processes in the middle of some."""
+    writers = [threading.Thread(target=keeper.go_on) for keeper in keepers]
+    for writer in writers:
+        writer.start()
+    wanted = chance.randrange(1, 40)
+    until(lambda: sum(keeper.count for keeper in keepers) >= wanted)
+    # Anywhere in it, or in those behind it.
+    time.sleep(chance.uniform(0, 0.01))
+    for process in processes:
+        os.kill(process, signal.SIGKILL)
+    for writer in writers:
+        writer.join()
+
+
+def kills():
+    """The mount, the program below it, or both are killed at random points, under three that write."""
+    os.makedirs("folder", exist_ok=True)
+    done = 0
+    for turn in range(KILLS):
+        make("image", "64", "128", "64")
+        mount = Mount("image", "folder")
+        # By the folder that is mounted now: at its path there is another one once it is unmounted.
+        top = os.open("folder", os.O_RDONLY)
+        program, ways = children(mount.child.pid)[0], Real(f"/proc/{os.getpid()}/fd/{top}")
+        keepers = [Keeper(ways, f"{turn} {letter}", letter) for letter in "fgh"]
+        for word in "abc":
+            ways.mkdir(word)
+        chance, both = random.Random(turn), [mount.child.pid, program]
+        killed(keepers, [both[:1], both[1:], chance.sample(both, 2)][turn % 3], chance)
+        os.close(top)
+        mount.child.wait(LONG)
+        mount.child.stderr.close()
+        attach.detach("folder")
+        check(f"kill {turn}: no process is left", until(lambda: not is_running(program)))
+        found = left("image")
+        for keeper in keepers:
+            own = {name: of for name, of in found.items() if name[0] == keeper.letter}
+            other = {name for name in own.keys() | keeper.files.keys() if own.get(name) != keeper.files.get(name)}
+            check(f"kill {turn}: what was acknowledged is kept", own in [keeper.files] + keeper.others, (keeper.kind, other))
+            done += keeper.done
+    if os.environ.get("KILLS"):
+        print(f"tools/mount: {KILLS} kills, {done} changes acknowledged")
+
+
+def left(image):
+    """What a keeper's files are in an image."""
+    with directly(image) as ways:
+        known = ways.tree.image
+        known.extension(Place())
+        return {file.name.decode(): (known.content(file), frozenset(word.decode() for word in file.words & {b"a", b"b", b"c"}))
+                for file in known.everything}

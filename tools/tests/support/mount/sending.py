@@ -1,0 +1,256 @@
+"""What a mount sends to the program for what it is asked, and when: a new file waits for its bytes, and is never lost without a word. For
+tests alone."""
+import contextlib
+import errno
+import io
+import os
+
+from lisfs.client import PROGRAM, Ended, Program, Refused
+from lisfs.mount import tree
+from support.mount.answers import NEW, RD, RW, WR, answers, check, directly, make, told_by
+from lisfs.mount.kernel import Changes
+
+CHANGES = ("cd", "create", "add", "write", "mv", "rename", "rm", "mkdir", "rmdir", "axiom", "unaxiom")
+
+
+def commands():
+    """What is sent for what is asked."""
+    noted = []
+
+    def sent(call, *given):
+        """The changes that a call made, and the steps on the way."""
+        noted.clear()
+        call(*given)
+        return [line for line in noted if line.split()[0] in CHANGES]
+
+    make("image", "64", "128", "64")
+    with directly("image") as ways:
+        program = ways.tree.image.program
+        send_bytes = program.send_bytes
+        program.send_bytes = lambda line, payload=b"", room=None: (noted.append(line.decode().rstrip()), send_bytes(line, payload, room))
+        for wanted, call, *given in (
+                (["mkdir music"], "mkdir", "music"), (["cd /music", "mkdir jazz", "cd /"], "mkdir", "music/jazz"),
+                (["add x 1 music"], "put", "music/x", b"x"), (["write x 2"], "put", "music/x", b"xy"),
+                (["create y"], "put", "y", b""),
+                (["cd /music", "mv x /", "cd /"], "rename", "music/x", "x"), (["mv x /music/jazz"], "rename", "x", "music/jazz/x"),
+                (["rename x z"], "rename", "x", "z"),
+                (["rename z x", "cd /music/jazz", "mv x /music", "cd /"], "rename", "music/jazz/z", "music/x"),
+                (["write y 2", "rm x"], "rename", "music/x", "y"), (["mv y /jazz"], "link", "y", "jazz/y"), (["rm y"], "unlink", "jazz/y"),
+                (["unaxiom jazz music", "rmdir jazz"], "rmdir", "music/jazz"), (["add x 3"], "put", "x", b"old"),
+                ([], "get", "x")):
+            answers(f"sent for {call}{given}", wanted, sent, getattr(ways, call), *given)
+        closes(ways, sent)
+        waits(ways, sent)
+        notices(ways)
+
+
+def closes(ways, sent):
+    """A shell closes one of two before it writes, and the other at the end."""
+    node, handle = ways.walk("x"), ways.open("x", WR | os.O_TRUNC)
+    # A file of which nothing that is open has the number, on whatever disk.
+    other = next(name for name in map("other{}".format, range(99)) if not tree.is_open_in(os.getpid(), number_of(name)))
+    with open(other, "w"):
+        inode = ways.tree.nodes[node].inode = number_of(other)
+        check("an open file of this process", tree.is_open_in(os.getpid(), inode) == has_inodes())
+        answers("the first close", [] if has_inodes() else ["write x 0"], sent, ways.tree.flush, handle, os.getpid())
+        ways.write(handle, b"new", 0)
+        answers("the second one", ["write x 3"], sent, ways.tree.flush, handle, os.getpid())
+    ways.close(handle)
+    handle = ways.open("x", WR | os.O_TRUNC)
+    with open(other):
+        answers("a close of the only one that may write", ["write x 0"], sent, ways.tree.flush, handle, os.getpid())
+    ways.write(handle, b"more", 0)
+    ways.close(handle)
+    handle = ways.open("x", WR | os.O_TRUNC)
+    answers("a close of the only one", ["write x 0"], sent, ways.close, handle)
+    answers("a close of a reader", [], sent, lambda: ways.close(ways.open("x", RD)))
+
+
+def waits(ways, sent):
+    """A new file waits for its bytes, but not while anything else is to be changed or asked."""
+    handles = []
+
+    def begin(name):
+        handles.append(ways.open(name, WR | NEW))
+
+    def row(wanted, call, *given):
+        answers(f"a new file waits, {call}{given}", wanted, sent, getattr(ways, call), *given)
+
+    for name, rows in (
+            ("new", (([], "write", b"n", 0), ([], "stat", "new"), ([], "get", "x"), (["create new"], "ls", ""), (["write new 1"], "close"))),
+            ("synced", ((["create synced"], "sync"), ([], "write", b"s", 0), (["write synced 1"], "sync"), ([], "close"))),
+            ("music/whole", (([], "write", b"w", 0), (["add whole 1 music"], "sync"), ([], "close"))),
+            ("empty", ((["create empty"], "close"),)),
+            ("shown", ((["create shown"], "sync_folder", ""), ([], "close"))),
+            ("first", ((["create first", "write x 1"], "put", "x", b"X"), ([], "close"))),
+            ("gone", ((["create gone", "rm gone"], "unlink", "gone"), ([], "write", b"g", 0), ([], "close"))),
+            ("music/found", ((["create found music"], "get", "size<1/found"), ([], "write", b"f", 0), (["write found 1"], "close"))),
+            ("moved", ((["create moved", "mv moved /music"], "rename", "moved", "music/moved"), ([], "close"))),
+            ("named", (([], "write", b"n", 0), (["create named", "rename named other"], "rename", "named", "other"), (["write other 1"], "close"))),
+            ("taken", (([], "write", b"t", 0), (["create taken", "write x 1", "rm taken"], "rename", "taken", "x"), ([], "close"))),
+            ("one", ((["create one", "mkdir word"], "mkdir", "word"), ([], "close")))):
+        answers(f"the beginning of {name}", [], sent, begin, name)
+        for wanted, call, *given in rows:
+            row(wanted, call, *([handles[-1]] if call in ("write", "sync", "close") else []), *given)
+    begin("both")
+    begin("both")
+    row(["create both"], "close", handles[-1])
+    row([], "write", handles[-2], b"b", 0)
+    row(["write both 1"], "close", handles[-2])
+    answers("a new file that is cut by its path", ["add cut 5"], sent, lambda: (begin("cut"), ways.change("cut", size=5)))
+    ways.close(handles[-1])
+
+
+def notices(ways):
+    """Who else may have old attributes of a folder is told of a change; the kernel knows itself what a thread changed that has them."""
+    told, tree = [], ways.tree
+    tree.changed = told.append
+
+    def row(wanted, *calls):
+        for tree.asker, call, *given in calls:
+            told.clear()
+            getattr(ways, call)(*given)
+        answers(f"notices of {calls}", wanted, lambda: sorted(number for number in told if number in (1, folder)))
+
+    tree.asker = 1
+    folder = ways.walk("music")
+    row([], (1, "stat", ""), (1, "mknod", "a"), (1, "mknod", "b"))
+    row([], (1, "unlink", "a"))
+    row([1], (1, "stat", ""), (2, "stat", ""), (1, "mknod", "c"))
+    row([], (1, "mknod", "d"))
+    row([1], (1, "stat", ""), (2, "mknod", "e"))
+    row([1], (0, "stat", ""), (0, "mknod", "f"))
+    row([1], (1, "stat", ""), (1, "stat", "music"), (1, "mknod", "music/g"))
+    row([folder], (2, "stat", "music"), (1, "unlink", "music/g"))
+    row([1], (1, "stat", ""), (1, "mkdir", "plans"))
+
+
+def number_of(name):
+    """The number of a file, which is made where there is none."""
+    with open(name, "a") as file:
+        return os.fstat(file.fileno()).st_ino
+
+
+def has_inodes():
+    """Whether this system tells the inodes of open files."""
+    with open("/proc/self/stat", encoding="ascii") as file, open(f"/proc/self/fdinfo/{file.fileno()}", encoding="ascii") as info:
+        return "ino:" in info.read()
+
+def crowded(is_asked):
+    """What is told of nine new files with new endings, where known words have room for seven of them; and which of them are there."""
+    make("image", "64", "64", "8")
+    with Program([PROGRAM, "run", "image"]) as program:
+        for number in range(54):
+            program.mkdir(b"w%d" % number)
+    with directly("image") as ways:
+        told = {}
+        for number in range(9):
+            told[f"f.e{number}"] = told_by(ways.open, f"f.e{number}", WR | NEW)
+            if is_asked:
+                told_by(ways.ls, "")
+        for name, handle in told.items():
+            told[name] = told_by(ways.close, handle) if isinstance(handle, int) else handle
+        return list(told.values()), ways.ls(":all")
+
+
+def refusing(number):
+    def call(*_):
+        raise Refused(number, "as it is told to")
+    return call
+
+
+def not_made(number):
+    """A new file that the program doesn't make after all, which nothing here leads to: whoever has it open is told."""
+    name, error = f"a new file that is refused as {number}", errno.errorcode[tree.ERRORS[number]]
+    make("image", "64", "64", "8")
+    with directly("image") as ways:
+        handle = ways.open("x", RW | NEW)
+        reader, program = ways.open("x", RD), ways.tree.image.program
+        create, program.create = program.create, refusing(number)
+        answers(f"{name}, and who asks", error, ways.ls, "")
+        program.create = create
+        answers(f"{name}, and is not there", [], ways.ls, "")
+        for call, *given in (("read", reader, 9, 0), ("read", handle, 9, 0), ("write", handle, b"x", 0), ("sync", handle), ("sync", reader)):
+            answers(f"{name}, {call}{given}", error, getattr(ways, call), *given)
+        node = ways.tree.handles[handle].node
+        answers(f"{name}, and a cut", error, ways.tree.setattr, node.number, Changes(None, None, None, 5, None, None), handle)
+        with open("other", "w") as other:
+            node.inode = os.fstat(other.fileno()).st_ino
+            answers(f"{name}, a close of one of two", error, ways.tree.flush, handle, os.getpid())
+        answers(f"{name}, its close", error, ways.close, handle)
+        ways.tree.release(reader)
+        answers(f"{name}, and another one", (None, b"x"), lambda: (ways.put("x", b"x"), ways.get("x")))
+    make("image", "64", "64", "8")
+    with directly("image") as ways:
+        handle, program = ways.open("x", WR | NEW), ways.tree.image.program
+        ways.write(handle, b"written", 0)
+        program.create = program.add = refusing(number)
+        answers(f"{name}, with bytes, at a sync", error, ways.sync, handle)
+        answers(f"{name}, with bytes, at its close", error, ways.close, handle)
+
+
+def unclosed():
+    """What is written and not closed is stored when nobody asks any more, or told by name."""
+    make("image", "64", "64", "4")
+    with directly("image") as ways:
+        ways.put("old", b"old")
+        ways.put("emptied", b"emptied")
+        handles = {name: ways.open(name, flags) for name, flags in (
+            ("old", WR), ("new", WR | NEW), ("waits", WR | NEW), ("gone", WR | NEW), ("read", RD | os.O_CREAT), ("emptied", WR | os.O_TRUNC),
+            ("synced", WR | NEW))}
+        for name in ("old", "new", "gone", "synced"):
+            ways.write(handles[name], name.upper().encode(), 0)
+        ways.unlink("gone")
+        ways.sync(handles["synced"])
+        answers("the end with open files", (None, False), finished, ways)
+    with directly("image") as ways:
+        answers("what is in the image then", {"old": b"OLD", "new": b"NEW", "waits": b"", "read": b"", "emptied": b"", "synced": b"SYNCED"},
+                lambda: {name: ways.get(name) for name in ways.ls(":all")})
+        ways.write(ways.open("old", WR), bytes(20_000), 0)
+        ways.write(ways.open("new", WR), b"N", 0)
+        refused = ways.open("refused", WR | NEW)
+        ways.write(refused, bytes(20_000), 0)
+        answers("what a sync was refused", "ENOSPC", ways.sync, refused)
+        told = finished(ways)
+        check("the end of a full image", told[1] and [line.partition(": what was")[0] for line in told[0].splitlines()] == ["mount: old", "mount: refused"], told)
+    with directly("image") as ways:
+        answers("what there was room for", {"old": b"OLD", "new": b"NEW", "refused": b""}, lambda: {name: ways.get(name) for name in ("old", "new", "refused")})
+    for number in (20, 21):
+        make("image", "64", "64", "8")
+        with directly("image") as ways:
+            ways.tree.image.program.create = ways.tree.image.program.add = refusing(number)
+            ways.open("x", WR | NEW)
+            told_by(ways.ls, "")
+            told = finished(ways)
+            check("the end with a file that can't be made", told[1] and told[0].startswith("mount: x: what was written and not closed is lost: "), told)
+
+
+def finished(ways):
+    """What an end says, and whether something is lost. The kernel is told of nothing by then."""
+    ways.tree.changed = refusing(0)
+    with contextlib.redirect_stderr(io.StringIO()) as said:
+        ways.tree.finish()
+    return said.getvalue() or None, ways.tree.has_lost
+
+
+def dead(is_asked):
+    """The close of a new file where the program has ended while it waited."""
+    make("image", "64", "64", "8")
+    with directly("image") as ways:
+        handle = ways.open("x", WR | NEW)
+        ways.tree.image.program.kill()
+        if is_asked:
+            answers("a question to a program that has ended", "EIO", ways.ls, "")
+        answers("the close of a new file where the program has ended", "EIO", ways.close, handle)
+
+
+def losses():
+    """No call of a file says success that is not in the image then."""
+    for is_asked in (False, True):
+        told, there = crowded(is_asked)
+        check(f"new files beside each other, {is_asked}", told == [None] * 7 + ["ENOSPC"] * 2, told)
+        check(f"each of them is there, {is_asked}", there == [f"f.e{number}" for number in range(7)], there)
+        answers("the program's end", Ended, dead, is_asked)
+    for number in (9, 18, 19, 20, 21, 22, 24):
+        not_made(number)
+    unclosed()

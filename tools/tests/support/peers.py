@@ -1,0 +1,208 @@
+"""A server that listens at a Unix socket (`tools/serve`), its clients, and what they send by chance. For tests alone."""
+import os
+import select
+import signal
+import socket
+import subprocess
+import tempfile
+import time
+
+from lisfs.client import PAYLOAD, PROGRAM, Replies
+from support import tool
+from support.waiting import LONG, children, is_running, stop, until
+
+SERVE, TALK = tool("serve"), tool("talk")
+
+
+def answers(path):
+    """Whether a server listens. It is asked with a connection, which is gone again."""
+    try:
+        connected(path).close()
+        return True
+    except OSError:
+        return False
+
+
+def connected(path="socket"):
+    connection = socket.socket(socket.AF_UNIX)
+    connection.connect(path)
+    connection.settimeout(LONG)
+    return connection
+
+
+class Peer:
+    """A client that sends these bytes in pieces, and ends then, or where `ends` is false waits for the server to do so."""
+
+    def __init__(self, data, path="socket", ends=True, piece=65_536):
+        self.connection, self.left, self.ends, self.piece, self.got, self.is_over = connected(path), data, ends, piece, b"", False
+        self.connection.setblocking(False)
+        if not data and ends:
+            self.connection.shutdown(socket.SHUT_WR)
+
+    def fileno(self):
+        return self.connection.fileno()
+
+    def send(self):
+        try:
+            self.left = self.left[self.connection.send(self.left[:self.piece]):]
+            if not self.left and self.ends:
+                self.connection.shutdown(socket.SHUT_WR)
+        except BlockingIOError:
+            pass
+        except OSError:
+            self.left = b""
+
+    def read(self):
+        try:
+            data = self.connection.recv(self.piece)
+        except BlockingIOError:
+            return
+        except OSError:
+            data = b""
+        self.got += data
+        self.is_over = not data
+
+    def close(self):
+        self.is_over = True
+        self.connection.close()
+
+
+def drive(peers, is_enough=lambda: False):
+    """Lets clients send and read until their connections are closed by the server, or it is enough. What each of them got."""
+    limit = time.monotonic() + LONG
+    while (open_ones := [peer for peer in peers if not peer.is_over]) and not is_enough():
+        if time.monotonic() > limit:
+            raise TimeoutError("clients that were not served")
+        readable, writable, _ = select.select(open_ones, [peer for peer in open_ones if peer.left], [], 0.01)
+        for peer in writable:
+            peer.send()
+        for peer in readable:
+            peer.read()
+    return [peer.got for peer in peers]
+
+
+def replies_in(shown):
+    """The whole replies among some bytes, in order, and whether nothing else is there."""
+    cut, found = Replies(), []
+    cut.shown += shown
+    while taken := cut.take():
+        found.append(taken[0])
+    return found, not cut.shown
+
+
+def asked(connection, data, wanted):
+    """Sends bytes and takes in as many as are wanted, or fewer where the server closes."""
+    connection.sendall(data)
+    got = b""
+    while len(got) < wanted and (more := connection.recv(wanted - len(got))):
+        got += more
+    return got
+
+
+def talked(data, path="socket", **more):
+    """The status of a talk, what it showed and what it said."""
+    talk = subprocess.run([TALK, path], input=data, capture_output=True, timeout=LONG, check=False, **more)
+    return talk.returncode, talk.stdout, talk.stderr.decode()
+
+
+class Served:
+    """A server that runs, in a `with` block, at whose end it is ended. It waits for clients and for other servers as long as the test does."""
+
+    started = []
+
+    def __init__(self, image="image", path="socket", wait=True, patience=LONG, program=PROGRAM, command=(SERVE,), **more):
+        self.said = tempfile.TemporaryFile()
+        words = {**os.environ, "LISFS_PROGRAM": program, "LISFS_PATIENCE": str(patience)}
+        self.server = subprocess.Popen([*command, image, path], stdin=subprocess.DEVNULL, stdout=subprocess.DEVNULL, stderr=self.said, env=words, **more)
+        self.started.append(self.server)
+        if wait and not until(lambda: answers(path) or self.server.poll() is not None):
+            raise TimeoutError("no server")
+
+    def __enter__(self):
+        return self
+
+    def __exit__(self, *_):
+        self.end()
+
+    def end(self, number=signal.SIGTERM):
+        """Ends it. The status and what it said."""
+        if self.server.poll() is None:
+            self.server.send_signal(number)
+        return self.ended()
+
+    def ended(self):
+        """The status and what it said, where it ends by itself."""
+        status = self.server.wait(LONG)
+        self.said.seek(0)
+        return status, self.said.read().decode()
+
+    def program(self):
+        """The number of the program's process."""
+        return children(self.server.pid)[0]
+
+    def finds(self, number):
+        """Sends it a signal, and to its program too as a terminal does, which it finds before all that comes from now on."""
+        stop(self.server.pid)
+        os.killpg(self.server.pid, number)
+        self.server.send_signal(signal.SIGCONT)
+
+    def killed(self):
+        """Kills it, and waits until its program has found that out too, and has the image no more."""
+        program = self.program()
+        self.end(signal.SIGKILL)
+        return until(lambda: not is_running(program))
+
+    def memory(self):
+        """How many MiB the server has taken at most."""
+        with open(f"/proc/{self.server.pid}/status", encoding="ascii") as lines:
+            return next(int(line.split()[1]) for line in lines if line.startswith("VmHWM")) // 1_024
+
+
+# Lines, for a file N; such with a payload of S bytes, and what stands behind it; and what may stand at the end of an input.
+LINES = (b"ls", b"cd w", b"cd /", b"cd ..\r", b"cd ..\r\r", b"pwd", b"pwd\r\r", b"add N 3\r\r", b"write N 2\r\r\r", b"stat", b"mkdir w", b"mkdir " + b"w" * 60, b"cat N", b"cat N\r", b"rm N", b"create N w",
+         b"props N", b"add N 0000000000001", b"add N 0\n", b"add N 0\nls", b"", b" \t ", b"\r", b"\r\r", b"\0\xff\x0b", b"\x0c", b"x" * 1_021,
+         b"x" * 1_025, b"y" * 70_000, b" " * 1_021, b" " * 1_025, b"@1 ls", b"@-", b"ok")
+WITH_PAYLOAD = (b"add N S w", b"add N S", b" write\tN 000S\r", b"write N S x", b"add . S", b"add N S" + b" w1 w2 w3" * 6)
+BEHIND = (b"\n",) * 6 + (b"\r\n", b"yz\n", b"wrong\0end\r\n")
+AT_THE_END = (b"", b"", b"ls", b" ", b"add N 0", b"add N 0\n", b"add N 3\nab", b"add N 3", b"add N 3\nabc", b"add N 2\nabc", b"add N 1048578\nab",
+              b"rm N", b"x" * 1_025, b"\r")
+
+
+def random_bytes(chance, sizes=(0, 1, 2, 5, 40, 300, 5_000, 70_000)):
+    size = chance.choice(sizes)
+    return chance.choice((chance.randbytes(size), b"ok\n" * (size // 3), b"\n" * size, b"\r\nls\n" * (size // 5)))
+
+
+def random_input(chance, ends):
+    """Lines, some of them with payloads, and one of these ends."""
+    def line(forms):
+        return chance.choice(forms).replace(b"N", b"n%d" % chance.randrange(9))
+
+    def part():
+        if chance.random() < 0.5:
+            return line(LINES) + b"\n"
+        content = bytes(PAYLOAD + chance.randrange(3)) if chance.random() < 0.1 else random_bytes(chance)
+        return line(WITH_PAYLOAD).replace(b"S", b"%d" % len(content)) + b"\n" + content + chance.choice(BEHIND)
+
+    return b"".join(part() for _ in range(chance.randrange(12))) + line(ends)
+
+
+def random_session(chance, own, length):
+    """The commands of a client that has words and files of its own, below a place of its own."""
+    words = [own + b"a", own + b"b", own + b"c", own + b"y:1", own + b"y:2"]
+    begin = b"mkdir %b\ncd %b\n" % (own, own) + b"".join(b"mkdir %b%b\n" % (own, word) for word in (b"a", b"b", b"c", b"y:"))
+
+    def command():
+        one, two = (own + b"f%d.%b" % (chance.randrange(12), own) for _ in range(2))
+        some = b" ".join(chance.sample(words, chance.randrange(3)))
+        content = random_bytes(chance, (0, 1, 30, 2_000, 9_000))
+        size = b"%d" % len(content)
+        place = b"/".join([b"/" + own] + [chance.choice((b"", b"!")) + word for word in chance.sample(words, chance.randrange(2))])
+        pair = b"%b %b" % (chance.choice(words), chance.choice(words[:3]))
+        return b" ".join(chance.choice((
+            (b"create", one, some), (b"add", one, size, some + b"\n" + content), (b"write", one, size + b"\n" + content), (b"cat", one), (b"ls",),
+            (b"ls",), (b"cd", place), (b"cd", place + b"\r"), (b"pwd",), (b"rm", one), (b"props", one), (b"way", one), (b"rename", one, two),
+            (b"mv", one, place), (b"axiom", pair), (b"unaxiom", pair), (b"cd", b"/" + own), (b"add", one, size + b"\n" + content + b"x"),
+            (b"x" * chance.choice((1_021, 1_025)),), (b"",), (b"frob",)))) + b"\n"
+
+    return begin + b"".join(command() for _ in range(length))

@@ -1,0 +1,129 @@
+"""A program at a terminal, and a person at a real one (`tmux`). For tests alone."""
+import contextlib
+import fcntl
+import os
+import pty
+import select
+import signal
+import struct
+import subprocess
+import termios
+
+from support.waiting import LONG, until
+
+# What would make a terminal another one than that of the next machine.
+OTHERS = ("NO_COLOR", "INPUTRC", "COLUMNS", "LINES", "TMUX")
+ROWS, COLUMNS = 30, 100
+KEYS = ("Enter", "Tab", "Up", "C-a", "C-c", "C-d")
+
+
+def environment(**more):
+    return {key: value for key, value in os.environ.items() if key not in OTHERS} | {"INPUTRC": "/dev/null"} | more
+
+
+class Terminal:
+    """A program at a terminal, in a `with` block, at whose end it has ended. What it shows is kept."""
+
+    def __init__(self, command, **more):
+        self.shown, self.status, self._at = b"", None, 0
+        words = environment(**{"TERM": "xterm", "XDG_STATE_HOME": os.path.abspath("state")} | more)
+        self.process, self._side = pty.fork()
+        if not self.process:
+            with contextlib.suppress(OSError):
+                os.execve(command[0], command, words)
+            os._exit(127)
+        fcntl.ioctl(self._side, termios.TIOCSWINSZ, struct.pack("HHHH", ROWS, COLUMNS, 0, 0))
+
+    def __enter__(self):
+        return self
+
+    def __exit__(self, *_):
+        if self.status is None:
+            os.kill(self.process, signal.SIGKILL)
+            os.waitpid(self.process, 0)
+        os.close(self._side)
+
+    def types(self, text):
+        os.write(self._side, text)
+        return self
+
+    def _read(self):
+        """Takes in what is shown, after waiting for it. Whether there was more than the end."""
+        if not select.select([self._side], [], [], LONG)[0]:
+            return False
+        try:
+            data = os.read(self._side, 65_536)
+        except OSError:
+            return False
+        self.shown += data
+        return bool(data)
+
+    def sees(self, text):
+        """What is shown up to a text, from behind the last one that was waited for. None where it does not come."""
+        while (found := self.shown.find(text, self._at)) < 0:
+            if not self._read():
+                return None
+        begin, self._at = self._at, found + len(text)
+        return self.shown[begin:self._at]
+
+    def _has_ended(self):
+        number, ended = os.waitpid(self.process, os.WNOHANG)
+        if number:
+            self.status = os.waitstatus_to_exitcode(ended)
+        return number
+
+    def ends(self):
+        """The status with which it ends, or None where it does not."""
+        while self._read():
+            pass
+        until(self._has_ended)
+        return self.status
+
+
+class Person:
+    """Somebody at a real terminal, in a `with` block. The server of `tmux` is one of its own, and ends with it."""
+
+    def __init__(self, command):
+        with open("tmux.conf", "w", encoding="ascii") as file:
+            file.write("set -s escape-time 0\nset -s exit-empty off\n")
+        self._socket = os.path.abspath("tmux.socket")
+        words = environment(XDG_STATE_HOME=os.path.abspath("state"), SHELL="/bin/sh", LC_ALL="C.UTF-8")
+        try:
+            subprocess.run([*self._words("-f", "tmux.conf", "new-session"), "-d", "-x", str(COLUMNS), "-y", str(ROWS), command],
+                           env=words, timeout=LONG, check=True)
+        except BaseException:
+            self._end()
+            raise
+
+    def _words(self, *words):
+        return ["tmux", "-u", "-S", self._socket, *words]
+
+    def __enter__(self):
+        return self
+
+    def __exit__(self, *_):
+        self._end()
+
+    def _end(self):
+        subprocess.run(self._words("kill-server"), stderr=subprocess.DEVNULL, timeout=LONG, check=False)
+
+    def asks(self, *words):
+        """What `tmux` answers to a command of its own."""
+        return subprocess.run(self._words(*words), stdout=subprocess.PIPE, timeout=LONG, check=True).stdout.decode()
+
+    def types(self, *keys):
+        """Each a text, or the name of a key."""
+        for key in keys:
+            self.asks("send-keys", *(() if key in KEYS else ("-l",)), key)
+
+    def pastes(self, text):
+        self.asks("set-buffer", text)
+        self.asks("paste-buffer", "-p")
+
+    def screen(self):
+        """The lines that are there, without blanks at their ends, and a line feed ahead of each."""
+        return "".join("\n" + line for line in self.asks("capture-pane", "-p").rstrip().splitlines())
+
+    def sees(self, text):
+        """Whether the screen ends with a text as soon as it does, or does not get so."""
+        return until(lambda: self.screen().endswith(text))
