@@ -1,1 +1,17 @@
-"""The tools over an image. They use the built program alone, and nothing of them is proved."""
+"""The tools over an image. They use the built program alone, and nothing of them is proved.
+
+What all tools share, each module using those above it:
+
+- `constants`: limits, built-in heads and refusals of the program, copied from its sources.
+- `words`: the forms of words and of names of files.
+- `refusals`: what each refusal means.
+- `formulas`: the one reader of formulas.
+- `showing`: text that does nothing to a terminal.
+- `client`: one run of the program.
+- `dumps`: what an image holds at the start.
+- `index`: which file has which word.
+- `image`: an open image, and the index in step with it.
+- `derived`: how many words a file would have on its own if none were cut.
+
+The tools: `folder` (`sync` and `import`), `mount`, `shell`, `web` (`browse`), `edit`, `serve` and `talk`.
+"""

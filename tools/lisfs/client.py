@@ -42,14 +42,14 @@ import subprocess
 import tempfile
 import threading
 
+from lisfs.constants import MAX_DIGITS, MAX_LINE, MAX_PAYLOAD, ROOMS
+
 # The checkout, if this module lies in one.
 CHECKOUT = os.path.dirname(os.path.dirname(os.path.dirname(os.path.abspath(__file__))))
 # The program that the caller names, or the one that the checkout builds.
 PROGRAM = os.environ.get("LISFS_PROGRAM") or os.path.join(CHECKOUT, "crates/lisfs/out/lisfs")
-# The most bytes of a line before its line feed, and of a payload.
-LINE, PAYLOAD = 1_024, 1_048_576
-# How many rooms there are, and the most bytes of a line of one without its tag.
-ROOMS, ROOM_LINE = 8, LINE - len(b"@0 ")
+# The most bytes of a line of a room without its tag.
+ROOM_LINE = MAX_LINE - len(b"@0 ")
 # What `tools/serve` tells one client too many.
 FULL = b"full: eight clients are here\n"
 # No line of a reply is as long.
@@ -57,7 +57,7 @@ SHOWN = 2_048
 # How long a program that has closed its output may take to end, in seconds.
 PATIENCE = 60
 LINES, CONTENT = "lines", "content"
-COUNT = re.compile(rb"[0-9]{1,12}")
+COUNT = re.compile(rb"[0-9]{1,%d}" % MAX_DIGITS)
 WORD = re.compile(rb"[^ \t]+")
 NO_WORD = re.compile(rb"[ \t\r\n]")
 BODY_LINE = re.compile(rb"([a-z]) (.*)")
@@ -79,7 +79,7 @@ def missing():
         return None
     if os.path.exists(os.path.join(CHECKOUT, "crates.txt")):
         return "build the program first: ./lisfs try 64 64 8 </dev/null"
-    return f"no program at {PROGRAM}: set LISFS_PROGRAM to the path of a built lisfs"
+    return "set LISFS_PROGRAM to the path of the program lisfs, which is not " + (f"at {PROGRAM}" if "LISFS_PROGRAM" in os.environ else "known here")
 
 
 class Refused(Exception):
@@ -125,7 +125,7 @@ def count_of(words):
     return words[2] if len(words) > 2 and words[0] in (b"add", b"write") and COUNT.fullmatch(words[2]) else None
 
 
-def item(words, payload=None, longest=LINE):
+def item(words, payload=None, longest=MAX_LINE):
     """The bytes of a command: its line, and its payload, each with its line feed."""
     for word in words:
         if not word or NO_WORD.search(word):
@@ -138,8 +138,8 @@ def item(words, payload=None, longest=LINE):
         return line + b"\n", b""
     if payload is None or size is None:
         raise NotSent(f"`{line.decode(errors='backslashreplace')}` {'takes no' if size is None else 'needs a'} payload")
-    if int(size) != len(payload) or len(payload) > PAYLOAD:
-        raise NotSent(f"the line says {int(size)} bytes, and the payload has {len(payload)}; it has at most {PAYLOAD}")
+    if int(size) != len(payload) or len(payload) > MAX_PAYLOAD:
+        raise NotSent(f"the line says {int(size)} bytes, and the payload has {len(payload)}; it has at most {MAX_PAYLOAD}")
     return line + b"\n", payload + b"\n"
 
 
@@ -149,7 +149,7 @@ class Items:
     What is kept of a command has the same reply as all of it: of a line that is too long its first bytes, in place of a payload that is too
     large the smallest such one, and of what stands behind a payload in place of a line feed one byte."""
 
-    def __init__(self, longest=LINE):
+    def __init__(self, longest=MAX_LINE):
         # What was not taken, without the line that a payload follows, which stands by itself.
         self._longest, self._given, self._line = longest, bytearray(), None
         # Of this payload so many bytes are kept, and so many still to be dropped, with these in their place.
@@ -186,10 +186,10 @@ class Items:
 
     def _await_payload(self, line, count):
         self._line, self._kept, self._dropped, self._in_place = line, count, 0, b""
-        if count > PAYLOAD:
+        if count > MAX_PAYLOAD:
             begin, end = [word.span() for word in WORD.finditer(line.removesuffix(b"\r"))][2]
-            self._line = line[:begin] + b"%d" % (PAYLOAD + 1) + line[end:]
-            self._kept, self._dropped, self._in_place = 0, count, bytes(PAYLOAD + 1)
+            self._line = line[:begin] + b"%d" % (MAX_PAYLOAD + 1) + line[end:]
+            self._kept, self._dropped, self._in_place = 0, count, bytes(MAX_PAYLOAD + 1)
 
     def _with_payload(self):
         dropped = min(self._dropped, len(self._given))
@@ -231,7 +231,7 @@ class Replies:
 
     def _content(self, begin, size):
         end = begin + size + len(b"\nok\n")
-        if size > PAYLOAD:
+        if size > MAX_PAYLOAD:
             raise NotAReply(f"a content of {size} bytes")
         if len(self.shown) < end:
             return None
@@ -338,7 +338,7 @@ class Program(Commands):
         """Sends a command ahead. Its reply is received later, behind those of the commands before it, of whatever rooms."""
         if self._has_rooms and room is None:
             raise NotSent("a command of no room")
-        self.send_bytes(*item(words, payload, ROOM_LINE if self._has_rooms else LINE), room)
+        self.send_bytes(*item(words, payload, ROOM_LINE if self._has_rooms else MAX_LINE), room)
 
     def receive(self):
         """Waits for the next reply. Raises `Refused` where it is a refusal."""

@@ -5,15 +5,15 @@ a person can be told which search may miss it. What a file has is the program's 
 """
 import re
 
-# So many derived words a file has at most. So many bytes are looked at here for more, so that no file takes long: what is told is the least.
-MOST, LOOKED = 48, 131_072
-LONGEST = 60
-PLAIN = re.compile(rb"[A-Za-z0-9_.+@-]+")
-PLAIN_BYTES = b"ABCDEFGHIJKLMNOPQRSTUVWXYZabcdefghijklmnopqrstuvwxyz0123456789_.+@-"
+from lisfs.constants import BUILT_IN_HEADS, MAX_DERIVED, MAX_WORD, MEDIUM_FILE, SMALL_FILE
+from lisfs.words import PLAIN_BYTES, PLAIN_RUN, head_of, is_head
+
+# So many bytes are looked at here for more words than a file has, so that no file takes long: what is told is the least.
+LOOKED = 131_072
 # The heads of words that bytes give.
-HEADS = frozenset((b"from", b"to", b"subject", b"includes", b"defines"))
+HEADS = frozenset(BUILT_IN_HEADS) - {b"ext:", b"size:"}
 SUFFIX = re.compile(rb"[^/]*[^/]\.([A-Za-z0-9_+@-]+)", re.S)
-SIZES = ((0, b"size:empty"), (1_023, b"size:small"), (16_383, b"size:medium"))
+SIZES = ((0, b"size:empty"), (SMALL_FILE - 1, b"size:small"), (MEDIUM_FILE - 1, b"size:medium"))
 FIELD = re.compile(rb"([!-9;-~]+):")
 JOINT = re.compile(rb"\\\r?\n")
 KEYWORDS = frozenset((b"if", b"for", b"while", b"switch", b"return", b"sizeof"))
@@ -36,7 +36,7 @@ def derived_words(name, content):
         found += mail_words(content)
     elif suffix in (b"c", b"h"):
         found += source_words(content)
-    return list(dict.fromkeys(word for word in found if len(word) <= LONGEST))
+    return list(dict.fromkeys(word for word in found if len(word) <= MAX_WORD))
 
 
 def has_many(name):
@@ -46,23 +46,23 @@ def has_many(name):
 
 def is_full(words):
     """Whether a file with these words may have so many by itself that others were cut."""
-    return sum(word.partition(b":")[0] in HEADS and not word.endswith(b":") for word in words) >= MOST - 3
+    return sum(head_of(word) in HEADS and not is_head(word) for word in words) >= MAX_DERIVED - 3
 
 
 def told_of_cut(name, content):
     """How many of its words a file has, where some are cut, or None."""
     count = len(derived_words(name, content)) if has_many(name) else 0
-    return f"{MOST} of at least {count:,} words that it has by itself: a search for one of the others misses it" if count > MOST else None
+    return f"{MAX_DERIVED} of at least {count:,} words that it has by itself: a search for one of the others misses it" if count > MAX_DERIVED else None
 
 
 def told_of_misses(words, described):
     """What is to be told of a search by some words, where it can miss a file: the files are pairs of a name and all words. Else None."""
-    missing = [word for word in words if b":" in word and word.partition(b":")[0] in HEADS]
+    missing = [word for word in words if head_of(word) in HEADS]
     count = sum(has_many(name) and is_full(had) for name, had in described) if missing else 0
     if not count:
         return None
     files = "1 file has" if count == 1 else f"{count:,} files have"
-    return f"{files} the most words that a file has by itself, {MOST}, and may say more: a search by {missing[0].decode()} can miss such a file"
+    return f"{files} the most words that a file has by itself, {MAX_DERIVED}, and may say more: a search by {missing[0].decode()} can miss such a file"
 
 
 def suffix_of(name):
@@ -85,7 +85,7 @@ def mail_words(content):
             kind, body = (field[1].lower(), line[field.end():]) if field else (None, b"")
         if kind in (b"from", b"to", b"subject"):
             # A token may go on in a folded line only where no blank begins that, which one does.
-            found += [kind + b":" + token.lower() for token in PLAIN.findall(body) if kind == b"subject" or b"@" in token]
+            found += [kind + b":" + token.lower() for token in PLAIN_RUN.findall(body) if kind == b"subject" or b"@" in token]
     return found
 
 
@@ -96,7 +96,7 @@ def source_words(content):
     for at, (kind, text) in enumerate(entries):
         if kind == "path":
             path = text.rpartition(b"/")[2]
-            found += [b"includes:" + path] if not path or PLAIN.fullmatch(path) else []
+            found += [b"includes:" + path] if not path or PLAIN_RUN.fullmatch(path) else []
         elif kind == "identifier":
             if not braces and not parens and text not in KEYWORDS and is_defined(entries, at + 1):
                 found.append(b"defines:" + text)

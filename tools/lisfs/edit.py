@@ -26,13 +26,12 @@ import sys
 import tempfile
 
 from lisfs.client import Ended, Locked, NotAReply, Refused, missing, put, view
+from lisfs.constants import MAX_VIEW
 from lisfs.showing import harmless
 
 # How the program ends where it has certainly written nothing, beside being locked out: wrong words, no image, a fault of the input, no memory,
 # and a view that is too long.
 WRITES_NOTHING = (1, 2, 4, 6, 7)
-# The most bytes of an edited view.
-LIMIT = 8_388_608
 
 
 class Failed(Exception):
@@ -152,7 +151,7 @@ def content_of(path):
     if not stat.S_ISREG(os.lstat(path).st_mode):
         raise Failed("what the editor left: no plain file")
     with open(path, "rb", opener=lambda at, flags: os.open(at, flags | os.O_NONBLOCK | os.O_NOFOLLOW)) as file:
-        return file.read(LIMIT + 1)
+        return file.read(MAX_VIEW + 1)
 
 
 def what_is_left(path):

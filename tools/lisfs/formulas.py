@@ -1,27 +1,23 @@
-"""The name of a folder is a formula, `music`, `!live`, `a|b` or `size>=10`, and a path of such names is a place.
+"""Formulas: what each holds of. This is the only reader of the grammar in the package.
 
-The grammar is that of docs/MODEL.md for a formula without a slash outside of it, since a slash ends a name. A formula is judged here only to
-find files by their paths; which words a listing shows, and what a change does, the program says.
+The grammar is that of docs/MODEL.md. A formula is read here only to find files by it. The program says which words a listing shows, and what a
+change does.
 """
 import functools
 import re
 
-# The most bytes of a file's name and of a word, and of a printed place; the most nodes of a place.
-NAME_LIMIT, TEXT_LIMIT, NODES_LIMIT = 60, 1_024, 64
-# No name of a path has more bytes, so that the depth of a formula is bounded.
+from lisfs.constants import MAX_FORMULA, MAX_NODES, MAX_WORD
+from lisfs.words import TEST, WORD, is_test
+
+# No name of a path has more bytes, so the depth of a formula is bounded.
 PART_LIMIT = 255
-FILE_NAME = re.compile(rb"[A-Za-z0-9_.+@-]+")
-WORD = re.compile(rb"(?!\.)[A-Za-z0-9_.+@-]+(:[A-Za-z0-9_.+@-]*)?")
-TEST = re.compile(rb"size(>=|<)([0-9]{1,12})(?![0-9])")
-
-
-# What stands between the words of a formula.
+# What is between the words of a formula.
 SIGNS = re.compile(rb"[/|!()]")
 
 
 def words_in(formula):
     """The words of a formula's text, without its tests."""
-    return [word for word in dict.fromkeys(SIGNS.split(formula)) if word and not TEST.fullmatch(word)]
+    return [word for word in dict.fromkeys(SIGNS.split(formula)) if word and not is_test(word)]
 
 
 class NotAFormula(ValueError):
@@ -32,7 +28,7 @@ class TooLarge(ValueError):
     """The place would have more nodes or bytes than a place has."""
 
 
-# What a formula is made of. Each says of which files of an index it holds, whether it holds of one, and which words it has.
+# What a formula is made of. Each says whether it holds of a file, of which files of an index it holds, as a row of bits, and which words it has.
 class Word:
     nodes = 1
 
@@ -42,8 +38,8 @@ class Word:
     def meets(self, file):
         return self.word in file.words
 
-    def files(self, index):
-        return index.having.get(self.word, frozenset())
+    def row(self, index):
+        return index.having(self.word)
 
 
 class Test:
@@ -55,8 +51,8 @@ class Test:
     def meets(self, file):
         return (file.size >= self.size) == self.is_least
 
-    def files(self, index):
-        return {file for file in index.everything if self.meets(file)}
+    def row(self, index):
+        return index.where(self.meets)
 
 
 class Not:
@@ -66,89 +62,115 @@ class Not:
     def meets(self, file):
         return not self.part.meets(file)
 
-    def files(self, index):
-        return index.everything - self.part.files(index)
+    def row(self, index):
+        return index.everything & ~self.part.row(index)
 
 
-class Or:
+class Pair:
     def __init__(self, left, right):
         self.left, self.right = left, right
         self.words, self.nodes = left.words + right.words, left.nodes + right.nodes + 1
 
+
+class Or(Pair):
     def meets(self, file):
         return self.left.meets(file) or self.right.meets(file)
 
-    def files(self, index):
-        return self.left.files(index) | self.right.files(index)
+    def row(self, index):
+        return self.left.row(index) | self.right.row(index)
 
 
-def is_word(text):
-    return len(text) <= NAME_LIMIT and WORD.fullmatch(text) is not None
+class And(Pair):
+    def meets(self, file):
+        return self.left.meets(file) and self.right.meets(file)
+
+    def row(self, index):
+        return self.left.row(index) & self.right.row(index)
 
 
-def is_plain(word):
-    return b":" not in word and b"<" not in word and b">" not in word
+class Reader:
+    """Reads a text from its beginning. `/` and `|` group to the left."""
+
+    def __init__(self, text):
+        self.text, self.at = text, 0
+
+    def whole(self):
+        read = self._path()
+        if self.at != len(self.text):
+            raise NotAFormula(self.text)
+        return read
+
+    def _takes(self, byte):
+        is_there = self.text[self.at:self.at + 1] == byte
+        self.at += is_there
+        return is_there
+
+    def _path(self):
+        left = self._either()
+        while self._takes(b"/"):
+            left = And(left, self._either())
+        return left
+
+    def _either(self):
+        left = self._one()
+        while self._takes(b"|"):
+            left = Or(left, self._one())
+        return left
+
+    def _one(self):
+        if self._takes(b"!"):
+            return Not(self._one())
+        if self._takes(b"("):
+            part = self._path()
+            if not self._takes(b")"):
+                raise NotAFormula(self.text)
+            return part
+        found = TEST.match(self.text, self.at) or WORD.match(self.text, self.at)
+        if not found or found.re is WORD and len(found[0]) > MAX_WORD:
+            raise NotAFormula(self.text)
+        self.at = found.end()
+        return Word(found[0]) if found.re is WORD else Test(found[1], int(found[2]))
 
 
-def head_of(word):
-    """The head of a valued word, and of a head itself; None of any other."""
-    head, colon, _ = word.partition(b":")
-    return head + colon if colon else None
+def formula(text):
+    """What a text says. It is no deeper than a place has nodes. Raises `NotAFormula`."""
+    return Reader(text).whole()
 
 
 @functools.lru_cache(4_096)
-def formula(text):
-    """What the name of a folder says. Raises `NotAFormula`."""
-    if len(text) > PART_LIMIT:
-        raise TooLarge(text)
-    read, end = _either(text, 0)
-    if end != len(text):
-        raise NotAFormula(text)
-    return read
-
-
-def _either(text, at):
-    """`|` groups to the left."""
-    left, at = _one(text, at)
-    while text[at:at + 1] == b"|":
-        right, at = _one(text, at + 1)
-        left = Or(left, right)
-    return left, at
-
-
-def _one(text, at):
-    first = text[at:at + 1]
-    if first == b"!":
-        part, at = _one(text, at + 1)
-        return Not(part), at
-    if first == b"(":
-        part, at = _either(text, at + 1)
-        if text[at:at + 1] != b")":
-            raise NotAFormula(text)
-        return part, at + 1
-    if test := TEST.match(text, at):
-        return Test(test[1], int(test[2])), test.end()
-    word = WORD.match(text, at)
-    if not word or len(word[0]) > NAME_LIMIT:
-        raise NotAFormula(text)
-    return Word(word[0]), word.end()
+def part(name):
+    """What a name of a path says. A slash is in none. Raises `NotAFormula`."""
+    if len(name) > PART_LIMIT:
+        raise TooLarge(name)
+    if b"/" in name:
+        raise NotAFormula(name)
+    return formula(name)
 
 
 class Place:
-    """The steps of a path, the root without any. `words` are those of the place where it has only words, and else None."""
+    """The steps of a path, the root without any. `words` are those of the place if it has only words, and else None."""
 
     def __init__(self, names=()):
         self.names = tuple(names)
         self.text = b"/" + b"/".join(self.names)
-        self.steps = [formula(name) for name in self.names]
+        self.steps = [part(name) for name in self.names]
         # The slashes between steps are nodes too.
-        if len(self.text) > TEXT_LIMIT or sum(step.nodes + 1 for step in self.steps) > NODES_LIMIT + 1:
+        if len(self.text) > MAX_FORMULA or sum(step.nodes + 1 for step in self.steps) > MAX_NODES + 1:
             raise TooLarge(self.text)
         has_only_words = all(isinstance(step, Word) for step in self.steps)
         self.words = tuple(dict.fromkeys(step.word for step in self.steps)) if has_only_words else None
 
     def step(self, name):
         return Place(self.names + (name,))
+
+    def meets(self, file):
+        return all(step.meets(file) for step in self.steps)
+
+    def row(self, index):
+        row = index.everything
+        for step in self.steps:
+            row &= step.row(index)
+        return row
 
 
 ROOT = Place()

@@ -34,14 +34,15 @@ import stat
 import sys
 import time
 
-from lisfs.client import FULL, PROGRAM, ROOM_LINE, ROOMS, Ended, Items, NotAReply, Program, item
+from lisfs.client import FULL, PROGRAM, ROOM_LINE, Ended, Items, NotAReply, Program, item, missing
+from lisfs.constants import CUT_PAYLOAD, REFUSAL_WORDS, ROOMS
 from lisfs.showing import harmless
 
 READ, WRITE = selectors.EVENT_READ, selectors.EVENT_WRITE
 ENDING = (signal.SIGTERM, signal.SIGINT, signal.SIGHUP)
 ROOT = item([b"cd", b"/"])
 # What `run` shows where its input ends within a payload. The program can't be told of such an end, since its own input goes on.
-CUT = b"no 03 cut payload\n"
+CUT = f"no {CUT_PAYLOAD:02} {REFUSAL_WORDS[CUT_PAYLOAD]}\n".encode()
 # How many bytes are read at once.
 PIECE = 65_536
 # The most bytes of a socket's path.
@@ -421,6 +422,8 @@ def cause_of(end, image, signals):
 def main():
     if len(sys.argv) != 3 or sys.argv[1].startswith("-"):
         sys.exit(__doc__)
+    if what := missing():
+        fail(what)
     image, path = sys.argv[1:]
     signals = Signals()
     try:

@@ -28,23 +28,20 @@ import sys
 import tempfile
 
 from lisfs.client import PROGRAM, Ended, NotAReply, Program
+from lisfs.constants import BLOCK_LEN, MAX_ASSIGNED, MAX_BLOCKS, MAX_FILES, MAX_PROPS, MAX_WORD, SLOT_BLOCKS
 from lisfs.folder import walk
 from lisfs.folder.carrying import ROOT, Sender, fitting, session_word
-from lisfs.folder.changes import head_of
 from lisfs.folder.entries import Entries
-from lisfs.folder.forms import LONGEST, MOST_WORDS, folder_value, is_word, mapped
-from lisfs.folder.telling import Telling, counted, left_out
+from lisfs.folder.forms import folder_value
+from lisfs.folder.report import Telling, counted, left_out
+from lisfs.image import FILE_BYTES
 from lisfs.showing import harmless
-
-# The most bytes of a file, by the version of the image.
-LARGEST = {1: 65_536, 2: 1_048_576}
-# A file with more blocks of content takes one more, for their numbers.
-SLOT_BLOCKS = 16
+from lisfs.words import head_of, is_assignable, mapped
 
 
 class Import:
     def __init__(self, words, by_folder, version, telling):
-        self.words, self.by_folder, self.version, self.largest, self.telling = words, by_folder, version, LARGEST[version], telling
+        self.words, self.by_folder, self.version, self.largest, self.telling = words, by_folder, version, FILE_BYTES[version], telling
         self.files, self.names, self.declared = [], set(), {}
         self.taken = self.blocks = self.renamed = self.beyond = self.beyond_files = self.looked = 0
         # The folders whose word is another than their name, or none, and the words that stand for two folders.
@@ -55,7 +52,7 @@ class Import:
 
     def name_for(self, wanted, path):
         """A name of its own for a file, and the cause where it is another than the file's."""
-        name = mapped(wanted)[-LONGEST:].decode()
+        name = mapped(os.fsencode(wanted))[-MAX_WORD:].decode()
         if name in (".", ".."):
             name = "_" + name
         number, free = 1, name
@@ -63,7 +60,7 @@ class Import:
             number += 1
             stem, dot, end = name.rpartition(".")
             stem, end = (stem, dot + end) if stem else (name, "")
-            free = stem[:LONGEST - len(f"-{number}{end}")] + f"-{number}" + end
+            free = stem[:MAX_WORD - len(f"-{number}{end}")] + f"-{number}" + end
         self.names.add(free)
         if free != os.path.basename(path):
             self.renamed += 1
@@ -74,10 +71,10 @@ class Import:
     def word_for(self, folder):
         """The word of a folder. Where it is another than the folder's name, or none, that is told once."""
         whole = folder_value(folder)
-        word = whole[:LONGEST]
+        word = whole[:MAX_WORD]
         if word != os.fsencode(folder) and folder not in self.odd_folders:
             self.odd_folders.add(folder)
-            cause = "60 bytes are the most" if word != whole else "the form of a word"
+            cause = f"{MAX_WORD} bytes are the most" if word != whole else "the form of a word"
             self.telling.tell_file(f"a folder's word: {harmless(folder)}: {word.decode()} ({cause})" if word else
                                    f"no word for a folder: {harmless(folder)}")
         return word
@@ -109,13 +106,13 @@ class Import:
             if found.problem:
                 self.telling.leave(found.path, found.problem)
                 continue
-            words = entry.words[:MOST_WORDS]
-            if len(entry.words) > MOST_WORDS:
-                self.beyond += len(entry.words) - MOST_WORDS
+            words = entry.words[:MAX_ASSIGNED]
+            if len(entry.words) > MAX_ASSIGNED:
+                self.beyond += len(entry.words) - MAX_ASSIGNED
                 self.beyond_files += 1
-                self.telling.tell_file(f"left out: {harmless(found.path)}: {b' '.join(entry.words[MOST_WORDS:]).decode()}")
+                self.telling.tell_file(f"left out: {harmless(found.path)}: {b' '.join(entry.words[MAX_ASSIGNED:]).decode()}")
             name = self.name_for(os.path.basename(found.path) if found.base is None else found.base[-56:] + ".eml", found.path)
-            self.declared.update(dict.fromkeys(head_of(word) + b":" if b":" in word else word for word in words))
+            self.declared.update(dict.fromkeys(head_of(word) or word for word in words))
             self.files.append((found, name, words))
 
     def commands(self):
@@ -158,10 +155,10 @@ class Import:
             self.tell(f"{counted(len(self.odd_folders), 'folder')} with another word than the name, or with none")
         if self.double_words:
             self.tell(f"{counted(len(self.double_words), 'word')} for more folders than one")
-        left_out(self.tell, self.beyond, self.beyond_files, "a file is given 16 at most")
+        left_out(self.tell, self.beyond, self.beyond_files, f"a file is given {MAX_ASSIGNED} at most")
         self.entries.tell_tags(self.tell)
-        if files > 4096 or self.blocks > 32768:
-            return self.tell(f"no image holds all of it: it takes {self.taken} of 4096 files and {self.blocks} of 32768 blocks")
+        if files > MAX_FILES or self.blocks > MAX_BLOCKS:
+            return self.tell(f"no image holds all of it: it takes {self.taken} of {MAX_FILES} files and {self.blocks} of {MAX_BLOCKS} blocks")
         if largest.why:
             return self.tell(f"the words that are derived from files are not counted, since {largest.why}")
         if largest.refused:
@@ -196,7 +193,7 @@ class Largest:
             self.why = str(error)
 
     def _begin(self):
-        Program([PROGRAM, "make", self._image, "4096", "8192", "32768", *self.version]).close()
+        Program([PROGRAM, "make", self._image, *map(str, (MAX_FILES, MAX_PROPS, MAX_BLOCKS)), *self.version]).close()
         self._program = Program([PROGRAM, session_word(), self._image])
         self._sender = Sender(self._program)
 
@@ -211,7 +208,7 @@ class Largest:
 
 
 def blocks_of(size):
-    needed = -(-size // 4096)
+    needed = -(-size // BLOCK_LEN)
     return needed + 1 if needed > SLOT_BLOCKS else needed
 
 
@@ -226,10 +223,10 @@ def main():
     words = parser.parse_args()
     given = list(dict.fromkeys(map(os.fsencode, words.word)))
     for word in given:
-        if not is_word(word):
+        if not is_assignable(word):
             parser.error(f"{harmless(word)} can't be given to a file")
-    if len(given) > MOST_WORDS:
-        parser.error(f"a file is given {MOST_WORDS} words at most")
+    if len(given) > MAX_ASSIGNED:
+        parser.error(f"a file is given {MAX_ASSIGNED} words at most")
     if not os.path.isdir(words.folder):
         parser.error(f"{harmless(words.folder)} is no folder")
     taking = Import(given, words.by_folder, 2 if words.v2 else 1, Telling("import", sys.stderr, words.verbose))

@@ -9,8 +9,11 @@ import fcntl
 import re
 import subprocess
 
-from lisfs.client import LINE, PROGRAM, Refused
-from lisfs.folder import bringing, changes, names, walk
+from lisfs.client import PROGRAM, Refused
+from lisfs.constants import LARGE_DESCRIPTION, MAX_LINE, MAX_PAYLOAD, NO_FILE_ROOM, NO_PROPERTY_ROOM
+from lisfs.folder import changes, memory, names, walk
+from lisfs.refusals import REFUSALS, cause_of
+from lisfs.words import stem_of
 
 # So many commands, and bytes of files, are under way at most.
 AHEAD, AHEAD_BYTES = 2_048, 4_194_304
@@ -19,13 +22,7 @@ PIPE = 1_048_576
 # So many words stand in one place at most.
 PLACED = 8
 ROOT = b"/"
-NO_WORD_ROOM, TOO_LARGE, NO_FILE_ROOM, NO_SPACE, LARGE_DESCRIPTION = 22, 20, 21, 24, 19
-FEWER_WORDS_HELP = (NO_WORD_ROOM, LARGE_DESCRIPTION)
-WHY = {
-    9: "the name is taken", 10: "it is not there any more", TOO_LARGE: "it is too large for this image",
-    NO_FILE_ROOM: "no room for more files", NO_WORD_ROOM: "no room for more words", NO_SPACE: "no room for its bytes",
-    LARGE_DESCRIPTION: "more words than a file may have",
-}
+FEWER_WORDS_HELP = (NO_PROPERTY_ROOM, LARGE_DESCRIPTION)
 
 
 def session_word():
@@ -105,7 +102,7 @@ class Carrying:
         # that would be too many for their files, with all that is entailed and derived.
         self.without = self.without_files = self.lean = self.too_many = self.too_many_files = 0
         # The words of the image that name what was brought in, and whether there was no room for one.
-        self.memories, self.is_forgetful = set(bringing.words_of_memories(plan.marker, plan.dump.declared)), False
+        self.memories, self.is_forgetful = set(memory.words_of_memories(plan.marker, plan.dump.declared)), False
 
     def declare(self):
         for head in self.plan.heads():
@@ -137,7 +134,7 @@ class Carrying:
             self.sender.start(self._remove(name))
         for change in self.plan.changes:
             if change.is_new and self.has_no_file_room:
-                self.failed(change.entry.found.path, WHY[NO_FILE_ROOM])
+                self.failed(change.entry.found.path, REFUSALS[NO_FILE_ROOM].cause)
             else:
                 self.sender.start(self._add(change) if change.is_new else self._update(change))
         self.sender.finish()
@@ -153,7 +150,7 @@ class Carrying:
             self.plan.removed(name)
             self.told("gone", name)
         else:
-            self.failed(name.decode(), why(refusal))
+            self.failed(name.decode(), cause_of(refusal))
 
     # A file that is new.
 
@@ -183,7 +180,7 @@ class Carrying:
     def _refused_file(self, entry, refusal):
         if refusal.number == NO_FILE_ROOM:
             self.has_no_file_room = True
-        self.failed(entry.found.path, why(refusal))
+        self.failed(entry.found.path, cause_of(refusal))
 
     def _added(self, entry, line):
         """The line that makes a file, and its bytes as they are now."""
@@ -216,7 +213,7 @@ class Carrying:
             except OSError as error:
                 return self.failed(entry.found.path, error.strerror or str(error))
         if refusal is not None:
-            return self.failed(entry.found.path, why(refusal))
+            return self.failed(entry.found.path, cause_of(refusal))
         given, large = yield from self._complete(self.place, name, self._declared(change.gains), [])
         self._lacking(len(change.gains) - len(given), large)
         done += ["+" + word.decode() for word in given]
@@ -237,7 +234,7 @@ class Carrying:
 
     def _declared(self, words):
         """Those of some words whose heads are declared: for a head too there may be no room."""
-        return [word for word in words if changes.head_of(word) + b":" in self.known]
+        return [word for word in words if stem_of(word) + b":" in self.known]
 
     def _tries(self, gains, to_the_end):
         """Lists of words to make a file with, each tried where the one before was refused: with all words, with those that are known
@@ -267,7 +264,7 @@ class Carrying:
                 parts[:0] = [[word] for word in part]
             elif refusal.number == LARGE_DESCRIPTION:
                 large += 1
-            elif refusal.number == NO_WORD_ROOM:
+            elif refusal.number == NO_PROPERTY_ROOM:
                 # Not even one word can become known, and so no other one.
                 self.is_full = True
                 self.known.difference_update(part)
@@ -284,7 +281,7 @@ class Carrying:
 
 def fitting(name, words):
     """A name and as many words as fit the line that makes a file, and the words that don't."""
-    room, line = LINE - len(b"add  1048576") - len(name), [name]
+    room, line = MAX_LINE - len(b"add  %d" % MAX_PAYLOAD) - len(name), [name]
     for number, word in enumerate(words):
         room -= len(word) + 1
         if room < 0:
@@ -301,7 +298,3 @@ def known_words(plan):
         if name not in gone:
             known.update(words - losing[name] if name in losing else words)
     return known
-
-
-def why(refusal):
-    return WHY.get(refusal.number, str(refusal))

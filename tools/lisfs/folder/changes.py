@@ -1,7 +1,7 @@
 """What is new, changed or gone in a folder, and what was changed in the image, beside what earlier runs brought in.
 
 The files of an image that are a folder's own have its marker, a word `sync:NAME`. Words of the heads in `HEADS` are the folder's too, on
-these files: all others that they have somebody gave them, and they stay. The records of `bringing` say what was brought in: what changed in
+these files: all others that they have somebody gave them, and they stay. The records of `memory` say what was brought in: what changed in
 the folder alone is brought in, what changed in the image alone stays, and what changed on both sides is a conflict, which is left.
 """
 import collections
@@ -9,9 +9,11 @@ import hashlib
 import os
 
 from lisfs import derived
+from lisfs.constants import MAX_ASSIGNED, MAX_DERIVED, MAX_WORD
 from lisfs.folder import mails, music, walk
-from lisfs.folder.bringing import REMOVAL, Record, settled
-from lisfs.folder.forms import LONGEST, MOST_WORDS, folder_value
+from lisfs.folder.forms import folder_value
+from lisfs.folder.memory import REMOVAL, Record, settled
+from lisfs.words import stem_of
 
 MARKER, FOLDER = b"sync", b"in"
 HEADS = frozenset((FOLDER, *mails.HEADS, *music.HEADS))
@@ -29,13 +31,9 @@ BOTH, GONE = "changed in the folder and in the image", "gone from the folder, an
 UNKNOWN, UNKNOWN_GONE = "not the same in the folder and in the image", "not in the folder"
 
 
-def head_of(word):
-    return word.partition(b":")[0]
-
-
 def folder_words(folders):
     """The words for the folders that a file lies in."""
-    values = [folder_value(name)[:LONGEST - len(FOLDER) - 1] for name in folders]
+    values = [folder_value(name)[:MAX_WORD - len(FOLDER) - 1] for name in folders]
     return [FOLDER + b":" + value for value in values if value]
 
 
@@ -216,8 +214,8 @@ class Changes:
     def _change(self, key, entry, name, has_other_bytes=False, is_same=False):
         """Notes what a file gets that the image has: bytes, words, and a name where it moved in the folder and nobody gave it one."""
         words = self.dump.files[name.encode()][1]
-        theirs = {word for word in words if word != self.marker and (head_of(word) not in HEADS or head_of(word) in entry.unread)}
-        wanted = self._fitting(entry, MOST_WORDS - 1 - len(theirs))
+        theirs = {word for word in words if word != self.marker and (stem_of(word) not in HEADS or stem_of(word) in entry.unread)}
+        wanted = self._fitting(entry, MAX_ASSIGNED - 1 - len(theirs))
         loses = tuple(sorted(words - theirs - set(wanted) - {self.marker}))
         gains = tuple(word for word in wanted if word not in words)
         other, is_moved = self._name_after_move(key, entry), key in self.moved
@@ -255,7 +253,7 @@ class Changes:
             self.refused.append(entry)
             return
         self.taken.add(name)
-        self.changes.append(Change(key, name, None, entry, (), self._fitting(entry, MOST_WORDS - 1), True, True, False))
+        self.changes.append(Change(key, name, None, entry, (), self._fitting(entry, MAX_ASSIGNED - 1), True, True, False))
 
     def _fitting(self, entry, most):
         """The words that a file is given, so many at most."""
@@ -295,7 +293,7 @@ class Changes:
     def cut(self):
         """The files that have the folder's bytes and would have more derived words than the program keeps: the name of each, and how many words
         it would have."""
-        found = [(self.records[key], entry.derived) for key, entry in self.keyed if key in self.records and entry.derived > derived.MOST]
+        found = [(self.records[key], entry.derived) for key, entry in self.keyed if key in self.records and entry.derived > MAX_DERIVED]
         return [(record.name, count) for record, count in found
                 if record.folder is not None and record.folder == record.image and derived.has_many(record.name.encode())]
 
@@ -347,7 +345,7 @@ class Changes:
 
     def heads(self):
         """The heads that have to be declared, in the order of their importance."""
-        wanted = dict.fromkeys(head_of(word) for change in self.changes for word in change.gains)
+        wanted = dict.fromkeys(stem_of(word) for change in self.changes for word in change.gains)
         return [head for head in [MARKER, *wanted] if head + b":" not in self.dump.declared] if self.changes else []
 
 

@@ -3,8 +3,8 @@ import hashlib
 import os
 
 from lisfs import derived
-from lisfs.folder import mails, music, names, remembering, walk
-from lisfs.folder.telling import counted
+from lisfs.folder import cache, mails, music, names, walk
+from lisfs.folder.report import counted
 
 # What the records of files are of.
 MAIL, MUSIC = "mail", "music"
@@ -50,7 +50,7 @@ class Entries:
     def __init__(self, top, largest, folder_words, leave, look, without=(), passed=None, remembered=None):
         self.walk, self.largest, self.folder_words, self.look = walk.Walk(top, leave, without, passed), largest, folder_words, look
         self.all, self.tagless, self.is_deaf = [], 0, False
-        self._reader, self._words, self._remembered = None, {}, remembered or remembering.Nothing()
+        self._reader, self._words, self._remembered = None, {}, remembered or cache.Nothing()
 
     def read(self):
         for found in self.walk.files():
@@ -91,7 +91,7 @@ class Entries:
     def _read_mail(self, found):
         """What a mail gives: the digest of its bytes, or None where they are too many, its Message-ID or None, its subject and its words."""
         try:
-            content, times = remembering.read(found, mails.HEADER if found.problem else self.largest)
+            content, times = cache.read(found, mails.HEADER if found.problem else self.largest)
         except OSError as error:
             found.problem = found.problem or error.strerror or str(error)
             return None
@@ -123,7 +123,7 @@ class Entries:
         if record := self._remembered.record(found, rules):
             return record
         try:
-            content, times = remembering.read(found, self.largest)
+            content, times = cache.read(found, self.largest)
         except OSError:
             return None
         given = music.words(self._reader, found.path, content)

@@ -3,13 +3,9 @@ import os
 import re
 import unicodedata
 
-# The most bytes of a word, and of a name.
-LONGEST = 60
-# The most words that a file is given.
-MOST_WORDS = 16
-PLAIN = re.compile(rb"[A-Za-z0-9_.+@-]{1,60}")
-NOT_PLAIN = re.compile(rb"[^A-Za-z0-9_.+@-]")
-BUILT_IN = {b"ext", b"size", b"from", b"to", b"subject", b"includes", b"defines"}
+from lisfs.constants import MAX_WORD
+from lisfs.words import mapped
+
 # Letters that are written with others where they can't be written, and those that are no letter with a mark.
 LETTERS = str.maketrans({
     "ä": "ae", "ö": "oe", "ü": "ue", "Ä": "Ae", "Ö": "Oe", "Ü": "Ue", "ß": "ss", "ẞ": "SS", "æ": "ae", "Æ": "Ae", "œ": "oe", "Œ": "Oe",
@@ -28,14 +24,6 @@ class WithoutMarks(dict):
 
 
 WITHOUT_MARKS = WithoutMarks()
-
-
-def is_word(word):
-    """Whether a file can be given these bytes as a word: plain, or valued with a head that can be declared."""
-    head, colon, value = word.partition(b":")
-    parts = [head, value] if colon else [head]
-    return (all(PLAIN.fullmatch(part) for part in parts) and not word.startswith(b".") and len(word) <= LONGEST
-            and not (colon and head in BUILT_IN))
 
 
 def folded(text):
@@ -65,20 +53,15 @@ def joined(text, longest):
 
 def valued(head, text):
     """The word of this head with a text as its value, or none."""
-    value = joined(text, LONGEST - len(head) - 1)
+    value = joined(text, MAX_WORD - len(head) - 1)
     return [b"%s:%s" % (head, value)] if value else []
-
-
-def mapped(name):
-    """The bytes of a name of the system, each that is not plain as `_`."""
-    return NOT_PLAIN.sub(b"_", os.fsencode(name))
 
 
 def plain(name):
     """The plain bytes of a name of the system, of any length. Letters that are no ASCII are folded; what can't be written so is a `_`."""
     text = unicodedata.normalize("NFC", os.fsencode(name).decode(errors="surrogateescape"))
     text = "".join(letter if letter.isascii() else folded(letter).strip() or "_" for letter in text)
-    return NOT_PLAIN.sub(b"_", text.encode())
+    return mapped(text.encode())
 
 
 def folder_value(name):

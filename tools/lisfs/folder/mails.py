@@ -15,8 +15,9 @@ import functools
 import itertools
 import re
 
+from lisfs.constants import MAX_WORD
 from lisfs.folder import addresses
-from lisfs.folder.forms import LONGEST, folded, runs, valued
+from lisfs.folder.forms import folded, runs, valued
 
 HEADS = (b"date", b"list", b"who", b"about")
 # So many bytes of a mail are looked at for its header, so many lines of that, so many letters of one field, and of some of the fields fewer.
@@ -82,7 +83,7 @@ class Mail:
 
     def _about(self):
         said = [run for run in runs(self.subject) if len(run) >= 3 and not run.isdigit() and run not in SAYS_NOTHING]
-        return [b"about:" + run[:LONGEST - len("about:")].encode() for run in said]
+        return [b"about:" + run[:MAX_WORD - len("about:")].encode() for run in said]
 
 
 def fields_of(header):
@@ -132,5 +133,5 @@ def of_person(shown, address):
 
 def of_address(head, address):
     """The word of an address, or of what looks like one."""
-    value = NOT_IN_A_WORD.sub("_", address.strip().lower()).strip("_")[:LONGEST - len(head) - 1]
+    value = NOT_IN_A_WORD.sub("_", address.strip().lower()).strip("_")[:MAX_WORD - len(head) - 1]
     return [head + b":" + value.encode()] if value.strip("_@") else []

@@ -8,7 +8,8 @@ import hashlib
 import os
 import re
 
-from lisfs.folder.forms import LONGEST, joined, plain
+from lisfs.constants import MAX_WORD
+from lisfs.folder.forms import joined, plain
 
 # How many digits of a digest a name has. Two of some thousand files have equal ones once in a hundred thousand folders.
 DIGITS = 10
@@ -28,7 +29,7 @@ def of_path(key):
     """The name of a file by its path below the folder."""
     path = os.fsencode(key)
     name = path.replace(b"/", b"+")
-    is_clear = CLEAR.fullmatch(path) and len(name) <= LONGEST and name not in (b".", b"..") and not DIGESTED.search(name)
+    is_clear = CLEAR.fullmatch(path) and len(name) <= MAX_WORD and name not in (b".", b"..") and not DIGESTED.search(name)
     return name if is_clear else digested(key, digest_of(b"path", path))
 
 
@@ -37,13 +38,13 @@ def digested(key, digest):
     name = b"+".join(plain(part) for part in key.split(os.sep))
     found = SUFFIX.search(name)
     suffix = found[0] if found else b""
-    room = LONGEST - len(b"-" + digest + suffix)
+    room = MAX_WORD - len(b"-" + digest + suffix)
     return name[:len(name) - len(suffix)][-room:] + b"-" + digest + suffix
 
 
 def of_mail(subject, digest):
     """The name of a mail by its subject, and by what it is known by."""
-    return (joined(subject, LONGEST - len(b"-" + digest + EML)) or b"mail") + b"-" + digest + EML
+    return (joined(subject, MAX_WORD - len(b"-" + digest + EML)) or b"mail") + b"-" + digest + EML
 
 
 def lean(name):

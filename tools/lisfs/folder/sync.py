@@ -55,18 +55,19 @@ import signal
 import struct
 import sys
 
-from lisfs import derived
-from lisfs.client import PROGRAM, Ended, Locked, NotAReply, Program
-from lisfs.folder.bringing import Memory
+from lisfs.client import PROGRAM, Ended, Locked, NotAReply, Program, missing
+from lisfs.constants import MAX_ASSIGNED, MAX_DERIVED, MAX_DESCRIPTION, MAX_WORD
+from lisfs.dumps import NotADump, dumped, opened
+from lisfs.folder.cache import Nothing, Remembered
 from lisfs.folder.carrying import Carrying, NoRoom, Sender, session_word
 from lisfs.folder.changes import MARKER, Changes, Wishes, folder_words
 from lisfs.folder.entries import Entries
-from lisfs.folder.forms import LONGEST, PLAIN, folder_value
-from lisfs.folder.remembering import Nothing, Remembered
-from lisfs.folder.telling import Telling, counted, left_out
-from lisfs.dumps import NotADump, dumped, opened
-from lisfs.mount.image import limits_of
+from lisfs.folder.forms import folder_value
+from lisfs.folder.memory import Memory
+from lisfs.folder.report import Telling, counted, left_out
+from lisfs.image import limits_of
 from lisfs.showing import harmless, write_line
+from lisfs.words import PLAIN_FORM, PLAIN_RUN
 
 STOPS = (signal.SIGTERM, signal.SIGHUP)
 # So many conflicts are named in any case.
@@ -122,6 +123,8 @@ class Sync:
 
     def look(self):
         """Whether the image can be opened, before anything takes long, and the most bytes that a file of it may have."""
+        if what := missing():
+            raise Failed(what)
         Program([PROGRAM, "run", self.image]).close()
         try:
             return limits_of(self.image).file_bytes
@@ -203,10 +206,10 @@ class Sync:
             else:
                 tell(f"{marker}: nothing changed, {same}")
             self.report_image()
-            left_out(tell, self.plan.beyond, self.plan.beyond_files, "a file is given 16 at most")
+            left_out(tell, self.plan.beyond, self.plan.beyond_files, f"a file is given {MAX_ASSIGNED} at most")
             self.report_cut()
         if self.carrying is not None:
-            left_out(tell, self.carrying.too_many, self.carrying.too_many_files, "a file has 128 at most, with those that it has by itself")
+            left_out(tell, self.carrying.too_many, self.carrying.too_many_files, f"a file has {MAX_DESCRIPTION} at most, with those that it has by itself")
             left_out(tell, self.carrying.without, self.carrying.without_files, "no room for more words")
         if self.carrying is not None and self.carrying.lean:
             tell(f"{counted(self.carrying.lean, 'mail')} named without .eml: no room for the words that the program derives")
@@ -225,10 +228,10 @@ class Sync:
         """What the program derives no words of, since there are too many."""
         cut = self.plan.cut()
         for name, count in cut:
-            self.telling.tell_file(f"cut: {name}: {derived.MOST} of at least {count:,} words that it has by itself")
+            self.telling.tell_file(f"cut: {name}: {MAX_DERIVED} of at least {count:,} words that it has by itself")
         if cut:
-            self.telling.tell(f"at least {counted(sum(count - derived.MOST for _, count in cut), 'word')} of {counted(len(cut), 'file')} cut: a file "
-                              f"has {derived.MOST} by itself at most, so a search by from:, to:, subject:, includes: or defines: can miss it")
+            self.telling.tell(f"at least {counted(sum(count - MAX_DERIVED for _, count in cut), 'word')} of {counted(len(cut), 'file')} cut: a file "
+                              f"has {MAX_DERIVED} by itself at most, so a search by from:, to:, subject:, includes: or defines: can miss it")
 
     def report_image(self):
         """What was changed in the image, and stays."""
@@ -291,9 +294,9 @@ def main():
     parser.add_argument("image")
     parser.add_argument("folder")
     words = parser.parse_args()
-    longest = LONGEST - len(MARKER + b":")
-    if words.name is not None and not (PLAIN.fullmatch(os.fsencode(words.name)) and len(words.name) <= longest):
-        parser.error(f"{harmless(words.name)} is no name: it has 1 to {longest} letters, digits and _ - . + @")
+    longest = MAX_WORD - len(MARKER + b":")
+    if words.name is not None and not (PLAIN_RUN.fullmatch(os.fsencode(words.name)) and len(words.name) <= longest):
+        parser.error(f"{harmless(words.name)} is no name: it has 1 to {longest} {PLAIN_FORM}")
     if not os.path.isdir(words.folder):
         parser.error(f"{harmless(words.folder)} is no folder")
     for number in STOPS:

@@ -1,8 +1,7 @@
 """An image as a file system for the programs that people have: the parts of `tools/mount`. Nothing of it is proved.
 
-- `formulas`: the name of a folder is a formula, and a path is a place.
-- `dumps`: what an image holds, read out of the session that makes it again.
-- `image`: what is known of an open image, and the commands that change it.
+- `cli`: the command.
+- `image`: what folders show of an open image, and the commands that change it.
 - `tree`: what a file system is asked, answered over an image, without a word of how it is asked.
 - `kernel`: how a kernel asks it: the messages of /dev/fuse.
 - `attach`: how a folder gets to show it, and to show it no more.

@@ -15,9 +15,10 @@ import os
 import sys
 
 from lisfs.client import Ended, Locked, NotAReply, missing
-from lisfs.mount.attach import NotMounted, answered, mounted, stops
 from lisfs.dumps import NotADump, opened
-from lisfs.mount.image import Image, limits_of
+from lisfs.image import limits_of
+from lisfs.mount.attach import NotMounted, answered, mounted, stops
+from lisfs.mount.image import Image
 from lisfs.mount.kernel import Connection
 from lisfs.mount.tree import Tree
 from lisfs.showing import write_line

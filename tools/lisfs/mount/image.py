@@ -1,65 +1,57 @@
-"""An open image: the session that runs over it, and what is known of it beside.
+"""An open image as a mount needs it: what folders show, what is in files, and the commands that change them.
 
 Each change is one command of the program, and is known here once its `ok` is there. The words of a file that was changed are asked for
-when somebody needs them, those of many files in one go. Between two calls the session's place is the root, where all files are.
+when somebody needs them, those of many files in one go.
 
 A new file that somebody writes is known here before: it waits for its bytes, so that one `add` makes it whole, where `create` and `write`
 would be two changes. It waits only where nothing can keep the program from making it, and until anything else is to be changed or asked.
 """
 import collections
-import contextlib
 import errno
-import struct
 
-from lisfs.client import LINE, NotSent, Refused
-from lisfs.formulas import NAME_LIMIT, TEST, head_of, is_plain, is_word
+from lisfs import image, index
+from lisfs.client import NotSent, Refused
+from lisfs.constants import MAX_ASSIGNED, MAX_DESCRIPTION, MAX_LINE, MAX_WORD
+from lisfs.words import TEST, head_of, is_head, is_plain, is_word
 
 # So many bytes of files are kept in memory, those that were looked at last.
 KEPT = 32 * 1_048_576
-FILE_LIMIT = {1: 65_536, 2: 1_048_576}
-# The most words that a file is given, and that it has.
-GIVEN_LIMIT, WORDS_LIMIT = 16, 128
-
-Limits = collections.namedtuple("Limits", "files words blocks file_bytes")
 
 
-def limits_of(path):
-    """The limits that the first block of an image says, which the program has looked at."""
-    with open(path, "rb") as file:
-        head = file.read(25)
-    return Limits(*struct.unpack_from("<3I", head, 12), FILE_LIMIT[2 if head[24] == 2 else 1])
-
-
-class File:
-    """A file of the image. `words` are all that it has, as the program says, and `given` those that it surely was given. `refusal` is what
+class File(index.File):
+    """A file of the image, of which `given` are the words that it surely was given. No other file ever has its `number`. `refusal` is what
     kept a file that waited from being made, and None of all others."""
 
-    def __init__(self, name, size, number, given):
-        self.name, self.size, self.number, self.words, self.given, self.is_gone = name, size, number, frozenset(), frozenset(given), False
-        self.refusal = None
+    def __init__(self, name, size, given, bit):
+        super().__init__(name, size, given, bit)
+        self.number, self.is_gone, self.refusal = 0, False, None
 
 
-class Image:
+class Image(image.Image):
     def __init__(self, program, dump, limits):
-        self.program, self.limits = program, limits
+        super().__init__(program, dump, limits, File)
+        self.files, self.numbers = self.index.files, 0
+        for file in self.files.values():
+            self._number(file)
         # What entails what by axioms: of each left side the right ones.
-        self.declared, self.axioms = set(dump.declared), {}
+        self.axioms = {}
         for left, right in dump.axioms:
             self.axioms.setdefault(left, set()).add(right)
-        # By their names, all of them, those that have a word, and those whose words are not known since they were changed.
-        self.files, self.everything, self.having, self.stale = {}, set(), {}, set()
+        # Those whose words are not known since they were changed.
+        self.stale = set(self.files.values())
         # The declared words that lost their last file and were in no listing since.
         self.unseen = set()
-        self.contents, self.content_bytes, self.numbers = collections.OrderedDict(), 0, 0
+        self.contents, self.content_bytes = collections.OrderedDict(), 0
         # The file that waits, or None. How many words a new file at a place may bring, and how many more there surely is room for.
         self.waiting, self.brought, self.spare = None, {}, 0
-        for name, (size, words) in dump.files.items():
-            self._take(name, size, words)
+
+    def _number(self, file):
+        self.numbers += 1
+        file.number = self.numbers
 
     def _take(self, name, size, given):
-        self.numbers += 1
-        file = self.files[name] = File(name, size, self.numbers, given)
-        self.everything.add(file)
+        file = self.index.add(name, size, given)
+        self._number(file)
         self.stale.add(file)
         return file
 
@@ -75,7 +67,7 @@ class Image:
         if is_plain(word) or word in self.declared:
             return word in self.declared
         self._refresh()
-        return word in self.having or word in self.axioms or any(head_of(left) == word for left in self.axioms)
+        return word in self.index.words() or word in self.axioms or any(head_of(left) == word for left in self.axioms)
 
     def entailed(self, words):
         """These words, and all that they entail."""
@@ -108,37 +100,19 @@ class Image:
         self.settle()
         if not self.stale:
             return
-        files = list(self.stale)
-        for file in files:
-            self.program.send(b"props", file.name)
-        for file in files:
-            self._index(file, frozenset(text for _, text in self.program.receive().body))
+        self.unseen |= self.describe(self.stale) & self.declared
         self.stale.clear()
 
-    def _index(self, file, words):
-        for word in file.words - words:
-            self.having[word].discard(file)
-            if not self.having[word]:
-                del self.having[word]
-                if word in self.declared:
-                    self.unseen.add(word)
-        for word in words - file.words:
-            self.having.setdefault(word, set()).add(file)
-        file.words = words
-
     def extension(self, place):
-        """The files of a place."""
+        """The files of a place, as a row."""
         self._refresh()
-        found = self.everything
-        for step in place.steps:
-            found = found & step.files(self)
-        return found
+        return place.row(self.index)
 
     def is_here(self, file, place):
         if place.words is not None and file.given.issuperset(place.words):
             return True
         self._refresh()
-        return all(step.meets(file) for step in place.steps)
+        return place.meets(file)
 
     def listing(self, place, with_derived=False):
         """The words and the files that a place shows: the words of the program's listing, or those of them that files were given; the
@@ -146,42 +120,30 @@ class Image:
         here = self.extension(place)
         found = self._increments(place, here)
         words = [word for word in found if with_derived or not self.is_derived(word)]
-        covered = set().union(*(self.having.get(word, ()) for word in words))
+        covered = 0
+        for word in words:
+            covered |= self.index.having(word)
         # A word's folder goes before a file of the same name, which `:all` shows.
-        files = [file for file in here - covered if file.name not in self.declared]
+        files = [file for file in self.index.of(here & ~covered) if file.name not in self.declared]
         unused = self._unused_at(place, found)
         self.unseen.difference_update(unused)
-        return sorted(words + unused), sorted(files, key=lambda file: file.name)
+        return sorted(words + unused), files
 
     def _increments(self, place, here):
         if not here:
             return []
         if not place.steps:
-            reply = self.program.ls()
+            listing = self.told((b"ls",))[0]
         else:
-            reply = self._told((b"cd", place.text), (b"ls",), (b"cd", b"/"))[1]
-        return [text for letter, text in reply.body if letter == b"d"]
-
-    def _told(self, *commands):
-        """The replies to commands that change nothing, sent ahead of each other. Raises the first refusal."""
-        for command in commands:
-            self.program.send(*command)
-        replies, refusal = [], None
-        for _ in commands:
-            try:
-                replies.append(self.program.receive())
-            except Refused as refused:
-                refusal = refusal or refused
-        if refusal:
-            raise refusal
-        return replies
+            listing = self.told((b"cd", place.text), (b"ls",), (b"cd", b"/"))[1]
+        return [text for letter, text in listing if letter == b"d"]
 
     def _unused_at(self, place, shown):
         """The declared words that no file has and that belong to a place of words: they entail what it says, and no other word that is shown
         there. So a listing would show them if a file had each, and steps along listings lead to each."""
         if place.words is None:
             return []
-        said, unused = self.entailed(place.words), self.declared - self.having.keys()
+        said, unused = self.entailed(place.words), self.declared - self.index.words()
         entailed = {word: self.entailed([word]) for word in unused - said}
         found = {word for word, entails in entailed.items() if entails.issuperset(place.words)}
         covers = found.union(shown)
@@ -189,7 +151,7 @@ class Image:
 
     def counts(self):
         self.settle()
-        return {name: int(count) for name, count in (text.split() for _, text in self.program.stat().body)}
+        return super().counts()
 
     def content(self, file):
         if file is self.waiting:
@@ -217,25 +179,13 @@ class Image:
     def _begin_change(self):
         """What brings words brings no more than a file has."""
         self.settle()
-        self.spare -= WORDS_LIMIT
-
-    @contextlib.contextmanager
-    def _at(self, place):
-        """Goes to a place, and back to the root. Nothing is sent before the reply to `cd`: where it is refused, a command behind it would
-        be carried out at the root."""
-        if place.steps:
-            self.program.cd(place.text)
-        try:
-            yield
-        finally:
-            if place.steps:
-                self.program.cd(b"/")
+        self.spare -= MAX_DESCRIPTION
 
     def _words_given(self, place):
         """The words that a file gets by being made here."""
         if place.words is None:
             raise OSError(errno.EPERM, "not a place of words")
-        return [word for word in place.words if not word.endswith(b":") and not self.is_derived(word)]
+        return [word for word in place.words if not is_head(word) and not self.is_derived(word)]
 
     def begin(self, name, place):
         """A new file at a place, which is about to be written."""
@@ -261,14 +211,14 @@ class Image:
 
     def _is_sure(self, name, place, given):
         """Whether the program would make an empty file with these words, by `create` or by `add`."""
-        if name in self.files or len(self.files) >= self.limits.files or not len(place.words) == len(given) <= GIVEN_LIMIT:
+        if name in self.files or len(self.files) >= self.limits.files or not len(place.words) == len(given) <= MAX_ASSIGNED:
             return False
-        if len(b" ".join((b"add", name, b"%d" % self.limits.file_bytes, *given))) > LINE:
+        if len(b" ".join((b"add", name, b"%d" % self.limits.file_bytes, *given))) > MAX_LINE:
             return False
         count = self._most_brought(place, given, name)
         if self.spare < count:
-            self.spare = self.limits.words - self.counts()[b"known"]
-        return count <= min(WORDS_LIMIT, self.spare)
+            self.spare = self.limits.words - self.counts()["known"]
+        return count <= min(MAX_DESCRIPTION, self.spare)
 
     def _most_brought(self, place, given, name):
         """No new file with these words and this name has more words, as long as nothing is declared."""
@@ -278,7 +228,7 @@ class Image:
             tests = [word for word in self.declared if not is_plain(word) and not head_of(word)]
             is_declared = all(word in self.declared or head_of(word) in self.declared for word in given)
             words = [*given, *tests, b"size:empty", key[1]]
-            self.brought[key] = len(self.entailed(words)) if is_declared else WORDS_LIMIT + 1
+            self.brought[key] = len(self.entailed(words)) if is_declared else MAX_DESCRIPTION + 1
         return self.brought[key]
 
     def create(self, name, place):
@@ -289,7 +239,7 @@ class Image:
             self.program.create(name, *given)
         except NotSent:
             # The line would be too long; at its place it has the name alone.
-            with self._at(place):
+            with self.at(place.text):
                 self.program.create(name)
         file = self._take(name, 0, given)
         # A head, and a word that comes from the file itself, are not given: without them it would be elsewhere.
@@ -311,7 +261,7 @@ class Image:
         self._keep(file, content)
 
     def _add(self, file, content):
-        self.spare -= WORDS_LIMIT
+        self.spare -= MAX_DESCRIPTION
         try:
             self.program.add(file.name, content, *sorted(file.given))
         except Refused:
@@ -326,19 +276,15 @@ class Image:
         self._forget(file)
 
     def _forget(self, file):
-        self._index(file, frozenset())
+        self.unseen |= self.index.drop(file) & self.declared
         self._drop(file)
         self.stale.discard(file)
-        self.everything.discard(file)
-        del self.files[file.name]
         file.is_gone = True
 
     def rename(self, file, name):
         self._begin_change()
         self.program.rename(file.name, name)
-        del self.files[file.name]
-        file.name = name
-        self.files[name] = file
+        self.index.rename(file, name)
         self.stale.add(file)
 
     def replace(self, file, content, other):
@@ -349,22 +295,21 @@ class Image:
         self.program.rm(file.name)
         name = other.name
         self._forget(other)
-        del self.files[file.name]
-        file.name, file.size, file.given = name, len(content), other.given
-        self.files[name] = file
+        self.index.rename(file, name)
+        file.size, file.given = len(content), other.given
         self.stale.add(file)
         self._keep(file, content)
 
     def move(self, file, source, target):
         """The file loses the words of one place, and gains those of the other."""
         self._begin_change()
-        with self._at(source):
+        with self.at(source.text):
             self.program.mv(file.name, target.text)
         file.given = frozenset()
         self.stale.add(file)
 
     def declare(self, word, place):
-        if len(word) > NAME_LIMIT:
+        if len(word) > MAX_WORD:
             raise OSError(errno.ENAMETOOLONG, "a word is as long as a name")
         if not is_word(word):
             raise OSError(errno.EINVAL, "no word")
@@ -374,7 +319,7 @@ class Image:
         if word in self.files:
             raise OSError(errno.EEXIST, "a file has this name")
         self._begin_change()
-        with self._at(place):
+        with self.at(place.text):
             self.program.mkdir(word)
         self.declared.add(word)
         self.brought.clear()

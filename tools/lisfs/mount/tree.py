@@ -17,9 +17,12 @@ import sys
 import time
 
 from lisfs.client import Ended, NotAReply, NotSent, Refused
-from lisfs.formulas import FILE_NAME, NAME_LIMIT, PART_LIMIT, ROOT, NotAFormula, TooLarge, Word, formula, head_of
+from lisfs.constants import BLOCK_LEN, MAX_WORD
+from lisfs.formulas import PART_LIMIT, ROOT, NotAFormula, TooLarge, Word, part
 from lisfs.mount.kernel import KEEP_CACHE, NO_FLUSH, Attributes, Entry, Space
+from lisfs.refusals import error_of
 from lisfs.showing import write_line
+from lisfs.words import FILE_NAME, head_of
 
 ALL, BY = b":all", b":by"
 # What a folder shows: words that files were given, these and derived ones, or no words and every file.
@@ -30,11 +33,6 @@ KEPT_SECONDS = 3_600
 NO_REPLACEMENT = 1
 LINKS, FOLDER_LINKS = 2, 1
 SPREAD, INODES = 0x9E3779B97F4A7C15, (1 << 63) - 1
-
-ERRORS = {number: kind for kind, numbers in (
-    (errno.EINVAL, (1, 5, 15)), (errno.ENAMETOOLONG, (2, 7)), (errno.EIO, (3, 4)), (errno.ENOENT, (6, 10, 12, 17)), (errno.EPERM, (8, 14, 25)),
-    (errno.EEXIST, (9, 11, 16)), (errno.ENOTEMPTY, (13,)), (errno.EMLINK, (18, 19)), (errno.EFBIG, (20,)), (errno.ENOSPC, (21, 22, 23, 24)),
-) for number in numbers}
 
 
 def fault(number, why):
@@ -48,7 +46,7 @@ def answering(call):
         try:
             return call(*given)
         except Refused as refused:
-            raise fault(ERRORS.get(refused.number, errno.EIO), str(refused)) from None
+            raise fault(error_of(refused.number), str(refused)) from None
         except (TooLarge, NotSent) as error:
             raise fault(errno.ENAMETOOLONG, str(error)) from None
         except NotAFormula as error:
@@ -147,7 +145,7 @@ class Tree:
         root = Folder(1, b"", ROOT, DERIVED if with_derived else GIVEN)
         root.lookups = 1
         self.nodes, self.keys, self.looks, self.handles, self.numbers = {1: root}, {root.key: root}, {}, {}, 1
-        for file in image.everything:
+        for file in image.files.values():
             self._begin(file, self.file_mode, self.user, self.group)
         # Is told the number of each node whose attributes are others than those that were handed out.
         self.changed = lambda number: None
@@ -223,7 +221,7 @@ class Tree:
             # A plain word that is not declared, or none.
             return False
         try:
-            read = formula(name)
+            read = part(name)
         except NotAFormula:
             return False
         if isinstance(read, Word) and head_of(name) in self.image.declared:
@@ -242,7 +240,7 @@ class Tree:
         file, looks, draft = node.file, node.file.looks, self._draft_of(node)
         size = file.size if draft is None or draft.content is None else len(draft.content)
         modified = looks.modified if draft is None or draft.modified is None else draft.modified
-        found = Attributes(node.inode, size, -(-size // 4096) * 8, looks.accessed, modified, max(looks.changed, modified),
+        found = Attributes(node.inode, size, -(-size // BLOCK_LEN) * 8, looks.accessed, modified, max(looks.changed, modified),
                            stat.S_IFREG | looks.mode, 0 if file.is_gone else LINKS, looks.user, looks.group)
         # What writers at other paths do to a draft is not told write by write.
         return Entry(node.number, found, KEPT_SECONDS if draft is None or draft.writers == node.writers else 0)
@@ -267,8 +265,8 @@ class Tree:
             return self._entry(self._leaf(folder, file))
         if self._is_folder(folder, name):
             return self._entry(self._enter(folder, name))
-        if NAME_LIMIT < len(name) and (len(name) > PART_LIMIT or FILE_NAME.fullmatch(name)):
-            raise fault(errno.ENAMETOOLONG, "a name has at most 60 bytes")
+        if MAX_WORD < len(name) and (len(name) > PART_LIMIT or FILE_NAME.fullmatch(name)):
+            raise fault(errno.ENAMETOOLONG, f"a name has at most {MAX_WORD} bytes")
         raise fault(errno.ENOENT, "no such name")
 
     @answering
@@ -315,7 +313,7 @@ class Tree:
     @answering
     def statfs(self):
         counts, limits = self.image.counts(), self.image.limits
-        return Space(limits.blocks, counts[b"free"], limits.files, limits.files - counts[b"files"], 4096, NAME_LIMIT)
+        return Space(limits.blocks, counts["free"], limits.files, limits.files - counts["files"], BLOCK_LEN, MAX_WORD)
 
     # Folders.
 
@@ -335,7 +333,7 @@ class Tree:
 
     def _entries(self, folder):
         if folder.kind == FILES:
-            words, files = [], sorted(self.image.extension(folder.place), key=lambda file: file.name)
+            words, files = [], self.image.index.of(self.image.extension(folder.place))
         else:
             words, files = self.image.listing(folder.place, folder.kind == DERIVED)
         entries = [(folder.inode, FOLDER_KIND, b"."), (inode_of(folder.key.rpartition(b"/")[0]), FOLDER_KIND, b"..")]
@@ -386,8 +384,8 @@ class Tree:
             raise fault(errno.EEXIST if folder.kind == FILES else errno.EISDIR, "a folder has this name")
         if not FILE_NAME.fullmatch(name):
             raise fault(errno.EINVAL, "a name has letters, digits and _ - . + @")
-        if len(name) > NAME_LIMIT:
-            raise fault(errno.ENAMETOOLONG, "a name has at most 60 bytes")
+        if len(name) > MAX_WORD:
+            raise fault(errno.ENAMETOOLONG, f"a name has at most {MAX_WORD} bytes")
 
     def _made(self, make, folder, name, mode, caller):
         self._new_name(folder, name)

@@ -18,7 +18,7 @@ import sys
 
 from lisfs.client import Ended, Locked, NotAReply, missing
 from lisfs.dumps import NotADump, opened
-from lisfs.mount.image import limits_of
+from lisfs.image import limits_of
 from lisfs.shell.completing import Completer
 from lisfs.shell.running import Shell, as_a_script, at_a_prompt
 from lisfs.shell.session import Session

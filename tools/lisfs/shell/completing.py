@@ -5,9 +5,9 @@ import shutil
 
 from lisfs.client import Ended, NotAReply, NotSent
 from lisfs.shell.commands import COMMAND, COMMANDS, DECLARED, FILE, FORMULA, GIVEN, KNOWN, NEW_FILE, PATH
-from lisfs.shell.refusals import is_file_name
 from lisfs.shell.terminal import Stopped, readline
 from lisfs.showing import harmless
+from lisfs.words import is_file_name
 
 BLANKS = b" \t\n"
 # The most of what may stand there that is shown.

@@ -8,13 +8,15 @@ import stat
 import tempfile
 
 from lisfs import derived
-from lisfs.client import CONTENT, LINE, PAYLOAD, Items, NotSent, Refused, words_of
+from lisfs.client import CONTENT, Items, NotSent, Refused, words_of
+from lisfs.constants import MAX_LINE, MAX_PAYLOAD
 from lisfs.formulas import words_in
 from lisfs.shell.commands import COMMANDS, all_in_lines, told
-from lisfs.shell.refusals import NAME_FORM, bad_line, is_file_name, sentence
+from lisfs.shell.explaining import bad_line, sentence
 from lisfs.shell.session import NoWayBack
 from lisfs.shell.terminal import INPUT, WORD as WORD_COLOUR, Stopped
 from lisfs.showing import harmless
+from lisfs.words import NAME_FORM, head_of, is_file_name
 
 PIECE = 65_536
 
@@ -42,7 +44,7 @@ class Shell:
         try:
             if words == [b"ls", b"-c"]:
                 self.counts()
-            elif words[0] in self.own and len(line) <= LINE:
+            elif words[0] in self.own and len(line) <= MAX_LINE:
                 self.own[words[0]](line, words[1:])
             else:
                 reply = self.session.carry_out(line, payload)
@@ -80,7 +82,7 @@ class Shell:
         """Once, that a search can miss a file whose words are cut, also where it finds none."""
         formula = words_in(words[1]) if words[0] in (b"cd", b"find") and len(words) == 2 else []
         # Only such a word makes it worth to look at all files.
-        if self.has_told_misses or not any(word.partition(b":")[0] in derived.HEADS for word in formula):
+        if self.has_told_misses or not any(head_of(word) in derived.HEADS for word in formula):
             return
         if told := derived.told_of_misses(formula, self.session.described()):
             self.has_told_misses = True
@@ -159,7 +161,7 @@ class Shell:
             if not stat.S_ISREG(found.st_mode):
                 raise Failed(f"{harmless(path)}: no plain file")
             with open(path, "rb") as file:
-                content = file.read(PAYLOAD + 1)
+                content = file.read(MAX_PAYLOAD + 1)
         except OSError as error:
             raise Failed(f"{harmless(path)}: {error.strerror}") from None
         if len(content) > most:
@@ -260,7 +262,7 @@ def from_input():
 
 def commands(read, interrupts):
     """The commands of what is read, each a line and the bytes behind it, and at last `None` where these are cut off."""
-    items, data = Items(LINE), None
+    items, data = Items(MAX_LINE), None
     # A last line, and last bytes, may lack their line feed.
     while data != b"" or items.lacks_feed():
         if data == b"":

@@ -5,13 +5,14 @@ program says: `props` of a name is refused where the file is not there. So no fo
 """
 import contextlib
 
-from lisfs.client import LINE, Refused, words_of
-from lisfs.formulas import head_of, is_plain, words_in
+from lisfs.client import Refused, words_of
+from lisfs.constants import MAX_LINE, UNKNOWN_PROPERTY
+from lisfs.formulas import words_in
+from lisfs.words import head_of, is_plain
 
 ROOT = b"/"
 # So many commands are sent before the first reply is received.
 AHEAD = 128
-NOT_HERE = 10
 
 
 class NoWayBack(Exception):
@@ -87,7 +88,7 @@ class Session:
         way_back = here if here == ROOT else b"/" + here
         if not is_onward:
             try:
-                if len(b"cd " + way_back) > LINE:
+                if len(b"cd " + way_back) > MAX_LINE:
                     raise NoWayBack
                 self.program.cd(way_back)
             except Refused:
@@ -175,7 +176,7 @@ class Session:
             try:
                 self.program.cd(word)
             except Refused as refused:
-                found += [word] if refused.number == 6 else []
+                found += [word] if refused.number == UNKNOWN_PROPERTY else []
             else:
                 self.program.cd(b"..")
         return found

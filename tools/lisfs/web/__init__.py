@@ -1,9 +1,8 @@
 """An image in a web browser: the parts of `tools/browse`. Nothing of it is proved.
 
-- `places`: a place as steps that can be taken out, negated and joined, and which files of an index it means.
-- `index`: which files have which word, as rows of bits, for counts.
-- `image`: an open image: what is asked of the program, the changes, and the index kept in step with them.
-- `sentences`: what a refusal says to a reader.
+- `cli`: the command.
+- `places`: a place as steps that can be taken out, negated and joined.
+- `image`: what is asked of the program for a page, the changes, and the index kept in step with them.
 - `contents`: what of a file's bytes is shown as text.
 - `markup`: HTML in which all that is not markup is escaped.
 - `pages`: the pages, made of what `image` tells.

@@ -18,13 +18,13 @@ import signal
 import socket
 import sys
 
+from lisfs.client import Ended, Locked, NotAReply, missing
+from lisfs.dumps import NotADump, opened
+from lisfs.image import limits_of
+from lisfs.showing import write_line
 from lisfs.web.connections import WAITING, Connections
 from lisfs.web.image import Image
 from lisfs.web.site import Site
-from lisfs.client import Ended, Locked, NotAReply, missing
-from lisfs.dumps import NotADump, opened
-from lisfs.mount.image import limits_of
-from lisfs.showing import write_line
 
 
 class NotServed(Exception):

@@ -14,8 +14,8 @@ import sys
 import time
 import traceback
 
-from lisfs.web.site import HEAD, POLICY, Wrong
 from lisfs.showing import harmless, write_line
+from lisfs.web.site import HEAD, POLICY, Wrong
 
 READ, WRITE = selectors.EVENT_READ, selectors.EVENT_WRITE
 # So many connections are open at most, and so many wait to be opened. So many bytes are read at once, and of a refused request still, so that

@@ -1,16 +1,15 @@
-"""An open image: what is asked of the program for a page, the changes, and the index of counts, which is kept in step with them.
+"""An open image as the pages need it: what is asked of the program for a page, the changes, and the index kept in step with them.
 
 What a place is, and what it shows, the program says. The index says how many files each word leaves, and which files the place has; whether
 the two agree is looked at each time: the files that no word covers are those that the program shows, and each word leaves some files and not
-all. The image is locked by the session, so nobody else changes it. Between two calls the session's place is the root, where all files are.
+all.
 """
 import collections
 
+from lisfs import image
 from lisfs.client import Refused, item
-from lisfs.formulas import head_of, is_word
-
-from lisfs.index import Index
-from lisfs.web.places import Place, is_test
+from lisfs.web.places import Place
+from lisfs.words import head_of, is_test, is_word
 
 # A place, its files as a row of bits, the words of its listing with the number of files that each leaves, and the files that no word covers.
 View = collections.namedtuple("View", "place here words locals")
@@ -24,39 +23,13 @@ class WrongWord(ValueError):
     """What was typed can't be one word of a command, or no word that a file is given."""
 
 
-class Image:
+class Image(image.Image):
     def __init__(self, program, dump, limits):
-        self.program, self.limits, self.index = program, limits, Index()
-        self.declared, self.axioms = set(dump.declared), set(dump.axioms)
-        for name, (size, words) in dump.files.items():
-            self.index.add(name, size, words)
-        self._describe(self.index.files.values())
+        super().__init__(program, dump, limits)
+        self.axioms = set(dump.axioms)
+        self.describe(self.index.files.values())
 
     # Questions.
-
-    def told(self, *commands):
-        """The replies to commands that change no place, or go to one and back, sent ahead of each other. Raises the first refusal."""
-        for command in commands:
-            # Nothing is sent where one of them can't be.
-            item(command)
-        for command in commands:
-            self.program.send(*command)
-        replies, refusal = [], None
-        for command in commands:
-            try:
-                replies.append(self.program.receive().body)
-            except Refused as refused:
-                refused.command = command[0]
-                refusal = refusal or refused
-        if refusal:
-            raise refusal
-        return replies
-
-    def _describe(self, files):
-        """Asks for the words of files."""
-        files = list(files)
-        for file, words in zip(files, self.told(*((b"props", file.name) for file in files))):
-            self.index.describe(file, frozenset(text for _, text in words))
 
     def look(self, formula):
         """A place and what it shows. Raises `Refused` where the formula leads to none."""
@@ -69,7 +42,7 @@ class Image:
             if self._agrees(here, words, shown):
                 return View(place, here, words, [self.index.files[name] for name in shown])
             if not is_anew:
-                self._describe(self.index.files.values())
+                self.describe(self.index.files.values())
         raise Differs(place.text)
 
     def _agrees(self, here, words, shown):
@@ -85,21 +58,12 @@ class Image:
         way, content = self.told((b"way", name), (b"cat", name))
         return self.index.files[name], [text for _, text in way], content
 
-    def counts(self):
-        return {name.decode(): int(count) for name, count in (text.split() for _, text in self.told((b"stat",))[0])}
+    # Changes. Each is one command. If it is refused, nothing was changed.
 
-    # Changes. Each is one command; where it is refused nothing was changed. Where one goes to a place first, nothing is sent before the
-    # reply to that: a command behind a refused `cd` would be carried out at the root.
-
-    def _change(self, *command, at=b"/"):
+    def _change(self, *command, at=image.ROOT):
         item(command)
-        if at != b"/":
-            self.told((b"cd", at))
-        try:
+        with self.at(at):
             self.told(command)
-        finally:
-            if at != b"/":
-                self.told((b"cd", b"/"))
 
     def _file(self, name):
         """The file of a name. Where there is none, the program says so."""
@@ -115,7 +79,7 @@ class Image:
         had = word in file.words
         self._change(b"mv", name, b"/" + word)
         file.given |= {word}
-        self._describe([file])
+        self.describe([file])
         return had
 
     def take(self, name, word):
@@ -125,14 +89,14 @@ class Image:
             raise WrongWord(word)
         self._change(b"mv", name, b"/", at=b"/" + word)
         file.given -= {word}
-        self._describe([file])
+        self.describe([file])
         return word in file.words
 
     def rename(self, name, other):
         file = self._file(name)
         self._change(b"rename", name, other)
         self.index.rename(file, other)
-        self._describe([file])
+        self.describe([file])
 
     def remove(self, name):
         file = self._file(name)
@@ -143,9 +107,9 @@ class Image:
         try:
             self.program.add(name, content, *words)
         except Refused as refused:
-            refused.command = b"add"
+            refused.command = "add"
             raise
-        self._describe([self.index.add(name, len(content), words)])
+        self.describe([self.index.add(name, len(content), words)])
 
     def declare(self, word, place):
         """Declares a word under those of a place."""
@@ -153,25 +117,25 @@ class Image:
         self.declared.add(word)
         self.axioms |= {(word, right) for right in place.words}
         if is_test(word):
-            self._describe(self.index.files.values())
+            self.describe(self.index.files.values())
 
     def take_back(self, word):
         """Declares a word no more."""
         files = self.index.of(self.index.having(word))
         self._change(b"rmdir", word)
         self.declared.discard(word)
-        self._describe(files)
+        self.describe(files)
 
     def axiom(self, left, right):
         self._change(b"axiom", left, right)
         self.axioms.add((left, right))
-        self._describe(self.index.of(self.index.having(left)))
+        self.describe(self.index.of(self.index.having(left)))
 
     def unaxiom(self, left, right):
         files = self.index.of(self.index.having(left))
         self._change(b"unaxiom", left, right)
         self.axioms.discard((left, right))
-        self._describe(files)
+        self.describe(files)
 
 
 def kind_of(word):

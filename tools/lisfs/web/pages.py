@@ -2,12 +2,14 @@
 import collections
 
 from lisfs import derived
-from lisfs.formulas import TEXT_LIMIT, head_of, words_in
+from lisfs.constants import MAX_FORMULA, MAX_WORD
+from lisfs.formulas import words_in
 
 from lisfs.web.contents import SHOWN, cut, mail_of, text_of
 from lisfs.web.image import kind_of
 from lisfs.web.markup import element, link
 from lisfs.web.places import Place
+from lisfs.words import head_of, is_head
 
 # So many words of a group, files of a list and words of a list stand on a page.
 SOME, FILES, WORDS = 15, 100, 200
@@ -318,8 +320,8 @@ class Pages:
         here = self.hidden(name=file.name, at=place.text)
         return element(
             "section", element("h2", "Change it", id="change"),
-            self.form("give", here, self.field("Give it a word", "word", required=True, maxlength="60"), element("button", "Give")),
-            self.form("rename", here, self.field("Another name", "other", required=True, maxlength="60", value=file.name),
+            self.form("give", here, self.field("Give it a word", "word", required=True, maxlength=str(MAX_WORD)), element("button", "Give")),
+            self.form("rename", here, self.field("Another name", "other", required=True, maxlength=str(MAX_WORD), value=file.name),
                       element("button", "Rename")),
             element("p", link("Remove this file", "remove", {"class_": "danger"}, name=file.name, at=place.text)),
             class_="changes", aria_labelledby="change")
@@ -332,17 +334,17 @@ class Pages:
                                    ".", class_="hint"),
                            class_="changes", aria_labelledby="change")
         # Heads, and words that files have by themselves, are not given.
-        given = [word for word in place.words if not word.endswith(b":")
+        given = [word for word in place.words if not is_head(word)
                  and (head_of(word) is None or head_of(word) in self.image.declared)]
         here = self.hidden(at=place.text)
         return element(
             "section", element("h2", "Change", id="change"),
             self.form("upload", here, element("label", element("span", "Upload a file"),
                                               element("input", type="file", name="file", required=True)),
-                      self.field("Its name, if another", "name", maxlength="60"), self.field("Its words", "words", value=b" ".join(given)),
+                      self.field("Its name, if another", "name", maxlength=str(MAX_WORD)), self.field("Its words", "words", value=b" ".join(given)),
                       element("button", "Upload"), enctype="multipart/form-data", data_limit=self.image.limits.file_bytes),
             self.form("declare", here, self.field("Declare a word" + (" under those of this place" if place.steps else ""), "word",
-                                                  required=True, maxlength="60"),
+                                                  required=True, maxlength=str(MAX_WORD)),
                       element("button", "Declare")),
             class_="changes", aria_labelledby="change")
 
@@ -379,10 +381,10 @@ class Pages:
     def declaring(self):
         return element("section", element("h2", "Change", id="change"),
                        self.form("declare", self.hidden(at=b"/", to="declared"),
-                                 self.field("Declare a word", "word", required=True, maxlength="60"),
+                                 self.field("Declare a word", "word", required=True, maxlength=str(MAX_WORD)),
                                  element("button", "Declare")),
-                       self.form("axiom", self.field("Each file with", "left", required=True, maxlength="60"),
-                                 self.field("has", "right", required=True, maxlength="60"), element("button", "Make the axiom")),
+                       self.form("axiom", self.field("Each file with", "left", required=True, maxlength=str(MAX_WORD)),
+                                 self.field("has", "right", required=True, maxlength=str(MAX_WORD)), element("button", "Make the axiom")),
                        class_="changes", aria_labelledby="change")
 
     def declared_word(self, word):
@@ -404,4 +406,4 @@ class Pages:
 
 def place_of(text):
     """The place to go back to, which a form or an address names: that of a text that the program has printed, or else the root."""
-    return Place(text.removeprefix(b"/") or b"/" if len(text) <= TEXT_LIMIT + 1 else b"/")
+    return Place(text.removeprefix(b"/") or b"/" if len(text) <= MAX_FORMULA + 1 else b"/")

@@ -1,15 +1,10 @@
 """A place as a page shows it: its steps, and of each the parts that `|` joins, so that each can be taken out, negated and joined by itself.
 
 It is made of the text by which the program prints a place (`pwd`), so that a step with `|` stands in parentheses and `!` binds one part. What
-the program makes of the texts that are made here is for it to say. Which files a place means is worked out here too, over an index.
+the program makes of the texts that are made here is for it to say.
 """
-import re
-
-from lisfs.formulas import TEST, WORD
-
-
-class NotAPlace(ValueError):
-    """The text is none that the program prints."""
+from lisfs.formulas import formula
+from lisfs.words import WORD
 
 
 def split(text, mark):
@@ -78,12 +73,12 @@ class Place:
         return text_of(self.steps[:step] + [parts[:part + 1], parts[part + 1:]] + self.steps[step + 1:])
 
     def files(self, index):
-        """The files of the place, as a row of bits."""
+        """The files of the place, as a row of bits. Raises `NotAFormula` if the text is none that the program prints."""
         found = index.everything
         for step in self.steps:
             row = 0
             for part in step:
-                row |= Reader(part, index).whole()
+                row |= formula(part).row(index)
             found &= row
         return found
 
@@ -91,52 +86,3 @@ class Place:
 def text_of(steps):
     """The formula of some steps, from the root on."""
     return b"/" + b"/".join(b"(" + b"|".join(step) + b")" if len(step) > 1 else step[0] for step in steps)
-
-
-class Reader:
-    """Reads a formula, and works out which files of an index it holds of. A formula of a place is no deeper than a place has nodes."""
-
-    def __init__(self, text, index):
-        self.text, self.index, self.at = text, index, 0
-
-    def whole(self):
-        row = self._path()
-        if self.at != len(self.text):
-            raise NotAPlace(self.text)
-        return row
-
-    def _takes(self, byte):
-        is_there = self.text[self.at:self.at + 1] == byte
-        self.at += is_there
-        return is_there
-
-    def _path(self):
-        row = self._either()
-        while self._takes(b"/"):
-            row &= self._either()
-        return row
-
-    def _either(self):
-        row = self._one()
-        while self._takes(b"|"):
-            row |= self._one()
-        return row
-
-    def _one(self):
-        if self._takes(b"!"):
-            return self.index.everything & ~self._one()
-        if self._takes(b"("):
-            row = self._path()
-            if not self._takes(b")"):
-                raise NotAPlace(self.text)
-            return row
-        for form, row in ((TEST, lambda found: self.index.sized(found[1] == b">=", int(found[2]))),
-                          (WORD, lambda found: self.index.having(found[0]))):
-            if found := form.match(self.text, self.at):
-                self.at = found.end()
-                return row(found)
-        raise NotAPlace(self.text)
-
-
-def is_test(word):
-    return re.fullmatch(TEST, word) is not None

@@ -19,13 +19,14 @@ import traceback
 import urllib.parse
 
 from lisfs.client import Ended, NotAReply, NotSent, Refused
-from lisfs.formulas import FILE_NAME, NAME_LIMIT, TEXT_LIMIT
+from lisfs.constants import BAD_FORMULA, BAD_LINE, LARGE_FILE, LARGE_FORMULA, MAX_FORMULA, MAX_LINE, MAX_WORD, NO_FILE_HERE, NOT_A_PLACE
+from lisfs.refusals import sentence
 from lisfs.showing import write_line
 
 from lisfs.web.image import Differs, WrongWord
 from lisfs.web.markup import address
 from lisfs.web.pages import DONE, Pages, place_of
-from lisfs.web.sentences import sentence
+from lisfs.words import FILE_NAME, mapped
 
 # The most bytes of a request before its body; of a body without a file, and with one beside the file's own; the most fields of either.
 HEAD, BODY, BESIDE, FIELDS = 16_384, 65_536, 65_536, 64
@@ -116,7 +117,7 @@ def number_in(given, name):
 
 def name_for(wanted):
     """A file's name out of that which it has elsewhere: each other byte becomes `_`, as `tools/import` does."""
-    return re.sub(rb"[^A-Za-z0-9_.+@-]", b"_", re.split(rb"[/\\]", wanted)[-1])[-NAME_LIMIT:]
+    return mapped(re.split(rb"[/\\]", wanted)[-1])[-MAX_WORD:]
 
 
 class Site:
@@ -187,7 +188,7 @@ class Site:
             raise Wrong(403, "Nothing is changed here: tools/browse was started without --write.")
         is_upload = request.page == self.top + "upload"
         if (length := int(request.header("Content-Length"))) > (self.image.limits.file_bytes + BESIDE if is_upload else BODY):
-            raise Wrong(413, sentence(20) if is_upload else "The form is too large.")
+            raise Wrong(413, sentence(LARGE_FILE) if is_upload else "The form is too large.")
         return length
 
     # What is asked for.
@@ -206,11 +207,11 @@ class Site:
             wrong.is_known = True
             return self.refused(wrong)
         except Refused as refused:
-            told, status = sentence(refused.number, getattr(refused, "command", None)), 404 if refused.number == 10 else 409
+            told, status = sentence(refused.number, getattr(refused, "command", None)), 404 if refused.number == NO_FILE_HERE else 409
         except WrongWord:
-            told, status = sentence(1), 409
+            told, status = sentence(BAD_LINE), 409
         except NotSent:
-            told, status = "This can't be said in one line: a word has no blanks, and a line has 1,024 bytes.", 409
+            told, status = f"This can't be said in one line: a word has no blanks, and a line has {MAX_LINE:,} bytes.", 409
         except Differs:
             told, status = "The counts here do not agree with the program. Start tools/browse again, and tell its makers.", 500
         except NotAReply:
@@ -291,7 +292,7 @@ class Site:
         try:
             view = self._look(given)
         except (Refused, NotSent) as error:
-            told = sentence(error.number if isinstance(error, Refused) else 7 if len(given["at"]) > TEXT_LIMIT else 5)
+            told = sentence(error.number if isinstance(error, Refused) else LARGE_FORMULA if len(given["at"]) > MAX_FORMULA else BAD_FORMULA)
             return self._page(self.pages.wrong_place(given.get("at", b""), told), 404)
         return self._page(self.pages.place(view, given.get("q", b""), self._told(given)))
 
@@ -355,7 +356,7 @@ class Site:
     def declare(self, given):
         place = place_of(given.get("at", b"/"))
         if place.words is None:
-            raise Wrong(409, sentence(8, b"mkdir"))
+            raise Wrong(409, sentence(NOT_A_PLACE, "mkdir"))
         self.image.declare(given.get("word", b""), place)
         return self._done("declared", "declared") if given.get("to") == b"declared" else self._done("", "declared", at=place.text)
 

@@ -9,7 +9,8 @@ import shutil
 
 import runs
 import sessions
-from lisfs.client import LINE, PAYLOAD, PROGRAM, ROOM_LINE, Ended, Items, NotAReply, Program, Replies, shown_by, words_of
+from lisfs.client import PROGRAM, ROOM_LINE, Ended, Items, NotAReply, Program, Replies, shown_by, words_of
+from lisfs.constants import MAX_LINE, MAX_PAYLOAD
 
 NAMES, WORDS = (b"a", b"b", b"c.txt"), (b"w", b"v", b"y:1")
 COMMANDS = (b"ls", b"pwd", b"cat N", b"cat N", b"props N", b"rm N", b"create N W", b"cd W", b"cd /", b"cd ..", b"mkdir W", b"rename N N", b"stat",
@@ -22,7 +23,7 @@ NO_COUNTS = (b"S" + b"0" * 12, b"0" * 13, b"-S", b"+S", b"Sx", b"0xS", b"S.", b"
 # Behind a payload; the first of them alone is right.
 BEHIND = (b"\n",) * 9 + (b"\r\n", b"\r\r\n", b"x\n", b" \n", b"ls", b"wrong\0end\r\n", b"y" * 1_100 + b"\n")
 SIZES = (0, 0, 1, 2, 3, 7, 40, 300, 5_000)
-LARGE = (65_536, 65_537, PAYLOAD, PAYLOAD + 1, PAYLOAD + 2, PAYLOAD + 70_000)
+LARGE = (65_536, 65_537, MAX_PAYLOAD, MAX_PAYLOAD + 1, MAX_PAYLOAD + 2, MAX_PAYLOAD + 70_000)
 
 
 def filled(chance, form, said=b""):
@@ -42,7 +43,7 @@ def spaced(chance, line):
 
 def lengthened(chance, line):
     """A line of about as many bytes as it may have, by blanks or by a word, and with a CR or without one."""
-    size = chance.choice((LINE, ROOM_LINE)) + chance.randrange(-2, 4)
+    size = chance.choice((MAX_LINE, ROOM_LINE)) + chance.randrange(-2, 4)
     end = chance.choice((b"", b"\r", b"\r\r", b" x"))
     fill = chance.choice((b" ", b"\t", b" x", b" w", b"\0"))
     return line + (fill * size)[:max(0, size - len(line) - len(end))] + end
@@ -123,7 +124,7 @@ def as_it_is(image, data):
 def in_commands(image, data, chance):
     """The replies to what the client makes of an input, whose last line and last payload may lack their line feeds."""
     with Program([PROGRAM, "run", image]) as program:
-        items = Items(LINE)
+        items = Items(MAX_LINE)
         for taken in itertools.chain(taken_in_pieces(items, data, chance), at_the_end(items)):
             program.send_bytes(*taken)
     return received(program) + [CUT] * items.is_cut()

@@ -7,7 +7,8 @@ import subprocess
 import tempfile
 import time
 
-from lisfs.client import PAYLOAD, PROGRAM, Replies
+from lisfs.client import PROGRAM, Replies
+from lisfs.constants import MAX_PAYLOAD
 from support import tool
 from support.waiting import LONG, children, is_running, stop, until
 
@@ -181,7 +182,7 @@ def random_input(chance, ends):
     def part():
         if chance.random() < 0.5:
             return line(LINES) + b"\n"
-        content = bytes(PAYLOAD + chance.randrange(3)) if chance.random() < 0.1 else random_bytes(chance)
+        content = bytes(MAX_PAYLOAD + chance.randrange(3)) if chance.random() < 0.1 else random_bytes(chance)
         return line(WITH_PAYLOAD).replace(b"S", b"%d" % len(content)) + b"\n" + content + chance.choice(BEHIND)
 
     return b"".join(part() for _ in range(chance.randrange(12))) + line(ends)

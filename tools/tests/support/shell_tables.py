@@ -58,7 +58,7 @@ PAIRS = b"".join(b"axiom w%02d w%02d\n" % (k, m) for k in range(12) for m in ran
 WIDE = b"mkdir w\n" + b"".join(b"mkdir a%d\naxiom w a%d\n" % (k, k) for k in range(128))
 
 # Lines on an empty image of these limits, and those of them that are refused, each with its number and its sentence.
-REFUSALS = (
+REFUSED = (
     (SMALL, b"add x a\n", (1, "a: no count of bytes")),
     (SMALL, b"add . 1\nx\n", (1, f".: no name of a file, which has {FORM}")),
     (SMALL, b"mkdir .a\n", (1, f".a: {NO_WORD}")),

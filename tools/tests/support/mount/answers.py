@@ -16,7 +16,8 @@ from lisfs.client import PROGRAM, Ended, Program
 from lisfs.dumps import NotADump, opened
 from lisfs.formulas import NotAFormula, TooLarge
 from lisfs.mount import attach, kernel
-from lisfs.mount.image import Image, limits_of
+from lisfs.image import limits_of
+from lisfs.mount.image import Image
 from lisfs.mount.kernel import Connection
 from lisfs.mount.tree import Tree
 from support import tool

@@ -8,10 +8,10 @@ import subprocess
 import threading
 import time
 
+from lisfs.formulas import Place
 from lisfs.mount import attach
 from support.mount.answers import NEW, WR, Mount, check, directly, make, told_by
 from support.mount.asking import Real
-from lisfs.formulas import Place
 from support.mount.sending import has_inodes
 from support.waiting import LONG, children, is_running, until
 
@@ -131,4 +131,4 @@ def left(image):
         known = ways.tree.image
         known.extension(Place())
         return {file.name.decode(): (known.content(file), frozenset(word.decode() for word in file.words & {b"a", b"b", b"c"}))
-                for file in known.everything}
+                for file in known.files.values()}

@@ -7,8 +7,9 @@ import os
 
 from lisfs.client import PROGRAM, Ended, Program, Refused
 from lisfs.mount import tree
-from support.mount.answers import NEW, RD, RW, WR, answers, check, directly, make, told_by
 from lisfs.mount.kernel import Changes
+from lisfs.refusals import error_of
+from support.mount.answers import NEW, RD, RW, WR, answers, check, directly, make, told_by
 
 CHANGES = ("cd", "create", "add", "write", "mv", "rename", "rm", "mkdir", "rmdir", "axiom", "unaxiom")
 
@@ -136,6 +137,7 @@ def has_inodes():
     with open("/proc/self/stat", encoding="ascii") as file, open(f"/proc/self/fdinfo/{file.fileno()}", encoding="ascii") as info:
         return "ino:" in info.read()
 
+
 def crowded(is_asked):
     """What is told of nine new files with new endings, where known words have room for seven of them; and which of them are there."""
     make("image", "64", "64", "8")
@@ -161,7 +163,7 @@ def refusing(number):
 
 def not_made(number):
     """A new file that the program doesn't make after all, which nothing here leads to: whoever has it open is told."""
-    name, error = f"a new file that is refused as {number}", errno.errorcode[tree.ERRORS[number]]
+    name, error = f"a new file that is refused as {number}", errno.errorcode[error_of(number)]
     make("image", "64", "64", "8")
     with directly("image") as ways:
         handle = ways.open("x", RW | NEW)

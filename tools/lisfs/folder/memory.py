@@ -24,8 +24,8 @@ import os
 import re
 import stat
 
-from lisfs.folder.forms import LONGEST
-from lisfs.folder.remembering import LARGEST, folder_of, write_whole
+from lisfs.constants import MAX_WORD
+from lisfs.folder.cache import LARGEST, folder_of, write_whole
 
 FORM, WORD, DIGITS = 1, b"synced-", 20
 # So many memories are kept, those that were used last. Older ones are those of copies and backups.
@@ -39,7 +39,7 @@ Record = collections.namedtuple("Record", "name made folder image coming", defau
 
 def begin_of_word(marker):
     """What the word of a memory begins with, for the folder of this marker."""
-    name, room = marker.partition(b":")[2], LONGEST - len(WORD) - 1 - DIGITS
+    name, room = marker.partition(b":")[2], MAX_WORD - len(WORD) - 1 - DIGITS
     if len(name) > room:
         name = name[:room - 9] + b"." + hashlib.sha256(name).hexdigest()[:8].encode()
     return WORD + name + b"-"

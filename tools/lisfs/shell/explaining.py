@@ -5,17 +5,14 @@ it can't be, the sentence names the line's own words.
 """
 import difflib
 
-from lisfs.client import PAYLOAD, words_of
-from lisfs.formulas import FILE_NAME, NAME_LIMIT, TEST, head_of, is_plain, is_word, words_in
-from lisfs.shell.commands import COMMANDS, COUNT, FILES, MEANS, WORDS
+from lisfs import constants
+from lisfs.client import words_of
+from lisfs.constants import MAX_ASSIGNED, MAX_DESCRIPTION, MAX_DIGITS, MAX_FORMULA, MAX_LINE, MAX_NODES, MAX_PAYLOAD
+from lisfs.formulas import words_in
+from lisfs.refusals import meaning
+from lisfs.shell.commands import COMMANDS, COUNT, FILES, WORDS
 from lisfs.showing import harmless
-
-BUILT_IN = (b"ext:", b"size:", b"from:", b"to:", b"subject:", b"includes:", b"defines:")
-NAME_FORM = "1 to 60 letters, digits and _ - . + @"
-
-
-def is_file_name(name):
-    return len(name) <= NAME_LIMIT and FILE_NAME.fullmatch(name) is not None and name not in (b".", b"..")
+from lisfs.words import NAME_FORM, head_of, is_built_in, is_file_name, is_head, is_plain, is_test, is_word
 
 
 def said(*words):
@@ -46,15 +43,15 @@ def bad_line(command, given, _):
         for word, part in zip(given, parts + parts[-1:] * len(given)):
             if part in FILES and not is_file_name(word):
                 return f"{harmless(word)}: no name of a file, which has {NAME_FORM}"
-            if part == COUNT and not (word.isdigit() and len(word) <= 12):
+            if part == COUNT and not (word.isdigit() and len(word) <= MAX_DIGITS):
                 return f"{harmless(word)}: no count of bytes"
-            if part in WORDS and not is_word(word) and not TEST.fullmatch(word):
+            if part in WORDS and not is_word(word) and not is_test(word):
                 return f"{harmless(word)}: no word: `music`, `year:`, `year:2003` or a test, as `size>=1000`; a part has {NAME_FORM}"
     return f"{command}: it is said so: {form.form}"
 
 
 def long_line(command, given, session):
-    return f"{harmless(command.encode())[:60]}: the line has more than 1,024 bytes"
+    return f"{harmless(command.encode())[:60]}: the line has more than {MAX_LINE:,} bytes"
 
 
 def cut_payload(command, given, session):
@@ -80,11 +77,11 @@ def unknown(command, given, session):
     else:
         place = words_in(session.place) if command != "mv" or not given[1].startswith(b"/") else []
         words = [word for word in dict.fromkeys(words_given(command, given) + place)
-                 if is_word(word) and not word.endswith(b":") and not is_built_in(word) and not session.is_assignable(word)]
+                 if is_word(word) and not is_head(word) and not is_built_in(word) and not session.is_assignable(word)]
     if not words:
         return f"{said(*given[-1:])}: some word of it is not known"
     first = words[0]
-    is_value = not is_plain(first) and not first.endswith(b":") and not TEST.fullmatch(first)
+    is_value = not is_plain(first) and not is_head(first) and not is_test(first)
     if is_built_in(first) or is_value and head_of(first) in session.declared:
         return f"{said(*words)}: no file has it"
     needed = head_of(first) if is_value else first
@@ -101,12 +98,8 @@ def words_given(command, given):
     return words_in(given[1]) if command == "mv" else given[2:] if command == "add" else given[1:]
 
 
-def is_built_in(word):
-    return head_of(word) in BUILT_IN
-
-
 def large_formula(command, given, session):
-    return f"{said(*given[-1:])}: too large: a place has at most 64 words and signs, and 1,024 bytes"
+    return f"{said(*given[-1:])}: too large: a place has at most {MAX_NODES} words and signs, and {MAX_FORMULA:,} bytes"
 
 
 def not_a_place(command, given, session):
@@ -153,9 +146,9 @@ def not_assignable(command, given, session):
     if command == "axiom":
         return f"{said(given[1])}: only a plain word can be entailed, and no head, value or test"
     words = words_given(command, given)
-    if tests := [word for word in words if TEST.fullmatch(word)]:
+    if tests := [word for word in words if is_test(word)]:
         return f"{said(tests[0])}: a file has this by its size, and is not given it"
-    heads = [word for word in words if word.endswith(b":")] or words
+    heads = [word for word in words if is_head(word)] or words
     return f"{said(heads[0])}: a file is given a value of this head, as `{said(heads[0])}x`"
 
 
@@ -173,18 +166,18 @@ def no_such_axiom(command, given, session):
 
 
 def too_many_given(command, given, session):
-    return f"{said(*given[:1])}: a file is given at most 16 words, those of the place counted"
+    return f"{said(*given[:1])}: a file is given at most {MAX_ASSIGNED} words, those of the place counted"
 
 
 def too_many_had(command, given, session):
     whose = "some file" if command in ("mkdir", "axiom") else "it"
-    return f"{said(*given[:1])}: {whose} would have more than 128 words, with all that they entail"
+    return f"{said(*given[:1])}: {whose} would have more than {MAX_DESCRIPTION} words, with all that they entail"
 
 
 def file_too_large(command, given, session):
     count = int(given[1])
     # Of more than a line can count there is no number.
-    many = f"{count:,}" if count <= PAYLOAD else f"more than {PAYLOAD:,}"
+    many = f"{count:,}" if count <= MAX_PAYLOAD else f"more than {MAX_PAYLOAD:,}"
     return f"{said(*given[:1])}: it has {many} bytes, and a file of this image at most {session.limits.file_bytes:,}"
 
 
@@ -210,13 +203,36 @@ def built_in(command, given, session):
     return f"{said(*words)}: files have such words by themselves, and nobody gives or declares them"
 
 
-def of_a_view(number):
-    return lambda command, given, session: f"{said(*given[:1])}: {MEANS[number]}"
+def of_put(number):
+    return lambda command, given, session: f"{said(*given[:1])}: {meaning(number)}"
 
 
 SENTENCES = {
-    1: bad_line, 2: long_line, 3: cut_payload, 4: payload_end, 5: formula, 6: unknown, 7: large_formula, 8: not_a_place, 9: name_taken,
-    10: no_such_file, 11: declared, 12: not_declared, 13: in_use, 14: not_assignable, 15: cycle, 16: axiom_there, 17: no_such_axiom,
-    18: too_many_given, 19: too_many_had, 20: file_too_large, 21: no_file_room, 22: no_word_room, 23: no_axiom_room, 24: no_space, 25: built_in,
-    26: of_a_view(26), 27: of_a_view(27),
+    constants.BAD_LINE: bad_line,
+    constants.LONG_LINE: long_line,
+    constants.CUT_PAYLOAD: cut_payload,
+    constants.PAYLOAD_END: payload_end,
+    constants.BAD_FORMULA: formula,
+    constants.UNKNOWN_PROPERTY: unknown,
+    constants.LARGE_FORMULA: large_formula,
+    constants.NOT_A_PLACE: not_a_place,
+    constants.NAME_TAKEN: name_taken,
+    constants.NO_FILE_HERE: no_such_file,
+    constants.ALREADY_DECLARED: declared,
+    constants.NOT_DECLARED: not_declared,
+    constants.IN_USE: in_use,
+    constants.NOT_ASSIGNABLE: not_assignable,
+    constants.CYCLE: cycle,
+    constants.AXIOM_THERE: axiom_there,
+    constants.NO_AXIOM: no_such_axiom,
+    constants.TOO_MANY_ASSIGNED: too_many_given,
+    constants.LARGE_DESCRIPTION: too_many_had,
+    constants.LARGE_FILE: file_too_large,
+    constants.NO_FILE_ROOM: no_file_room,
+    constants.NO_PROPERTY_ROOM: no_word_room,
+    constants.NO_AXIOM_ROOM: no_axiom_room,
+    constants.NO_SPACE: no_space,
+    constants.BUILT_IN: built_in,
+    constants.NOT_IN_FORM: of_put(constants.NOT_IN_FORM),
+    constants.OTHER_MARKS: of_put(constants.OTHER_MARKS),
 }

@@ -16,9 +16,9 @@ import tempfile
 import time
 import unicodedata
 
-from lisfs import derived
-from lisfs.folder import addresses, forms, mails, music, walk
+from lisfs import constants, derived, words
 from lisfs.dumps import STEP, WHOLE
+from lisfs.folder import addresses, forms, mails, music, walk
 
 FORM = 2
 # So many bytes are read at most.
@@ -124,7 +124,7 @@ def write_whole(path, data, is_kept=False):
 def version():
     """Another one wherever a file may give something else: the sources that read it, and Python."""
     digest = hashlib.sha256(f"{sys.version} {unicodedata.unidata_version}".encode())
-    for module in (addresses, derived, forms, mails, music):
+    for module in (addresses, constants, derived, forms, mails, music, words):
         with open(module.__file__, "rb") as file:
             digest.update(file.read())
     return digest.hexdigest()

@@ -1,0 +1,123 @@
+"""What refusals mean: each in one row, in the words of each tool. `constants` has their numbers, and the words that the program shows.
+
+- `means` is a clause, after "it is refused where": help has a list of them.
+- `sentence` is a whole sentence, for a page, and `error` the error of a file system. Those of `put` alone have none, since no session meets them.
+- `cause` is a short cause, for a report of many files.
+"""
+import collections
+import errno
+
+from lisfs.constants import (
+    ALREADY_DECLARED, AXIOM_THERE, BAD_FORMULA, BAD_LINE, BUILT_IN, BUILT_IN_HEADS, CUT_PAYLOAD, CYCLE, IN_USE, LARGE_DESCRIPTION, LARGE_FILE,
+    LARGE_FORMULA, LONG_LINE, MAX_ASSIGNED, MAX_DESCRIPTION, MAX_FILE, MAX_FORMULA, MAX_LARGE_FILE, MAX_LINE, MAX_NODES, NAME_TAKEN, NO_AXIOM,
+    NO_AXIOM_ROOM, NO_FILE_HERE, NO_FILE_ROOM, NO_PROPERTY_ROOM, NO_SPACE, NOT_A_PLACE, NOT_ASSIGNABLE, NOT_DECLARED, NOT_IN_FORM, OTHER_MARKS,
+    PAYLOAD_END, TOO_MANY_ASSIGNED, UNKNOWN_PROPERTY)
+from lisfs.words import NAME_FORM
+
+Refusal = collections.namedtuple("Refusal", "means sentence error cause", defaults=(None, None, None))
+
+*HEADS, LAST_HEAD = (head.decode() for head in BUILT_IN_HEADS)
+NO_WORDS = "has `|`, `!` or a test in it, and so no words of its own"
+REFUSALS = {
+    BAD_LINE: Refusal(
+        "the line is not in the form of the command",
+        f"A name has {NAME_FORM}. So has a word, which does not begin with a full stop and may have one colon.", errno.EINVAL),
+    LONG_LINE: Refusal(
+        f"the line has more than {MAX_LINE:,} bytes", f"This is longer than a line may be, which has {MAX_LINE:,} bytes.", errno.ENAMETOOLONG),
+    CUT_PAYLOAD: Refusal("the input ends within the bytes of a file", "The bytes of the file were cut off.", errno.EIO),
+    PAYLOAD_END: Refusal(
+        "something else than the end of a line stands behind the bytes of a file, so that their count is wrong",
+        "The bytes of the file do not end where they should.", errno.EIO),
+    BAD_FORMULA: Refusal(
+        "FORMULA is no formula",
+        "This is no formula. Words stand alone or are joined by / for and, | for or, ! for not, with parentheses, as in music/!(live|year:1999).",
+        errno.EINVAL),
+    UNKNOWN_PROPERTY: Refusal(
+        "a word is not known", "A word in it is not known here: no file has it, and nobody has declared it.", errno.ENOENT),
+    LARGE_FORMULA: Refusal(
+        f"FORMULA has more than {MAX_FORMULA:,} bytes, or the place would have more than {MAX_NODES} words and signs",
+        f"The place would be too large: it has at most {MAX_NODES} parts and {MAX_FORMULA:,} bytes.", errno.ENAMETOOLONG),
+    NOT_A_PLACE: Refusal(
+        f"the place {NO_WORDS}", "That is not a place of words alone, so a file or a word can't be put there.", errno.EPERM),
+    NAME_TAKEN: Refusal("a file has this name already", "A file has this name already.", errno.EEXIST, "the name is taken"),
+    NO_FILE_HERE: Refusal("no file of this name is here", "There is no file of this name here.", errno.ENOENT, "it is not there any more"),
+    ALREADY_DECLARED: Refusal("the word is declared already", "The word is declared already.", errno.EEXIST),
+    NOT_DECLARED: Refusal("no such word is declared", "The word is not declared.", errno.ENOENT),
+    IN_USE: Refusal(
+        "the word is in use: a file has it, or an axiom names it", "The word is in use: a file has it, or an axiom names it.", errno.ENOTEMPTY),
+    NOT_ASSIGNABLE: Refusal(
+        "a word is of the wrong kind",
+        "This word can't be given to a file: a head needs a value, as in year:2003, and a test is met by a file's size alone.", errno.EPERM),
+    CYCLE: Refusal(
+        "RIGHT entails LEFT already: this would be a circle", "That would close a circle: the right word entails the left one already.",
+        errno.EINVAL),
+    AXIOM_THERE: Refusal("there is this axiom already", "This axiom is there already.", errno.EEXIST),
+    NO_AXIOM: Refusal("there is no such axiom", "There is no such axiom.", errno.ENOENT),
+    TOO_MANY_ASSIGNED: Refusal(
+        f"the file would be given more than {MAX_ASSIGNED} words", f"A file has at most {MAX_ASSIGNED} words that it was given.", errno.EMLINK),
+    LARGE_DESCRIPTION: Refusal(
+        f"a file would have more than {MAX_DESCRIPTION} words, with all that they entail",
+        f"Some file would have more than {MAX_DESCRIPTION} words, those that others entail counted.", errno.EMLINK,
+        "more words than a file may have"),
+    LARGE_FILE: Refusal(
+        f"the file has too many bytes: at most {MAX_FILE:,}, or {MAX_LARGE_FILE:,} in an image of version 2",
+        "The file is too large for this image.", errno.EFBIG, "it is too large for this image"),
+    NO_FILE_ROOM: Refusal(
+        "the image has no room for another file", "The image is full: it can hold no more files.", errno.ENOSPC, "no room for more files"),
+    NO_PROPERTY_ROOM: Refusal(
+        "the image has no room for more words", "The image is full: it can know no more words.", errno.ENOSPC, "no room for more words"),
+    NO_AXIOM_ROOM: Refusal("the image has no room for another axiom", "The image is full: it can hold no more axioms.", errno.ENOSPC),
+    NO_SPACE: Refusal(
+        "the image has no room for the bytes", "The image is full: its blocks have no room for so many bytes.", errno.ENOSPC,
+        "no room for its bytes"),
+    BUILT_IN: Refusal(
+        f"a word is one that files have by themselves, as those of {' and '.join(HEADS[:2])}",
+        f"The words of {', '.join(HEADS)} and {LAST_HEAD} come from a file itself, and nobody declares or gives them.", errno.EPERM),
+    NOT_IN_FORM: Refusal("what was edited is no view of a file"),
+    OTHER_MARKS: Refusal("the marks of hidden lines are not those of the view"),
+}
+# Where more can be said of a command: what it means, and a sentence. None is that of the row.
+OF_COMMANDS = {
+    ("mkdir", NOT_A_PLACE): (
+        "the place is neither the root nor made of plain words alone", "A word is declared at the root, or at a place of plain words alone."),
+    ("mkdir", UNKNOWN_PROPERTY): (
+        "a word of the place is not declared any more", "A word of this place is not declared, so nothing can be declared under it."),
+    ("mkdir", NOT_ASSIGNABLE): (
+        "WORD has a value: only heads are declared, as `mkdir year:`",
+        "A word with a value is not declared: declare its head, as year: for year:2003."),
+    ("rmdir", NOT_ASSIGNABLE): (
+        "WORD has a value, which goes with the last file that has it", "A word with a value is not declared, and so it can't be taken back."),
+    ("axiom", NOT_ASSIGNABLE): (
+        "RIGHT is not plain: nothing entails a head, a value or a test", "The right side of an axiom is a plain word, as music."),
+    ("axiom", UNKNOWN_PROPERTY): (
+        "RIGHT is not declared, or LEFT neither declared nor a value of a head", "The right word is not declared, or the left one is not known."),
+    ("add", UNKNOWN_PROPERTY): (None, "A word is not declared: declare it first, or for year:2003 its head year:."),
+    ("mv", UNKNOWN_PROPERTY): (None, "The word is not declared: declare it first, or for year:2003 its head year:."),
+    ("mv", NOT_A_PLACE): (f"this place or the other one {NO_WORDS}", None),
+    ("mv", NOT_ASSIGNABLE): ("FORMULA has a head: a file is given a value of it, as `year:2003`", None),
+    ("rename", NAME_TAKEN): ("a file has the name OTHER already", None),
+    **{(name, NOT_ASSIGNABLE): ("a WORD is a head, of which a file is given a value, or a test, which is not given", None)
+       for name in ("create", "add", "put")},
+}
+
+
+def meaning(number, command=None):
+    """What a refusal of a command means, as a clause."""
+    return OF_COMMANDS.get((command, number), (None, None))[0] or REFUSALS[number].means
+
+
+def sentence(number, command=None):
+    """The same as a sentence. One that is not known here is one of a later program."""
+    return (OF_COMMANDS.get((command, number), (None, None))[1] or number in REFUSALS and REFUSALS[number].sentence
+            or f"The program refuses it, by number {number}.")
+
+
+def error_of(number):
+    """The error of a file system that a refusal is."""
+    return number in REFUSALS and REFUSALS[number].error or errno.EIO
+
+
+def cause_of(refusal):
+    """The cause in some words, or else the refusal as it is shown."""
+    row = REFUSALS.get(refusal.number)
+    return row and row.cause or str(refusal)

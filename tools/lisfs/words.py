@@ -1,0 +1,64 @@
+"""The forms of words and of names of files, as docs/MODEL.md has them. Words and names are bytes."""
+import re
+
+from lisfs.constants import BUILT_IN_HEADS, MAX_WORD
+
+# The bytes of words and names, as a class of a regular expression, and as they are told to a person.
+PLAIN = rb"A-Za-z0-9_.+@-"
+PLAIN_FORM = "letters, digits and _ - . + @"
+NAME_FORM = f"1 to {MAX_WORD} {PLAIN_FORM}"
+PLAIN_RUN = re.compile(rb"[%b]+" % PLAIN)
+PLAIN_BYTES = bytes(byte for byte in range(256) if PLAIN_RUN.fullmatch(bytes([byte])))
+NOT_PLAIN = re.compile(rb"[^%b]" % PLAIN)
+# Of any length, as a formula and a path have them.
+FILE_NAME = PLAIN_RUN
+WORD = re.compile(rb"(?!\.)[%b]+(:[%b]*)?" % (PLAIN, PLAIN))
+TEST = re.compile(rb"size(>=|<)([0-9]{1,12})(?![0-9])")
+
+
+def is_file_name(name):
+    return len(name) <= MAX_WORD and FILE_NAME.fullmatch(name) is not None and name not in (b".", b"..")
+
+
+def is_word(text):
+    """Whether it is a plain word, a head or a value."""
+    return len(text) <= MAX_WORD and WORD.fullmatch(text) is not None
+
+
+def is_test(word):
+    return TEST.fullmatch(word) is not None
+
+
+def is_plain(word):
+    """Whether a word, or a test, is plain."""
+    return b":" not in word and b"<" not in word and b">" not in word
+
+
+def is_head(word):
+    return word.endswith(b":")
+
+
+def stem_of(word):
+    """What is before the first colon of a word: all of it if it has none."""
+    return word.partition(b":")[0]
+
+
+def head_of(word):
+    """The head of a value, and of a head itself, with its colon; None of any other."""
+    head, colon, _ = word.partition(b":")
+    return head + colon if colon else None
+
+
+def is_built_in(word):
+    """Whether files have it on their own, so that nobody gives or declares it."""
+    return head_of(word) in BUILT_IN_HEADS
+
+
+def is_assignable(text):
+    """Whether a file can be given these bytes as a word, once that or its head is declared."""
+    return is_word(text) and not is_head(text) and not is_built_in(text)
+
+
+def mapped(name):
+    """A name in which each byte that is not plain is `_`."""
+    return NOT_PLAIN.sub(b"_", name)
