@@ -36,7 +36,7 @@ def picture(height, shapes, light="", dark=""):
 
 
 def keep(drawn, is_check, otherwise):
-    """Writes each file with what is drawn; or, to check, names each that is another. Answers how many these are."""
+    """Writes each file with what is drawn; or, to check, names each that differs. Returns how many these are."""
     wrong = 0
     for name, drawing in drawn.items():
         path = os.path.join(DOCS, name)
