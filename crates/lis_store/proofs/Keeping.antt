@@ -1,10 +1,10 @@
 -- What a change keeps of a store, from what its steps keep.
-use Rattle.lis_store.proofs.Common.{◌≡◌, sym, ap, ◌∙◌, subst, true, false, Result, Ok, Err, Ext, Metadata}
+use Rattle.lis_store.proofs.Common.{◌≡◌, sym, ap, ◌∙◌, subst, Bool, true, false, Result, Ok, Err, Ext, Metadata, Meaning, Refusal}
 use Rattle.lis_store.specs.declared.change_fault.ChangeFault.{ChangeFault}
 use Rattle.lis_store.specs.declared.change_fault.ChangeFault.TheVariants.{Refused, Disk}
 use Rattle.lis_store.specs.Stored.{Stored, IsSound}
-use Rattle.lis_store.specs.Changes.{ChangeLeft, ChangeKeeps, CommitLeft, AreEditsFew}
-use Rattle.lis_store.specs.Saving.{SaveEnded}
+use Rattle.lis_store.specs.Changes.{ChangeLeft, ChangeKeeps, ChangesDisk, CommitLeft, AreEditsFew, Ends}
+use Rattle.lis_store.specs.Saving.{SaveEnded, SaveKeeps}
 use Rattle.lis_store.proofs.Edits.{edits_same}
 use Rattle.lis_journal.specs.Journal.{shape_of}
 
@@ -19,16 +19,30 @@ left_committed old new (Err (Refused refusal)) never = absurd (let e : false ≡
 left_committed old new (Err Disk) broken = broken
 
 -- memory was changed, and then it was saved
-pub keeps_saved : {T : Type 0} {old now new : Stored} → old ≡ now → (made : Metadata) (result : Result T ChangeFault) → made.limits ≡ old.metadata.limits → AreEditsFew old.metadata.ext made.ext → IsSound new
-    → new.metadata ≡ record made { marks = new.metadata.marks } → shape_of new.journal ≡ shape_of old.journal → SaveEnded new.is_broken result → ChangeKeeps now new result
-keeps_saved {old = old} {new = new} view made result limits edits sound metadata image ended =
+pub keeps_saved : {T : Type 0} {old now made new : Stored} {result : Result T ChangeFault} → old ≡ now → made.metadata.limits ≡ old.metadata.limits → AreEditsFew old.metadata.ext made.metadata.ext
+    → shape_of made.journal ≡ shape_of old.journal → SaveKeeps made new result → ChangeKeeps now new result
+keeps_saved {old = old} {new = new} {result = result} view limits edits image save =
     subst (λ (k : Stored). ChangeKeeps k new result) view (record {
-      limits = ap (λ (k : Metadata). k.limits) metadata ∙ limits;
-      image = image;
-      left = left_saved old new result ended;
-      edits = subst (λ (e : Ext). AreEditsFew old.metadata.ext e) (sym (ap (λ (k : Metadata). k.ext) metadata)) edits;
-      sound = sound;
+      limits = ap (λ (k : Metadata). k.limits) save.metadata ∙ limits;
+      image = save.image ∙ image;
+      left = left_saved old new result save.ended;
+      edits = subst (λ (e : Ext). AreEditsFew old.metadata.ext e) (sym (ap (λ (k : Metadata). k.ext) save.metadata)) edits;
+      sound = save.sound;
     })
+
+-- saving refuses nothing
+none_refused : {T Untouched : Type 0} (broken : Bool) (result : Result T ChangeFault) (refusal : Refusal) → SaveEnded broken result → result ≡ Err (Refused refusal) → Untouched
+none_refused {T = T} broken result refusal ended is = absurd (let e : false ≡ true = subst (λ r. SaveEnded {T = T} broken r) is ended in cc)
+
+-- how a change ends that was saved
+pub ends_saved : {T Untouched : Type 0} {old now made new : Stored} {before after : Meaning} {result : Result T ChangeFault} → old ≡ now → IsSound old → made.metadata.limits ≡ old.metadata.limits
+    → AreEditsFew old.metadata.ext made.metadata.ext → shape_of made.journal ≡ shape_of old.journal → SaveKeeps made new result → ChangesDisk before after result → Ends Untouched now new before after result
+ends_saved {new = new} {result = result} view sound limits edits image save disk = record {
+  untouched = λ refusal is. none_refused new.is_broken result refusal save.ended is;
+  entry = subst (λ (k : Stored). IsSound k) view sound;
+  keeps = keeps_saved view limits edits image save;
+  disk = disk;
+}
 
 -- the disk failed, which broke the store
 pub keeps_lost : {T : Type 0} {old now new : Stored} {result : Result T ChangeFault} → old ≡ now → IsSound new → result ≡ Err Disk → new.metadata.limits ≡ old.metadata.limits → shape_of new.journal ≡ shape_of old.journal

@@ -1,5 +1,5 @@
 -- What an image spells is one state.
-use Rattle.lis_store.proofs.Common.{◌≡◌, refl, sym, ap, ap₂, ◌∙◌, subst, ℕ, suc, Bool, List, [], ◌∷◌, length, slice_get, Option, Some, IsTrue, arith, part, block, replayed, is_prop, Limits, image_blocks, State, axiom_slots, prop_bytes, axiom_bytes, file_bytes}
+use Rattle.lis_store.proofs.Common.{◌≡◌, refl, sym, ap, ap₂, ◌∙◌, subst, ℕ, suc, Bool, List, [], ◌∷◌, length, slice_get, Option, Some, IsTrue, arith, part, block, replayed, is_prop, Limits, State, axiom_slots, prop_bytes, axiom_bytes, file_bytes}
 use Rattle.lis_slots.specs.Slots.{Slots}
 use Rattle.lis_fields.specs.Layouts.{is_axiom, is_file}
 use Rattle.lis_fields.proofs.OneSpelling.{super_once, prop_once, axiom_once, file_once}

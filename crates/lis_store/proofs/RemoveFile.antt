@@ -1,6 +1,6 @@
 -- A call that takes a file away.
 use Rattle.std.proofs.Common.{rules}
-use Rattle.lis_store.proofs.Common.{◌≡◌, refl, sym, ap, ◌∙◌, subst, ℕ, is_some, not, IsSome, Bool, true, false, cond, List, set, Some, Result, Err, arith, Meaning, Held, looked, Asks, slot_of, rec_at, rec_at-slot_of, Ext, Formula, FileRecord, NoFileHere, bitmap_start, image_blocks, State, Situation, Outcome, refused, rm, file_removed, Metadata, IsSaved, changed, GivesBack}
+use Rattle.lis_store.proofs.Common.{◌≡◌, sym, ap, ◌∙◌, subst, ℕ, is_some, not, IsSome, Bool, true, false, cond, List, set, Some, Result, Err, arith, Meaning, Held, looked, Asks, slot_of, rec_at, rec_at-slot_of, Ext, Formula, FileRecord, NoFileHere, bitmap_start, State, Situation, Outcome, refused, rm, file_removed, Metadata, IsSaved, changed, GivesBack}
 use Rattle.lis_store.specs.declared.change_fault.ChangeFault.{ChangeFault}
 use Rattle.lis_store.specs.declared.change_fault.ChangeFault.TheVariants.{Refused, Disk}
 use Rattle.lis_store.specs.Stored.{Stored, IsSound, StoreHolds}
@@ -21,6 +21,7 @@ use Rattle.lis_store.proofs.Steps.{form_taken, pairs_same, sound_lost, holds_beh
 use Rattle.lis_store.proofs.ToldBy.{told_held}
 use Rattle.lis_store.proofs.Torn.{ended_broken}
 use Rattle.lis_store.proofs.WriteFile.{found_there}
+use Rattle.lis_journal.specs.Journal.{shape_of}
 use Rattle.lis_kept.specs.Image.{image_shape}
 
 -- one that is refused
@@ -33,8 +34,8 @@ given_err : (T : Type 0) (rec : FileRecord) (p q : Metadata) (journal : Held) (b
     → (change ≡ Disk) × (q ≡ p) × Asks journal before after
 given_err T rec p q journal before after change never = search (rules)
 
-module _ (T : Type 0) (old : Stored) (slot : ℕ) (name : List ℕ) (sound : IsSound old) (named : slot_of old.metadata.catalog name ≡ Some slot) (q : Metadata) (b : Bool) (change : ChangeFault) (before after : Meaning)
-    (stays : (rec : FileRecord) → rec_at old.metadata.catalog slot ≡ Some rec → ContentGiven {T = T} rec old.metadata q old.journal before after (Err change)) (ended : ContentEnded {T = T} b (Err change)) where
+module _ (T : Type 0) (old : Stored) (slot : ℕ) (name : List ℕ) (sound : IsSound old) (named : slot_of old.metadata.catalog name ≡ Some slot) (q : Metadata) (j : Held) (b : Bool) (change : ChangeFault) (before after : Meaning)
+    (same : j ≡ old.journal) (stays : (rec : FileRecord) → rec_at old.metadata.catalog slot ≡ Some rec → ContentGiven {T = T} rec old.metadata q old.journal before after (Err change)) (ended : ContentEnded {T = T} b (Err change)) where
   lost : (change ≡ Disk) × (q ≡ old.metadata) × Asks old.journal before after
   lost =
       let found = rec_at-slot_of old.metadata.catalog name slot sound.metadata.catalog named in
@@ -46,17 +47,20 @@ module _ (T : Type 0) (old : Stored) (slot : ℕ) (name : List ℕ) (sound : IsS
   lost_metadata : q ≡ old.metadata
   lost_metadata = lost.1
 
-  pub lost_sound : IsSound (record { metadata = q; journal = old.journal; is_broken = b })
-  lost_sound = search (rules, lost_metadata, broken, sound_lost, in_form)
+  lost_there : IsSound (record { metadata = q; journal = old.journal; is_broken = b })
+  lost_there = search (rules, lost_metadata, broken, sound_lost, in_form)
+
+  pub lost_sound : IsSound (record { metadata = q; journal = j; is_broken = b })
+  lost_sound = subst (λ (h : Held). IsSound (record { metadata = q; journal = h; is_broken = b })) (sym same) lost_there
 
   pub lost_holds : {U : Type 0} (base : State) (now : Situation) (outcome : Outcome) (result : Result U ChangeFault) → result ≡ Err change → StoreHolds old before base now.state
-      → Holds base now outcome (record { metadata = q; journal = old.journal; is_broken = b }) before after result
+      → Holds base now outcome (record { metadata = q; journal = j; is_broken = b }) before after result
   lost_holds base now outcome result ends holds =
-      holds_lost base now outcome (record { metadata = q; journal = old.journal; is_broken = b }) before after result (asks_stand old base now.state before sound holds after lost.2)
+      holds_lost base now outcome (record { metadata = q; journal = j; is_broken = b }) before after result (asks_stand old base now.state before sound holds after lost.2)
       (asks_past old base now.state before sound holds after lost.2) broken (ends ∙ ap Err lost.0)
 
-  pub lost_keeps : {U : Type 0} {now : Stored} {result : Result U ChangeFault} → old ≡ now → result ≡ Err change → ChangeKeeps now (record { metadata = q; journal = old.journal; is_broken = b }) result
-  lost_keeps view ends = keeps_lost view lost_sound (ends ∙ ap Err lost.0) (ap (λ (k : Metadata). k.limits) lost_metadata) refl (ap (λ (k : Metadata). k.ext) lost_metadata) broken
+  pub lost_keeps : {U : Type 0} {now : Stored} {result : Result U ChangeFault} → old ≡ now → result ≡ Err change → ChangeKeeps now (record { metadata = q; journal = j; is_broken = b }) result
+  lost_keeps view ends = keeps_lost view lost_sound (ends ∙ ap Err lost.0) (ap (λ (k : Metadata). k.limits) lost_metadata) (ap shape_of same) (ap (λ (k : Metadata). k.ext) lost_metadata) broken
 
 -- ---- its blocks are given back, and then it is taken out
 -- What a call asks speaks of the store's value `now`, and what is proved of its metadata, `old`.
@@ -106,9 +110,10 @@ module _ {old now : Stored} (view : old ≡ now) (sound : IsSound old) (unbroken
       edits = subst (λ (e : Ext). AreEditsFew e q.ext) (ap (λ (k : Metadata). k.ext) gives.takes.metadata) (few_edits slot rec mid q form_given out);
     }
 
-    pub removed_holds : {T : Type 0} {new : Stored} {after : Meaning} {result : Result T ChangeFault} → Saves q old.journal new asked after result → (base s : State) → StoreHolds now before base s
+    pub removed_holds : {T : Type 0} {j : Held} {new : Stored} {after : Meaning} {result : Result T ChangeFault} → j ≡ old.journal → Saves q j new asked after result → (base s : State) → StoreHolds now before base s
         → Holds base (record { state = s; place = place }) (rm (record { state = s; place = place }) name) new before after result
-    removed_holds {new = new} {after = after} {result = result} saves base s holds_now =
+    removed_holds {new = new} {after = after} {result = result} same saves_it base s holds_now =
+        let saves = subst (λ (h : Held). Saves q h new asked after result) same saves_it in
         let at_place : Situation = record { state = s; place = place } in
         let holds : StoreHolds old before base s = held_view view holds_now in
         let asks = (given rec found.1).1 in

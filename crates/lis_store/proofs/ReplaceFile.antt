@@ -1,6 +1,6 @@
 -- Calls in which a file comes into a free slot, or takes the place of another.
 use Rattle.std.proofs.Common.{rules}
-use Rattle.lis_store.proofs.Common.{◌≡◌, refl, sym, ap, ◌∙◌, subst, ℕ, ◌+◌, ◌≤◌, ◌==◌, ◌&&◌, not, nat_lt, is_some, cond, true, false, Bool, IsSome, IfSome, List, [], length, Option, Some, None, Result, arith, list_all, and_parts, eqb-true, Meaning, Held, Fits, KeepsPast, looked, Filed, slot_of, rec_at, is_large, word_of, same_word, FileRecord, are_blocks, is_record, Limits, bitmap_start, data_start, image_blocks, State, File, blocks_taken, used_blocks, derived_words, new_file, file_added, file_removed, file_replaced, file_limit, Situation, Outcome, same_word_decides, Metadata, IsSaved, is_marked, marked_count, is_sound_record, AreSound, bytes_told, blocks_told, Tells, record_in_form, filed_at_slot, among_from_any, leaves_weaken, StandsBut, changed, file_told}
+use Rattle.lis_store.proofs.Common.{◌≡◌, refl, sym, ap, ◌∙◌, subst, ℕ, ◌+◌, ◌≤◌, ◌==◌, ◌&&◌, not, nat_lt, is_some, true, false, Bool, IsSome, IfSome, List, [], length, Option, Some, None, Result, arith, list_all, and_parts, eqb-true, Meaning, Held, Fits, KeepsPast, looked, Filed, slot_of, rec_at, is_large, word_of, same_word, FileRecord, are_blocks, is_record, Limits, bitmap_start, data_start, State, File, blocks_taken, used_blocks, derived_words, new_file, file_added, file_removed, file_replaced, file_limit, Situation, Outcome, same_word_decides, Metadata, IsSaved, is_marked, marked_count, is_sound_record, AreSound, bytes_told, blocks_told, Tells, record_in_form, filed_at_slot, among_from_any, leaves_weaken, StandsBut, changed, file_told, size_fits}
 use Rattle.lis_catalog.proofs.Laws.{slot_of-rec_at}
 use Rattle.lis_laws.proofs.Counts.{filter_sum_drops}
 use Rattle.lis_store.specs.declared.change_fault.ChangeFault.{ChangeFault}
@@ -8,7 +8,7 @@ use Rattle.lis_store.specs.Stands.{Stands}
 use Rattle.lis_store.specs.Stored.{Stored, IsSound, StoreHolds}
 use Rattle.lis_store.specs.Changes.{Holds, AreEditsFew}
 use Rattle.lis_store.specs.Contents.{blocks_gone, IsRenewed, Renews, Trades}
-use Rattle.lis_store.specs.Saving.{settled, Saves}
+use Rattle.lis_store.specs.Saving.{settled, MayBeSaved, Saves}
 use Rattle.lis_store.specs.Drafts.{Draft, with_own, draft_of, AreOwnWords}
 use Rattle.lis_store.specs.Instead.{free_for}
 use Rattle.lis_store.specs.Replacing.{MayReplace}
@@ -21,7 +21,7 @@ use Rattle.lis_store.proofs.Housed.{IsHoused, stay_housed, trades_housed, alone_
 use Rattle.lis_store.proofs.Renewed.{stands_same}
 use Rattle.lis_store.proofs.Refiled.{form_refiled, limits_refiled, axioms_refiled, saved_refiled, marked_refiled, edits_refiled, few_refiled, tells_refiled, may_there}
 use Rattle.lis_store.proofs.Retaken.{in_form, settled_sound, retaken, form_retaken}
-use Rattle.lis_store.proofs.SavedAlone.{IsChange, MayBeSaved, unplaced_stands}
+use Rattle.lis_store.proofs.SavedAlone.{IsChange, unplaced_stands}
 use Rattle.lis_store.proofs.Steps.{pairs_same, small_or_alone, holds_behind, but_stands}
 use Rattle.lis_store.proofs.ToldBy.{ToldBy, told_held}
 use Rattle.lis_store.proofs.WriteFile.{found_there, written_enough}
@@ -152,11 +152,7 @@ module _ {old now : Stored} (same : old ≡ now) {mid : Metadata} {j : Held} (sl
   mid_first = subst (λ (x : Metadata). MayPut x slot (draft_of file)) (sym renews.metadata) (put_retaken k mid.taken mid.marks slot (draft_of file) first)
 
   pub mid_short : length bytes ≤ 1048576
-  mid_short = by (k.limits.version == 2) (put_small k slot (draft_of file) first)
-    where
-      by : (two : Bool) → length bytes ≤ cond two 1048576 65536 → length bytes ≤ 1048576
-      by true le = le
-      by false le = omega (arith, le)
+  mid_short = size_fits k.limits.version (length bytes) (put_small k slot (draft_of file) first)
 
   pub mid_image : shape_of j ≡ shape_of now.journal
   mid_image = renews.image ∙ ap (λ (o : Stored). shape_of o.journal) same
@@ -175,13 +171,14 @@ module _ {old now : Stored} (same : old ≡ now) {mid : Metadata} {j : Held} (sl
       unbroken : old.is_broken ≡ false
       unbroken = ap (λ (o : Stored). o.is_broken) same ∙ unbroken_now
 
-      pub written_unbroken : j.is_broken ≡ false
+      written_unbroken : j.is_broken ≡ false
       written_unbroken = renews.broken ∙ sound.journal unbroken
 
-      pub written_saves : MayBeSaved q j
-      written_saves = record {
+      pub written_saves : (b : Bool) → MayBeSaved (record { metadata = q; journal = j; is_broken = b })
+      written_saves b = record {
         settles = replaced_sound old mid.taken mid.marks q j goes (draft_of file) numbers sound sound_renewed again (sym renews.image) written_unbroken;
         image = renews.image ∙ (sound.image ∙ ap image_shape (sym written_same));
+        unbroken = written_unbroken;
         placed = λ n among.
             let at = among_from_any (λ b. data_start k.limits + b == n) renews.spare (renews.placed n among) in
             let bitmap = subst (λ (x : Metadata). is_marked x (bitmap_start k.limits) ≡ true) renews.metadata renews.bitmap in (

@@ -1,5 +1,5 @@
 -- Memory in form, where other blocks are taken and where nothing is marked, and stores over it.
-use Rattle.lis_store.proofs.Common.{rules, ◌≡◌, refl, sym, ap, ◌∙◌, ℕ, ◌≤◌, Bool, true, false, Some, List, [], length, replicate, IsTrue, arith, length-replicate, slice_get, Pair, Held, are_whole, data_start, image_blocks, Metadata, AreSound}
+use Rattle.lis_store.proofs.Common.{rules, ◌≡◌, refl, sym, ap, ◌∙◌, ℕ, ◌≤◌, Bool, true, false, Some, List, [], length, replicate, IsTrue, arith, length-replicate, slice_get, Pair, Held, are_whole, data_start, Metadata, AreSound}
 use Rattle.lis_kept.specs.Sound.{IsSoundAxiom}
 use Rattle.lis_store.specs.Stored.{Stored, PairsAreApart, IsSound}
 use Rattle.lis_store.specs.Saving.{clean, settled}

@@ -10,7 +10,7 @@ use Rattle.lis_store.specs.declared.change_fault.ChangeFault.TheVariants.{Refuse
 use Rattle.lis_store.specs.Stands.{Stands}
 use Rattle.lis_store.specs.Stored.{Stored, IsSound, StoreHolds}
 use Rattle.lis_store.specs.Changes.{Holds, HeldEnded, Commits, CommitEnded}
-use Rattle.lis_store.specs.Saving.{clean, settled, ArePlaced, IsReady, KeepsStaged, SaveEnded}
+use Rattle.lis_store.specs.Saving.{clean, settled, ArePlaced, IsReady, KeepsStaged, SaveEnded, SaveKeeps}
 use Rattle.lis_store.proofs.Elsewhere.{tells_there}
 use Rattle.lis_store.proofs.Retaken.{in_form, sound_at, sound_lost}
 use Rattle.lis_store.proofs.Told.{retold}
@@ -39,6 +39,16 @@ module _ (p : Metadata) (j x : Held) (settles : IsSound (settled p j)) (image : 
       sound_held q b is (ap (λ (h : Held). h.is_broken) keeps.done ∙ unbroken) (omega (arith, ap (λ (es : List HomeBlock). length es) none)) (ap are_whole none) (keeps.none_placed some)
   sound_committed mid before after q b (Err (Refused refusal)) is unbroken some keeps never = absurd (let e : false ≡ true = never in cc)
   sound_committed mid before after q b (Err Disk) is unbroken some keeps broken = sound_broken q b is broken
+
+-- what saving keeps, by what it leaves
+pub save_keeps : {T : Type 0} (old new : Stored) {result : Result T ChangeFault} → IsSound new → new.metadata ≡ clean old.metadata → shape_of new.journal ≡ shape_of old.journal → SaveEnded new.is_broken result
+    → SaveKeeps old new result
+save_keeps old new sound is image ended = record {
+  sound = sound;
+  metadata = subst (λ (k : Metadata). k ≡ record old.metadata { marks = k.marks }) (sym is) refl;
+  image = image;
+  ended = ended;
+}
 
 -- ---- placed blocks
 -- where none is, none is in the wrong place
@@ -144,7 +154,7 @@ module _ (p : Metadata) (j mid : Held) (before : Meaning) (stages : Stages p j m
         by (Err Disk) keeps broken = broken
 
 -- ---- a commit of what is held back
-module _ {T : Type 0} (old : Stored) (x : Held) (b : Bool) (before after : Meaning) (result : Result T ChangeFault) (sound : IsSound old) (unbroken : old.is_broken ≡ false)
+module _ {T : Type 0} (old : Stored) (q : Metadata) (x : Held) (b : Bool) (before after : Meaning) (result : Result T ChangeFault) (sound : IsSound old) (unbroken : old.is_broken ≡ false) (same : q ≡ old.metadata)
     (keeps : KeepsStaged old.journal x before after result) (idle : old.journal.staged ≡ [] → x ≡ old.journal) (ends : SaveEnded b result) where
   -- nothing is placed behind a commit, and where there was none
   none_after : (0 < length old.journal.staged → x.placed ≡ []) → x.placed ≡ []
@@ -154,14 +164,17 @@ module _ {T : Type 0} (old : Stored) (x : Held) (b : Bool) (before after : Meani
       by [] none some = ap (λ (h : Held). h.placed) (none refl) ∙ sound.placed unbroken
       by (e ∷ es) none some = some (omega arith)
 
-  pub committed_sound : IsSound (record { metadata = old.metadata; journal = x; is_broken = b })
-  committed_sound = search (rules, sound_at, in_form, none_after, sound_lost)
+  sound_after : IsSound (record { metadata = old.metadata; journal = x; is_broken = b })
+  sound_after = search (rules, sound_at, in_form, none_after, sound_lost)
 
-  pub committed : (base s : State) → StoreHolds old before base s → Commits base s (record { metadata = old.metadata; journal = x; is_broken = b }) before after result
+  pub committed_sound : IsSound (record { metadata = q; journal = x; is_broken = b })
+  committed_sound = subst (λ (k : Metadata). IsSound (record { metadata = k; journal = x; is_broken = b })) (sym same) sound_after
+
+  pub committed : (base s : State) → StoreHolds old before base s → Commits base s (record { metadata = q; journal = x; is_broken = b }) before after result
   committed base s holds = record {
     moments = leaves_weaken (λ image. Stands image base ⊎ Stands image s) (keeps.moments kept holds.journal) one_of;
     past = subst (λ n. KeepsPast n before after) (same_blocks (sound.image ∙ ap image_shape holds.limits)) (keeps.past kept holds.journal);
-    ended = by result keeps ends;
+    ended = subst (λ (k : Metadata). CommitEnded s (record { metadata = k; journal = x; is_broken = b }) after result) (sym same) (by result keeps ends);
   }
     where
       kept : ℕ → List ℕ

@@ -1,14 +1,13 @@
 -- Calls that change memory alone before they are saved.
 use Rattle.std.proofs.Common.{arith}
-use Rattle.lis_store.proofs.Common.{◌≡◌, sym, ap, ◌∙◌, subst, ℕ, ◌+◌, ◌≤◌, false, List, length, Result, Meaning, looked, image_blocks, State, Situation, Outcome, Held, Metadata, AreSound, marked_count, StandsBut, changed}
+use Rattle.lis_store.proofs.Common.{◌≡◌, sym, ap, ◌∙◌, subst, ℕ, ◌+◌, ◌≤◌, false, List, length, Result, Meaning, looked, State, Situation, Outcome, Held, Metadata, AreSound, marked_count, StandsBut, changed}
 use Rattle.lis_store.specs.declared.change_fault.ChangeFault.{ChangeFault}
 use Rattle.lis_store.specs.Stands.{Stands}
 use Rattle.lis_store.specs.Stored.{Stored, IsSound, StoreHolds}
 use Rattle.lis_store.specs.Changes.{Holds, AreEditsFew}
-use Rattle.lis_store.specs.Saving.{settled, ArePlaced, IsReady, Saves}
+use Rattle.lis_store.specs.Saving.{settled, IsReady, MayBeSaved, Saves}
 use Rattle.lis_store.proofs.Saved.{none_are_placed}
 use Rattle.lis_store.proofs.Standing.{stands_none_but}
-use Rattle.lis_journal.specs.Journal.{shape_of}
 use Rattle.lis_kept.specs.Image.{image_capacity, image_shape}
 use Rattle.lis_kept.proofs.Image.{same_staged}
 
@@ -19,20 +18,16 @@ pub record IsChange (old : Stored) (q : Metadata) : Type 0 where
   pub room : length old.journal.staged + marked_count q ≤ (image_capacity q.limits).staged
   pub edits : AreEditsFew old.metadata.ext q.ext
 
--- What is asked of memory that is to be saved.
-pub record MayBeSaved (q : Metadata) (j : Held) : Type 0 where
-  pub settles : AreSound q → IsSound (settled q j)
-  pub image : shape_of j ≡ image_shape q.limits
-  pub placed : ArePlaced q j
-  pub room : length j.staged + marked_count q ≤ j.capacity.staged
-
-pub change_saves : {old : Stored} {q : Metadata} → IsSound old → old.is_broken ≡ false → IsChange old q → MayBeSaved q old.journal
-change_saves {old} {q} sound unbroken change = record {
-  settles = change.settles;
-  image = sound.image ∙ ap image_shape (sym change.limits);
-  placed = none_are_placed q old.journal (sound.placed unbroken);
-  room = omega (arith, change.room, same_staged sound.image);
-}
+-- The journal is that of the store.
+pub change_saves : {old made : Stored} → IsSound old → old.is_broken ≡ false → IsChange old made.metadata → made.journal ≡ old.journal → MayBeSaved made
+change_saves {old} {made} sound unbroken change same =
+    subst (λ (j : Held). MayBeSaved (record made { journal = j })) (sym same) (record {
+      settles = change.settles;
+      image = sound.image ∙ ap image_shape (sym change.limits);
+      unbroken = sound.journal unbroken;
+      placed = none_are_placed made.metadata old.journal (sound.placed unbroken);
+      room = omega (arith, change.room, same_staged sound.image);
+    })
 
 module _ (old : Stored) (sound : IsSound old) (unbroken : old.is_broken ≡ false) where
   pub unplaced_stands : (base s : State) (before : Meaning) (holds : StoreHolds old before base s) (image : List ℕ) → StandsBut old.journal.layout old.journal.placed holds.kept image → Stands image base

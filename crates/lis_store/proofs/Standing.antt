@@ -1,6 +1,6 @@
 -- What home blocks spell, the images with these blocks stand for.
 use Rattle.std.proofs.Common.{rules}
-use Rattle.lis_store.proofs.Common.{◌≡◌, refl, ap, ◌∙◌, subst, ℕ, List, [], Option, Some, None, IsTrue, IsSomeAnd, arith, Meaning, block, replayed, are_free, homes_of, among_homes, SpellsSuper, data_start, image_blocks, State, Metadata, IsWritten, AreSound, FreeSlotsAreEmpty, Tells}
+use Rattle.lis_store.proofs.Common.{◌≡◌, refl, ap, ◌∙◌, subst, ℕ, List, [], Option, Some, None, IsTrue, IsSomeAnd, arith, Meaning, block, replayed, are_free, homes_of, among_homes, SpellsSuper, data_start, State, Metadata, IsWritten, AreSound, FreeSlotsAreEmpty, Tells}
 use Rattle.lis_ports.specs.Runs.{Always}
 use Rattle.lis_ports.proofs.Always.{always_weaken}
 use Rattle.lis_journal.specs.Images.{KeepsBut, StandsFor as KeptBy, StandsBut}

@@ -1,6 +1,6 @@
 -- A word that is declared under others: the files that meet it have it, where it is a test, and all that the others entail.
 use Rattle.std.proofs.Common.{rules}
-use Rattle.lis_store.proofs.Common.{◌≡◌, ◌⊎◌, refl, sym, ap, ap₂, ◌∙◌, subst, inl, inr, ℕ, ◌+◌, ◌<◌, ◌≤◌, nat_lt, ◌&&◌, ◌||◌, Bool, true, false, List, [], ◌∷◌, ◌++◌, length, Option, Some, None, is_some, IsSome, arith, Result, list_any, range_with_len, or_cases, cases_eq, ltb-false, same_Some, Among, contains_from_among, range_among, word_of, rec_at, Filed, slot_is_below, Ext, has, numbers_at, differs, FileRecord, is_valued, is_test, test_of, plain_not_test, with_word, is_met, State, up, File, all_up, own_words, description, WellFormed, under, Metadata, marked_count, IsSaved, AreSound, FreeSlotsAreEmpty, KeepsInUse, declared_of, axioms_of, bytes_told, state_of, AreUsed, Tells, test_by, among_where, where_among, sorted_where, filed_rec, named_all, some_word, among_axiom, among_word, word_among, declared_has_number, used_had, met_weaker, Meaning, Held, Formula, Refusal, image_blocks, declared_under, Situation, refused, words_at, mkdir, link_named, linked_up, Head, Weaker, fun_ext, or_right, both_ways, false_from_ne_true, among_from_any, any_from_among, has_number, numbers_where, known, all_among, is_linked, words_told, file_told, among_from_number, number_from_among, one_number, same_tests, changed, all_up_has, declarable_not_valued, link_cases}
+use Rattle.lis_store.proofs.Common.{◌≡◌, ◌⊎◌, refl, sym, ap, ap₂, ◌∙◌, subst, inl, inr, ℕ, ◌+◌, ◌<◌, ◌≤◌, nat_lt, ◌&&◌, ◌||◌, Bool, true, false, List, [], ◌∷◌, ◌++◌, length, Option, Some, None, is_some, IsSome, arith, Result, list_any, range_with_len, or_cases, cases_eq, ltb-false, same_Some, Among, contains_from_among, range_among, word_of, rec_at, Filed, slot_is_below, Ext, has, numbers_at, differs, FileRecord, is_valued, is_test, test_of, plain_not_test, with_word, is_met, State, up, File, all_up, own_words, description, WellFormed, under, Metadata, marked_count, IsSaved, AreSound, FreeSlotsAreEmpty, KeepsInUse, declared_of, axioms_of, bytes_told, state_of, AreUsed, Tells, test_by, among_where, where_among, sorted_where, filed_rec, named_all, some_word, among_axiom, among_word, word_among, declared_has_number, used_had, met_weaker, Meaning, Held, Formula, Refusal, declared_under, Situation, refused, words_at, mkdir, link_named, linked_up, Head, Weaker, fun_ext, or_right, both_ways, false_from_ne_true, among_from_any, any_from_among, has_number, numbers_where, known, all_among, is_linked, words_told, file_told, among_from_number, number_from_among, one_number, same_tests, changed, all_up_has, declarable_not_valued, link_cases}
 use Rattle.lis_words.specs.declared.test.Test.{Test}
 use Rattle.lis_words.specs.Words.{is_property}
 use Rattle.lis_model.specs.Tests.{are_weaker}

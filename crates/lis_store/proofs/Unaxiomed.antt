@@ -1,7 +1,7 @@
 -- What a store comes to when an axiom is taken away: the axiom is looked for by its words, it goes, and descriptions lose what they had by it alone.
 use Rattle.std.proofs.Common.{rules}
 use Rattle.lis_words.specs.declared.test.Test.{Test}
-use Rattle.lis_store.proofs.Common.{◌≡◌, refl, sym, ap, ◌∙◌, subst, ℕ, ◌==◌, true, false, List, Some, None, ◌⊎◌, inl, inr, not, ◌||◌, Bool, cond, length, slice_get, Option, is_some, IsSome, option_to_list, arith, ap₂, ◌≤◌, ◌&&◌, if◌then◌else◌, [], filter, slice_set, Result, and_parts, none-some, Among, number_of, word_from_number, number_from_word, FreeAxiom, Pair, same_word, same_pair, has_axiom, same_word_decides, Metadata, AreSound, has_pair, axioms_of, among_axiom, or_cases, not-true, not_from_false, among_filter, filter_among, is_taken, Dict, IsDict, word_of, rec_at, has, numbers_at, FileRecord, is_plain_word, is_test, is_valued, has_word, test_of, plain_not_test, with_axiom, File, up, all_up, own_words, file_words, is_met, entails_from_up, derived_built_in, among_with_words, OwnWord, own_word, own_from, Assigned, Derived, Met, MayForget, FreeSlotsAreEmpty, bit_of, is_declared, declared_of, is_head_by, is_used, AreUsed, among_word, word_among, declared_word, declared_has_number, used_flagged, used_had, IsStrictlySortedBy, contains_from_among, sorted_from_rising, Filed, Ext, differs, State, pair_cmp, description, image_blocks, IsSaved, is_own_link, state_of, Tells, among_where, where_among, sorted_where, filed_rec, some_word, named_below, named_all, number_told, same_Some, Meaning, looked, Situation, refused, both_ways, false_from_ne_true, or_left, or_right, among_from_any, has_number, words, all_up_has, same_tests, is_linked, words_told, file_told, among_from_number, number_from_among, one_number, numbers_where, changed, built_in_not_plain}
+use Rattle.lis_store.proofs.Common.{◌≡◌, refl, sym, ap, ◌∙◌, subst, ℕ, ◌==◌, true, false, List, Some, None, ◌⊎◌, inl, inr, not, ◌||◌, Bool, cond, length, slice_get, Option, is_some, IsSome, option_to_list, arith, ap₂, ◌≤◌, ◌&&◌, if◌then◌else◌, [], filter, slice_set, Result, and_parts, none-some, Among, number_of, word_from_number, number_from_word, FreeAxiom, Pair, same_word, same_pair, has_axiom, same_word_decides, Metadata, AreSound, has_pair, axioms_of, among_axiom, or_cases, not-true, not_from_false, among_filter, filter_among, is_taken, Dict, IsDict, word_of, rec_at, has, numbers_at, FileRecord, is_plain_word, is_test, is_valued, has_word, test_of, plain_not_test, with_axiom, File, up, all_up, own_words, file_words, is_met, entails_from_up, derived_built_in, among_with_words, OwnWord, own_word, own_from, Assigned, Derived, Met, MayForget, FreeSlotsAreEmpty, bit_of, is_declared, declared_of, is_head_by, is_used, AreUsed, among_word, word_among, declared_word, declared_has_number, used_flagged, used_had, IsStrictlySortedBy, contains_from_among, sorted_from_rising, Filed, Ext, differs, State, pair_cmp, description, IsSaved, is_own_link, state_of, Tells, among_where, where_among, sorted_where, filed_rec, some_word, named_below, named_all, number_told, same_Some, Meaning, looked, Situation, refused, both_ways, false_from_ne_true, or_left, or_right, among_from_any, has_number, words, all_up_has, same_tests, is_linked, words_told, file_told, among_from_number, number_from_among, one_number, numbers_where, changed, built_in_not_plain}
 use Rattle.lis_kept.specs.Sound.{IsSoundAxiom}
 use Rattle.lis_kept.proofs.AxiomsTold.{axiom_told}
 use Rattle.lis_kept.proofs.OwnLinks.{pair_slot}

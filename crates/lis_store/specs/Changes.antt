@@ -115,3 +115,14 @@ pub record ChangeKeeps {T : Type 0} (old new : Stored) (result : Result T Change
   pub left : ChangeLeft old new result
   pub edits : AreEditsFew old.metadata.ext new.metadata.ext
   pub sound : IsSound new
+
+-- What every change says at its end, on any disk.
+pub record Ends {T : Type 0} (Untouched : Type 0) (old new : Stored) (before after : Meaning) (result : Result T ChangeFault) : Type 0 where
+  -- a refusal leaves the disk so
+  pub untouched : (refusal : Refusal) → result ≡ Err (Refused refusal) → Untouched
+  -- it began with a store in form
+  pub entry : IsSound old
+  -- and leaves one, of the same image
+  pub keeps : ChangeKeeps old new result
+  -- a fault of the disk ends it
+  pub disk : ChangesDisk before after result

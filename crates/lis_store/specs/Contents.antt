@@ -14,32 +14,48 @@ use Rattle.lis_content.specs.Placing.{Asks, homes_of}
 use Rattle.lis_fields.specs.Records.{FileRecord}
 use Rattle.lis_fields.specs.Layouts.{are_blocks}
 use Rattle.lis_model.specs.declared.limits.Limits.{Limits}
-use Rattle.lis_model.specs.Image.{bitmap_start, data_start, image_blocks}
+use Rattle.lis_model.specs.Image.{bitmap_start, data_start}
+use Rattle.lis_model.specs.State.{file_limit}
 use Rattle.lis_kept.specs.Metadata.{Metadata}
 use Rattle.lis_kept.specs.Areas.{is_marked}
+use Rattle.lis_kept.specs.Sound.{AreSound}
 use Rattle.lis_kept.specs.Telling.{blocks_told}
 use Rattle.lis_kept.specs.Changes.{Marks, Lands, GivesBack, Puts}
 use Rattle.lis_store.specs.declared.change_fault.ChangeFault.{ChangeFault}
 use Rattle.lis_store.specs.declared.change_fault.ChangeFault.TheVariants.{Refused, Disk}
 use Rattle.lis_model.specs.Sets.{are_distinct}
 use Rattle.lis_kept.specs.Image.{image_shape}
+use Rattle.lis_store.specs.Stored.{Stored}
+use Rattle.lis_store.specs.Changes.{ChangesDisk}
 
 -- the blocks of the file are blocks of the image
 abbrev pub AreContentsWithin : Limits → (ℕ → List ℕ) → FileRecord → Type 0
 AreContentsWithin limits at rec = IsTrue (list_all (λ n. nat_lt n limits.blocks) (blocks_told limits at rec))
 
--- A content may be put: the journal is as long as the image and may be used, nothing is placed, and one more content can be staged.
-pub record IsReadyForContent (metadata : Metadata) (journal : Held) (m : Meaning) : Type 0 where
-  pub image : shape_of journal ≡ image_shape metadata.limits
-  pub usable : JournalIsUsable journal m
-  pub unplaced : journal.placed ≡ []
-  pub room : length journal.staged + SLOT_BLOCKS ≤ journal.capacity.staged
+-- These bytes may be put as a content, if there are blocks for them.
+pub record IsReadyForContent (bytes : List ℕ) (k : Stored) (m : Meaning) : Type 0 where
+  -- a file may have so many
+  pub short : length bytes ≤ file_limit k.metadata.limits.version
+  -- the journal is that of the image, and no call of the disk failed
+  pub image : shape_of k.journal ≡ image_shape k.metadata.limits
+  pub usable : JournalIsUsable k.journal m
+  pub whole : k.is_broken ≡ false
+  -- nothing is placed, one more content can be staged, and before a large one nothing is
+  pub unplaced : k.journal.placed ≡ []
+  pub room : length k.journal.staged + SLOT_BLOCKS ≤ k.journal.capacity.staged
+  pub alone : is_large (length bytes) ≡ true → k.journal.staged ≡ []
 
 -- It breaks the store exactly at a fault of the disk, and refuses nothing.
 abbrev pub ContentEnded : {T : Type 0} → Bool → Result T ChangeFault → Type 0
 ContentEnded is_broken (Ok done) = is_broken ≡ false
 ContentEnded is_broken (Err (Refused refusal)) = false ≡ true
 ContentEnded is_broken (Err Disk) = is_broken ≡ true
+
+-- How a step ends that calls the disk before memory is saved: memory is in form, and a fault of the disk breaks the store.
+pub record StepEnded {T : Type 0} (new : Stored) (before after : Meaning) (result : Result T ChangeFault) : Type 0 where
+  pub sound : AreSound new.metadata
+  pub ended : ContentEnded new.is_broken result
+  pub disk : ChangesDisk before after result
 
 -- The disk failed while a content was put: only what is on it counts. At any moment a crash leaves all blocks as before but spare ones that
 -- were free, and for a content that is not large all blocks.

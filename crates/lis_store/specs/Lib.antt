@@ -2,6 +2,7 @@ pub mod Contents
 pub mod Stands
 pub mod Blank
 pub mod Stored
+pub mod Memory
 pub mod Changes
 pub mod Writes
 pub mod Seen

@@ -1,21 +1,22 @@
 -- How a command ends: what is marked is staged, and all that is staged is committed, or held back.
-use Rattle.std.specs.Prelude.{◌≡◌, ℕ, ◌<◌, ◌≤◌, Bool, true, false, List, [], length, replicate, Result, Ok, Err, OnOk, OnErr}
+use Rattle.std.specs.Prelude.{◌≡◌, ℕ, ◌+◌, ◌<◌, ◌≤◌, Bool, true, false, List, [], length, replicate, Result, Ok, Err, OnOk, OnErr}
 use Rattle.lis_ports.specs.Meaning.{Meaning}
 use Rattle.lis_ports.specs.Runs.{Leaves}
-use Rattle.lis_journal.specs.Journal.{Held}
+use Rattle.lis_journal.specs.Journal.{Held, shape_of}
 use Rattle.lis_journal.specs.Images.{StandsBut, StandsForAllOrNone, Fits, KeepsPast, is_among}
 use Rattle.lis_journal.specs.Phases.{looked}
 use Rattle.lis_model.specs.Image.{bitmap_start, data_start}
 use Rattle.lis_model.specs.State.{State}
 use Rattle.lis_model.specs.Step.{Situation, Outcome, changed}
 use Rattle.lis_kept.specs.Metadata.{Metadata}
-use Rattle.lis_kept.specs.Areas.{IsSaved, is_marked}
+use Rattle.lis_kept.specs.Areas.{IsSaved, is_marked, marked_count}
+use Rattle.lis_kept.specs.Image.{image_shape}
 use Rattle.lis_kept.specs.Sound.{AreSound}
 use Rattle.lis_kept.specs.Telling.{Tells}
 use Rattle.lis_store.specs.declared.change_fault.ChangeFault.{ChangeFault}
 use Rattle.lis_store.specs.declared.change_fault.ChangeFault.TheVariants.{Refused, Disk}
 use Rattle.lis_store.specs.Stands.{Stands}
-use Rattle.lis_store.specs.Stored.{Stored}
+use Rattle.lis_store.specs.Stored.{Stored, IsSound}
 use Rattle.lis_store.specs.Changes.{Holds}
 
 -- the metadata without marks
@@ -29,6 +30,18 @@ settled k j = record { metadata = clean k; journal = record j { staged = []; pla
 -- Placed blocks are data blocks, and where there are any the block of the bitmap is marked.
 abbrev pub ArePlaced : Metadata → Held → Type 0
 ArePlaced k j = (n : ℕ) → is_among j.placed n ≡ true → (data_start k.limits ≤ n) × (is_marked k (bitmap_start k.limits) ≡ true)
+
+-- What is asked of memory that is to be saved.
+pub record MayBeSaved (k : Stored) : Type 0 where
+  -- with all of it saved, it is that of a store
+  pub settles : AreSound k.metadata → IsSound (settled k.metadata k.journal)
+  -- the journal is that of the image, and may be used
+  pub image : shape_of k.journal ≡ image_shape k.metadata.limits
+  pub unbroken : k.journal.is_broken ≡ false
+  -- what is placed is committed with the bitmap that tells of it
+  pub placed : ArePlaced k.metadata k.journal
+  -- all that is marked can be staged
+  pub room : length k.journal.staged + marked_count k.metadata ≤ k.journal.capacity.staged
 
 -- By these blocks memory tells a state, and what is not marked is written.
 pub record IsReady (k : Metadata) (at : ℕ → List ℕ) (s : State) : Type 0 where
@@ -57,3 +70,13 @@ abbrev pub SaveEnded : {T : Type 0} → Bool → Result T ChangeFault → Type 0
 SaveEnded is_broken (Ok done) = is_broken ≡ false
 SaveEnded is_broken (Err (Refused refusal)) = false ≡ true
 SaveEnded is_broken (Err Disk) = is_broken ≡ true
+
+-- What saving keeps of memory, whatever it answers.
+pub record SaveKeeps {T : Type 0} (old new : Stored) (result : Result T ChangeFault) : Type 0 where
+  -- it is that of a store
+  pub sound : IsSound new
+  -- only the marks go
+  pub metadata : new.metadata ≡ record old.metadata { marks = new.metadata.marks }
+  pub image : shape_of new.journal ≡ shape_of old.journal
+  -- a fault of the disk breaks it, and nothing else does
+  pub ended : SaveEnded new.is_broken result

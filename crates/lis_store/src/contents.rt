@@ -1,78 +1,118 @@
 //! Contents of files that are put on the disk, put in the place of others, and given back. A fault of the disk breaks the store.
 
-ghost use Rattle.std.specs.Prelude.{◌≡◌, ◌≤◌, Some, true, false, [], length, IsSome, IfSome, OnErr};
+ghost use Rattle.std.specs.Prelude.{◌≡◌, ◌≤◌, Some, true, false, length, IsSome, IfSome, OnErr};
 ghost use Rattle.lis_journal.specs.Images.{JournalIsUsable};
 ghost use Rattle.lis_blockmap.specs.Bitmap.{free_count};
 ghost use Rattle.lis_catalog.specs.Catalog.{rec_at};
 ghost use Rattle.lis_content.specs.Large.{is_large};
 ghost use Rattle.lis_fields.specs.Records.{FileRecord};
-ghost use Rattle.lis_model.specs.Image.{image_blocks};
-ghost use Rattle.lis_model.specs.State.{blocks_taken, file_limit};
+ghost use Rattle.lis_model.specs.State.{blocks_taken};
 ghost use Rattle.lis_kept.specs.Sound.{AreSound};
+ghost use Rattle.lis_kept.specs.Image.{image_shape};
+ghost use Rattle.lis_journal.specs.Journal.{shape_of};
+ghost use Rattle.lis_store.specs.Memory.{stored};
 ghost use Rattle.lis_store.specs.Instead.{free_instead, free_for};
 ghost use Rattle.lis_store.specs.ReplacingIn.{record_in};
-ghost use Rattle.lis_store.specs.Changes.{ChangesDisk};
-ghost use Rattle.lis_store.specs.Contents.{IsReadyForContent, ContentPut, ContentGiven, ContentRenewed, ContentEnded};
-ghost use Rattle.lis_journal.specs.Journal.{shape_of};
-ghost use Rattle.lis_kept.specs.Image.{image_shape};
+ghost use Rattle.lis_store.specs.Contents.{IsReadyForContent, ContentPut, ContentGiven, ContentRenewed, StepEnded};
 
 use crate::change_fault::ChangeFault;
+use crate::memory::Memory;
 use arrayvec::ArrayVec;
-use lis_journal::Journal;
 use lis_kept::Metadata;
 use lis_ports::Disk;
 
-// Puts bytes into free blocks, and answers the numbers that a slot has of them.
-fn put_content<D: Disk>(
-    metadata: &mut Metadata,
-    journal: &mut Journal,
-    is_broken: &mut bool,
-    disk: &mut D,
-    payload: &[u8],
-) -> Result<ArrayVec<u16, 16>, ChangeFault>
-    requires short { length payload.now ≤ file_limit metadata.old.limits.version }
-    requires enough { blocks_taken metadata.old.limits.version (length payload.now) ≤ free_count metadata.old.taken }
-    requires ready { IsReadyForContent metadata.old journal.old (D.meaning disk.old) }
-    requires whole { is_broken.old ≡ false }
-    requires unstaged { is_large (length payload.now) ≡ true → journal.old.staged ≡ [] }
-    ensures put { ContentPut payload.now metadata.old metadata.new journal.old journal.new (D.meaning disk.old) (D.meaning disk.new) result }
-    ensures ended { ContentEnded is_broken.new result }
-    ensures sound { AreSound metadata.new }
-    ensures torn { OnErr result (is_large (length payload.now) ≡ true) }
-    ensures disk { ChangesDisk (D.meaning disk.old) (D.meaning disk.new) result }
-{
-    match metadata.put_content(journal, disk, payload) {
-        Ok(numbers) => Ok(numbers),
-        Err(fault) => {
-            *is_broken = true;
-            Err(ChangeFault::from(fault))
+impl Memory {
+    // Puts bytes into free blocks, and answers the numbers that a slot has of them.
+    fn put_content<D: Disk>(
+        &mut self,
+        disk: &mut D,
+        payload: &[u8],
+    ) -> Result<ArrayVec<u16, 16>, ChangeFault>
+        requires ready { IsReadyForContent payload.now (stored self.old) (D.meaning disk.old) }
+        requires enough { blocks_taken self.old.metadata.limits.version (length payload.now) ≤ free_count self.old.metadata.taken }
+        ensures put { ContentPut payload.now self.old.metadata self.new.metadata self.old.journal self.new.journal
+            (D.meaning disk.old) (D.meaning disk.new) result }
+        ensures ends { StepEnded (stored self.new) (D.meaning disk.old) (D.meaning disk.new) result }
+        ensures torn { OnErr result (is_large (length payload.now) ≡ true) }
+    {
+        match self.metadata.put_content(&mut self.journal, disk, payload) {
+            Ok(numbers) => Ok(numbers),
+            Err(fault) => {
+                self.is_broken = true;
+                Err(ChangeFault::from(fault))
+            }
         }
     }
-}
 
-/// Gives the blocks of the file in a slot back.
-pub(crate) fn free_content<D: Disk>(
-    metadata: &mut Metadata,
-    journal: &Journal,
-    is_broken: &mut bool,
-    disk: &mut D,
-    slot: u16,
-) -> Result<(), ChangeFault>
-    requires there { IsSome (rec_at metadata.old.catalog slot) }
-    requires image { shape_of journal.now ≡ image_shape metadata.old.limits }
-    requires usable { JournalIsUsable journal.now (D.meaning disk.old) }
-    requires whole { is_broken.old ≡ false }
-    ensures given { (rec : FileRecord) → rec_at metadata.old.catalog slot ≡ Some rec
-        → ContentGiven rec metadata.old metadata.new journal.now (D.meaning disk.old) (D.meaning disk.new) result }
-    ensures ended { ContentEnded is_broken.new result }
-    ensures sound { AreSound metadata.new }
-    ensures disk { ChangesDisk (D.meaning disk.old) (D.meaning disk.new) result }
-{
-    match metadata.give_blocks(journal, disk, slot) {
-        Ok(()) => Ok(()),
-        Err(fault) => {
-            *is_broken = true;
-            Err(ChangeFault::from(fault))
+    /// Gives the blocks of the file in a slot back.
+    pub(crate) fn free_content<D: Disk>(
+        &mut self,
+        disk: &mut D,
+        slot: u16,
+    ) -> Result<(), ChangeFault>
+        requires there { IsSome (rec_at self.old.metadata.catalog slot) }
+        requires image { shape_of self.old.journal ≡ image_shape self.old.metadata.limits }
+        requires usable { JournalIsUsable self.old.journal (D.meaning disk.old) }
+        requires whole { self.old.is_broken ≡ false }
+        ensures given { (rec : FileRecord) → rec_at self.old.metadata.catalog slot ≡ Some rec
+            → ContentGiven rec self.old.metadata self.new.metadata self.old.journal (D.meaning disk.old) (D.meaning disk.new) result }
+        ensures journal { self.new.journal ≡ self.old.journal }
+        ensures ends { StepEnded (stored self.new) (D.meaning disk.old) (D.meaning disk.new) result }
+    {
+        match self.metadata.give_blocks(&self.journal, disk, slot) {
+            Ok(()) => Ok(()),
+            Err(fault) => {
+                self.is_broken = true;
+                Err(ChangeFault::from(fault))
+            }
+        }
+    }
+
+    // Puts bytes into blocks in the place of those of the file in a slot, and answers the numbers that a slot has of them. In version 1
+    // the blocks of that file may be used again; in version 2 they stay until the command is done.
+    fn put_instead<D: Disk>(
+        &mut self,
+        disk: &mut D,
+        slot: u16,
+        payload: &[u8],
+    ) -> Result<ArrayVec<u16, 16>, ChangeFault>
+        requires there { IsSome (rec_at self.old.metadata.catalog slot) }
+        requires ready { IsReadyForContent payload.now (stored self.old) (D.meaning disk.old) }
+        requires enough { (rec : FileRecord) → rec_at self.old.metadata.catalog slot ≡ Some rec
+            → blocks_taken self.old.metadata.limits.version (length payload.now) ≤ free_instead self.old.metadata rec }
+        ensures renewed { (rec : FileRecord) → rec_at self.old.metadata.catalog slot ≡ Some rec
+            → ContentRenewed payload.now (Some rec) self.old.metadata self.new.metadata self.old.journal self.new.journal
+            (D.meaning disk.old) (D.meaning disk.new) result }
+        ensures ends { StepEnded (stored self.new) (D.meaning disk.old) (D.meaning disk.new) result }
+    {
+        if self.metadata.limits().version == 2 {
+            let numbers = self.put_content(disk, payload)?;
+            self.free_content(disk, slot)?;
+            return Ok(numbers);
+        }
+        self.free_content(disk, slot)?;
+        self.put_content(disk, payload)
+    }
+
+    /// Puts bytes into blocks, in the place of those of the file in the slot if one is told, and answers the numbers that a slot has of
+    /// them.
+    pub(crate) fn put_anew<D: Disk>(
+        &mut self,
+        disk: &mut D,
+        slot: Option<u16>,
+        payload: &[u8],
+    ) -> Result<ArrayVec<u16, 16>, ChangeFault>
+        requires sound { AreSound self.old.metadata }
+        requires there { IfSome slot (λ slot. IsSome (rec_at self.old.metadata.catalog slot)) }
+        requires ready { IsReadyForContent payload.now (stored self.old) (D.meaning disk.old) }
+        requires enough { blocks_taken self.old.metadata.limits.version (length payload.now) ≤ free_for self.old.metadata (record_in self.old.metadata slot) }
+        ensures renewed { ContentRenewed payload.now (record_in self.old.metadata slot) self.old.metadata self.new.metadata self.old.journal self.new.journal
+            (D.meaning disk.old) (D.meaning disk.new) result }
+        ensures ends { StepEnded (stored self.new) (D.meaning disk.old) (D.meaning disk.new) result }
+    {
+        match slot {
+            None => self.put_content(disk, payload),
+            Some(slot) => self.put_instead(disk, slot, payload),
         }
     }
 }
@@ -90,64 +130,4 @@ pub(crate) fn blocks_in(metadata: &Metadata, slot: u16) -> ArrayVec<u16, 16>
         .try_extend_from_slice(rec.blocks.as_slice())
         .unwrap();
     numbers
-}
-
-// Puts bytes into blocks in the place of those of the file in a slot, and answers the numbers that a slot has of them. In version 1 the
-// blocks of that file may be used again; in version 2 they stay until the command is done.
-fn put_instead<D: Disk>(
-    metadata: &mut Metadata,
-    journal: &mut Journal,
-    is_broken: &mut bool,
-    disk: &mut D,
-    slot: u16,
-    payload: &[u8],
-) -> Result<ArrayVec<u16, 16>, ChangeFault>
-    requires there { IsSome (rec_at metadata.old.catalog slot) }
-    requires short { length payload.now ≤ file_limit metadata.old.limits.version }
-    requires enough { (rec : FileRecord) → rec_at metadata.old.catalog slot ≡ Some rec
-        → blocks_taken metadata.old.limits.version (length payload.now) ≤ free_instead metadata.old rec }
-    requires ready { IsReadyForContent metadata.old journal.old (D.meaning disk.old) }
-    requires whole { is_broken.old ≡ false }
-    requires unstaged { is_large (length payload.now) ≡ true → journal.old.staged ≡ [] }
-    ensures renewed { (rec : FileRecord) → rec_at metadata.old.catalog slot ≡ Some rec
-        → ContentRenewed payload.now (Some rec) metadata.old metadata.new journal.old journal.new (D.meaning disk.old) (D.meaning disk.new) result }
-    ensures ended { ContentEnded is_broken.new result }
-    ensures sound { AreSound metadata.new }
-    ensures disk { ChangesDisk (D.meaning disk.old) (D.meaning disk.new) result }
-{
-    if metadata.limits().version == 2 {
-        let numbers = put_content(metadata, journal, is_broken, disk, payload)?;
-        free_content(metadata, journal, is_broken, disk, slot)?;
-        return Ok(numbers);
-    }
-    free_content(metadata, journal, is_broken, disk, slot)?;
-    put_content(metadata, journal, is_broken, disk, payload)
-}
-
-/// Puts bytes into blocks, in the place of those of the file in the slot if one is told, and answers the numbers that a slot has of them.
-pub(crate) fn put_anew<D: Disk>(
-    metadata: &mut Metadata,
-    journal: &mut Journal,
-    is_broken: &mut bool,
-    disk: &mut D,
-    slot: Option<u16>,
-    payload: &[u8],
-) -> Result<ArrayVec<u16, 16>, ChangeFault>
-    requires sound { AreSound metadata.old }
-    requires there { IfSome slot (λ slot. IsSome (rec_at metadata.old.catalog slot)) }
-    requires short { length payload.now ≤ file_limit metadata.old.limits.version }
-    requires enough { blocks_taken metadata.old.limits.version (length payload.now) ≤ free_for metadata.old (record_in metadata.old slot) }
-    requires ready { IsReadyForContent metadata.old journal.old (D.meaning disk.old) }
-    requires whole { is_broken.old ≡ false }
-    requires unstaged { is_large (length payload.now) ≡ true → journal.old.staged ≡ [] }
-    ensures renewed { ContentRenewed payload.now (record_in metadata.old slot) metadata.old metadata.new journal.old journal.new
-        (D.meaning disk.old) (D.meaning disk.new) result }
-    ensures ended { ContentEnded is_broken.new result }
-    ensures sound { AreSound metadata.new }
-    ensures disk { ChangesDisk (D.meaning disk.old) (D.meaning disk.new) result }
-{
-    match slot {
-        None => put_content(metadata, journal, is_broken, disk, payload),
-        Some(slot) => put_instead(metadata, journal, is_broken, disk, slot, payload),
-    }
 }

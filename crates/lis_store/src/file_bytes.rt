@@ -6,7 +6,6 @@ ghost use Rattle.lis_journal.specs.Images.{Fits, JournalIsUsable};
 ghost use Rattle.lis_journal.specs.Phases.{looked};
 ghost use Rattle.lis_catalog.specs.Catalog.{rec_at};
 ghost use Rattle.lis_fields.specs.Records.{FileRecord};
-ghost use Rattle.lis_model.specs.Image.{image_blocks};
 ghost use Rattle.lis_kept.specs.Telling.{bytes_told};
 ghost use Rattle.lis_store.specs.Contents.{AreContentsWithin};
 ghost use Rattle.lis_journal.specs.Journal.{shape_of};

@@ -2,10 +2,8 @@
 
 ghost use Rattle.std.specs.Prelude.{◌≡◌, IsSome};
 ghost use Rattle.lis_dict.specs.Dict.{word_of};
-ghost use Rattle.lis_kept.specs.Forgetting.{KeepsInUse};
 ghost use Rattle.lis_kept.specs.Linking.{MayUnlink};
-ghost use Rattle.lis_kept.specs.Sound.{AreSound, FreeSlotsAreEmpty};
-ghost use Rattle.lis_store.specs.Stored.{AreClosed, DescriptionsAreShort};
+ghost use Rattle.lis_store.specs.ReplacingIn.{AreInForm};
 ghost use Rattle.lis_store.specs.Unlinking.{with_head, TakesAxiom};
 
 use crate::closing::{Rebuild, rebuild_all};
@@ -34,12 +32,8 @@ fn with_head(metadata: &Metadata, left: u16) -> ArrayVec<u16, 2>
 
 /// Takes an axiom away, with all that descriptions have by it alone, and with the words that nothing uses any more.
 pub(crate) fn take_axiom(metadata: &mut Metadata, left: u16, right: u16)
-    requires sound { AreSound metadata.old }
+    requires form { AreInForm metadata.old }
     requires may { MayUnlink left right metadata.old }
-    requires free { FreeSlotsAreEmpty metadata.old }
-    requires closed { AreClosed metadata.old }
-    requires short { DescriptionsAreShort metadata.old }
-    requires in_use { KeepsInUse metadata.old }
     ensures { TakesAxiom left right metadata.old metadata.new }
 {
     let numbers = with_head(metadata, left);

@@ -19,6 +19,7 @@ pub mod laws;
 mod lessening;
 mod looking;
 mod meeting;
+mod memory;
 mod placing;
 mod relating;
 mod relating_in;

@@ -1,9 +1,8 @@
 //! Axioms that come into memory.
 
-ghost use Rattle.lis_kept.specs.Sound.{AreSound, FreeSlotsAreEmpty};
 ghost use Rattle.lis_store.specs.Relating.{MayRelate};
 ghost use Rattle.lis_store.specs.RelatingIn.{RelatesIn};
-ghost use Rattle.lis_store.specs.Stored.{AreClosed, DescriptionsAreShort};
+ghost use Rattle.lis_store.specs.ReplacingIn.{AreInForm};
 
 use crate::adding::learn_word;
 use crate::closing::{Rebuild, rebuild_all};
@@ -13,11 +12,8 @@ use lis_words::Word;
 /// Adds an axiom between two words: the left one and its head get numbers, and each file that has it all that the right one
 /// entails.
 pub(crate) fn relate(metadata: &mut Metadata, left: &Word, right: &Word)
-    requires sound { AreSound metadata.old }
+    requires form { AreInForm metadata.old }
     requires may { MayRelate metadata.old left.now right.now }
-    requires free { FreeSlotsAreEmpty metadata.old }
-    requires closed { AreClosed metadata.old }
-    requires short { DescriptionsAreShort metadata.old }
     ensures { RelatesIn left.now right.now metadata.old metadata.new }
 {
     learn_word(metadata, left);

@@ -1,22 +1,17 @@
 //! The end of every change: it is committed, or held back.
 
-ghost use Rattle.std.specs.Prelude.{◌≡◌, ◌+◌, ◌<◌, ◌≤◌, false, [], Ok, length, OnOk};
+ghost use Rattle.std.specs.Prelude.{◌≡◌, ◌<◌, ◌≤◌, false, [], Ok, length, OnOk};
 ghost use Rattle.lis_journal.specs.Images.{JournalIsUsable};
 ghost use Rattle.lis_content.specs.Large.{is_large};
-ghost use Rattle.lis_model.specs.Image.{image_blocks};
-ghost use Rattle.lis_kept.specs.Areas.{marked_count};
-ghost use Rattle.lis_kept.specs.Sound.{AreSound};
-ghost use Rattle.lis_store.specs.Stored.{IsSound};
-ghost use Rattle.lis_kept.specs.Staging.{Stages};
+ghost use Rattle.lis_store.specs.Stored.{IsUsable};
 ghost use Rattle.lis_store.specs.Changes.{ChangesDisk};
-ghost use Rattle.lis_store.specs.Saving.{clean, settled, ArePlaced, KeepsStaged, Saves, SaveEnded};
+ghost use Rattle.lis_store.specs.Memory.{stored};
+ghost use Rattle.lis_store.specs.Saving.{KeepsStaged, MayBeSaved, SaveKeeps, Saves, SaveEnded};
 ghost use Rattle.lis_journal.specs.Journal.{shape_of};
-ghost use Rattle.lis_kept.specs.Image.{image_shape};
 
 use crate::change_fault::ChangeFault;
+use crate::memory::Memory;
 use lis_content::is_large;
-use lis_journal::Journal;
-use lis_kept::Metadata;
 use lis_limits::MAX_PAYLOAD;
 use lis_ports::Disk;
 
@@ -35,69 +30,42 @@ pub(crate) fn most_held(payload: &[u8]) -> u32
     MOST_HELD
 }
 
-// Stages all marked blocks, with those that are staged at most as many as can be. Then nothing is marked.
-fn stage(metadata: &mut Metadata, journal: &mut Journal)
-    requires image { shape_of journal.old ≡ image_shape metadata.old.limits }
-    requires unbroken { journal.old.is_broken ≡ false }
-    requires placed { ArePlaced metadata.old journal.old }
-    requires room { length journal.old.staged + marked_count metadata.old ≤ journal.old.capacity.staged }
-    ensures metadata { metadata.new ≡ clean metadata.old }
-    ensures staged { Stages metadata.old journal.old journal.new }
-    ensures sound { AreSound metadata.old }
-{
-    metadata.stage(journal);
-    metadata.settle();
-}
-
-/// Commits what is staged. A fault of the disk breaks the store.
-pub(crate) fn commit<D: Disk>(
-    journal: &mut Journal,
-    is_broken: &mut bool,
-    disk: &mut D,
-) -> Result<(), ChangeFault>
-    requires usable { JournalIsUsable journal.old (D.meaning disk.old) }
-    requires whole { is_broken.old ≡ false }
-    ensures keeps { KeepsStaged journal.old journal.new (D.meaning disk.old) (D.meaning disk.new) result }
-    ensures idle { journal.old.staged ≡ [] → (result ≡ Ok _) × (disk.new ≡ disk.old) × (journal.new ≡ journal.old) }
-    ensures ended { SaveEnded is_broken.new result }
-    ensures image { shape_of journal.new ≡ shape_of journal.old }
-    ensures disk { ChangesDisk (D.meaning disk.old) (D.meaning disk.new) result }
-{
-    if let Err(fault) = journal.commit(disk) {
-        *is_broken = true;
-        return Err(ChangeFault::from(fault));
+impl Memory {
+    /// Commits what is staged. A fault of the disk breaks the store.
+    pub(crate) fn commit<D: Disk>(&mut self, disk: &mut D) -> Result<(), ChangeFault>
+        requires usable { JournalIsUsable self.old.journal (D.meaning disk.old) }
+        requires whole { self.old.is_broken ≡ false }
+        ensures keeps { KeepsStaged self.old.journal self.new.journal (D.meaning disk.old) (D.meaning disk.new) result }
+        ensures idle { self.old.journal.staged ≡ [] → (result ≡ Ok _) × (disk.new ≡ disk.old) × (self.new ≡ self.old) }
+        ensures metadata { self.new.metadata ≡ self.old.metadata }
+        ensures image { shape_of self.new.journal ≡ shape_of self.old.journal }
+        ensures ended { SaveEnded self.new.is_broken result }
+        ensures disk { ChangesDisk (D.meaning disk.old) (D.meaning disk.new) result }
+    {
+        if let Err(fault) = self.journal.commit(disk) {
+            self.is_broken = true;
+            return Err(ChangeFault::from(fault));
+        }
+        Ok(())
     }
-    Ok(())
-}
 
-/// Stages all marked blocks, and commits what is staged where it is more than `most` blocks. Where something is placed, `most` is 0.
-pub(crate) fn hold<D: Disk>(
-    metadata: &mut Metadata,
-    journal: &mut Journal,
-    is_broken: &mut bool,
-    disk: &mut D,
-    most: u32,
-) -> Result<(), ChangeFault>
-    requires sound { AreSound metadata.old → IsSound (settled metadata.old journal.old) }
-    requires image { shape_of journal.old ≡ image_shape metadata.old.limits }
-    requires usable { JournalIsUsable journal.old (D.meaning disk.old) }
-    requires whole { is_broken.old ≡ false }
-    requires placed { ArePlaced metadata.old journal.old }
-    requires unplaced { 0 < most → journal.old.placed ≡ [] }
-    requires few { most ≤ 44 }
-    requires room { length journal.old.staged + marked_count metadata.old ≤ journal.old.capacity.staged }
-    ensures sound { IsSound (record { metadata = metadata.new; journal = journal.new; is_broken = is_broken.new }) }
-    ensures saves { Saves metadata.old journal.old (record { metadata = metadata.new; journal = journal.new; is_broken = is_broken.new })
-        (D.meaning disk.old) (D.meaning disk.new) result }
-    ensures ended { SaveEnded is_broken.new result }
-    ensures few { OnOk result (length journal.new.staged ≤ most) }
-    ensures metadata { metadata.new ≡ record metadata.old { marks = metadata.new.marks } }
-    ensures image { shape_of journal.new ≡ shape_of journal.old }
-    ensures disk { ChangesDisk (D.meaning disk.old) (D.meaning disk.new) result }
-{
-    stage(metadata, journal);
-    if journal.staged() > most {
-        return commit(journal, is_broken, disk);
+    /// Stages all marked blocks, so that nothing is marked, and commits what is staged where it is more than `most` blocks. Where
+    /// something is placed, `most` is 0.
+    pub(crate) fn hold<D: Disk>(&mut self, disk: &mut D, most: u32) -> Result<(), ChangeFault>
+        requires ready { MayBeSaved (stored self.old) }
+        requires usable { IsUsable (stored self.old) (D.meaning disk.old) }
+        requires unplaced { 0 < most → self.old.journal.placed ≡ [] }
+        requires few { most ≤ 44 }
+        ensures saved { SaveKeeps (stored self.old) (stored self.new) result }
+        ensures saves { Saves self.old.metadata self.old.journal (stored self.new) (D.meaning disk.old) (D.meaning disk.new) result }
+        ensures few { OnOk result (length self.new.journal.staged ≤ most) }
+        ensures disk { ChangesDisk (D.meaning disk.old) (D.meaning disk.new) result }
+    {
+        self.metadata.stage(&mut self.journal);
+        self.metadata.settle();
+        if self.journal.staged() > most {
+            return self.commit(disk);
+        }
+        Ok(())
     }
-    Ok(())
 }

@@ -1,6 +1,6 @@
 //! A store: what memory keeps of an image, its journal, and the calls that change both.
 
-ghost use Rattle.std.specs.Prelude.{◌≡◌, ℕ, ◌*◌, ◌<◌, ◌≤◌, List, true, false, is_some, [], length, take, Some, Ok, Err, IsTrue, OnOk, IfSome, IsSomeAnd};
+ghost use Rattle.std.specs.Prelude.{◌≡◌, ℕ, ◌*◌, ◌<◌, List, false, is_some, [], length, take, Some, Ok, Err, IsTrue, OnOk, IfSome, IsSomeAnd};
 ghost use Rattle.lis_ports.specs.Bytes.{part};
 ghost use Rattle.lis_ports.specs.Calls.{ReadsDisk};
 ghost use Rattle.lis_catalog.specs.Catalog.{slot_of, rec_at};
@@ -26,7 +26,7 @@ mod undeclaring;
 mod unlinking;
 
 use crate::change_fault::ChangeFault;
-use crate::saving::commit;
+use crate::memory::Memory;
 use crate::write::Write;
 use lis_content::{Buffer, Laid, read_block, read_block_by, read_index_block};
 use lis_eval::{Scratch, View, evaluate, found};
@@ -54,21 +54,18 @@ pub struct Built {
 /// was read last, and no call takes memory.
 #[derive(Drop)]
 pub struct Store {
-    metadata: Metadata,
-    journal: Journal,
-    bytes: Buffer,
-    // A call of the disk failed.
-    is_broken: bool,
+    memory: Memory,
 }
 
 impl Model for Store {
     ghost use Rattle.lis_store.specs.Stored.{Stored, IsSound};
+    ghost use Rattle.lis_store.specs.Memory.{stored};
 
     ghost Value = { Stored };
 
-    ghost view = { λ s. record { metadata = s.metadata; journal = s.journal; is_broken = s.is_broken } };
+    ghost view = { λ s. stored s.memory };
 
-    ghost invariant = { λ s. IsSound (record { metadata = s.metadata; journal = s.journal; is_broken = s.is_broken }) };
+    ghost invariant = { λ s. IsSound (stored s.memory) };
 }
 
 impl Store {
@@ -77,12 +74,13 @@ impl Store {
         requires { IsSound (record { metadata = built.metadata; journal = built.journal; is_broken = false }) }
         ensures { result ≡ record { metadata = built.metadata; journal = built.journal; is_broken = false } }
     {
-        Store {
+        let memory = Memory {
             metadata: built.metadata,
             journal: built.journal,
             bytes: built.bytes,
             is_broken: false,
-        }
+        };
+        Store { memory }
     }
 
     /// Gives back its memory. A store has many parts, so that its end takes long to check: those who let one go make this call, and it
@@ -161,7 +159,7 @@ impl Store {
         ensures sound { IsSound self.new }
         ensures disk { ChangesDisk (D.meaning disk.old) (D.meaning disk.new) result }
     {
-        commit(&mut self.journal, &mut self.is_broken, disk)
+        self.memory.commit(disk)
     }
 
     /// The limits of the image.
@@ -169,7 +167,7 @@ impl Store {
         ensures value { result ≡ self.now.metadata.limits }
         ensures sound { IsSound self.now }
     {
-        *self.metadata.limits()
+        *self.memory.metadata.limits()
     }
 
     /// What memory keeps of the image.
@@ -177,14 +175,14 @@ impl Store {
         ensures value { result.now ≡ self.now.metadata }
         ensures sound { IsSound self.now }
     {
-        &self.metadata
+        &self.memory.metadata
     }
 
     /// Whether a call of the disk failed. Then only what is on the disk counts.
     pub fn is_broken(&self) -> bool
         ensures { result ≡ self.now.is_broken }
     {
-        self.is_broken
+        self.memory.is_broken
     }
 
     /// For each file slot the numbers of its file's description, as rows of bits. These are the rows that listings look at, and
@@ -192,7 +190,7 @@ impl Store {
     pub fn descriptions(&self) -> &Ext
         ensures { result.now ≡ self.now.metadata.ext }
     {
-        self.metadata.ext()
+        self.memory.metadata.ext()
     }
 
     /// Whether the word is declared.
@@ -200,7 +198,7 @@ impl Store {
         ensures value { result ≡ is_declared self.now.metadata word.now }
         ensures sound { IsSound self.now }
     {
-        self.metadata.is_declared(word)
+        self.memory.metadata.is_declared(word)
     }
 
     /// The n-th block of a file's bytes. At its end the last block holds any bytes.
@@ -221,8 +219,8 @@ impl Store {
         ensures fits { (s : State) → StoreFits self.now (D.meaning disk.old) s → StoreFits self.now (D.meaning disk.new) s }
         ensures sound { IsSound self.now }
     {
-        let base = data_start(self.metadata.limits());
-        let Some(rec) = self.metadata.rec(slot) else {
+        let base = data_start(self.memory.metadata.limits());
+        let Some(rec) = self.memory.metadata.rec(slot) else {
             unreachable!()
         };
         let laid = Laid {
@@ -230,7 +228,7 @@ impl Store {
             blocks: rec.blocks.as_slice(),
             size: rec.size,
         };
-        read_block(&self.journal, disk, laid, n, buf)
+        read_block(&self.memory.journal, disk, laid, n, buf)
     }
 
     /// Reads the index block of a file, where it has one, to be handed to `content_by`.
@@ -244,8 +242,8 @@ impl Store {
         ensures fits { (s : State) → StoreFits self.now (D.meaning disk.old) s → StoreFits self.now (D.meaning disk.new) s }
         ensures sound { IsSound self.now }
     {
-        let base = data_start(self.metadata.limits());
-        let Some(rec) = self.metadata.rec(slot) else {
+        let base = data_start(self.memory.metadata.limits());
+        let Some(rec) = self.memory.metadata.rec(slot) else {
             unreachable!()
         };
         let laid = Laid {
@@ -253,7 +251,7 @@ impl Store {
             blocks: rec.blocks.as_slice(),
             size: rec.size,
         };
-        read_index_block(&self.journal, disk, laid, index)
+        read_index_block(&self.memory.journal, disk, laid, index)
     }
 
     /// The n-th block of a file's bytes, by the index block that `index` read. At its end the last block holds any bytes.
@@ -277,8 +275,8 @@ impl Store {
         ensures fits { (s : State) → StoreFits self.now (D.meaning disk.old) s → StoreFits self.now (D.meaning disk.new) s }
         ensures sound { IsSound self.now }
     {
-        let base = data_start(self.metadata.limits());
-        let Some(rec) = self.metadata.rec(slot) else {
+        let base = data_start(self.memory.metadata.limits());
+        let Some(rec) = self.memory.metadata.rec(slot) else {
             unreachable!()
         };
         let laid = Laid {
@@ -286,7 +284,7 @@ impl Store {
             blocks: rec.blocks.as_slice(),
             size: rec.size,
         };
-        read_block_by(&self.journal, disk, laid, index, n, buf)
+        read_block_by(&self.memory.journal, disk, laid, index, n, buf)
     }
 
     /// The slot of the file of that name, where the file is in the extension of the place.
@@ -297,7 +295,7 @@ impl Store {
         ensures slot { IfSome result (λ slot. slot_of self.now.metadata.catalog name.now ≡ Some slot) }
         ensures sound { IsSound self.now }
     {
-        let Some(slot) = self.metadata.slot_of(name) else {
+        let Some(slot) = self.memory.metadata.slot_of(name) else {
             return None;
         };
         evaluate(self, scratch, place);
@@ -317,33 +315,33 @@ impl View for Store {
     ghost rows = { λ s. s.metadata.ext };
 
     fn id_of(&self, word: &Word) -> Option<u16> {
-        self.metadata.number_of(word)
+        self.memory.metadata.number_of(word)
     }
 
     fn word_at(&self, k: u32) -> Option<(Word, u16)> {
-        self.metadata.word_at(k)
+        self.memory.metadata.word_at(k)
     }
 
     fn slot_of(&self, name: &Name) -> Option<u16> {
-        self.metadata.slot_of(name)
+        self.memory.metadata.slot_of(name)
     }
 
     fn file_at(&self, k: u32) -> Option<(Name, u16)> {
-        self.metadata.file_at(k)
+        self.memory.metadata.file_at(k)
     }
 
     fn size_of(&self, slot: u16) -> u64 {
-        match self.metadata.rec(slot) {
+        match self.memory.metadata.rec(slot) {
             None => 0,
             Some(rec) => u64::from(rec.size),
         }
     }
 
     fn ext(&self) -> &Ext {
-        self.metadata.ext()
+        self.memory.metadata.ext()
     }
 
     fn taxonomy(&self) -> &Taxonomy {
-        self.metadata.taxonomy()
+        self.memory.metadata.taxonomy()
     }
 }

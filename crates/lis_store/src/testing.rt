@@ -82,11 +82,9 @@ fn describe_all_without(metadata: &mut Metadata, number: u16)
 
 /// Takes the declaration of a word back, and its number out of all descriptions.
 pub(crate) fn undeclare_unmet(metadata: &mut Metadata, number: u16)
-    requires sound { AreSound metadata.old }
+    requires form { AreInForm metadata.old }
     requires number { IsSome (word_of metadata.old.dict number) }
     requires may { MayUndeclare number (undescribed metadata.old) }
-    requires free { FreeSlotsAreEmpty metadata.old }
-    requires short { DescriptionsAreShort metadata.old }
     ensures { UndeclaresUnmet number metadata.old metadata.new }
 {
     describe_all_without(metadata, number);

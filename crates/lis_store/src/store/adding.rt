@@ -1,25 +1,22 @@
 //! Files that are made.
 
-ghost use Rattle.std.specs.Prelude.{◌≡◌, ◌≤◌, true, [], length, Err, OnOk};
+ghost use Rattle.std.specs.Prelude.{◌≡◌, ◌≤◌, true, [], length, OnOk};
 ghost use Rattle.lis_content.specs.Large.{is_large};
-ghost use Rattle.lis_model.specs.declared.refusal.Refusal.{Refusal};
 ghost use Rattle.lis_model.specs.Changes.{new_file, file_added};
 ghost use Rattle.lis_model.specs.Derived.{derived_words};
 ghost use Rattle.lis_model.specs.State.{State, file_limit};
 ghost use Rattle.lis_model.specs.Step.{Situation, changed, add};
 ghost use Rattle.lis_eval.specs.Room.{HasRoom};
-ghost use Rattle.lis_store.specs.declared.change_fault.ChangeFault.TheVariants.{Refused};
-ghost use Rattle.lis_store.specs.Stored.{IsSound, StoreHolds, IsUsable};
-ghost use Rattle.lis_store.specs.Changes.{Holds, ChangeKeeps, ChangesDisk};
+ghost use Rattle.lis_store.specs.Stored.{StoreHolds, IsUsable};
+ghost use Rattle.lis_store.specs.Changes.{Holds, Ends, ChangeKeeps, ChangesDisk};
 ghost use Rattle.lis_store.specs.Saving.{SaveEnded};
 ghost use Rattle.lis_store.specs.ReplacingIn.{MayPutBytes, record_in, file_gone};
 
 use crate::admitting::{NewFile, may_add};
 use crate::change_fault::ChangeFault;
-use crate::contents::put_anew;
 use crate::describing::FileWords;
 use crate::replacing::replace_record;
-use crate::saving::{hold, most_held};
+use crate::saving::most_held;
 use crate::store::Store;
 use lis_content::is_large;
 use lis_eval::Scratch;
@@ -44,20 +41,42 @@ impl Store {
             → Holds base (record { state = s; place = place.now })
             (add (record { state = s; place = place.now }) file.entry.name.now file.entry.tags.now (record { size = file.entry.size; bytes = file.entry.bytes.now }))
             self.new (D.meaning disk.old) (D.meaning disk.new) result }
-        ensures untouched { (refusal : Refusal) → result ≡ Err (Refused refusal) → disk.new ≡ disk.old }
-        ensures entry { IsSound self.old }
-        ensures keeps { ChangeKeeps self.old self.new result }
-        ensures disk { ChangesDisk (D.meaning disk.old) (D.meaning disk.new) result }
+        ensures ends { Ends (disk.new ≡ disk.old) self.old self.new (D.meaning disk.old) (D.meaning disk.new) result }
     {
-        let words = may_add(&self.metadata, scratch, place, file)?;
-        if is_large(file.bytes.len() as u32) {
-            self.commit(disk)?;
-        }
+        let words = may_add(&self.memory.metadata, scratch, place, file)?;
         self.put_file(disk, scratch, None, file.name, &words, file.bytes)
     }
 
-    /// Puts a file in, in the place of the one in the slot if one is told. A large one is committed at once.
+    /// Puts a file in, in the place of the one in the slot if one is told. All that is held back is committed before a large one.
     pub(crate) fn put_file<D: Disk>(
+        &mut self,
+        disk: &mut D,
+        scratch: &mut Scratch,
+        slot: Option<u16>,
+        name: &Name,
+        words: &FileWords,
+        payload: &[u8],
+    ) -> Result<(), ChangeFault>
+        requires derived { words.now.derived ≡ derived_words name.now payload.now }
+        requires may { MayPutBytes self.old.metadata slot (new_file name.now words.now.assigned.items payload.now) }
+        requires scratch { HasRoom scratch.old self.old.metadata.limits }
+        requires usable { IsUsable self.old (D.meaning disk.old) }
+        ensures scratch { HasRoom scratch.new self.old.metadata.limits }
+        ensures holds { (base : State) (now : Situation) → StoreHolds self.old (D.meaning disk.old) base now.state
+            → Holds base now (changed now (file_added (file_gone now.state (record_in self.old.metadata slot)) (new_file name.now words.now.assigned.items payload.now)))
+            self.new (D.meaning disk.old) (D.meaning disk.new) result }
+        ensures ends { Ends (disk.new ≡ disk.old) self.old self.new (D.meaning disk.old) (D.meaning disk.new) result }
+    {
+        // The store is in form, whatever is committed.
+        let _ = &self.memory;
+        if is_large(payload.len() as u32) {
+            self.commit(disk)?;
+        }
+        self.put_alone(disk, scratch, slot, name, words, payload)
+    }
+
+    // The same, where nothing is held back before a large file. It is committed at once.
+    fn put_alone<D: Disk>(
         &mut self,
         disk: &mut D,
         scratch: &mut Scratch,
@@ -80,16 +99,9 @@ impl Store {
         ensures keeps { ChangeKeeps self.old self.new result }
         ensures disk { ChangesDisk (D.meaning disk.old) (D.meaning disk.new) result }
     {
-        let blocks = put_anew(
-            &mut self.metadata,
-            &mut self.journal,
-            &mut self.is_broken,
-            disk,
-            slot,
-            payload,
-        )?;
+        let blocks = self.memory.put_anew(disk, slot, payload)?;
         replace_record(
-            &mut self.metadata,
+            &mut self.memory.metadata,
             scratch,
             slot,
             name,
@@ -97,12 +109,6 @@ impl Store {
             payload,
             blocks,
         );
-        hold(
-            &mut self.metadata,
-            &mut self.journal,
-            &mut self.is_broken,
-            disk,
-            most_held(payload),
-        )
+        self.memory.hold(disk, most_held(payload))
     }
 }

@@ -1,16 +1,14 @@
 //! Words that are declared.
 
-ghost use Rattle.std.specs.Prelude.{◌≡◌, Err};
-ghost use Rattle.lis_model.specs.declared.refusal.Refusal.{Refusal};
+ghost use Rattle.std.specs.Prelude.{◌≡◌};
 ghost use Rattle.lis_model.specs.State.{State};
 ghost use Rattle.lis_model.specs.Step.{mkdir};
-ghost use Rattle.lis_store.specs.declared.change_fault.ChangeFault.TheVariants.{Refused};
-ghost use Rattle.lis_store.specs.Stored.{IsSound, StoreHolds, IsUsable};
-ghost use Rattle.lis_store.specs.Changes.{Holds, ChangeKeeps, ChangesDisk};
+ghost use Rattle.lis_store.specs.Stored.{StoreHolds, IsUsable};
+ghost use Rattle.lis_store.specs.Changes.{Holds, Ends};
 
 use crate::change_fault::ChangeFault;
 use crate::judging::may_declare;
-use crate::saving::{MOST_HELD, hold};
+use crate::saving::MOST_HELD;
 use crate::store::Store;
 use crate::testing::declare_tested;
 use lis_place::Place;
@@ -29,19 +27,10 @@ impl Store {
         ensures holds { (base : State) (s : State) → StoreHolds self.old (D.meaning disk.old) base s
             → Holds base (record { state = s; place = place.now }) (mkdir (record { state = s; place = place.now }) word.now)
             self.new (D.meaning disk.old) (D.meaning disk.new) result }
-        ensures untouched { (refusal : Refusal) → result ≡ Err (Refused refusal) → disk.new ≡ disk.old }
-        ensures entry { IsSound self.old }
-        ensures keeps { ChangeKeeps self.old self.new result }
-        ensures disk { ChangesDisk (D.meaning disk.old) (D.meaning disk.new) result }
+        ensures ends { Ends (disk.new ≡ disk.old) self.old self.new (D.meaning disk.old) (D.meaning disk.new) result }
     {
-        let places = may_declare(&self.metadata, place, word)?;
-        declare_tested(&mut self.metadata, word, places.as_slice());
-        hold(
-            &mut self.metadata,
-            &mut self.journal,
-            &mut self.is_broken,
-            disk,
-            MOST_HELD,
-        )
+        let places = may_declare(&self.memory.metadata, place, word)?;
+        declare_tested(&mut self.memory.metadata, word, places.as_slice());
+        self.memory.hold(disk, MOST_HELD)
     }
 }

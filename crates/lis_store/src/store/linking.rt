@@ -1,17 +1,15 @@
 //! Axioms of a store.
 
-ghost use Rattle.std.specs.Prelude.{◌≡◌, Err};
-ghost use Rattle.lis_model.specs.declared.refusal.Refusal.{Refusal};
+ghost use Rattle.std.specs.Prelude.{◌≡◌};
 ghost use Rattle.lis_model.specs.Step.{Situation, add_axiom};
 ghost use Rattle.lis_model.specs.State.{State};
-ghost use Rattle.lis_store.specs.declared.change_fault.ChangeFault.TheVariants.{Refused};
-ghost use Rattle.lis_store.specs.Stored.{IsSound, StoreHolds, IsUsable};
-ghost use Rattle.lis_store.specs.Changes.{Holds, ChangeKeeps, ChangesDisk};
+ghost use Rattle.lis_store.specs.Stored.{StoreHolds, IsUsable};
+ghost use Rattle.lis_store.specs.Changes.{Holds, Ends};
 
 use crate::change_fault::ChangeFault;
 use crate::relating::may_relate;
 use crate::relating_in::relate;
-use crate::saving::{MOST_HELD, hold};
+use crate::saving::MOST_HELD;
 use crate::store::Store;
 use lis_ports::Disk;
 use lis_words::Word;
@@ -27,19 +25,10 @@ impl Store {
         requires usable { IsUsable self.old (D.meaning disk.old) }
         ensures holds { (base : State) (now : Situation) → StoreHolds self.old (D.meaning disk.old) base now.state
             → Holds base now (add_axiom now (left.now, right.now)) self.new (D.meaning disk.old) (D.meaning disk.new) result }
-        ensures untouched { (refusal : Refusal) → result ≡ Err (Refused refusal) → disk.new ≡ disk.old }
-        ensures entry { IsSound self.old }
-        ensures keeps { ChangeKeeps self.old self.new result }
-        ensures disk { ChangesDisk (D.meaning disk.old) (D.meaning disk.new) result }
+        ensures ends { Ends (disk.new ≡ disk.old) self.old self.new (D.meaning disk.old) (D.meaning disk.new) result }
     {
-        may_relate(&self.metadata, left, right)?;
-        relate(&mut self.metadata, left, right);
-        hold(
-            &mut self.metadata,
-            &mut self.journal,
-            &mut self.is_broken,
-            disk,
-            MOST_HELD,
-        )
+        may_relate(&self.memory.metadata, left, right)?;
+        relate(&mut self.memory.metadata, left, right);
+        self.memory.hold(disk, MOST_HELD)
     }
 }

@@ -1,18 +1,15 @@
 //! Files that are taken away.
 
-ghost use Rattle.std.specs.Prelude.{◌≡◌, Err};
-ghost use Rattle.lis_model.specs.declared.refusal.Refusal.{Refusal};
+ghost use Rattle.std.specs.Prelude.{◌≡◌};
 ghost use Rattle.lis_model.specs.State.{State};
 ghost use Rattle.lis_model.specs.Step.{rm};
 ghost use Rattle.lis_eval.specs.Room.{HasRoom};
-ghost use Rattle.lis_store.specs.declared.change_fault.ChangeFault.TheVariants.{Refused};
-ghost use Rattle.lis_store.specs.Stored.{IsSound, StoreHolds, IsUsable};
-ghost use Rattle.lis_store.specs.Changes.{Holds, ChangeKeeps, ChangesDisk};
+ghost use Rattle.lis_store.specs.Stored.{StoreHolds, IsUsable};
+ghost use Rattle.lis_store.specs.Changes.{Holds, Ends};
 
 use crate::change_fault::ChangeFault;
-use crate::contents::free_content;
 use crate::removing::take_out;
-use crate::saving::{MOST_HELD, hold};
+use crate::saving::MOST_HELD;
 use crate::store::Store;
 use lis_eval::Scratch;
 use lis_model::refusal::Refusal;
@@ -35,28 +32,13 @@ impl Store {
         ensures holds { (base : State) (s : State) → StoreHolds self.old (D.meaning disk.old) base s
             → Holds base (record { state = s; place = place.now }) (rm (record { state = s; place = place.now }) name.now)
             self.new (D.meaning disk.old) (D.meaning disk.new) result }
-        ensures untouched { (refusal : Refusal) → result ≡ Err (Refused refusal) → disk.new ≡ disk.old }
-        ensures entry { IsSound self.old }
-        ensures keeps { ChangeKeeps self.old self.new result }
-        ensures disk { ChangesDisk (D.meaning disk.old) (D.meaning disk.new) result }
+        ensures ends { Ends (disk.new ≡ disk.old) self.old self.new (D.meaning disk.old) (D.meaning disk.new) result }
     {
         let Some(slot) = self.slot_here(scratch, place, name) else {
             return Err(ChangeFault::Refused(Refusal::NoFileHere));
         };
-        free_content(
-            &mut self.metadata,
-            &self.journal,
-            &mut self.is_broken,
-            disk,
-            slot,
-        )?;
-        take_out(&mut self.metadata, slot);
-        hold(
-            &mut self.metadata,
-            &mut self.journal,
-            &mut self.is_broken,
-            disk,
-            MOST_HELD,
-        )
+        self.memory.free_content(disk, slot)?;
+        take_out(&mut self.memory.metadata, slot);
+        self.memory.hold(disk, MOST_HELD)
     }
 }

@@ -1,14 +1,12 @@
 //! Calls that change a file.
 
-ghost use Rattle.std.specs.Prelude.{◌≡◌, ◌≤◌, length, Err, IsTrue};
+ghost use Rattle.std.specs.Prelude.{◌≡◌, ◌≤◌, length, IsTrue};
 ghost use Rattle.lis_ports.specs.Calls.{IsUnchanged};
-ghost use Rattle.lis_model.specs.declared.refusal.Refusal.{Refusal};
 ghost use Rattle.lis_model.specs.State.{State, file_limit};
 ghost use Rattle.lis_model.specs.Step.{write, rename, mv};
 ghost use Rattle.lis_eval.specs.Room.{HasRoom};
-ghost use Rattle.lis_store.specs.declared.change_fault.ChangeFault.TheVariants.{Refused};
-ghost use Rattle.lis_store.specs.Stored.{IsSound, StoreHolds, IsUsable};
-ghost use Rattle.lis_store.specs.Changes.{Holds, ChangeKeeps, ChangesDisk};
+ghost use Rattle.lis_store.specs.Stored.{StoreHolds, IsUsable};
+ghost use Rattle.lis_store.specs.Changes.{Holds, Ends};
 
 use crate::admitting::file_limit;
 use crate::change_fault::ChangeFault;
@@ -18,14 +16,13 @@ use crate::file_bytes::read_file;
 use crate::instead::{may_rename, may_stand_instead, may_write, own_in, size_in};
 use crate::replacing::{replace_draft, replace_record};
 use crate::retagging::{may_move, place_or_refusal};
-use crate::saving::{MOST_HELD, hold};
+use crate::saving::MOST_HELD;
 use crate::store::Store;
-use lis_content::is_large;
 use lis_eval::Scratch;
 use lis_model::refusal::Refusal;
 use lis_place::{Place, Text};
 use lis_ports::Disk;
-use lis_words::{Name, Word};
+use lis_words::Name;
 
 impl Store {
     /// Gives a file other bytes: `write` at the place. Where there are more bytes than a file may have, only their number counts.
@@ -46,21 +43,15 @@ impl Store {
             → Holds base (record { state = s; place = place.now })
             (write (record { state = s; place = place.now }) name.now (record { size = size; bytes = payload.now }))
             self.new (D.meaning disk.old) (D.meaning disk.new) result }
-        ensures untouched { (refusal : Refusal) → result ≡ Err (Refused refusal) → disk.new ≡ disk.old }
-        ensures entry { IsSound self.old }
-        ensures keeps { ChangeKeeps self.old self.new result }
-        ensures disk { ChangesDisk (D.meaning disk.old) (D.meaning disk.new) result }
+        ensures ends { Ends (disk.new ≡ disk.old) self.old self.new (D.meaning disk.old) (D.meaning disk.new) result }
     {
-        if size > file_limit(self.metadata.limits().version) {
+        if size > file_limit(self.memory.metadata.limits().version) {
             return Err(ChangeFault::Refused(Refusal::LargeFile));
         }
         let Some(slot) = self.slot_here(scratch, place, name) else {
             return Err(ChangeFault::Refused(Refusal::NoFileHere));
         };
-        let words = may_write(&self.metadata, scratch, slot, name, payload, size)?;
-        if is_large(payload.len() as u32) {
-            self.commit(disk)?;
-        }
+        let words = may_write(&self.memory.metadata, scratch, slot, name, payload, size)?;
         self.put_file(disk, scratch, Some(slot), name, &words, payload)
     }
 
@@ -79,40 +70,43 @@ impl Store {
         ensures holds { (base : State) (s : State) → StoreHolds self.old (D.meaning disk.old) base s
             → Holds base (record { state = s; place = place.now }) (rename (record { state = s; place = place.now }) name.now new.now)
             self.new (D.meaning disk.old) (D.meaning disk.new) result }
-        ensures untouched { (refusal : Refusal) → result ≡ Err (Refused refusal) → IsTrue (D.meaning disk.old).is_honest
-            → IsUnchanged (D.meaning disk.old) (D.meaning disk.new) }
-        ensures entry { IsSound self.old }
-        ensures keeps { ChangeKeeps self.old self.new result }
-        ensures disk { ChangesDisk (D.meaning disk.old) (D.meaning disk.new) result }
+        ensures ends { Ends (IsTrue (D.meaning disk.old).is_honest → IsUnchanged (D.meaning disk.old) (D.meaning disk.new))
+            self.old self.new (D.meaning disk.old) (D.meaning disk.new) result }
     {
         let Some(slot) = self.slot_here(scratch, place, name) else {
             return Err(ChangeFault::Refused(Refusal::NoFileHere));
         };
-        if self.metadata.slot_of(new).is_some() {
+        if self.memory.metadata.slot_of(new).is_some() {
             return Err(ChangeFault::Refused(Refusal::NameTaken));
         }
-        if let Err(fault) = read_file(&self.metadata, &self.journal, disk, &mut self.bytes, slot) {
-            self.is_broken = true;
+        if let Err(fault) = read_file(
+            &self.memory.metadata,
+            &self.memory.journal,
+            disk,
+            &mut self.memory.bytes,
+            slot,
+        ) {
+            self.memory.is_broken = true;
             return Err(ChangeFault::from(fault));
         }
-        let words = may_rename(&self.metadata, scratch, slot, new, self.bytes.bytes())?;
-        let blocks = blocks_in(&self.metadata, slot);
+        let words = may_rename(
+            &self.memory.metadata,
+            scratch,
+            slot,
+            new,
+            self.memory.bytes.bytes(),
+        )?;
+        let blocks = blocks_in(&self.memory.metadata, slot);
         replace_record(
-            &mut self.metadata,
+            &mut self.memory.metadata,
             scratch,
             Some(slot),
             new,
             &words,
-            self.bytes.bytes(),
+            self.memory.bytes.bytes(),
             blocks,
         );
-        hold(
-            &mut self.metadata,
-            &mut self.journal,
-            &mut self.is_broken,
-            disk,
-            MOST_HELD,
-        )
+        self.memory.hold(disk, MOST_HELD)
     }
 
     /// Moves a file to the place to which a text leads: `mv` at the place. Its bytes are not read: the words derived from it stay.
@@ -130,34 +124,31 @@ impl Store {
         ensures holds { (base : State) (s : State) → StoreHolds self.old (D.meaning disk.old) base s
             → Holds base (record { state = s; place = place.now }) (mv (record { state = s; place = place.now }) name.now text.now)
             self.new (D.meaning disk.old) (D.meaning disk.new) result }
-        ensures untouched { (refusal : Refusal) → result ≡ Err (Refused refusal) → disk.new ≡ disk.old }
-        ensures entry { IsSound self.old }
-        ensures keeps { ChangeKeeps self.old self.new result }
-        ensures disk { ChangesDisk (D.meaning disk.old) (D.meaning disk.new) result }
+        ensures ends { Ends (disk.new ≡ disk.old) self.old self.new (D.meaning disk.old) (D.meaning disk.new) result }
     {
         // As before each change, no call of the disk has failed.
-        prove!(!self.is_broken);
+        prove!(!self.memory.is_broken);
         let next = place_or_refusal(place, text)?;
         let Some(slot) = self.slot_here(scratch, place, name) else {
             return Err(ChangeFault::Refused(Refusal::NoFileHere));
         };
-        let words = may_move(&self.metadata, slot, place, &next, text)?;
-        let own = own_in(&self.metadata, slot);
+        let words = may_move(&self.memory.metadata, slot, place, &next, text)?;
+        let own = own_in(&self.memory.metadata, slot);
         let draft = Draft {
             name,
-            size: size_in(&self.metadata, slot),
+            size: size_in(&self.memory.metadata, slot),
             assigned: words.as_slice(),
             own: own.as_slice(),
         };
-        may_stand_instead(&self.metadata, scratch, slot, draft)?;
-        let blocks = blocks_in(&self.metadata, slot);
-        replace_draft(&mut self.metadata, scratch, Some(slot), draft, blocks);
-        hold(
-            &mut self.metadata,
-            &mut self.journal,
-            &mut self.is_broken,
-            disk,
-            MOST_HELD,
-        )
+        may_stand_instead(&self.memory.metadata, scratch, slot, draft)?;
+        let blocks = blocks_in(&self.memory.metadata, slot);
+        replace_draft(
+            &mut self.memory.metadata,
+            scratch,
+            Some(slot),
+            draft,
+            blocks,
+        );
+        self.memory.hold(disk, MOST_HELD)
     }
 }

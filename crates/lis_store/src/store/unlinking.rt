@@ -1,17 +1,15 @@
 //! `unaxiom`.
 
-ghost use Rattle.std.specs.Prelude.{◌≡◌, Err};
-ghost use Rattle.lis_model.specs.declared.refusal.Refusal.{Refusal};
+ghost use Rattle.std.specs.Prelude.{◌≡◌};
 ghost use Rattle.lis_model.specs.Step.{Situation, unaxiom};
 ghost use Rattle.lis_model.specs.State.{State};
-ghost use Rattle.lis_store.specs.declared.change_fault.ChangeFault.TheVariants.{Refused};
-ghost use Rattle.lis_store.specs.Stored.{IsSound, StoreHolds, IsUsable};
-ghost use Rattle.lis_store.specs.Changes.{Holds, ChangeKeeps, ChangesDisk};
+ghost use Rattle.lis_store.specs.Stored.{StoreHolds, IsUsable};
+ghost use Rattle.lis_store.specs.Changes.{Holds, Ends};
 
 use crate::change_fault::ChangeFault;
 use crate::lessening::take_axiom;
 use crate::relating::axiom_numbers;
-use crate::saving::{MOST_HELD, hold};
+use crate::saving::MOST_HELD;
 use crate::store::Store;
 use lis_model::refusal::Refusal;
 use lis_ports::Disk;
@@ -28,21 +26,12 @@ impl Store {
         requires usable { IsUsable self.old (D.meaning disk.old) }
         ensures holds { (base : State) (now : Situation) → StoreHolds self.old (D.meaning disk.old) base now.state
             → Holds base now (unaxiom now (left.now, right.now)) self.new (D.meaning disk.old) (D.meaning disk.new) result }
-        ensures untouched { (refusal : Refusal) → result ≡ Err (Refused refusal) → disk.new ≡ disk.old }
-        ensures entry { IsSound self.old }
-        ensures keeps { ChangeKeeps self.old self.new result }
-        ensures disk { ChangesDisk (D.meaning disk.old) (D.meaning disk.new) result }
+        ensures ends { Ends (disk.new ≡ disk.old) self.old self.new (D.meaning disk.old) (D.meaning disk.new) result }
     {
-        let Some((from, to)) = axiom_numbers(&self.metadata, left, right) else {
+        let Some((from, to)) = axiom_numbers(&self.memory.metadata, left, right) else {
             return Err(ChangeFault::Refused(Refusal::NoAxiom));
         };
-        take_axiom(&mut self.metadata, from, to);
-        hold(
-            &mut self.metadata,
-            &mut self.journal,
-            &mut self.is_broken,
-            disk,
-            MOST_HELD,
-        )
+        take_axiom(&mut self.memory.metadata, from, to);
+        self.memory.hold(disk, MOST_HELD)
     }
 }

@@ -1,4 +1,4 @@
-use Rattle.lis_store.proofs.Common.{◌≡◌, ◌∙◌, ℕ, ◌<◌, Bool, false, Some, is_some, sym, ap, subst, inl, inr, arith, cases_lt, Limits}
+use Rattle.lis_store.proofs.Common.{◌≡◌, ◌∙◌, ℕ, ◌<◌, false, Some, is_some, sym, ap, subst, inl, inr, arith, cases_lt, Limits}
 use Rattle.lis_store.specs.Testing.{is_crowded, has_crowded}
 use Rattle.lis_store.proofs.Crowded.{never_crowded, full_at, full_nowhere}
 use Rattle.lis_store.proofs.crowding.has_crowded.Goals as goal

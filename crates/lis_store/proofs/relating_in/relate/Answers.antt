@@ -30,15 +30,15 @@ rebuild_all-requires-clause-words c =
 pub rebuild_all-requires-clause-free : goal.rebuild_all-requires-clause-free
 rebuild_all-requires-clause-free c =
     subst (λ (k : Metadata). FreeSlotsAreEmpty k) (sym c.link.ensures.links.metadata)
-    (subst (λ (k : Metadata). FreeSlotsAreEmpty k) (sym c.learn_word.ensures.learns.metadata) c.requires.free)
+    (subst (λ (k : Metadata). FreeSlotsAreEmpty k) (sym c.learn_word.ensures.learns.metadata) c.requires.form.free)
 
 pub rebuild_all-requires-clause-short : goal.rebuild_all-requires-clause-short
 rebuild_all-requires-clause-short c = λ slot.
-    omega (arith, c.requires.short slot, ap (λ (k : Metadata). length (set_of k.ext slot)) c.link.ensures.links.metadata, ap (λ (k : Metadata). length (set_of k.ext slot)) c.learn_word.ensures.learns.metadata)
+    omega (arith, c.requires.form.short slot, ap (λ (k : Metadata). length (set_of k.ext slot)) c.link.ensures.links.metadata, ap (λ (k : Metadata). length (set_of k.ext slot)) c.learn_word.ensures.learns.metadata)
 
 pub rebuild_all-requires-clause-few : goal.rebuild_all-requires-clause-few
 rebuild_all-requires-clause-few c =
-    few_linked c.requires.may c.learn_word.ensures.learns c.learn_word.ensures.sound (sym c.number_of.ensures ∙ c.in-Some.is) (sym c.number_of-2.ensures ∙ c.in-Some-number_of.is) c.link.ensures.links c.requires.sound c.link.ensures.sound c.requires.free c.requires.closed
+    few_linked c.requires.may c.learn_word.ensures.learns c.learn_word.ensures.sound (sym c.number_of.ensures ∙ c.in-Some.is) (sym c.number_of-2.ensures ∙ c.in-Some-number_of.is) c.link.ensures.links c.requires.form.sound c.link.ensures.sound c.requires.form.free c.requires.form.closed
 
 pub returns : goal.returns
 returns c = record {

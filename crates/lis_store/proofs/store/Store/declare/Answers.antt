@@ -1,8 +1,8 @@
-use Rattle.lis_store.proofs.Common.{◌∙◌, sym, ap, subst, List, ℕ, Err, err_from_is_err_and, rules, State}
+use Rattle.lis_store.proofs.Common.{◌∙◌, sym, ap, subst, List, ℕ, Err, err_from_is_err_and, rules, State, refl}
 use Rattle.lis_store.specs.Stored.{StoreHolds}
 use Rattle.lis_store.specs.Testing.{MayDeclare}
 use Rattle.lis_store.proofs.Judged.{view_refused}
-use Rattle.lis_store.proofs.Keeping.{keeps_saved}
+use Rattle.lis_store.proofs.Keeping.{ends_saved}
 use Rattle.lis_store.proofs.Retaken.{in_form}
 use Rattle.lis_store.proofs.SavedAlone.{change_saves, whole_view, held_view}
 use Rattle.lis_store.proofs.Tested.{declared_change, declared_holds, declared_refused}
@@ -21,18 +21,17 @@ pub declare_tested-requires-clause-form : goal.declare_tested-requires-clause-fo
 declare_tested-requires-clause-form g c = in_form _ c.self.invariant
 
 pub declare_tested-requires-clause-may : goal.declare_tested-requires-clause-may
-declare_tested-requires-clause-may g c = subst (λ (ns : List ℕ). MayDeclare c.self.inside.metadata c.args.word.now ns) (sym c.as_slice.ensures.value) c.in_ok-places.ensures.may
+declare_tested-requires-clause-may g c = subst (λ (ns : List ℕ). MayDeclare c.self.inside.memory.metadata c.args.word.now ns) (sym c.as_slice.ensures.value) c.in_ok-places.ensures.may
 
-pub hold-requires : goal.hold-requires
-hold-requires g c =
+pub hold-requires-clause-ready : goal.hold-requires-clause-ready
+hold-requires-clause-ready g c =
     let change = declared_change c.self.invariant (whole_view c.self.view_is c.requires.usable.unbroken) c.in_ok-places.ensures.may c.as_slice.ensures.value c.declare_tested.ensures in
-    let asks = change_saves c.self.invariant (whole_view c.self.view_is c.requires.usable.unbroken) change in
-    search (rules, asks.settles, asks.image, asks.placed, asks.room)
+    change_saves c.self.invariant (whole_view c.self.view_is c.requires.usable.unbroken) change refl
 
-pub returns-clause-keeps : goal.returns-clause-keeps
-returns-clause-keeps g c =
+pub returns-clause-ends : goal.returns-clause-ends
+returns-clause-ends g c =
     let change = declared_change c.self.invariant (whole_view c.self.view_is c.requires.usable.unbroken) c.in_ok-places.ensures.may c.as_slice.ensures.value c.declare_tested.ensures in
-    keeps_saved c.self.view_is c.declare_tested.new.metadata c.hold.result change.limits change.edits c.hold.ensures.sound c.hold.ensures.metadata c.hold.ensures.image c.hold.ensures.ended
+    ends_saved c.self.view_is c.self.invariant change.limits change.edits refl c.hold.ensures.saved c.hold.ensures.disk
 
 pub returns-clause-holds : goal.returns-clause-holds
 returns-clause-holds g c = λ base s fits.

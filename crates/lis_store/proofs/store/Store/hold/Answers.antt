@@ -28,31 +28,31 @@ pub returns-in-Rename-clause-holds : goal.returns-in-Rename-clause-holds
 returns-in-Rename-clause-holds g c = rw c.in-Rename.is c.rename.ensures.holds
 
 pub returns-in-Declare-clause-untouched : goal.returns-in-Declare-clause-untouched
-returns-in-Declare-clause-untouched g c = rw c.in-Declare.is c.declare.ensures.untouched
+returns-in-Declare-clause-untouched g c = rw c.in-Declare.is c.declare.ensures.ends.untouched
 
 pub returns-in-Undeclare-clause-untouched : goal.returns-in-Undeclare-clause-untouched
-returns-in-Undeclare-clause-untouched g c = rw c.in-Undeclare.is c.undeclare.ensures.untouched
+returns-in-Undeclare-clause-untouched g c = rw c.in-Undeclare.is c.undeclare.ensures.ends.untouched
 
 pub returns-in-Axiom-clause-untouched : goal.returns-in-Axiom-clause-untouched
-returns-in-Axiom-clause-untouched g c = rw c.in-Axiom.is c.axiom.ensures.untouched
+returns-in-Axiom-clause-untouched g c = rw c.in-Axiom.is c.axiom.ensures.ends.untouched
 
 pub returns-in-Unaxiom-clause-untouched : goal.returns-in-Unaxiom-clause-untouched
-returns-in-Unaxiom-clause-untouched g c = rw c.in-Unaxiom.is c.unaxiom.ensures.untouched
+returns-in-Unaxiom-clause-untouched g c = rw c.in-Unaxiom.is c.unaxiom.ensures.ends.untouched
 
 pub returns-in-Add-clause-untouched : goal.returns-in-Add-clause-untouched
-returns-in-Add-clause-untouched g c = rw c.in-Add.is c.add.ensures.untouched
+returns-in-Add-clause-untouched g c = rw c.in-Add.is c.add.ensures.ends.untouched
 
 pub returns-in-Write-clause-untouched : goal.returns-in-Write-clause-untouched
-returns-in-Write-clause-untouched g c = rw c.in-Write.is c.write.ensures.untouched
+returns-in-Write-clause-untouched g c = rw c.in-Write.is c.write.ensures.ends.untouched
 
 pub returns-in-Remove-clause-untouched : goal.returns-in-Remove-clause-untouched
-returns-in-Remove-clause-untouched g c = rw c.in-Remove.is c.remove.ensures.untouched
+returns-in-Remove-clause-untouched g c = rw c.in-Remove.is c.remove.ensures.ends.untouched
 
 pub returns-in-Retag-clause-untouched : goal.returns-in-Retag-clause-untouched
-returns-in-Retag-clause-untouched g c = rw c.in-Retag.is c.retag.ensures.untouched
+returns-in-Retag-clause-untouched g c = rw c.in-Retag.is c.retag.ensures.ends.untouched
 
 pub returns-in-Rename-clause-untouched : goal.returns-in-Rename-clause-untouched
-returns-in-Rename-clause-untouched g c = rw c.in-Rename.is c.rename.ensures.untouched
+returns-in-Rename-clause-untouched g c = rw c.in-Rename.is c.rename.ensures.ends.untouched
 
 pub add-requires-clause-whole : goal.add-requires-clause-whole
 add-requires-clause-whole g c = rw c.in-Add.is at c.requires.whole

@@ -1,94 +1,76 @@
-use Rattle.lis_store.proofs.Common.{rules, ◌≡◌, ◌∙◌, ℕ, ◌≤◌, true, length, Err, sym, ap, subst, arith, err_from_is_err_and, ArrayVec, is_large, Limits, blocks_taken, new_file, file_added, changed, HasRoom}
-use Rattle.lis_store.specs.Stored.{Stored, StoreHolds}
+use Rattle.lis_store.proofs.Common.{◌≡◌, ◌∙◌, Ok, Err, length, refl, sym, ap, subst, arith, err_from_is_err_and, new_file, file_added, changed, Metadata, State, Situation, Outcome, rules, size_fits}
+use Rattle.lis_journal.specs.Journal.{shape_of}
+use Rattle.lis_store.specs.Stored.{Stored, IsSound, StoreHolds}
+use Rattle.lis_store.specs.Changes.{Holds, Commits}
 use Rattle.lis_store.specs.Drafts.{draft_of}
-use Rattle.lis_store.specs.Instead.{free_for}
-use Rattle.lis_store.specs.ReplacingIn.{record_in, file_gone}
-use Rattle.lis_store.proofs.Keeping.{keeps_saved}
-use Rattle.lis_store.proofs.Large.{none_left}
-use Rattle.lis_store.proofs.ReplaceFile.{anew_there, anew_small, mid_form, mid_first, mid_in_form, mid_below, mid_limits, mid_short, mid_image, written_unbroken, written_saves, written_same, written_edits, written_holds}
-use Rattle.lis_store.proofs.Torn.{lost_sound, lost_holds, lost_keeps}
+use Rattle.lis_store.specs.ReplacingIn.{MayPutBytes, record_in, file_gone}
+use Rattle.lis_store.proofs.Holding.{fits_held}
+use Rattle.lis_store.proofs.Keeping.{keeps_behind}
+use Rattle.lis_store.proofs.Large.{held_behind_commit, held_lost_commit}
+use Rattle.lis_store.proofs.ReplaceFile.{anew_small}
+use Rattle.lis_store.proofs.store.Store.put_file.Goals.{then-is_large+in_ok-commit, else-is_large}
 use Rattle.lis_store.proofs.store.Store.put_file.Goals as goal
-use Rattle.lis_kept.proofs.Image.{same_blocks}
 
-pub invariant_of-self : goal.invariant_of-self
-invariant_of-self g c =
-    let old : Stored = record { metadata = c.self.inside.metadata; journal = c.self.inside.journal; is_broken = c.self.inside.is_broken } in
-    lost_sound (ArrayVec ℕ) old c.self.invariant c.args.payload.now (record_in old.metadata c.args.slot) c.put_anew.new.metadata c.put_anew.new.journal c.put_anew.new.is_broken c.in_err-blocks.field-0.0
-    (g.D.Disk.meaning c.args.disk.now) (g.D.Disk.meaning c.put_anew.new.disk) c.in_err-blocks.ensures.renewed c.in_err-blocks.ensures.ended c.put_anew.ensures.sound
+pub overflow_cast-payload : goal.overflow_cast-payload
+overflow_cast-payload g c =
+    let file = new_file c.args.name.now c.args.words.now.assigned.items c.args.payload.now in
+    omega (arith, size_fits c.args.self.now.metadata.limits.version (length c.args.payload.now) (anew_small {old = c.args.self.now} refl c.args.slot (draft_of file) c.requires.may.0))
 
-pub returns-in_err-blocks-clause-keeps : goal.returns-in_err-blocks-clause-keeps
-returns-in_err-blocks-clause-keeps g c =
-    let old : Stored = record { metadata = c.self.inside.metadata; journal = c.self.inside.journal; is_broken = c.self.inside.is_broken } in
-    let r = err_from_is_err_and c.from_residual.result c.from_residual.ensures.1 in
-    lost_keeps (ArrayVec ℕ) old c.self.invariant c.args.payload.now (record_in old.metadata c.args.slot) c.put_anew.new.metadata c.put_anew.new.journal c.put_anew.new.is_broken c.in_err-blocks.field-0.0
-    (g.D.Disk.meaning c.args.disk.now) (g.D.Disk.meaning c.put_anew.new.disk) c.in_err-blocks.ensures.renewed c.in_err-blocks.ensures.ended c.self.view_is (r.1 ∙ ap Err r.2) c.put_anew.ensures.sound
+pub is_large-requires : goal.is_large-requires
+is_large-requires g c =
+    let file = new_file c.args.name.now c.args.words.now.assigned.items c.args.payload.now in
+    omega (arith, size_fits c.args.self.now.metadata.limits.version (length c.args.payload.now) (anew_small {old = c.args.self.now} refl c.args.slot (draft_of file) c.requires.may.0))
 
-pub returns-in_err-blocks-clause-holds : goal.returns-in_err-blocks-clause-holds
-returns-in_err-blocks-clause-holds g c = λ base now holds.
-    let old : Stored = record { metadata = c.self.inside.metadata; journal = c.self.inside.journal; is_broken = c.self.inside.is_broken } in
+pub returns-in_err-commit : goal.returns-in_err-commit
+returns-in_err-commit g c =
+    let holds = λ (base : State) (now : Situation) (holds : StoreHolds c.args.self.now (g.D.Disk.meaning c.args.disk.now) base now.state).
+    let p = err_from_is_err_and c.from_residual.result c.from_residual.ensures.1 in
     let m = g.D.Disk.meaning c.args.disk.now in
-    let after = g.D.Disk.meaning c.put_anew.new.disk in
-    let alone = λ (large : is_large (length c.args.payload.now) ≡ true). ap (λ (k : Stored). k.journal.staged) c.self.view_is ∙ c.requires.alone large in
-    let H : Stored → Type 0 = λ k. StoreHolds k m base now.state in
-    let r = err_from_is_err_and c.from_residual.result c.from_residual.ensures.1 in
-    lost_holds (ArrayVec ℕ) old c.self.invariant c.args.payload.now (record_in old.metadata c.args.slot) c.put_anew.new.metadata c.put_anew.new.journal c.put_anew.new.is_broken c.in_err-blocks.field-0.0 m after c.in_err-blocks.ensures.renewed c.in_err-blocks.ensures.ended base now
-    (changed now (file_added (file_gone now.state (record_in c.args.self.now.metadata c.args.slot)) (new_file c.args.name.now c.args.words.now.assigned.items c.args.payload.now))) c.from_residual.result (r.1 ∙ ap Err r.2) alone (subst H (sym c.self.view_is) holds)
+    let file = new_file c.args.name.now c.args.words.now.assigned.items c.args.payload.now in
+    held_lost_commit base now (changed now (file_added (file_gone now.state (record_in c.args.self.now.metadata c.args.slot)) file)) m m (g.D.Disk.meaning c.commit.new.disk)
+    c.commit.new.self c.in_err-commit.field-0.0 c.from_residual.result (c.in_err-commit.ensures.commits base now.state holds) (p.1 ∙ ap Err p.2) in
+    search (rules, holds)
 
-pub replace_record-requires : goal.replace_record-requires
-replace_record-requires g c = record {
-  form = mid_form c.self.view_is c.args.slot c.args.name.now c.args.words.now.assigned.items c.args.payload.now c.in_ok-blocks.blocks.items c.self.invariant c.in_ok-blocks.ensures.sound c.requires.may.0 c.in_ok-blocks.ensures.renewed;
-  derived = c.requires.derived;
-  may = mid_first c.self.view_is c.args.slot c.args.name.now c.args.words.now.assigned.items c.args.payload.now c.in_ok-blocks.blocks.items c.self.invariant c.in_ok-blocks.ensures.sound c.requires.may.0 c.in_ok-blocks.ensures.renewed;
-  in_form = mid_in_form c.self.view_is c.args.slot c.args.name.now c.args.words.now.assigned.items c.args.payload.now c.in_ok-blocks.blocks.items c.self.invariant c.in_ok-blocks.ensures.sound c.requires.may.0 c.in_ok-blocks.ensures.renewed;
-  below = mid_below c.self.view_is c.args.slot c.args.name.now c.args.words.now.assigned.items c.args.payload.now c.in_ok-blocks.blocks.items c.self.invariant c.in_ok-blocks.ensures.sound c.requires.may.0 c.in_ok-blocks.ensures.renewed;
-  scratch = subst (λ (l : Limits). HasRoom c.args.scratch.now l) (sym (mid_limits c.self.view_is c.args.slot c.args.name.now c.args.words.now.assigned.items c.args.payload.now c.in_ok-blocks.blocks.items c.self.invariant c.in_ok-blocks.ensures.sound c.requires.may.0 c.in_ok-blocks.ensures.renewed)) c.requires.scratch;
-}
-
-pub most_held-requires : goal.most_held-requires
-most_held-requires g c =
-    mid_short c.self.view_is c.args.slot c.args.name.now c.args.words.now.assigned.items c.args.payload.now c.in_ok-blocks.blocks.items c.self.invariant c.in_ok-blocks.ensures.sound c.requires.may.0 c.in_ok-blocks.ensures.renewed
-
-pub hold-requires : goal.hold-requires
-hold-requires g c =
-    let asks = written_saves c.self.view_is c.args.slot c.args.name.now c.args.words.now.assigned.items c.args.payload.now c.in_ok-blocks.blocks.items c.self.invariant c.in_ok-blocks.ensures.sound c.requires.may.0 c.in_ok-blocks.ensures.renewed c.replace_record.ensures.refiles c.requires.usable.unbroken in
-    let image = mid_image c.self.view_is c.args.slot c.args.name.now c.args.words.now.assigned.items c.args.payload.now c.in_ok-blocks.blocks.items c.self.invariant c.in_ok-blocks.ensures.sound c.requires.may.0 c.in_ok-blocks.ensures.renewed in
-    record {
-      sound = asks.settles;
-      image = asks.image;
-      usable = record {
-        unbroken = written_unbroken c.self.view_is c.args.slot c.args.name.now c.args.words.now.assigned.items c.args.payload.now c.in_ok-blocks.blocks.items c.self.invariant c.in_ok-blocks.ensures.sound c.requires.may.0 c.in_ok-blocks.ensures.renewed c.replace_record.ensures.refiles c.requires.usable.unbroken;
-        long = omega (arith, c.requires.usable.long, same_blocks image, c.in_ok-blocks.ensures.disk.run.len);
-      };
-      whole = search rules;
-      placed = asks.placed;
-      unplaced = λ some. c.in_ok-blocks.ensures.renewed.unplaced (c.most_held.ensures.large some);
-      few = search rules;
-      room = asks.room;
-    }
-
-pub returns-clause-scratch : goal.returns-clause-scratch
-returns-clause-scratch g c =
-    subst (λ (l : Limits). HasRoom c.replace_record.new.scratch l) (mid_limits c.self.view_is c.args.slot c.args.name.now c.args.words.now.assigned.items c.args.payload.now c.in_ok-blocks.blocks.items c.self.invariant c.in_ok-blocks.ensures.sound c.requires.may.0 c.in_ok-blocks.ensures.renewed) c.replace_record.ensures.scratch
+pub put_alone-requires-clause-may : goal.put_alone-requires-clause-may
+put_alone-requires-clause-may g c =
+    let May : Metadata → Type 0 = λ k. MayPutBytes k c.args.slot (new_file c.args.name.now c.args.words.now.assigned.items c.args.payload.now) in
+    elim c.if-is_large.branch [
+      | then-is_large+in_ok-commit w ↦ subst May (sym (ap (λ (k : Stored). k.metadata) w.self-is ∙ w.commit.ensures.metadata)) c.requires.may
+      | else-is_large w ↦ subst May (sym (ap (λ (k : Stored). k.metadata) w.self-is)) c.requires.may
+    ]
 
 pub returns-clause-holds : goal.returns-clause-holds
 returns-clause-holds g c = λ base now holds.
-    let new : Stored = record { metadata = c.hold.new.metadata; journal = c.hold.new.journal; is_broken = c.hold.new.is_broken } in
-    written_holds c.self.view_is c.args.slot c.args.name.now c.args.words.now.assigned.items c.args.payload.now c.in_ok-blocks.blocks.items c.self.invariant c.in_ok-blocks.ensures.sound c.requires.may.0 c.in_ok-blocks.ensures.renewed c.replace_record.ensures.refiles
-    base now holds c.requires.may.1 c.requires.alone new (g.D.Disk.meaning c.hold.new.disk) c.hold.result c.hold.ensures.saves
+    let m = g.D.Disk.meaning c.args.disk.now in
+    let mid = c.if-is_large.self in
+    let between = g.D.Disk.meaning c.if-is_large.disk in
+    let after = g.D.Disk.meaning c.put_alone.new.disk in
+    let sound = subst (λ (k : Stored). IsSound k) c.self.view_is c.self.invariant in
+    let file = new_file c.args.name.now c.args.words.now.assigned.items c.args.payload.now in
+    let outcome : Metadata → Outcome = λ k. changed now (file_added (file_gone now.state (record_in k c.args.slot)) file) in
+    let kept : mid.metadata ≡ c.args.self.now.metadata =
+    elim c.if-is_large.branch [
+      | then-is_large+in_ok-commit w ↦ ap (λ (k : Stored). k.metadata) w.self-is ∙ w.commit.ensures.metadata
+      | else-is_large w ↦ ap (λ (k : Stored). k.metadata) w.self-is
+    ] in
+    let O : Metadata → Type 0 = λ k. Holds base now (outcome k) c.put_alone.new.self m after c.put_alone.result in
+    subst O kept
+    (elim c.if-is_large.branch [
+      | then-is_large+in_ok-commit w ↦
+          let commits : Commits {T = Unit {0}} base now.state mid m between (Ok tt) = rw (w.self-is, w.disk-is) (w.in_ok-commit.ensures.commits base now.state holds) in
+          held_behind_commit base now (outcome mid.metadata) m between after c.args.self.now mid c.put_alone.new.self tt c.put_alone.result sound holds commits
+          c.put_alone.ensures.keeps.sound (c.put_alone.ensures.settled (sym c.is_large.ensures ∙ w.if-is_large.true)) c.put_alone.ensures.ended
+          (c.put_alone.ensures.holds now.state now (fits_held mid between now.state (rw w.self-is w.commit.ensures.sound) commits.ended))
+      | else-is_large w ↦
+          rw (← w.disk-is) (c.put_alone.ensures.holds base now (rw (w.self-is, w.disk-is) holds))
+    ])
 
-pub returns-clause-settled : goal.returns-clause-settled
-returns-clause-settled g c = λ large.
-    none_left (length c.args.payload.now) c.most_held.result c.hold.new.journal.staged c.hold.result c.most_held.ensures.large large c.hold.ensures.few
-
-pub returns-clause-keeps : goal.returns-clause-keeps
-returns-clause-keeps g c =
-    let limits = written_same c.self.view_is c.args.slot c.args.name.now c.args.words.now.assigned.items c.args.payload.now c.in_ok-blocks.blocks.items c.self.invariant c.in_ok-blocks.ensures.sound c.requires.may.0 c.in_ok-blocks.ensures.renewed c.replace_record.ensures.refiles in
-    let edits = written_edits c.self.view_is c.args.slot c.args.name.now c.args.words.now.assigned.items c.args.payload.now c.in_ok-blocks.blocks.items c.self.invariant c.in_ok-blocks.ensures.sound c.requires.may.0 c.in_ok-blocks.ensures.renewed c.replace_record.ensures.refiles in
-    keeps_saved c.self.view_is c.replace_record.new.metadata c.hold.result limits edits c.hold.ensures.sound c.hold.ensures.metadata (c.hold.ensures.image ∙ c.in_ok-blocks.ensures.renewed.image) c.hold.ensures.ended
-
-pub put_anew-requires : goal.put_anew-requires
-put_anew-requires g c =
-    let there = anew_there c.self.view_is c.args.slot (draft_of (new_file c.args.name.now c.args.words.now.assigned.items c.args.payload.now)) c.requires.may.0 in
-    let short = anew_small c.self.view_is c.args.slot (draft_of (new_file c.args.name.now c.args.words.now.assigned.items c.args.payload.now)) c.requires.may.0 in
-    let enough = subst (λ (k : Stored). blocks_taken k.metadata.limits.version (length c.args.payload.now) ≤ free_for k.metadata (record_in k.metadata c.args.slot)) (sym c.self.view_is) c.requires.may.1 in
-    search (rules, there, short, enough)
+pub returns-clause-ends : goal.returns-clause-ends
+returns-clause-ends g c =
+    let kept : (c.if-is_large.self.metadata ≡ c.args.self.now.metadata) × (shape_of c.if-is_large.self.journal ≡ shape_of c.args.self.now.journal) =
+    elim c.if-is_large.branch [
+      | then-is_large+in_ok-commit w ↦ (ap (λ (k : Stored). k.metadata) w.self-is ∙ w.commit.ensures.metadata, ap (λ (k : Stored). shape_of k.journal) w.self-is ∙ w.commit.ensures.image)
+      | else-is_large w ↦ (ap (λ (k : Stored). k.metadata) w.self-is, ap (λ (k : Stored). shape_of k.journal) w.self-is)
+    ] in
+    let keeps = keeps_behind {old = c.args.self.now} kept.0 kept.1 c.put_alone.ensures.keeps c.put_alone.ensures.ended in
+    search (rules, keeps)

@@ -1,7 +1,8 @@
 use Rattle.lis_store.proofs.Common.{◌∙◌, length, Err, is_some, refl, sym, derived_words, ap, subst, err_from_is_err_and, rules, State}
+use Rattle.lis_store.specs.Memory.{stored}
 use Rattle.lis_store.specs.Stored.{Stored, IsSound, StoreHolds}
 use Rattle.lis_store.proofs.FileRead.{name_taken, rename_asks, read_lost, renaming_refused, renaming_holds}
-use Rattle.lis_store.proofs.Keeping.{keeps_lost, keeps_saved}
+use Rattle.lis_store.proofs.Keeping.{keeps_lost, ends_saved}
 use Rattle.lis_store.proofs.ReplaceFile.{still_in_form, still_below, refiled_change}
 use Rattle.lis_store.proofs.Retaken.{in_form, sound_lost}
 use Rattle.lis_store.proofs.SavedAlone.{change_saves, whole_view}
@@ -27,10 +28,11 @@ returns-in-Err-clause-holds g c = λ base s holds.
     read_lost c.self.view_is c.self.invariant c.args.place.now c.args.name.now c.in-Some.ensures.slot c.in-Some.ensures.here c.args.new.now (g.D.Disk.meaning c.args.disk.now) base s holds (g.D.Disk.meaning c.read_file.new.disk)
     (record { reads = c.read_file.ensures.disk.reads; fits = c.read_file.ensures.fits }) _ _ refl (ap Err c.from.ensures)
 
-pub returns-in-Err-clause-keeps : goal.returns-in-Err-clause-keeps
-returns-in-Err-clause-keeps g c =
-    let sound = sound_lost c.self.inside.metadata c.self.inside.journal (in_form _ c.self.invariant) c.self.invariant.pairs c.self.invariant.image in
-    keeps_lost c.self.view_is sound (ap Err c.from.ensures) refl refl refl refl
+pub returns-in-Err-clause-ends : goal.returns-in-Err-clause-ends
+returns-in-Err-clause-ends g c =
+    let sound = sound_lost c.self.inside.memory.metadata c.self.inside.memory.journal (in_form _ c.self.invariant) c.self.invariant.pairs c.self.invariant.image in
+    let keeps = keeps_lost {T = Unit {0}} c.self.view_is sound (ap Err c.from.ensures) refl refl refl refl in
+    search (rules, keeps)
 
 pub may_rename-requires-clause-there : goal.may_rename-requires-clause-there
 may_rename-requires-clause-there g c =
@@ -53,20 +55,19 @@ replace_record-requires-clause-may g c =
 pub replace_record-requires-clause-derived : goal.replace_record-requires-clause-derived
 replace_record-requires-clause-derived g c = c.in_ok-words.ensures.derived ∙ ap (derived_words c.args.new.now) (c.bytes.ensures.bytes ∙ sym c.bytes-2.ensures.bytes)
 
-pub hold-requires : goal.hold-requires
-hold-requires g c =
+pub hold-requires-clause-ready : goal.hold-requires-clause-ready
+hold-requires-clause-ready g c =
     let change = refiled_change c.self.view_is c.self.invariant c.requires.usable.unbroken c.replace_record.ensures.refiles in
-    let asks = change_saves c.self.invariant (whole_view c.self.view_is c.requires.usable.unbroken) change in
-    search (rules, asks.settles, asks.image, asks.placed, asks.room)
+    change_saves c.self.invariant (whole_view c.self.view_is c.requires.usable.unbroken) change refl
 
-pub returns-clause-keeps : goal.returns-clause-keeps
-returns-clause-keeps g c =
+pub returns-clause-ends : goal.returns-clause-ends
+returns-clause-ends g c =
     let change = refiled_change c.self.view_is c.self.invariant c.requires.usable.unbroken c.replace_record.ensures.refiles in
-    keeps_saved c.self.view_is c.replace_record.new.metadata c.hold.result change.limits change.edits c.hold.ensures.sound c.hold.ensures.metadata c.hold.ensures.image c.hold.ensures.ended
+    ends_saved c.self.view_is c.self.invariant change.limits change.edits refl c.hold.ensures.saved (search rules)
 
 pub returns-clause-holds : goal.returns-clause-holds
 returns-clause-holds g c = λ base s holds.
-    let new : Stored = record { metadata = c.hold.new.metadata; journal = c.hold.new.journal; is_broken = c.hold.new.is_broken } in
+    let new = stored c.hold.new.self in
     renaming_holds c.self.view_is c.self.invariant c.args.place.now c.args.name.now c.in-Some.ensures.slot c.in-Some.ensures.here c.args.new.now (g.D.Disk.meaning c.args.disk.now) base s holds (g.D.Disk.meaning c.read_file.new.disk)
     (record { reads = c.read_file.ensures.disk.reads; fits = c.read_file.ensures.fits })
     c.in_default-read_file.ensures.read c.bytes-2.ensures.bytes c.bytes.ensures.bytes c.in_ok-words.ensures.row c.in_ok-words.ensures.words

@@ -1,6 +1,7 @@
 use Rattle.lis_store.proofs.Common.{◌∙◌, Err, length, is_some, refl, sym, ap, subst, arith, err_from_is_err_and, resolved, rules, State}
+use Rattle.lis_store.specs.Memory.{stored}
 use Rattle.lis_store.specs.Stored.{Stored, IsSound, StoreHolds}
-use Rattle.lis_store.proofs.Keeping.{keeps_saved}
+use Rattle.lis_store.proofs.Keeping.{ends_saved}
 use Rattle.lis_store.proofs.MoveFile.{led_to, moved_nowhere, moving_refused, standing_refused, move_asks, move_holds}
 use Rattle.lis_store.proofs.ReplaceFile.{still_in_form, still_below, refiled_change}
 use Rattle.lis_store.proofs.SavedAlone.{change_saves, whole_view}
@@ -60,20 +61,19 @@ replace_draft-requires-clause-in_form g c = still_in_form c.self.view_is c.self.
 pub replace_draft-requires-clause-below : goal.replace_draft-requires-clause-below
 replace_draft-requires-clause-below g c = still_below c.self.view_is c.self.invariant c.args.name.now c.in-Some.ensures.slot c.blocks_in-blocks.ensures
 
-pub hold-requires : goal.hold-requires
-hold-requires g c =
+pub hold-requires-clause-ready : goal.hold-requires-clause-ready
+hold-requires-clause-ready g c =
     let change = refiled_change c.self.view_is c.self.invariant c.requires.usable.unbroken c.replace_draft.ensures.refiles in
-    let asks = change_saves c.self.invariant (whole_view c.self.view_is c.requires.usable.unbroken) change in
-    search (rules, asks.settles, asks.image, asks.placed, asks.room)
+    change_saves c.self.invariant (whole_view c.self.view_is c.requires.usable.unbroken) change refl
 
-pub returns-clause-keeps : goal.returns-clause-keeps
-returns-clause-keeps g c =
+pub returns-clause-ends : goal.returns-clause-ends
+returns-clause-ends g c =
     let change = refiled_change c.self.view_is c.self.invariant c.requires.usable.unbroken c.replace_draft.ensures.refiles in
-    keeps_saved c.self.view_is c.replace_draft.new.metadata c.hold.result change.limits change.edits c.hold.ensures.sound c.hold.ensures.metadata c.hold.ensures.image c.hold.ensures.ended
+    ends_saved c.self.view_is c.self.invariant change.limits change.edits refl c.hold.ensures.saved c.hold.ensures.disk
 
 pub returns-clause-holds : goal.returns-clause-holds
 returns-clause-holds g c = λ base s holds.
-    let new : Stored = record { metadata = c.hold.new.metadata; journal = c.hold.new.journal; is_broken = c.hold.new.is_broken } in
+    let new = stored c.hold.new.self in
     move_holds c.self.view_is c.self.invariant c.args.place.now c.args.name.now c.in-Some.ensures.slot c.in-Some.ensures.here c.args.text.now c.in_ok-next.ensures
     c.in_ok-words.ensures.row c.size_in.ensures (λ rec is. c.as_slice.ensures.value ∙ c.in_ok-words.ensures.words rec is) (c.as_slice-2.ensures.value ∙ c.own_in-own.ensures.own) c.in_ok-may_stand_instead.ensures.row
     c.replace_draft.ensures.refiles c.blocks_in-blocks.ensures c.requires.usable.unbroken (g.D.Disk.meaning c.args.disk.now) base s holds new (g.D.Disk.meaning c.hold.new.disk) c.hold.result c.hold.ensures.saves

@@ -1,8 +1,9 @@
-use Rattle.lis_store.proofs.Common.{◌∙◌, ap, Err, is_some, err_from_is_err_and, rules, State, Situation}
+use Rattle.lis_store.proofs.Common.{◌∙◌, ap, Err, is_some, err_from_is_err_and, rules, State, Situation, refl}
 use Rattle.lis_store.specs.Stored.{StoreHolds}
 use Rattle.lis_store.proofs.Judged.{view_refused}
-use Rattle.lis_store.proofs.Keeping.{keeps_saved}
+use Rattle.lis_store.proofs.Keeping.{ends_saved}
 use Rattle.lis_store.proofs.Undeclared.{undeclared_may, undeclared_named, undeclared_change, undeclared_holds, undeclared_refused}
+use Rattle.lis_store.proofs.Retaken.{in_form}
 use Rattle.lis_store.proofs.SavedAlone.{change_saves, whole_view, held_view}
 use Rattle.lis_store.proofs.store.Store.undeclare.Goals as goal
 
@@ -14,22 +15,24 @@ returns-in_err-number g c =
     view_refused c.self.view_is now refusal fits (λ held. undeclared_refused c.self.invariant c.args.word.now refusal c.in_err-number.ensures.row now held) (p.1 ∙ ap Err p.2) in
     search (rules, holds)
 
+pub undeclare_unmet-requires-clause-form : goal.undeclare_unmet-requires-clause-form
+undeclare_unmet-requires-clause-form g c = in_form _ c.self.invariant
+
 pub undeclare_unmet-requires-clause-may : goal.undeclare_unmet-requires-clause-may
 undeclare_unmet-requires-clause-may g c = undeclared_may c.self.invariant c.in_ok-number.ensures.may
 
 pub undeclare_unmet-requires-clause-number : goal.undeclare_unmet-requires-clause-number
 undeclare_unmet-requires-clause-number g c = ap is_some (undeclared_named c.self.invariant c.in_ok-number.ensures.may)
 
-pub hold-requires : goal.hold-requires
-hold-requires g c =
+pub hold-requires-clause-ready : goal.hold-requires-clause-ready
+hold-requires-clause-ready g c =
     let change = undeclared_change c.self.invariant c.in_ok-number.ensures.may (whole_view c.self.view_is c.requires.usable.unbroken) c.undeclare_unmet.ensures in
-    let asks = change_saves c.self.invariant (whole_view c.self.view_is c.requires.usable.unbroken) change in
-    search (rules, asks.settles, asks.image, asks.placed, asks.room)
+    change_saves c.self.invariant (whole_view c.self.view_is c.requires.usable.unbroken) change refl
 
-pub returns-clause-keeps : goal.returns-clause-keeps
-returns-clause-keeps g c =
+pub returns-clause-ends : goal.returns-clause-ends
+returns-clause-ends g c =
     let change = undeclared_change c.self.invariant c.in_ok-number.ensures.may (whole_view c.self.view_is c.requires.usable.unbroken) c.undeclare_unmet.ensures in
-    keeps_saved c.self.view_is c.undeclare_unmet.new.metadata c.hold.result change.limits change.edits c.hold.ensures.sound c.hold.ensures.metadata c.hold.ensures.image c.hold.ensures.ended
+    ends_saved c.self.view_is c.self.invariant change.limits change.edits refl c.hold.ensures.saved c.hold.ensures.disk
 
 pub returns-clause-holds : goal.returns-clause-holds
 returns-clause-holds g c = λ base now fits.

@@ -1,4 +1,4 @@
-use Rattle.lis_store.proofs.contents.free_content.Goals as goal
+use Rattle.lis_store.proofs.memory.Memory.free_content.Goals as goal
 
 pub returns-in-Ok-clause-given : goal.returns-in-Ok-clause-given
 returns-in-Ok-clause-given g c = λ rec is.
