@@ -1,5 +1,5 @@
 -- What every word keeps that opens an image and does one work on it behind the opening.
-use Rattle.std.specs.Prelude.{◌≡◌, ◌≢◌, ℕ, ◌<◌, List, [], Bool, true, false, Option, Some, Result, Ok, Err, IsTrue}
+use Rattle.std.specs.Prelude.{◌≡◌, ◌≢◌, ◌⊎◌, ◌||◌, ℕ, ◌<◌, List, [], Bool, true, false, Option, Some, Result, Ok, Err, IsTrue}
 use Rattle.lis_limits.specs.declared.TheConstants.{BLOCK_LEN}
 use Rattle.lis_ports.specs.Meaning.{Meaning}
 use Rattle.lis_ports.specs.Calls.{IsUnchanged}
@@ -17,7 +17,7 @@ use Rattle.lis_store.specs.Stands.{Stands}
 use Rattle.lis_open.specs.declared.mounting.OpenFault.{OpenFault}
 use Rattle.lis_open.specs.declared.mounting.OpenFault.TheVariants.{TooShort, Damaged, DiskFault, NoMemory}
 use Rattle.lis_open.specs.Checks.{FailsFirst}
-use Rattle.lis_open.specs.Opens.{HasSuper, IsLongEnough, OpenRefused, FaultLeft, InOpening, WasLeft, Unwritten}
+use Rattle.lis_open.specs.Opens.{HasSuper, IsLongEnough, OpenRefused, Recovers, FaultLeft, InOpening, WasLeft, Unwritten}
 use Rattle.lis_session.specs.declared.end.End.{End}
 use Rattle.lis_session.specs.Runs.{OpensInto}
 use Rattle.lis_session.specs.Session.{EachMoment, OpenedMoment}
@@ -106,6 +106,16 @@ ComesToEnd work state bytes left before new status = ⊥
 abbrev pub NotBegun : State → List ℕ → List ℕ → Type 0
 NotBegun state image shown = (shown ≡ []) × Stands image state
 
+-- the work writes nothing itself: it only reads, or this answer says that nothing was done
+abbrev pub writes_nothing : Work → Status → Bool
+writes_nothing work status = work.only_reads || work.undone status
+
+-- The image was opened, and nothing else was done: it is left as opening leaves it. Where there was no memory nothing was written, or the work
+-- alone lacked it.
+abbrev pub OnlyOpened : Meaning → Meaning → Status → Type 0
+OnlyOpened old new (Opening NoMemory) = IsUnchanged old new ⊎ Recovers old new
+OnlyOpened old new status = ByOpening (FaultLeft old new) (λ halt. Recovers old new) status
+
 -- Nothing was written, and each moment leaves what a crash at entry could have left, or the bytes of entry. Where the disk failed in opening the
 -- moments alone tell it.
 pub record NothingWritten (old new : Meaning) (status : Status) : Type 0 where
@@ -132,8 +142,8 @@ pub record Barred (old new : Meaning) (status : Status) : Type 0 where
   pub past : (limits : Limits) → HasSuper limits old.bytes → (IsDiskFault status → IsSettledPast (image_blocks limits) old) → KeepsPast (image_blocks limits) old new
 
 -- An opening, and the work behind it. `untouched` says that no input was taken, and `unmoved` that the station is as it was. A refusal leaves
--- the input alone and shows nothing. Where nothing was done, each moment says so. What lies past the image stays; where the disk failed, if a
--- crash at entry left it as it read. A work that only reads writes nothing where no gate is open.
+-- the input alone and shows nothing. Where nothing was done, each moment says so. A work that writes nothing itself leaves what opening leaves,
+-- and where no gate is open all that was there. What lies past the image stays; where the disk failed, if a crash at entry left it as it read.
 pub record ImageKeeps (work : Work) (untouched unmoved : Type 0) (left left_after : Option (List ℕ)) (old new : Meaning) (status : Status) : Type 0 where
   pub only : ByOpening (λ fault. Unit {0}) work.may_end status
   pub runs : (state : State) (bytes : List ℕ) → EntryWith old (Told work.takes_input left bytes) state
@@ -142,7 +152,8 @@ pub record ImageKeeps (work : Work) (untouched unmoved : Type 0) (left left_afte
       → Adds old new (OpenedMoment old (NotBegun state))
   pub past : (state : State) (bytes : List ℕ) → EntryWith old (Told work.takes_input left bytes) state
       → (IsDiskFault status → IsSettledPast (image_blocks state.limits) old) → KeepsPast (image_blocks state.limits) old new
-  pub unwritten : IsTrue work.only_reads → IsTrue old.is_honest → has_open old.bytes ≡ false → NothingWritten old new status
+  pub opened : IsTrue (writes_nothing work status) → IsTrue old.is_honest → OnlyOpened old new status
+  pub unwritten : IsTrue (writes_nothing work status) → IsTrue old.is_honest → has_open old.bytes ≡ false → NothingWritten old new status
   pub judged : IsTrue old.is_honest → IsJudged old new status
   pub spot : (spot : Spot) → status ≡ Opening (Damaged spot) → IsTrue old.is_honest → FailsFirst old.bytes spot
   pub idle : (fault : OpenFault) → status ≡ Opening fault → untouched × (new.shown ≡ old.shown)

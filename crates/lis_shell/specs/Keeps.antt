@@ -1,5 +1,5 @@
 -- What each task keeps. `untouched` says that no input was taken, and `unmoved` that the station is as it was.
-use Rattle.std.specs.Prelude.{◌≡◌, ◌⊎◌, ℕ, ◌^◌, List, [], false, Option, Some, None, IsTrue}
+use Rattle.std.specs.Prelude.{◌≡◌, ◌⊎◌, ◌&&◌, not, ℕ, ◌^◌, List, [], false, Option, Some, None, IsTrue}
 use Rattle.lis_ports.specs.Meaning.{Meaning}
 use Rattle.lis_ports.specs.Calls.{IsShowCall}
 use Rattle.lis_ports.specs.Runs.{IsDiskRun, Leaves, IsSettled, Always}
@@ -21,8 +21,8 @@ use Rattle.lis_shell.specs.declared.words.Task.{Task}
 use Rattle.lis_shell.specs.declared.words.Task.TheVariants.{Try, Make, Upgrade, OnImage}
 use Rattle.lis_shell.specs.declared.words.ImageTask.{ImageTask}
 use Rattle.lis_shell.specs.declared.words.ImageTask.TheVariants.{Run, Load, Rooms, Dump, Grow, View, Put}
-use Rattle.lis_shell.specs.Causes.{ByOpening, IsDiskFault, IsTryStatus}
-use Rattle.lis_shell.specs.Image.{Work, ImageKeeps}
+use Rattle.lis_shell.specs.Causes.{ByOpening, is_disk_fault, IsDiskFault, IsTryStatus}
+use Rattle.lis_shell.specs.Image.{Work, is_opening, ImageKeeps}
 use Rattle.lis_shell.specs.Tries.{Tries}
 use Rattle.lis_shell.specs.MakesImage.{MadeImage}
 use Rattle.lis_shell.specs.Runs.{running, loading, rooming}
@@ -75,12 +75,12 @@ abbrev pub IsAtEnd : Halt End → Type 0
 IsAtEnd AtEnd = Unit {0}
 IsAtEnd halt = ⊥
 
--- an upgrade shows nothing
+-- An upgrade shows nothing. Where it is refused, nothing was done; where the disk failed, its gate may be put.
 abbrev pub upgrading : Work
 upgrading = record {
   takes_input = false;
   only_reads = false;
-  undone = λ status. false;
+  undone = λ status. is_opening status && not (is_disk_fault status);
   may_end = IsAtEnd;
   input = λ bytes left halt. Unit {0};
   moment = λ state bytes image shown. (shown ≡ []) × UpgradeMoment state image;
