@@ -128,16 +128,22 @@ IsJudged old new status = ByOpening (OpenRefused old new) (λ halt. IsLongEnough
 
 -- how the answer goes with the length of the disk
 pub record IsMeasured (old new : Meaning) (status : Status) (idle : Type 0) : Type 0 where
+  -- less than a super block is too short, and nothing is done
   pub small : old.len < BLOCK_LEN → (status ≡ Opening (TooShort old.len BLOCK_LEN)) × idle
+  -- the length of the disk, and a greater number
   pub numbers : (len need : ℕ) → status ≡ Opening (TooShort len need) → (len ≡ old.len) × (len < need)
+  -- an honest disk is as it was
   pub same : (len need : ℕ) → status ≡ Opening (TooShort len need) → IsTrue old.is_honest → IsUnchanged old new
 
 -- An image that stands for no state is refused, and nothing is written but what an open gate asks for. What lies past the image stays; where the
 -- disk failed, if a crash at entry left it as it read.
 pub record Barred (old new : Meaning) (status : Status) : Type 0 where
   pub fault : OpenFault
+  -- the answer is one of opening
   pub is : status ≡ Opening fault
+  -- what opening leaves, where the disk did not fail
   pub left : FaultLeft old new fault
+  -- an image of before, or one in recovery
   pub moments : Leaves old new (InOpening old)
   pub past : (limits : Limits) → HasSuper limits old.bytes → (IsDiskFault status → IsSettledPast (image_blocks limits) old) → KeepsPast (image_blocks limits) old new
 
@@ -145,20 +151,29 @@ pub record Barred (old new : Meaning) (status : Status) : Type 0 where
 -- the input alone and shows nothing. Where nothing was done, each moment says so. A work that writes nothing itself leaves what opening leaves,
 -- and where no gate is open all that was there. What lies past the image stays; where the disk failed, if a crash at entry left it as it read.
 pub record ImageKeeps (work : Work) (untouched unmoved : Type 0) (left left_after : Option (List ℕ)) (old new : Meaning) (status : Status) : Type 0 where
+  -- an answer of opening, or an end that the work may have
   pub only : ByOpening (λ fault. Unit {0}) work.may_end status
+  -- each moment is one of the work, or an image of before; and how it ended
   pub runs : (state : State) (bytes : List ℕ) → EntryWith old (Told work.takes_input left bytes) state
       → OpensInto (work.moment state bytes) old new (WorkEnded work state bytes left_after old.shown new status)
+  -- where nothing was done, at no moment
   pub undone : (state : State) (bytes : List ℕ) → EntryWith old (Told work.takes_input left bytes) state → IsTrue (work.undone status)
       → Adds old new (OpenedMoment old (NotBegun state))
   pub past : (state : State) (bytes : List ℕ) → EntryWith old (Told work.takes_input left bytes) state
       → (IsDiskFault status → IsSettledPast (image_blocks state.limits) old) → KeepsPast (image_blocks state.limits) old new
+  -- where it writes nothing itself, what opening leaves
   pub opened : IsTrue (writes_nothing work status) → IsTrue old.is_honest → OnlyOpened old new status
   pub unwritten : IsTrue (writes_nothing work status) → IsTrue old.is_honest → has_open old.bytes ≡ false → NothingWritten old new status
+  -- the answers of opening are exact
   pub judged : IsTrue old.is_honest → IsJudged old new status
+  -- that of the first check that fails
   pub spot : (spot : Spot) → status ≡ Opening (Damaged spot) → IsTrue old.is_honest → FailsFirst old.bytes spot
   pub idle : (fault : OpenFault) → status ≡ Opening fault → untouched × (new.shown ≡ old.shown)
+  -- what its end says of the input, whatever the disk does
   pub input : (bytes : List ℕ) → left ≡ Some bytes → ByOpening (λ fault. Unit {0}) (work.input bytes left_after) status
+  -- how the answer goes with the length of the disk
   pub measured : IsMeasured old new status (untouched × unmoved)
+  -- an image that stands for no state
   pub barred : IsTrue old.is_honest → ((state : State) → Stands old.bytes state → ⊥) → Barred old new status
 
 -- Each moment since the start is one of the work, or an image that a crash at the start could have left, with nothing shown since.

@@ -33,8 +33,10 @@ use Rattle.lis_shell.specs.Words.{name_in, text_in}
 -- `try`: what was shown is what the model replies to the items of the input. The bytes of an honest
 -- disk, and what a crash leaves of it, are as before.
 pub record TryKeeps (limits : Limits) (left left_after : Option (List ℕ)) (old new : Meaning) (status : Status) : Type 0 where
+  -- the end or the limit of the input, a fault of input or output, or no memory
   pub only : IsTryStatus status
   pub disk : IsShowCall old new
+  -- where the source tells its bytes: what was shown, and the state it came to, by the answer
   pub tries : (bytes : List ℕ) → left ≡ Some bytes
       → (end : Situation) × Tries (start_of limits) (2 ^ 40) bytes left_after old.shown new.shown end status
 
@@ -43,9 +45,11 @@ pub record TryKeeps (limits : Limits) (left left_after : Option (List ℕ)) (old
 -- these that a crash at entry left as it read.
 pub record MakeKeeps (limits : Limits) (unmoved : Type 0) (old new : Meaning) (status : Status) : Type 0 where
   pub made : MadeImage limits old new status
+  -- nothing is shown
   pub run : IsDiskRun old new
   pub making : IsTrue old.is_honest → IsSettled old old.bytes → Leaves old new (InMaking limits old.bytes)
   pub spare : (n : ℕ) → IsTrue old.is_honest → IsSpare limits n → (IsDiskFault status → IsSettledAt old n) → block n new.bytes ≡ block n old.bytes
+  -- a disk that is too short is not touched
   pub short : (len need : ℕ) → status ≡ Opening (TooShort len need) → unmoved
 
 -- `run`: a session of the commands of the input
@@ -90,7 +94,9 @@ upgrading = record {
 -- `upgrade`: what it leaves, byte for byte, is what opening leaves, and when it is done its gate put. With nothing unsynced at entry each moment
 -- stands for the state, or for the same in version 2.
 pub record UpgradeKeeps (unmoved : Type 0) (old new : Meaning) (status : Status) : Type 0 where
+  -- what each work keeps, of one that takes no input
   pub image : ImageKeeps upgrading (Unit {0}) unmoved None None old new status
+  -- nothing is shown
   pub run : IsDiskRun old new
   pub left : IsTrue old.is_honest → ByOpening (FaultLeft old new) (λ halt. GateLeft old new) status
   pub settled_moments : (state : State) → GrowEntry old state → IsSettled old old.bytes → Leaves old new (UpgradeMoment state)
