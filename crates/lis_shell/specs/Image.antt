@@ -156,7 +156,7 @@ pub record ImageKeeps (work : Work) (untouched unmoved : Type 0) (left left_afte
   -- each moment is one of the work, or an image of before; and how it ended
   pub runs : (state : State) (bytes : List ℕ) → EntryWith old (Told work.takes_input left bytes) state
       → OpensInto (work.moment state bytes) old new (WorkEnded work state bytes left_after old.shown new status)
-  -- where nothing was done, at no moment
+  -- where nothing was done, each moment says so
   pub undone : (state : State) (bytes : List ℕ) → EntryWith old (Told work.takes_input left bytes) state → IsTrue (work.undone status)
       → Adds old new (OpenedMoment old (NotBegun state))
   pub past : (state : State) (bytes : List ℕ) → EntryWith old (Told work.takes_input left bytes) state
