@@ -20,8 +20,11 @@ use arrayvec::ArrayVec;
 use byteorder::{ByteOrder, LittleEndian};
 use lis_blockmap::BlockMap;
 use lis_journal::Journal;
-use lis_limits::{BLOCK_BITS, BLOCK_LEN, MAX_FILE_BLOCKS, MAX_LARGE_FILE, NUMBERS, SLOT_BLOCKS};
+use lis_limits::{BLOCK_LEN, MAX_BLOCKS, MAX_FILE_BLOCKS, MAX_LARGE_FILE, NUMBERS, SLOT_BLOCKS};
 use lis_ports::{Disk, Failed};
+
+// Bytes of the numbers of as many blocks as a content has.
+const INDEX_BYTES: usize = 2 * MAX_FILE_BLOCKS;
 
 // Blocks that stand in a row.
 #[derive(Clone, Copy)]
@@ -32,7 +35,7 @@ struct Row {
 
 // Takes this block, if there is one and it is free.
 fn take_next(map: &mut BlockMap, n: u32) -> bool
-    ensures within { IsTrue result → (n < length map.old) × (n < BLOCK_BITS) }
+    ensures within { IsTrue result → (n < length map.old) × (n < MAX_BLOCKS) }
     ensures was_free { IsTrue result → is_taken map.old n ≡ false }
     ensures taken { IsTrue result → map.new ≡ slice_set map.old n true }
     ensures fewer { IsTrue result → free_count map.new + 1 ≡ free_count map.old }
@@ -194,7 +197,7 @@ fn place_index<D: Disk>(
     ensures short { IsTrue (are_short numbers.now) }
     ensures disk { UsesDisk (D.meaning disk.old) (D.meaning disk.new) result }
 {
-    let mut held = [0; 512];
+    let mut held = [0; INDEX_BYTES];
     let (used, _) = held.split_at_mut(2 * numbers.len());
     LittleEndian::write_u16_into(numbers, used);
     place_block(map, journal, disk, base, used)

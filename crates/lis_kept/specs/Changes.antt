@@ -43,6 +43,7 @@ pub record Declares (word : List ℕ) (p q : Metadata) : Type 0 where
   }
   pub marks : Marks 1 p q
   pub state : (at : ℕ → List ℕ) → state_of q at ≡ declared_under (state_of p at) word []
+  -- where every known word was in use, so it is still
   pub used : AreUsed p → AreUsed q
 
 -- A word that is known and not declared, with its number: the one that it had, or a free one.
@@ -54,6 +55,7 @@ pub record Learns (word : List ℕ) (number : ℕ) (p q : Metadata) : Type 0 whe
   pub marks : Marks 1 p q
   pub words : words q.dict ≡ with_word (words p.dict) word
   pub named : word_of q.dict number ≡ Some word
+  -- every other number keeps its word
   pub keeps : (n : ℕ) (w : List ℕ) → word_of p.dict n ≡ Some w → word_of q.dict n ≡ Some w
   pub only : (n : ℕ) (w : List ℕ) → word_of q.dict n ≡ Some w → (word_of p.dict n ≡ Some w) ⊎ ((n ≡ number) × (w ≡ word))
   pub state : (at : ℕ → List ℕ) → state_of q at ≡ state_of p at

@@ -6,14 +6,16 @@ ghost use Rattle.lis_model.specs.Ranges.{are_in_range};
 ghost use Rattle.lis_model.specs.Image.{axioms_start, files_start, rows_start, bitmap_start, data_start};
 
 use lis_journal::{Capacity, Layout};
-use lis_limits::{AXIOMS_PER_BLOCK, MAX_IMAGE_BLOCKS, MAX_PLACED, MAX_STAGED, PROPERTIES_START};
+use lis_limits::{
+    AXIOMS_PER_BLOCK, MAX_IMAGE_BLOCKS, MAX_PLACED, MAX_STAGED, PROPERTIES_START, RECORD_BLOCKS,
+};
 use lis_model::limits::{Limits, image_blocks};
 
 // How many blocks of an image hold records.
 fn record_blocks(_limits: &Limits) -> u32
     ensures { result ≡ record_blocks _limits.now }
 {
-    576
+    RECORD_BLOCKS
 }
 
 /// How an image of these limits is divided.

@@ -24,6 +24,7 @@ use Rattle.lis_store.specs.Stored.{StoreFits}
 use Rattle.lis_store.proofs.OneState.{one_state}
 use Rattle.lis_store.proofs.Standing.{change_stands, fitting_stands}
 use Rattle.lis_open.specs.declared.mounting.OpenFault.{OpenFault}
+use Rattle.lis_open.specs.declared.mounting.OpenFault.TheVariants.{DiskFault}
 use Rattle.lis_open.specs.Opens.{OpenEnded, OpenLeft}
 use Rattle.lis_open.specs.Upgrades.{upgraded, GateLeft}
 use Rattle.lis_open.proofs.Needs.{one_limits, has_super}
@@ -115,6 +116,10 @@ module _ (version : ℕ) (k : Metadata) (at there : ℕ → List ℕ) (sound : A
 pub fault_of : {S T : Type 0} {result : Result T OpenFault} {fault given other : OpenFault} → result ≡ Err fault → fault ≡ given → result ≡ Err other
     → ◌≡◌ {A = Result S OpenFault} (Err given) (Err other)
 fault_of {T = T} {fault = fault} {other = other} was is told = search (rules, was)
+
+-- the disk's fault is no other one
+pub disk_alone : {T : Type 0} {result : Result T OpenFault} {told fault : OpenFault} → result ≡ Err told → told ≡ DiskFault → result ≡ Err fault → (fault ≡ DiskFault → ⊥) → ⊥
+disk_alone {told = told} {fault = fault} was is named other = other (cc)
 
 -- and the answer of that fault
 pub handed_on : {S T : Type 0} {result : Result T OpenFault} {fault given other : OpenFault} → result ≡ Err fault → fault ≡ given → ◌≡◌ {A = Result S OpenFault} (Err given) (Err other)

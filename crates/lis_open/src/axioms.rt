@@ -20,7 +20,7 @@ use crate::words::Words;
 use lis_fields::{AxiomSlot, read_axiom};
 use lis_journal::Journal;
 use lis_kept::{axioms_start, link_nearest, link_weaker};
-use lis_limits::AXIOM_LEN;
+use lis_limits::{AXIOM_LEN, AXIOMS_PER_BLOCK};
 use lis_model::limits::Limits;
 use lis_model::spot::Spot;
 use lis_ports::{Disk, Failed};
@@ -46,7 +46,8 @@ fn slot_count(limits: &Limits) -> u32
     requires { IsTrue (are_in_range limits.now) }
     ensures { result ≡ (axiom_slots limits.now).count }
 {
-    512 * limits.props.div_ceil(512)
+    let each = AXIOMS_PER_BLOCK as u32;
+    each * limits.props.div_ceil(each)
 }
 
 /// No axioms yet, and no links.

@@ -31,13 +31,13 @@ use lis_ext::Ext;
 use lis_fields::AxiomSlot;
 use lis_journal::Journal;
 use lis_kept::{bitmap_start, rows_start};
-use lis_limits::BLOCK_LEN;
+use lis_limits::{BLOCK_LEN, MAX_FILES};
 use lis_model::limits::Limits;
 use lis_model::spot::Spot;
 use lis_ports::{Disk, Failed};
 
-/// How many bytes the row of 4,096 files has.
-const MAX_ROW: usize = 512;
+/// How many bytes the row of as many files as may be has.
+const MAX_ROW: usize = MAX_FILES as usize / 8;
 
 // Marks the left side of an axiom, and its head where it is valued.
 fn mark_left(words: &Words, row: &mut Rows, slot: AxiomSlot)

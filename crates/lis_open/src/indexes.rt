@@ -26,7 +26,7 @@ use lis_model::limits::Limits;
 use lis_ports::{Disk, Failed};
 
 /// The most blocks that a file has, its index block among them.
-pub const MOST_BLOCKS: usize = 257;
+pub const MOST_BLOCKS: usize = MAX_FILE_BLOCKS + 1;
 
 // Whether there is such a data block, and it is free.
 fn is_free(map: &BlockMap, block: u16) -> bool

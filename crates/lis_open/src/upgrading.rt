@@ -1,10 +1,11 @@
 //! Images of version 1 that become images of version 2.
 
-ghost use Rattle.std.specs.Prelude.{◌≡◌, ◌⊎◌, ℕ, ◌<◌, ◌≤◌, [], ◌∷◌, Err, IsTrue, OnOk};
+ghost use Rattle.std.specs.Prelude.{◌≡◌, ◌≢◌, ◌⊎◌, ℕ, ◌<◌, ◌≤◌, [], ◌∷◌, false, Err, IsTrue, OnOk};
 ghost use Rattle.lis_ports.specs.Bytes.{put, Torn};
 ghost use Rattle.lis_ports.specs.Calls.{DiskFaultEnds, UsesDisk};
 ghost use Rattle.lis_ports.specs.Runs.{IsDiskRun, IsSettled, Leaves};
 ghost use Rattle.lis_journal.specs.Images.{KeepsPast};
+ghost use Rattle.lis_journal.specs.Record.{has_open};
 ghost use Rattle.lis_journal.specs.Recovery.{IsSettledPast};
 ghost use Rattle.lis_journal.specs.Spreads.{Spreads};
 ghost use Rattle.lis_model.specs.declared.limits.Limits.{Limits as LimitsOf};
@@ -13,8 +14,9 @@ ghost use Rattle.lis_model.specs.Image.{image_blocks};
 ghost use Rattle.lis_model.specs.State.{State};
 ghost use Rattle.lis_store.specs.Stands.{Stands};
 ghost use Rattle.lis_open.specs.Checks.{FailsFirst};
-ghost use Rattle.lis_open.specs.Opens.{HasOpenCause, HasSuper, InOpening};
+ghost use Rattle.lis_open.specs.Opens.{HasOpenCause, HasSuper, InOpening, OpenUnwritten};
 ghost use Rattle.lis_open.specs.Upgrades.{upgraded, UpgradeEnded, UpgradeLeft};
+ghost use Rattle.lis_open.specs.declared.mounting.OpenFault.{OpenFault as FaultOf};
 ghost use Rattle.lis_open.specs.declared.mounting.OpenFault.TheVariants.{TooShort, Damaged, DiskFault as DiskFailed};
 
 use crate::mounting::{OpenFault, mount};
@@ -58,6 +60,12 @@ pub fn upgrade<D: Disk>(alloc: Global, disk: &mut D) -> Result<(), OpenFault>
     ensures left { IsTrue (D.meaning disk.old).is_honest → UpgradeLeft (D.meaning disk.old) (D.meaning disk.new) result }
     ensures refused { IsTrue (D.meaning disk.old).is_honest → ((s : State) → Stands (D.meaning disk.old).bytes s → ⊥)
         → Leaves (D.meaning disk.old) (D.meaning disk.new) (InOpening (D.meaning disk.old)) }
+
+    // Where it is refused for another reason than a fault of the disk, opening alone was done.
+    ensures unbegun { (s : State) (fault : FaultOf) → result ≡ Err fault → fault ≢ DiskFailed → IsTrue (D.meaning disk.old).is_honest
+        → Stands (D.meaning disk.old).bytes s → Leaves (D.meaning disk.old) (D.meaning disk.new) (λ image. (D.meaning disk.old).images image ⊎ Stands image s) }
+    ensures unwritten { (fault : FaultOf) → result ≡ Err fault → fault ≢ DiskFailed → IsTrue (D.meaning disk.old).is_honest
+        → has_open (D.meaning disk.old).bytes ≡ false → OpenUnwritten (D.meaning disk.old) (D.meaning disk.new) (Err fault) }
 
     // Of any disk: how the answer goes with its length.
     ensures numbers { (len need : ℕ) → result ≡ Err (TooShort len need) → (len ≡ (D.meaning disk.old).len) × (len < need) }

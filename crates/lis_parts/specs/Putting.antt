@@ -13,6 +13,12 @@ use Rattle.lis_parts.specs.Commands.{put}
 abbrev pub view_limit : ℕ
 view_limit = MAX_VIEW
 
+-- the input was not taken whole
+abbrev pub is_untaken : Halt End → Bool
+is_untaken Limit = true
+is_untaken InputFault = true
+is_untaken halt = false
+
 -- Where the input was not taken whole, nothing is shown and nothing changes.
 abbrev pub put_by : Halt End → Situation → List ℕ → List ℕ → List ℕ → Outcome
 put_by Limit now name text input = only_shows [] now

@@ -1,6 +1,6 @@
 //! Putting an edited view of a file back.
 
-ghost use Rattle.std.specs.Prelude.{◌≡◌, ◌≤◌, ℕ, List, [], Some, length, IfOk};
+ghost use Rattle.std.specs.Prelude.{◌≡◌, ◌≤◌, ℕ, List, [], Some, length, IfOk, IsTrue};
 ghost use Rattle.lis_ports.specs.Calls.{FaultEnds, ReadsDisk};
 ghost use Rattle.lis_line.specs.Endings.{HasHaltCause};
 ghost use Rattle.lis_line.specs.Taking.{TakesFew};
@@ -16,7 +16,7 @@ ghost use Rattle.lis_session.specs.Ending.{result_of, InputRead};
 ghost use Rattle.lis_session.specs.Item.{Does, StoreLeft};
 ghost use Rattle.lis_session.specs.Parts.{Ends};
 ghost use Rattle.lis_parts.specs.Commands.{put_as, put};
-ghost use Rattle.lis_parts.specs.Putting.{view_limit, put_by};
+ghost use Rattle.lis_parts.specs.Putting.{view_limit, is_untaken, put_by};
 
 use crate::formula::read_place;
 use crate::loading::load;
@@ -150,6 +150,7 @@ pub fn put_file<S: Source, T: Station>(
     ensures puts { (bytes : List ℕ) → S.left input.old ≡ Some bytes
         → Does (λ (now : Situation). put_by result now name.now text.now bytes) (StoreFits store.old (T.meaning station.old)) []
         (T.meaning station.old) (T.meaning station.new) (result_of result) (StoreFits store.new (T.meaning station.new)) [] }
+    ensures unbegun { IsTrue (is_untaken result) → (station.new ≡ station.old) × (store.new ≡ store.old) }
     ensures ends { Ends (T.meaning station.old) (T.meaning station.new) (result_of result) }
     ensures left { StoreLeft store.old store.new (result_of result) }
     ensures sound { IsSound store.new }

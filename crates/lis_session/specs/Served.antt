@@ -16,8 +16,10 @@ situation_at session state = record { state = state; place = session.place }
 
 -- what a session and its station keep, whatever was carried out, and why it stopped
 pub record SessionKeeps {P : Type 0} (start : SituatedOf P) (entry : Meaning) (now : SituatedOf P) (m : Meaning) (result : Result (Unit {0}) End) : Type 0 where
+  -- only a fault of the disk breaks the store
   pub left : StoreLeft start.store now.store result
   pub sound : IsSound now.store
+  -- causes, the first fault, and what stays of the station
   pub ends : Ends entry m result
 
 module _ {P I : Type 0} (by : SituationOf P → I → OutcomeOf P) where

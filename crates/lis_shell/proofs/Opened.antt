@@ -1,5 +1,5 @@
 -- What is kept where an image was opened, and the work behind it ended.
-use Rattle.std.proofs.Common.{◌≡◌, ◌⊎◌, ℕ, List, [], Option, Some, Result, Ok, Err, IsTrue, false, refl, sym, subst, ◌∙◌}
+use Rattle.std.proofs.Common.{◌≡◌, ◌⊎◌, ℕ, List, [], Option, Some, Result, Ok, Err, IsTrue, false, refl, sym, subst, inr, ◌∙◌}
 use Rattle.lis_ports.specs.Meaning.{Meaning}
 use Rattle.lis_ports.specs.Runs.{Adds, Leaves}
 use Rattle.lis_ports.specs.Since.{Since}
@@ -14,7 +14,7 @@ use Rattle.lis_store.specs.Stands.{Stands}
 use Rattle.lis_store.specs.Stored.{Stored, IsSound, StoreFits}
 use Rattle.lis_store.proofs.OneState.{one_state}
 use Rattle.lis_open.specs.declared.mounting.OpenFault.TheVariants.{DiskFault, NoMemory}
-use Rattle.lis_open.specs.Opens.{IsLongEnough, OpenEnded, WasLeft, Unwritten, OpenUnwritten}
+use Rattle.lis_open.specs.Opens.{IsLongEnough, OpenEnded, Recovers, WasLeft, Unwritten, OpenUnwritten}
 use Rattle.lis_open.proofs.Needs.{has_super}
 use Rattle.lis_session.specs.declared.end.End.{End}
 use Rattle.lis_session.specs.declared.end.End.TheVariants.{DiskFault as DiskFailed, OutputFault}
@@ -30,7 +30,7 @@ use Rattle.lis_session.proofs.Whole.{opening_moments, moments_behind, opens_into
 use Rattle.lis_shell.specs.declared.status.Status.{Status}
 use Rattle.lis_shell.specs.declared.status.Status.TheVariants.{Opening, Ended}
 use Rattle.lis_shell.specs.Causes.{Counts, counts, HasStatusCause, NoFault}
-use Rattle.lis_shell.specs.Image.{Work, Told, halted, ByResult, EntryWith, WorkEnded, Completes, ComesToEnd, NotBegun, NothingWritten, ImageKeeps}
+use Rattle.lis_shell.specs.Image.{Work, Told, halted, ByResult, EntryWith, WorkEnded, Completes, ComesToEnd, writes_nothing, NotBegun, OnlyOpened, NothingWritten, ImageKeeps}
 use Rattle.lis_shell.proofs.Going.{counts_stay}
 use Rattle.lis_shell.proofs.Refused.{IsOpening, not_begun, opening_stays}
 
@@ -49,9 +49,9 @@ abbrev Undoes : Work → Stored → Meaning → Meaning → Option (List ℕ) �
 Undoes work store mid new left halt =
     IsTrue (work.undone (Ended halt)) → (state : State) (bytes : List ℕ) → StoreFits store mid state → Told work.takes_input left bytes → Adds mid new (Since mid.shown (NotBegun state))
 
--- of one that only reads
-abbrev Reads : Work → Meaning → Meaning → Type 0
-Reads work mid new = IsTrue work.only_reads → IsTrue mid.is_honest → DiskStays mid new
+-- of one that writes nothing
+abbrev Reads : Work → Meaning → Meaning → Halt End → Type 0
+Reads work mid new halt = IsTrue (writes_nothing work (Ended halt)) → IsTrue mid.is_honest → DiskStays mid new
 
 -- an image that stands for a state was opened, and the work came to an end
 pub work_done : {T : Type 0} {old mid new : Meaning} {unmoved untouched unmoved_by : Type 0} {left left_after : Option (List ℕ)} (work : Work) (opened : T) → IsOpening old mid unmoved (Ok opened)
@@ -60,12 +60,14 @@ pub work_done : {T : Type 0} {old mid new : Meaning} {unmoved untouched unmoved_
     → ((state : State) (bytes : List ℕ) → EntryWith old (Told work.takes_input left bytes) state → OpensInto (work.moment state bytes) old new (work.ended state bytes left_after old.shown new halt))
     → ((state : State) (bytes : List ℕ) → EntryWith old (Told work.takes_input left bytes) state → KeepsPast (image_blocks state.limits) old new)
     → ((state : State) (bytes : List ℕ) → EntryWith old (Told work.takes_input left bytes) state → IsTrue (work.undone (Ended halt)) → Adds old new (OpenedMoment old (NotBegun state)))
-    → (IsTrue work.only_reads → IsTrue old.is_honest → has_open old.bytes ≡ false → NothingWritten old new (Ended halt))
+    → (IsTrue (writes_nothing work (Ended halt)) → IsTrue old.is_honest → Recovers old new)
+    → (IsTrue (writes_nothing work (Ended halt)) → IsTrue old.is_honest → has_open old.bytes ≡ false → NothingWritten old new (Ended halt))
     → ImageKeeps work untouched unmoved_by left left_after old new (Ended halt)
-work_done work opened opening judged halt only input runs past undone unwritten = record {
+work_done work opened opening judged halt only input runs past undone left unwritten = record {
   only = only;
   runs = runs;
   undone = undone;
+  opened = left;
   unwritten = unwritten;
   past = λ state bytes entry settled. past state bytes entry;
   judged = judged;
@@ -81,6 +83,11 @@ pub opened_past : {T : Type 0} {old mid : Meaning} {unmoved : Type 0} (opened : 
     → KeepsPast (image_blocks state.limits) old mid
 opened_past {old = old} opened opening state honest stands = opening.past state.limits honest (has_super old.bytes state stands) (λ is. absurd (cc))
 
+-- what was recovered stays
+still_recovered : {old mid new : Meaning} → Recovers old mid → DiskStays mid new → Recovers old new
+still_recovered at stays =
+    (at.0, at.1, record { reads = stays.same.bytes ∙ at.2.reads; only = λ image there. at.2.only image (stays.same.images.only image there) })
+
 -- nothing was written by the opening, nor behind it
 written_behind : {old mid new : Meaning} {store : Stored} (status : Status) → OpenUnwritten old mid (Ok store) → DiskStays mid new → NothingWritten old new status
 written_behind {old} {mid} status opening stays =
@@ -92,6 +99,7 @@ written_behind {old} {mid} status opening stays =
 
 module _ {old mid : Meaning} {unmoved : Type 0} (work : Work) (quiet : IsQuiet work) (store : Stored) (opening : IsOpening old mid unmoved (Ok store))
     (ended : IsTrue old.is_honest → OpenEnded old mid (Ok store))
+    (recovers : IsTrue old.is_honest → Recovers old mid)
     (moments : (state : State) → IsTrue old.is_honest → Stands old.bytes state → Leaves old mid (λ image. old.images image ⊎ Stands image state))
     (unwritten : IsTrue old.is_honest → has_open old.bytes ≡ false → OpenUnwritten old mid (Ok store)) where
   -- the store fits at the state for which the image stood
@@ -99,7 +107,7 @@ module _ {old mid : Meaning} {unmoved : Type 0} (work : Work) (quiet : IsQuiet w
   fits state honest stands = let at = ended honest in subst (StoreFits store mid) (one_state old.bytes at.1.0 state at.1.1 stands) at.1.2
 
   pub word_ended : {new : Meaning} {untouched unmoved_by : Type 0} {left left_after : Option (List ℕ)} (halt : Halt End) → work.may_end halt
-      → ((bytes : List ℕ) → left ≡ Some bytes → work.input bytes left_after halt) → Does work store mid new left left_after halt → Undoes work store mid new left halt → Reads work mid new
+      → ((bytes : List ℕ) → left ≡ Some bytes → work.input bytes left_after halt) → Does work store mid new left left_after halt → Undoes work store mid new left halt → Reads work mid new halt
       → ImageKeeps work untouched unmoved_by left left_after old new (Ended halt)
   word_ended {new} {left_after = left_after} halt only input did undid read =
       work_done work store opening (λ honest. let at = ended honest in (at.0, (at.1.0, at.1.1))) halt only input
@@ -107,7 +115,8 @@ module _ {old mid : Meaning} {unmoved : Type 0} (work : Work) (quiet : IsQuiet w
       (opening_moments (work.moment state bytes) (quiet state bytes) (moments state entry.honest entry.stands)) (did state bytes (fits state entry.honest entry.stands) entry.told))
       (λ state bytes entry n le. (did state bytes (fits state entry.honest entry.stands) entry.told).past n le ∙ opened_past store opening state entry.honest entry.stands n le)
       (λ state bytes entry is. moments_behind (NotBegun state) opening.run.shown (not_begun state (moments state entry.honest entry.stands)) (undid is state bytes (fits state entry.honest entry.stands) entry.told))
-      (λ only_reads honest shut. written_behind (Ended halt) (unwritten honest shut) (read only_reads (opening.run.honest ∙ honest)))
+      (λ nothing honest. still_recovered (recovers honest) (read nothing (opening.run.honest ∙ honest)))
+      (λ nothing honest shut. written_behind (Ended halt) (unwritten honest shut) (read nothing (opening.run.honest ∙ honest)))
 
   -- there was no memory behind the opening, and nothing was done
   pub word_crowded : {new : Meaning} {untouched unmoved_by : Type 0} {left left_after : Option (List ℕ)} → new ≡ mid → left_after ≡ left → untouched → IsSound store
@@ -120,7 +129,8 @@ module _ {old mid : Meaning} {unmoved : Type 0} (work : Work) (quiet : IsQuiet w
     };
     undone = λ state bytes entry is. not_begun state (moments state entry.honest entry.stands);
     past = λ state bytes entry settled. opened_past store opening state entry.honest entry.stands;
-    unwritten = λ only_reads honest shut. written_behind (Opening NoMemory) (unwritten honest shut) (stays_none mid);
+    opened = λ nothing honest. inr (recovers honest);
+    unwritten = λ nothing honest shut. written_behind (Opening NoMemory) (unwritten honest shut) (stays_none mid);
     judged = λ honest.
         let at = ended honest in
         (at.0, (at.1.0.limits, has_super old.bytes at.1.0 at.1.1), λ state stands. stands_then state (fits state honest stands));

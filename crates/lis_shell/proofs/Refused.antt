@@ -14,14 +14,14 @@ use Rattle.lis_store.specs.Stands.{Stands}
 use Rattle.lis_store.specs.Stored.{Stored}
 use Rattle.lis_open.specs.declared.mounting.OpenFault.{OpenFault}
 use Rattle.lis_open.specs.declared.mounting.OpenFault.TheVariants.{TooShort, Damaged, DiskFault, NoMemory}
-use Rattle.lis_open.specs.Opens.{HasOpenCause, HasSuper, IsNeeded, OpenEnded, OpenLeft, InOpening, WasLeft, OpenUnwritten}
+use Rattle.lis_open.specs.Opens.{HasOpenCause, HasSuper, IsNeeded, OpenEnded, FaultLeft, OpenLeft, InOpening, WasLeft, OpenUnwritten}
 use Rattle.lis_open.specs.Checks.{FailsFirst}
 use Rattle.lis_open.proofs.Needs.{needs_no_more, has_super}
 use Rattle.lis_session.specs.Session.{OpenedMoment}
 use Rattle.lis_session.proofs.Whole.{opening_moments}
 use Rattle.lis_shell.specs.declared.status.Status.TheVariants.{Opening}
 use Rattle.lis_shell.specs.Causes.{counts, HasStatusCause, IsDiskFault}
-use Rattle.lis_shell.specs.Image.{Work, Told, Refused, NotBegun, NothingWritten, ImageKeeps}
+use Rattle.lis_shell.specs.Image.{Work, Told, Refused, writes_nothing, NotBegun, OnlyOpened, NothingWritten, ImageKeeps}
 
 -- What opening an image says at each answer, and an upgrade of one. `unmoved` says that the disk is as it was.
 pub record IsOpening {T : Type 0} (old new : Meaning) (unmoved : Type 0) (result : Result T OpenFault) : Type 0 where
@@ -63,6 +63,13 @@ opening_stays {old} opening = adds_weaken (λ image bytes. WasLeft old image) op
 pub refused_unwritten : {old new : Meaning} (fault : OpenFault) → OpenUnwritten old new (Err fault) → NothingWritten old new (Opening fault)
 refused_unwritten fault opening = record { left = λ worked. opening.left (λ is. worked (ap Opening (one_fault fault DiskFault is))); moments = opening_stays opening }
 
+-- what is left of a refused image
+refused_opened : {old new : Meaning} (fault : OpenFault) → FaultLeft old new fault → OnlyOpened old new (Opening fault)
+refused_opened NoMemory left = inl left
+refused_opened (TooShort len need) left = left
+refused_opened (Damaged spot) left = left
+refused_opened DiskFault left = left
+
 module _ {T : Type 0} {old new : Meaning} {unmoved : Type 0} (fault : OpenFault) (opening : IsOpening {T = T} old new unmoved (Err fault))
     (ended : IsTrue old.is_honest → OpenEnded old new (Err fault)) (left : IsTrue old.is_honest → OpenLeft old new (Err fault)) where
   -- An image that stands for a state is refused for want of memory alone, or because the disk failed.
@@ -75,7 +82,7 @@ module _ {T : Type 0} {old new : Meaning} {unmoved : Type 0} (fault : OpenFault)
   pub word_refused : {untouched : Type 0} {input : Option (List ℕ)} (work : Work)
       → ((state : State) (bytes : List ℕ) → IsTrue old.is_honest → Stands old.bytes state → Adds old new (OpenedMoment old (work.moment state bytes)))
       → ((state : State) → IsTrue (work.undone (Opening fault)) → IsTrue old.is_honest → Stands old.bytes state → Adds old new (OpenedMoment old (NotBegun state)))
-      → (IsTrue work.only_reads → IsTrue old.is_honest → has_open old.bytes ≡ false → NothingWritten old new (Opening fault))
+      → (IsTrue (writes_nothing work (Opening fault)) → IsTrue old.is_honest → has_open old.bytes ≡ false → NothingWritten old new (Opening fault))
       → untouched → ImageKeeps work untouched unmoved input input old new (Opening fault)
   word_refused {untouched} {input} work moments undone unwritten still = record {
     only = tt;
@@ -84,6 +91,7 @@ module _ {T : Type 0} {old new : Meaning} {unmoved : Type 0} (fault : OpenFault)
       ended = refused (Told work.takes_input input bytes) entry.told state entry.honest entry.stands fault refl (ended entry.honest);
     };
     undone = λ state bytes entry is. undone state is entry.honest entry.stands;
+    opened = λ nothing honest. refused_opened fault (left honest);
     unwritten = unwritten;
     past = λ state bytes entry settled. opening.past state.limits entry.honest (has_super old.bytes state entry.stands) (λ is. settled (disk_fault fault is));
     judged = ended;

@@ -21,7 +21,7 @@ use Rattle.lis_shell.specs.declared.status.Status.TheVariants.{Ended}
 use Rattle.lis_shell.specs.Image.{ByResult, halted, NotBegun}
 use Rattle.lis_parts.specs.Commands.{put}
 use Rattle.lis_parts.specs.Putting.{view_limit, put_by}
-use Rattle.lis_shell.specs.Steps.{StepEnded, NothingDone, is_untaken, ToldStepEnded}
+use Rattle.lis_shell.specs.Steps.{StepEnded, NothingDone, is_unbegun, ToldStepEnded}
 use Rattle.lis_shell.proofs.Opened.{by_halted}
 
 -- it was carried out as an item at the root
@@ -75,7 +75,7 @@ put_goes state name text bytes left (Stopped OutputFault) read one = record {
 }
 
 -- where it was not read whole, nothing was done at any moment
-pub put_undone : {old new : Meaning} {fits : State → Type 0} {place : List Formula} (state : State) (name text bytes : List ℕ) (halt : Halt End) → IsTrue (is_untaken (Ended halt))
+pub put_undone : {old new : Meaning} {fits : State → Type 0} {place : List Formula} (state : State) (name text bytes : List ℕ) (halt : Halt End) → IsTrue (is_unbegun (Ended halt))
     → OneItem (root_of state) (put_by halt (root_of state) name text bytes) old new (result_of halt) fits place → Adds old new (Since old.shown (NotBegun state))
 put_undone state name text bytes AtEnd is one = absurd (cc)
 put_undone {old} state name text bytes Limit is one = adds_since old.shown (still_nothing state) one.moments

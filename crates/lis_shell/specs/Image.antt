@@ -1,5 +1,5 @@
 -- What every word keeps that opens an image and does one work on it behind the opening.
-use Rattle.std.specs.Prelude.{◌≡◌, ◌≢◌, ℕ, ◌<◌, List, [], Bool, true, false, Option, Some, Result, Ok, Err, IsTrue}
+use Rattle.std.specs.Prelude.{◌≡◌, ◌≢◌, ◌⊎◌, ◌||◌, ℕ, ◌<◌, List, [], Bool, true, false, Option, Some, Result, Ok, Err, IsTrue}
 use Rattle.lis_limits.specs.declared.TheConstants.{BLOCK_LEN}
 use Rattle.lis_ports.specs.Meaning.{Meaning}
 use Rattle.lis_ports.specs.Calls.{IsUnchanged}
@@ -17,7 +17,7 @@ use Rattle.lis_store.specs.Stands.{Stands}
 use Rattle.lis_open.specs.declared.mounting.OpenFault.{OpenFault}
 use Rattle.lis_open.specs.declared.mounting.OpenFault.TheVariants.{TooShort, Damaged, DiskFault, NoMemory}
 use Rattle.lis_open.specs.Checks.{FailsFirst}
-use Rattle.lis_open.specs.Opens.{HasSuper, IsLongEnough, OpenRefused, FaultLeft, InOpening, WasLeft, Unwritten}
+use Rattle.lis_open.specs.Opens.{HasSuper, IsLongEnough, OpenRefused, Recovers, FaultLeft, InOpening, WasLeft, Unwritten}
 use Rattle.lis_session.specs.declared.end.End.{End}
 use Rattle.lis_session.specs.Runs.{OpensInto}
 use Rattle.lis_session.specs.Session.{EachMoment, OpenedMoment}
@@ -106,6 +106,16 @@ ComesToEnd work state bytes left before new status = ⊥
 abbrev pub NotBegun : State → List ℕ → List ℕ → Type 0
 NotBegun state image shown = (shown ≡ []) × Stands image state
 
+-- the work writes nothing itself: it only reads, or this answer says that nothing was done
+abbrev pub writes_nothing : Work → Status → Bool
+writes_nothing work status = work.only_reads || work.undone status
+
+-- The image was opened, and nothing else was done: it is left as opening leaves it. Where there was no memory nothing was written, or the work
+-- alone lacked it.
+abbrev pub OnlyOpened : Meaning → Meaning → Status → Type 0
+OnlyOpened old new (Opening NoMemory) = IsUnchanged old new ⊎ Recovers old new
+OnlyOpened old new status = ByOpening (FaultLeft old new) (λ halt. Recovers old new) status
+
 -- Nothing was written, and each moment leaves what a crash at entry could have left, or the bytes of entry. Where the disk failed in opening the
 -- moments alone tell it.
 pub record NothingWritten (old new : Meaning) (status : Status) : Type 0 where
@@ -118,36 +128,52 @@ IsJudged old new status = ByOpening (OpenRefused old new) (λ halt. IsLongEnough
 
 -- how the answer goes with the length of the disk
 pub record IsMeasured (old new : Meaning) (status : Status) (idle : Type 0) : Type 0 where
+  -- less than a super block is too short, and nothing is done
   pub small : old.len < BLOCK_LEN → (status ≡ Opening (TooShort old.len BLOCK_LEN)) × idle
+  -- the length of the disk, and a greater number
   pub numbers : (len need : ℕ) → status ≡ Opening (TooShort len need) → (len ≡ old.len) × (len < need)
+  -- an honest disk is as it was
   pub same : (len need : ℕ) → status ≡ Opening (TooShort len need) → IsTrue old.is_honest → IsUnchanged old new
 
 -- An image that stands for no state is refused, and nothing is written but what an open gate asks for. What lies past the image stays; where the
 -- disk failed, if a crash at entry left it as it read.
 pub record Barred (old new : Meaning) (status : Status) : Type 0 where
   pub fault : OpenFault
+  -- the answer is one of opening
   pub is : status ≡ Opening fault
+  -- what opening leaves, where the disk did not fail
   pub left : FaultLeft old new fault
+  -- an image of before, or one in recovery
   pub moments : Leaves old new (InOpening old)
   pub past : (limits : Limits) → HasSuper limits old.bytes → (IsDiskFault status → IsSettledPast (image_blocks limits) old) → KeepsPast (image_blocks limits) old new
 
 -- An opening, and the work behind it. `untouched` says that no input was taken, and `unmoved` that the station is as it was. A refusal leaves
--- the input alone and shows nothing. Where nothing was done, each moment says so. What lies past the image stays; where the disk failed, if a
--- crash at entry left it as it read. A work that only reads writes nothing where no gate is open.
+-- the input alone and shows nothing. Where nothing was done, each moment says so. A work that writes nothing itself leaves what opening leaves,
+-- and where no gate is open all that was there. What lies past the image stays; where the disk failed, if a crash at entry left it as it read.
 pub record ImageKeeps (work : Work) (untouched unmoved : Type 0) (left left_after : Option (List ℕ)) (old new : Meaning) (status : Status) : Type 0 where
+  -- an answer of opening, or an end that the work may have
   pub only : ByOpening (λ fault. Unit {0}) work.may_end status
+  -- each moment is one of the work, or an image of before; and how it ended
   pub runs : (state : State) (bytes : List ℕ) → EntryWith old (Told work.takes_input left bytes) state
       → OpensInto (work.moment state bytes) old new (WorkEnded work state bytes left_after old.shown new status)
+  -- where nothing was done, each moment says so
   pub undone : (state : State) (bytes : List ℕ) → EntryWith old (Told work.takes_input left bytes) state → IsTrue (work.undone status)
       → Adds old new (OpenedMoment old (NotBegun state))
   pub past : (state : State) (bytes : List ℕ) → EntryWith old (Told work.takes_input left bytes) state
       → (IsDiskFault status → IsSettledPast (image_blocks state.limits) old) → KeepsPast (image_blocks state.limits) old new
-  pub unwritten : IsTrue work.only_reads → IsTrue old.is_honest → has_open old.bytes ≡ false → NothingWritten old new status
+  -- where it writes nothing itself, what opening leaves
+  pub opened : IsTrue (writes_nothing work status) → IsTrue old.is_honest → OnlyOpened old new status
+  pub unwritten : IsTrue (writes_nothing work status) → IsTrue old.is_honest → has_open old.bytes ≡ false → NothingWritten old new status
+  -- the answers of opening are exact
   pub judged : IsTrue old.is_honest → IsJudged old new status
+  -- that of the first check that fails
   pub spot : (spot : Spot) → status ≡ Opening (Damaged spot) → IsTrue old.is_honest → FailsFirst old.bytes spot
   pub idle : (fault : OpenFault) → status ≡ Opening fault → untouched × (new.shown ≡ old.shown)
+  -- what its end says of the input, whatever the disk does
   pub input : (bytes : List ℕ) → left ≡ Some bytes → ByOpening (λ fault. Unit {0}) (work.input bytes left_after) status
+  -- how the answer goes with the length of the disk
   pub measured : IsMeasured old new status (untouched × unmoved)
+  -- an image that stands for no state
   pub barred : IsTrue old.is_honest → ((state : State) → Stands old.bytes state → ⊥) → Barred old new status
 
 -- Each moment since the start is one of the work, or an image that a crash at the start could have left, with nothing shown since.

@@ -1,5 +1,5 @@
 -- What each task keeps. `untouched` says that no input was taken, and `unmoved` that the station is as it was.
-use Rattle.std.specs.Prelude.{◌≡◌, ◌⊎◌, ℕ, ◌^◌, List, [], false, Option, Some, None, IsTrue}
+use Rattle.std.specs.Prelude.{◌≡◌, ◌⊎◌, ◌&&◌, not, ℕ, ◌^◌, List, [], false, Option, Some, None, IsTrue}
 use Rattle.lis_ports.specs.Meaning.{Meaning}
 use Rattle.lis_ports.specs.Calls.{IsShowCall}
 use Rattle.lis_ports.specs.Runs.{IsDiskRun, Leaves, IsSettled, Always}
@@ -21,8 +21,8 @@ use Rattle.lis_shell.specs.declared.words.Task.{Task}
 use Rattle.lis_shell.specs.declared.words.Task.TheVariants.{Try, Make, Upgrade, OnImage}
 use Rattle.lis_shell.specs.declared.words.ImageTask.{ImageTask}
 use Rattle.lis_shell.specs.declared.words.ImageTask.TheVariants.{Run, Load, Rooms, Dump, Grow, View, Put}
-use Rattle.lis_shell.specs.Causes.{ByOpening, IsDiskFault, IsTryStatus}
-use Rattle.lis_shell.specs.Image.{Work, ImageKeeps}
+use Rattle.lis_shell.specs.Causes.{ByOpening, is_disk_fault, IsDiskFault, IsTryStatus}
+use Rattle.lis_shell.specs.Image.{Work, is_opening, ImageKeeps}
 use Rattle.lis_shell.specs.Tries.{Tries}
 use Rattle.lis_shell.specs.MakesImage.{MadeImage}
 use Rattle.lis_shell.specs.Runs.{running, loading, rooming}
@@ -33,8 +33,10 @@ use Rattle.lis_shell.specs.Words.{name_in, text_in}
 -- `try`: what was shown is what the model replies to the items of the input. The bytes of an honest
 -- disk, and what a crash leaves of it, are as before.
 pub record TryKeeps (limits : Limits) (left left_after : Option (List ℕ)) (old new : Meaning) (status : Status) : Type 0 where
+  -- the end or the limit of the input, a fault of input or output, or no memory
   pub only : IsTryStatus status
   pub disk : IsShowCall old new
+  -- where the source tells its bytes: what was shown, and the state it came to, by the answer
   pub tries : (bytes : List ℕ) → left ≡ Some bytes
       → (end : Situation) × Tries (start_of limits) (2 ^ 40) bytes left_after old.shown new.shown end status
 
@@ -43,9 +45,11 @@ pub record TryKeeps (limits : Limits) (left left_after : Option (List ℕ)) (old
 -- these that a crash at entry left as it read.
 pub record MakeKeeps (limits : Limits) (unmoved : Type 0) (old new : Meaning) (status : Status) : Type 0 where
   pub made : MadeImage limits old new status
+  -- nothing is shown
   pub run : IsDiskRun old new
   pub making : IsTrue old.is_honest → IsSettled old old.bytes → Leaves old new (InMaking limits old.bytes)
   pub spare : (n : ℕ) → IsTrue old.is_honest → IsSpare limits n → (IsDiskFault status → IsSettledAt old n) → block n new.bytes ≡ block n old.bytes
+  -- a disk that is too short is not touched
   pub short : (len need : ℕ) → status ≡ Opening (TooShort len need) → unmoved
 
 -- `run`: a session of the commands of the input
@@ -75,12 +79,12 @@ abbrev pub IsAtEnd : Halt End → Type 0
 IsAtEnd AtEnd = Unit {0}
 IsAtEnd halt = ⊥
 
--- an upgrade shows nothing
+-- An upgrade shows nothing. Where it is refused, nothing was done; where the disk failed, its gate may be put.
 abbrev pub upgrading : Work
 upgrading = record {
   takes_input = false;
   only_reads = false;
-  undone = λ status. false;
+  undone = λ status. is_opening status && not (is_disk_fault status);
   may_end = IsAtEnd;
   input = λ bytes left halt. Unit {0};
   moment = λ state bytes image shown. (shown ≡ []) × UpgradeMoment state image;
@@ -90,7 +94,9 @@ upgrading = record {
 -- `upgrade`: what it leaves, byte for byte, is what opening leaves, and when it is done its gate put. With nothing unsynced at entry each moment
 -- stands for the state, or for the same in version 2.
 pub record UpgradeKeeps (unmoved : Type 0) (old new : Meaning) (status : Status) : Type 0 where
+  -- what each work keeps, of one that takes no input
   pub image : ImageKeeps upgrading (Unit {0}) unmoved None None old new status
+  -- nothing is shown
   pub run : IsDiskRun old new
   pub left : IsTrue old.is_honest → ByOpening (FaultLeft old new) (λ halt. GateLeft old new) status
   pub settled_moments : (state : State) → GrowEntry old state → IsSettled old old.bytes → Leaves old new (UpgradeMoment state)

@@ -19,7 +19,7 @@ use Rattle.lis_session.specs.Item.{InItem}
 use Rattle.lis_session.specs.Parts.{only_shows}
 use Rattle.lis_session.specs.Session.{root_of}
 use Rattle.lis_parts.specs.Commands.{view, put}
-use Rattle.lis_parts.specs.Putting.{view_limit}
+use Rattle.lis_parts.specs.Putting.{view_limit, is_untaken}
 use Rattle.lis_shell.specs.declared.status.Status.{Status}
 use Rattle.lis_shell.specs.declared.status.Status.TheVariants.{Ended}
 use Rattle.lis_shell.specs.Image.{Work, ByResult, IsUnread, is_opening}
@@ -65,10 +65,9 @@ ToldStepEnded limit state outcome bytes left before new InputFault = NothingDone
 ToldStepEnded limit state outcome bytes left before new (Stopped fault) = StepEnded outcome before new (Err fault)
 
 -- the answers before an input was taken whole
-abbrev pub is_untaken : Status → Bool
-is_untaken (Ended Limit) = true
-is_untaken (Ended InputFault) = true
-is_untaken status = is_opening status
+abbrev pub is_unbegun : Status → Bool
+is_unbegun (Ended halt) = is_untaken halt
+is_unbegun status = is_opening status
 
 -- The work that is a step from the state, of which an input of at most so many bytes tells. Of a longer one at most a byte more is taken. Nothing
 -- is done before the input was taken whole.
@@ -76,7 +75,7 @@ abbrev pub told_stepping : ℕ → (State → List ℕ → Outcome) → Work
 told_stepping limit outcome = record {
   takes_input = true;
   only_reads = false;
-  undone = is_untaken;
+  undone = is_unbegun;
   may_end = λ halt. Unit {0};
   input = λ bytes left halt. InputRead limit bytes left halt × TakesFew limit (Some bytes) left;
   moment = λ state bytes. InItem state (outcome state bytes);

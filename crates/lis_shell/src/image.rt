@@ -13,7 +13,7 @@ ghost use Rattle.lis_session.specs.Runs.{Goes};
 ghost use Rattle.lis_session.specs.Showing.{DiskStays};
 ghost use Rattle.lis_shell.specs.Causes.{counts, HasStatusCause};
 ghost use Rattle.lis_shell.specs.declared.status.Status.TheVariants.{Ended};
-ghost use Rattle.lis_shell.specs.Image.{Work, Told, halted, status_of, NotBegun, ImageKeeps};
+ghost use Rattle.lis_shell.specs.Image.{Work, Told, halted, status_of, writes_nothing, NotBegun, ImageKeeps};
 
 use crate::status::Status;
 use lis_line::carrier::Halt;
@@ -49,7 +49,7 @@ pub trait ImageWork {
         ensures refused { IfErr result (λ _. (input.new ≡ input.old) × (station.new ≡ station.old)) }
         ensures only { IfOk result (says self.now).may_end }
         ensures input { IfOk result (λ halt. (bytes : List ℕ) → S.left input.old ≡ Some bytes → (says self.now).input bytes (S.left input.new) halt) }
-        ensures disk { IfOk result (λ _. IsTrue (says self.now).only_reads → IsTrue (T.meaning station.old).is_honest
+        ensures disk { IfOk result (λ halt. IsTrue (writes_nothing (says self.now) (Ended halt)) → IsTrue (T.meaning station.old).is_honest
             → DiskStays (T.meaning station.old) (T.meaning station.new)) }
         ensures undone { IfOk result (λ halt. IsTrue ((says self.now).undone (Ended halt)) → (state : State) (bytes : List ℕ)
             → StoreFits store (T.meaning station.old) state → Told (says self.now).takes_input (S.left input.old) bytes

@@ -111,8 +111,11 @@ AreEditsFew old new = (old.edits ≤ new.edits) × (new.edits ≤ old.edits + di
 -- What a change, or a part of one, keeps of a store on any disk, whatever it answers.
 pub record ChangeKeeps {T : Type 0} (old new : Stored) (result : Result T ChangeFault) : Type 0 where
   pub limits : new.metadata.limits ≡ old.metadata.limits
+  -- layout and capacity of the journal
   pub image : shape_of new.journal ≡ shape_of old.journal
+  -- a refusal changes nothing, and a fault of the disk breaks the store
   pub left : ChangeLeft old new result
+  -- they do not fall, and rise by no more than the bits that differ
   pub edits : AreEditsFew old.metadata.ext new.metadata.ext
   pub sound : IsSound new
 

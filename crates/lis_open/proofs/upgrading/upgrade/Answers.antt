@@ -2,7 +2,8 @@ use Rattle.lis_open.proofs.Common.{rules, ◌∙◌, sym, ap, subst, arith, ends
 use Rattle.lis_ports.specs.Calls.{Rose}
 use Rattle.lis_ports.proofs.Moments.{run_then}
 use Rattle.lis_store.proofs.FreeAgain.{first_version}
-use Rattle.lis_open.proofs.Upgraded.{fault_of, handed_on, not_refused, opening_moments, second_left, second_stands, first_left, upgrade_moments, upgrade_past, first_stands}
+use Rattle.lis_open.specs.Opens.{OpenUnwritten}
+use Rattle.lis_open.proofs.Upgraded.{fault_of, disk_alone, handed_on, not_refused, opening_moments, second_left, second_stands, first_left, upgrade_moments, upgrade_past, first_stands}
 use Rattle.lis_open.proofs.upgrading.upgrade.Goals as goal
 use Rattle.lis_kept.proofs.Image.{same_blocks}
 
@@ -20,6 +21,8 @@ returns-in_err-store g c =
       moments = λ s honest stands. opening_moments s (m.same_state s honest stands);
       left = search rules;
       refused = λ honest none. m.any_moment honest;
+      unbegun = λ s fault is other honest stands. m.same_state s honest stands;
+      unwritten = λ fault is other honest shut. subst (OpenUnwritten (g.D.Disk.meaning c.args.disk.now) (g.D.Disk.meaning c.mount.new.disk)) (fault_of p.1 p.2 is) (m.unwritten honest shut);
       numbers = λ len need is. m.numbers len need (fault_of p.1 p.2 is);
       small = λ short. let told = m.small short in (handed_on p.1 p.2 told.0, told.1);
       past = λ limits honest super settled. m.past limits honest super (λ is. settled (handed_on p.1 p.2 is));
@@ -42,6 +45,8 @@ returns-then-version-eq2 g c =
       moments = λ s honest stands. opening_moments s (m.same_state s honest stands);
       left = λ honest. second_left old mid c.in_ok-store.store sound (m.ended honest) (m.left honest) two;
       refused = λ honest none. m.any_moment honest;
+      unbegun = λ s fault is. absurd (cc);
+      unwritten = λ fault is. absurd (cc);
       numbers = search rules;
       small = λ short. absurd (not_refused (m.small short).0);
       past = λ limits honest super settled. m.past limits honest super (λ e. absurd (not_refused e));
@@ -69,6 +74,8 @@ returns-in_err-write_gate g c =
           upgrade_moments old mid c.in_ok-store.store sound (m.ended honest) (m.left honest) one s stands (m.same_state s honest stands) (c.write_gate.ensures.spreads (c.mount.ensures.run.honest ∙ honest));
       left = λ honest. rw (p.1, p.2) tt;
       refused = λ honest none. let ended = m.ended honest in absurd (none ended.1.0 ended.1.1);
+      unbegun = λ s fault is other. absurd (disk_alone p.1 p.2 is other);
+      unwritten = λ fault is other. absurd (disk_alone p.1 p.2 is other);
       numbers = search rules;
       small = λ short. absurd (not_refused (m.small short).0);
       past = λ limits honest super settled.
@@ -95,6 +102,8 @@ returns g c =
           upgrade_moments old mid c.in_ok-store.store sound (m.ended honest) (m.left honest) one s stands (m.same_state s honest stands) (c.write_gate.ensures.spreads (c.mount.ensures.run.honest ∙ honest));
       left = λ honest. first_left old mid c.in_ok-store.store sound (m.ended honest) (m.left honest) one (c.in_ok-write_gate.ensures.settled (c.mount.ensures.run.honest ∙ honest));
       refused = λ honest none. let ended = m.ended honest in absurd (none ended.1.0 ended.1.1);
+      unbegun = λ s fault is. absurd (cc);
+      unwritten = λ fault is. absurd (cc);
       numbers = search rules;
       small = λ short. absurd (not_refused (m.small short).0);
       past = λ limits honest super settled.

@@ -13,7 +13,7 @@ returns-in-Ok-carry_on-clause-keeps g c = word_ended (g.W.ImageWork.says c.args.
   small = c.in-Ok.ensures.small;
   moments = λ honest none. c.in-Ok.ensures.any_moment honest;
   past = c.in-Ok.ensures.past;
-}) c.in-Ok.ensures.ended c.in-Ok.ensures.same_state c.in-Ok.ensures.unwritten c.in-Ok-carry_on.halt c.in-Ok-carry_on.ensures.only c.in-Ok-carry_on.ensures.input c.in-Ok-carry_on.ensures.goes
+}) c.in-Ok.ensures.ended c.in-Ok.ensures.left c.in-Ok.ensures.same_state c.in-Ok.ensures.unwritten c.in-Ok-carry_on.halt c.in-Ok-carry_on.ensures.only c.in-Ok-carry_on.ensures.input c.in-Ok-carry_on.ensures.goes
     c.in-Ok-carry_on.ensures.undone c.in-Ok-carry_on.ensures.disk
 
 pub returns-in-Err-carry_on-clause-keeps : goal.returns-in-Err-carry_on-clause-keeps
@@ -27,7 +27,7 @@ returns-in-Err-carry_on-clause-keeps g c =
       small = c.in-Ok.ensures.small;
       moments = λ honest none. c.in-Ok.ensures.any_moment honest;
       past = c.in-Ok.ensures.past;
-    }) c.in-Ok.ensures.ended c.in-Ok.ensures.same_state c.in-Ok.ensures.unwritten (ap g.T.Disk.meaning still.1) (ap g.S.Source.left still.0) still.0 c.in-Ok.ensures.sound
+    }) c.in-Ok.ensures.ended c.in-Ok.ensures.left c.in-Ok.ensures.same_state c.in-Ok.ensures.unwritten (ap g.T.Disk.meaning still.1) (ap g.S.Source.left still.0) still.0 c.in-Ok.ensures.sound
 
 pub returns-in-Err-clause-keeps : goal.returns-in-Err-clause-keeps
 returns-in-Err-clause-keeps g c =
@@ -42,4 +42,4 @@ returns-in-Err-clause-keeps g c =
       past = c.in-Err.ensures.past;
     }) c.in-Err.ensures.ended c.in-Err.ensures.left work
     (λ state bytes honest stands. opening_moments (work.moment state bytes) (g.met.W.ImageWork.quiet c.args.work.now state bytes) (c.in-Err.ensures.same_state state honest stands))
-    (λ state is honest stands. not_begun state (c.in-Err.ensures.same_state state honest stands)) (λ only_reads honest shut. refused_unwritten c.in-Err.fault (c.in-Err.ensures.unwritten honest shut)) refl
+    (λ state is honest stands. not_begun state (c.in-Err.ensures.same_state state honest stands)) (λ nothing honest shut. refused_unwritten c.in-Err.fault (c.in-Err.ensures.unwritten honest shut)) refl

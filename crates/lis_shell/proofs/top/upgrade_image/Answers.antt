@@ -1,4 +1,4 @@
-use Rattle.std.proofs.Common.{◌≡◌, ◌⊎◌, List, ℕ, Ok, refl, sym, subst, inl, inr}
+use Rattle.std.proofs.Common.{◌≡◌, ◌⊎◌, List, ℕ, Ok, IsTrue, refl, sym, subst, inl, inr}
 use Rattle.lis_ports.specs.Meaning.{Meaning}
 use Rattle.lis_ports.specs.Runs.{Leaves, IsSettled, Always}
 use Rattle.lis_ports.proofs.Moments.{leaves_weaken}
@@ -6,10 +6,13 @@ use Rattle.lis_model.specs.State.{State}
 use Rattle.lis_line.specs.declared.carrier.Halt.TheVariants.{End as AtEnd}
 use Rattle.lis_store.specs.Stands.{Stands}
 use Rattle.lis_store.proofs.OneState.{one_state}
+use Rattle.lis_open.specs.declared.mounting.OpenFault.{OpenFault}
+use Rattle.lis_open.specs.declared.mounting.OpenFault.TheVariants.{DiskFault}
 use Rattle.lis_open.specs.Upgrades.{upgraded}
 use Rattle.lis_session.proofs.Whole.{opening_moments}
+use Rattle.lis_shell.specs.declared.status.Status.TheVariants.{Opening}
 use Rattle.lis_shell.specs.Keeps.{upgrading, UpgradeMoment}
-use Rattle.lis_shell.proofs.Refused.{IsOpening, same_counts, refused_cause, word_refused}
+use Rattle.lis_shell.proofs.Refused.{IsOpening, not_begun, refused_unwritten, same_counts, refused_cause, word_refused}
 use Rattle.lis_shell.proofs.Opened.{work_done, opened_past}
 use Rattle.lis_shell.proofs.top.upgrade_image.Goals as goal
 
@@ -21,6 +24,11 @@ settled_moments {old} state stands settled moments = leaves_weaken (UpgradeMomen
     by : (image : List ℕ) → old.images image ⊎ UpgradeMoment state image → UpgradeMoment state image
     by image (inl there) = inl (subst (λ xs. Stands xs state) (sym (settled.only image there)) stands)
     by image (inr stood) = stood
+
+-- where nothing was done the disk did not fail
+undone_other : (fault : OpenFault) → IsTrue (upgrading.undone (Opening fault)) → fault ≡ DiskFault → ⊥
+undone_other DiskFault is same = absurd (cc)
+undone_other fault is same = absurd (cc)
 
 pub returns-in-Ok-clause-cause : goal.returns-in-Ok-clause-cause
 returns-in-Ok-clause-cause g c = λ n. same_counts n c.in-Ok.ensures.cause c.in-Ok.ensures.run
@@ -46,7 +54,7 @@ returns-in-Ok-clause-keeps g c =
                 let at = c.in-Ok.ensures.ended entry.honest in
                 subst (λ (s : State). Always new (λ image. Stands image (upgraded s))) (one_state old.bytes at.1.0 state at.1.1 entry.stands) at.1.2;
           })
-          (λ state bytes entry. opened_past c.in-Ok.field-0 opening state entry.honest entry.stands) (λ state bytes entry is. absurd (cc)) (λ is. absurd (cc));
+          (λ state bytes entry. opened_past c.in-Ok.field-0 opening state entry.honest entry.stands) (λ state bytes entry is. absurd (cc)) (λ is. absurd (cc)) (λ is. absurd (cc));
       run = c.in-Ok.ensures.run;
       left = c.in-Ok.ensures.left;
       settled_moments = λ state entry settled. settled_moments state entry.stands settled (c.in-Ok.ensures.moments state entry.honest entry.stands);
@@ -66,7 +74,9 @@ returns-in-Err-clause-keeps g c = record {
     moments = c.in-Err.ensures.refused;
     past = c.in-Err.ensures.past;
   }) c.in-Err.ensures.ended c.in-Err.ensures.left upgrading
-      (λ state bytes honest stands. opening_moments (upgrading.moment state bytes) (λ image stood. (refl, stood)) (c.in-Err.ensures.moments state honest stands)) (λ state is. absurd (cc)) (λ is. absurd (cc)) tt;
+      (λ state bytes honest stands. opening_moments (upgrading.moment state bytes) (λ image stood. (refl, stood)) (c.in-Err.ensures.moments state honest stands))
+      (λ state is honest stands. not_begun state (c.in-Err.ensures.unbegun state c.in-Err.fault refl (undone_other c.in-Err.fault is) honest stands))
+      (λ is honest shut. refused_unwritten c.in-Err.fault (c.in-Err.ensures.unwritten c.in-Err.fault refl (undone_other c.in-Err.fault is) honest shut)) tt;
   run = c.in-Err.ensures.run;
   left = c.in-Err.ensures.left;
   settled_moments = λ state entry settled. settled_moments state entry.stands settled (c.in-Err.ensures.moments state entry.honest entry.stands);
