@@ -36,8 +36,11 @@ pub(crate) struct FileWords {
     pub(crate) derived: Derived,
 }
 
-/// The words that are new: as many as 144 words, which a file is given or which are derived from it, have with their heads.
-type Fresh = ArrayVec<Word, 288>;
+/// How many words a file may be given and have derived from it, with their heads.
+const MAX_FRESH: usize = 2 * (MAX_ASSIGNED + MAX_DESCRIPTION);
+
+/// The words that are new.
+type Fresh = ArrayVec<Word, MAX_FRESH>;
 
 /// How many words a description has, and how many words would be known with them.
 #[derive(Clone, Copy, Debug, PartialEq, Eq)]

@@ -23,7 +23,11 @@ use lis_place::Place;
 use lis_words::{Word, is_builtin, is_valued};
 
 // The numbers of the place's words, where the word is a new one, and these are plain words that are declared.
-fn may_place(metadata: &Metadata, place: &Place, word: &Word) -> Result<ArrayVec<u16, 64>, Refusal>
+fn may_place(
+    metadata: &Metadata,
+    place: &Place,
+    word: &Word,
+) -> Result<ArrayVec<u16, MAX_NODES>, Refusal>
     requires sound { AreSound metadata.now }
     ensures row { Judges (place_checks metadata.now place.now word.now) result }
     ensures form { OnOk result (IsTrue (is_declarable word.now)) }
@@ -74,7 +78,7 @@ pub(crate) fn may_declare(
     metadata: &Metadata,
     place: &Place,
     word: &Word,
-) -> Result<ArrayVec<u16, 64>, Refusal>
+) -> Result<ArrayVec<u16, MAX_NODES>, Refusal>
     requires sound { AreSound metadata.now }
     ensures row { Judges (word_checks metadata.now place.now word.now) result }
     ensures word { IsTrue (is_property word.now) }

@@ -62,7 +62,7 @@ fn has_number(numbers: &[u16], number: u16) -> bool
 }
 
 // Puts the number of a word to others, if it is declared.
-fn take_number(metadata: &Metadata, numbers: &mut ArrayVec<u16, 64>, word: &Word) -> bool
+fn take_number(metadata: &Metadata, numbers: &mut ArrayVec<u16, MAX_NODES>, word: &Word) -> bool
     requires sound { AreSound metadata.now }
     requires room { length numbers.old.items < MAX_NODES }
     ensures { TakesNumbers metadata.now (word.now ∷ []) numbers.old.items numbers.new.items result }
@@ -78,7 +78,7 @@ fn take_number(metadata: &Metadata, numbers: &mut ArrayVec<u16, 64>, word: &Word
 }
 
 // Puts the number of a node's word to others, if it is declared.
-fn take_node(metadata: &Metadata, numbers: &mut ArrayVec<u16, 64>, node: &Node) -> bool
+fn take_node(metadata: &Metadata, numbers: &mut ArrayVec<u16, MAX_NODES>, node: &Node) -> bool
     requires sound { AreSound metadata.now }
     requires room { length numbers.old.items < MAX_NODES }
     ensures { TakesNumbers metadata.now (node_words node.now) numbers.old.items numbers.new.items result }
@@ -90,7 +90,7 @@ fn take_node(metadata: &Metadata, numbers: &mut ArrayVec<u16, 64>, node: &Node) 
 }
 
 /// The numbers of the words of the place, each once. None comes exactly where some word is not declared.
-pub(crate) fn place_numbers(metadata: &Metadata, place: &Place) -> Option<ArrayVec<u16, 64>>
+pub(crate) fn place_numbers(metadata: &Metadata, place: &Place) -> Option<ArrayVec<u16, MAX_NODES>>
     requires sound { AreSound metadata.now }
     requires place { IsSome (place_words place.now) }
     ensures numbers { MatchOption result (list_all (is_declared metadata.now) (words_at place.now) ≡ false)
