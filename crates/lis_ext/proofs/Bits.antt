@@ -1,9 +1,8 @@
 -- Rows of bits that are kept in step with lists.
-use Rattle.std.proofs.Common.{◌≡◌, ◌⊎◌, ℕ, ◌+◌, ◌<◌, ◌==◌, Bool, true, false, not, ◌&&◌, if◌then◌else◌, List, [], length, get_or, set, replicate, refl, sym, ap, ◌∙◌, inl, inr, arith, eq-eqb, get_or-set_same, get_or-set_other}
+use Rattle.std.proofs.Common.{◌≡◌, ◌⊎◌, ℕ, ◌<◌, ◌==◌, Bool, true, false, not, ◌&&◌, if◌then◌else◌, List, [], length, get_or, set, refl, sym, ap, ◌∙◌, inl, inr, arith, eq-eqb, get_or-set_same, get_or-set_other}
 use Rattle.std.proofs.lemmas.Bool.{cases_eq, ne_eqb}
-use Rattle.std.proofs.lemmas.List.{get_or-replicate}
-use Rattle.lis_bits.specs.Rows.{Rows, HasShape, get, with_row, empty_rows}
-use Rattle.lis_bits.proofs.Laws.{shaped, new_row, get-with_row_other, get-empty_rows}
+use Rattle.lis_bits.specs.Rows.{Rows, HasShape, get, with_row}
+use Rattle.lis_bits.proofs.Laws.{shaped, new_row, get-with_row_other}
 use Rattle.lis_ext.specs.Numbers.{has_number}
 use Rattle.lis_ext.specs.Inside.{PutsBits, AreInStep, has_alone}
 use Rattle.lis_ext.proofs.Touched.{PassesMore}
@@ -40,10 +39,6 @@ module _ (old : Rows) (props files file : ℕ) (value : Bool) where
       shape = h.shape;
       bits = λ p i p_in i_in. h.bits p i p_in i_in ∙ ap (λ b. if (i == file) && b then value else get old p i) (sym (same p));
     }
-
--- no list has a number at first
-pub in_step_empty : (props files : ℕ) → AreInStep (replicate files []) (empty_rows props files) props files
-in_step_empty props files p i p_in i_in = get-empty_rows props files p i ∙ ap (λ numbers. has_number numbers p) (sym (get_or-replicate files i [] [] i_in))
 
 -- a file's list becomes a new one
 pub in_step_set : (lists : List (List ℕ)) (rows mid after : Rows) (props files file : ℕ) (old new : List ℕ) → length lists ≡ files → file < files → get_or lists file [] ≡ old → AreInStep lists rows props files

@@ -1,10 +1,10 @@
 -- Lists at a fixed stride.
-use Rattle.std.proofs.Common.{◌≡◌, ◌⊎◌, ℕ, zero, suc, ◌+◌, ◌*◌, ◌<◌, ◌≤◌, List, [], ◌∷◌, ◌++◌, length, get_or, set, take, drop, replicate, refl, sym, ap, ◌∙◌, inl, inr, arith, length-take, length-drop, length-set, get_or-take, get_or-set_same, get_or-set_other}
+use Rattle.std.proofs.Common.{◌≡◌, ◌⊎◌, ℕ, zero, suc, ◌+◌, ◌*◌, ◌<◌, ◌≤◌, List, [], length, get_or, set, take, drop, replicate, refl, sym, ap, ◌∙◌, inl, inr, arith, length-take, length-drop, length-set, get_or-take, get_or-set_same, get_or-set_other}
 use Rattle.std.proofs.lemmas.Bool.{cases_eq, cases_lt}
 use Rattle.std.proofs.lemmas.Grind.{same_number_lists}
 use Rattle.std.proofs.lemmas.List.{get_or-drop, get_or-replicate, length-replicate}
 use Rattle.std.proofs.lemmas.List.FromFn.{fill_by_all, length-map-range_with_len, get_or-map-range_with_len}
-use Rattle.lis_limits.specs.declared.TheConstants.{MAX_DESCRIPTION, MAX_FILES}
+use Rattle.lis_limits.specs.declared.TheConstants.{MAX_DESCRIPTION}
 use Rattle.lis_ext.specs.Stride.{lists_of, AreSoundLists}
 
 module _ (numbers lengths : List ℕ) where
@@ -22,17 +22,6 @@ unfolding lists_of
 lists-empty lists numbers = sym (fill_by_all (λ i. take (get_or (replicate lists 0) i 0) (drop (i * MAX_DESCRIPTION) numbers)) (replicate lists []) (length (replicate lists 0)) [] (length-replicate {A = List ℕ} lists [] ∙ sym (length-replicate {A = ℕ} lists 0))
     (λ k lt. let low : k < lists = omega (arith, length-replicate {A = ℕ} lists 0) in get_or-replicate lists k [] [] low ∙ sym (ap (λ n. take n (drop (k * MAX_DESCRIPTION) numbers)) (get_or-replicate lists k 0 0 low))))
 
-pub sound-empty : (lists capacity : ℕ) (numbers : List ℕ) → lists ≤ MAX_FILES → lists * MAX_DESCRIPTION ≤ capacity → AreSoundLists numbers (replicate lists 0) capacity
-sound-empty lists capacity numbers few room = record {
-  room = rw (length-replicate {A = ℕ} lists 0) room;
-  few_lists = omega (arith, few, length-replicate {A = ℕ} lists 0);
-  few_numbers = λ i low. omega (arith, none i low);
-  within = λ i low some. absurd (omega (arith, none i low));
-}
-  where
-    none : (i : ℕ) → i < length {A = ℕ} (replicate lists 0) → get_or {A = ℕ} (replicate lists 0) i 0 ≡ 0
-    none i low = get_or-replicate lists i 0 0 (omega (arith, length-replicate {A = ℕ} lists 0))
-
 -- the part of a list that has these numbers, one by one
 part_is : (xs part : List ℕ) (start : ℕ) → start + length part ≤ length xs → ((k : ℕ) → k < length part → get_or xs (start + k) 0 ≡ get_or part k 0) → take (length part) (drop start xs) ≡ part
 part_is xs part start room same = same_number_lists (take (length part) (drop start xs)) part long
@@ -46,25 +35,6 @@ length-part xs start many room = omega (arith, length-take many (drop start xs),
 
 module _ (numbers lengths numbers' new : List ℕ) (list capacity : ℕ) (sound : AreSoundLists numbers lengths capacity) (lt : list < length lengths) (few : length new ≤ MAX_DESCRIPTION)
     (grown : length numbers ≤ length numbers') (reach : list * MAX_DESCRIPTION + length new ≤ length numbers') where
-  pub sound-set : AreSoundLists numbers' (set lengths list (length new)) capacity
-  sound-set = record {
-    room = rw (length-set lengths list (length new)) sound.room;
-    few_lists = omega (arith, sound.few_lists, length-set lengths list (length new));
-    few_numbers = λ i low. short i (omega (arith, length-set lengths list (length new))) (cases_eq i list);
-    within = λ i low. inside i (omega (arith, length-set lengths list (length new))) (cases_eq i list);
-  }
-    where
-      short : (i : ℕ) → i < length lengths → (i ≡ list) ⊎ (i ≡ list → ⊥) → get_or (set lengths list (length new)) i 0 ≤ MAX_DESCRIPTION
-      short i low (inl same) = rw (same, get_or-set_same lengths list (length new) 0 lt) few
-      short i low (inr differ) = rw (get_or-set_other lengths list i (length new) 0 differ) (sound.few_numbers i low)
-
-      inside : (i : ℕ) → i < length lengths → (i ≡ list) ⊎ (i ≡ list → ⊥) → 0 < get_or (set lengths list (length new)) i 0 → i * MAX_DESCRIPTION + get_or (set lengths list (length new)) i 0 ≤ length numbers'
-      inside i low (inl same) some = rw (same, get_or-set_same lengths list (length new) 0 lt) reach
-      inside i low (inr differ) some =
-          let other = get_or-set_other lengths list i (length new) 0 differ in
-          let was = sound.within i low (omega (arith, some, other)) in
-          rw other (omega (arith, was, grown))
-
   pub lists-set : ((k : ℕ) → k < length new → get_or numbers' (list * MAX_DESCRIPTION + k) 0 ≡ get_or new k 0) → ((k : ℕ) → (k < list * MAX_DESCRIPTION) ⊎ (list * MAX_DESCRIPTION + length new ≤ k) → get_or numbers' k 0 ≡ get_or numbers k 0)
       → lists_of numbers' (set lengths list (length new)) ≡ set (lists_of numbers lengths) list new
   unfolding lists_of
@@ -95,10 +65,3 @@ module _ (numbers lengths numbers' new : List ℕ) (list capacity : ℕ) (sound 
           ∙ sym (part_is numbers' new (list * MAX_DESCRIPTION) reach written))
       at k low (inr differ) = rw (get_or-set_other lengths list k (length new) 0 differ) (get_or-set_other (lists_of numbers lengths) list k new [] differ
           ∙ (list-lists_of numbers lengths k low ∙ stays k (get_or lengths k 0) (sound.few_numbers k low) (sound.within k low) differ))
-
--- one more zero is behind a list
-pub zero_more : (xs : List ℕ) (k : ℕ) → get_or (xs ++ 0 ∷ []) k 0 ≡ get_or xs k 0
-zero_more [] zero = refl
-zero_more [] (suc k) = refl
-zero_more (x ∷ xs) zero = refl
-zero_more (x ∷ xs) (suc k) = zero_more xs k

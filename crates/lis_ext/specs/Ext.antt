@@ -1,7 +1,7 @@
 -- What a contract sees of an `Ext`.
 use Rattle.std.specs.Prelude.{ℕ, ◌<◌, ◌≤◌, Bool, ◌&&◌, ◌||◌, All, List, [], length, replicate, slice_index_or, count_by}
 use Rattle.std.specs.List.Sorted.{IsStrictlyIncreasing}
-use Rattle.lis_limits.specs.declared.TheConstants.{MAX_DESCRIPTION, MAX_FILES, MAX_PROPS}
+use Rattle.lis_limits.specs.declared.TheConstants.{MAX_FILES, MAX_PROPS}
 use Rattle.lis_ext.specs.Numbers.{has_number, numbers_where}
 
 -- numbers below `props`, the set of each file as a rising list, the numbers that are marked as changed, in rising

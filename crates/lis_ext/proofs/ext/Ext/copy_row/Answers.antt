@@ -1,4 +1,4 @@
-use Rattle.std.proofs.Common.{sym, ◌∙◌, arith}
+use Rattle.std.proofs.Common.{◌∙◌, arith}
 use Rattle.lis_bits.specs.Rows.{get}
 use Rattle.lis_bits.proofs.Laws.{with_row_same}
 use Rattle.lis_ext.specs.Ext.{has}

@@ -1,4 +1,4 @@
-use Rattle.std.proofs.Common.{sym, ◌∙◌, arith}
+use Rattle.std.proofs.Common.{◌∙◌, arith}
 use Rattle.lis_ext.proofs.ext.Ext.has.Goals as goal
 
 pub get-requires-clause-bit : goal.get-requires-clause-bit

@@ -1,4 +1,4 @@
-use Rattle.std.proofs.Common.{length, sym, ◌∙◌, arith}
+use Rattle.std.proofs.Common.{length, ◌∙◌, arith}
 use Rattle.lis_bits.specs.Rows.{get}
 use Rattle.lis_bits.proofs.Numbers.{bytes_same}
 use Rattle.lis_ext.specs.Ext.{has}

@@ -1,6 +1,5 @@
-use Rattle.std.proofs.Common.{rules, ◌≡◌, replicate, subst, sym, List, ℕ, vec_capacity, arith}
-use Rattle.lis_ext.specs.Stride.{AreSoundLists}
-use Rattle.lis_ext.proofs.Stride.{lists-empty, sound-empty}
+use Rattle.std.proofs.Common.{rules, ◌≡◌, replicate}
+use Rattle.lis_ext.proofs.Stride.{lists-empty}
 use Rattle.lis_ext.proofs.lists.Lists.new.Goals as goal
 
 pub returns : goal.returns

@@ -1,5 +1,4 @@
-use Rattle.std.proofs.Common.{◌≡◌, ◌*◌, List, ℕ, length, get_or, set, ap, ◌∙◌, arith}
-use Rattle.lis_limits.specs.declared.TheConstants.{MAX_DESCRIPTION}
+use Rattle.std.proofs.Common.{◌≡◌, List, ℕ, length, get_or, set, ap, ◌∙◌, arith}
 use Rattle.lis_ext.specs.Stride.{lists_of}
 use Rattle.lis_ext.proofs.Stride.{length-lists_of, lists-set}
 use Rattle.lis_ext.proofs.Counted.{retaken}
