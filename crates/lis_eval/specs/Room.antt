@@ -12,6 +12,7 @@ pub record HasRoom (s : Scratch) (limits : Limits) : Type 0 where
   pub locals : HasShape s.locals 1 limits.files
   pub candidates : HasShape s.candidates 1 limits.props
   pub increments : HasShape s.increments 1 limits.props
+  pub counts : length s.counts.items ≡ limits.props
   pub route : length s.route.items ≡ limits.files
 
 -- the rows have a bit for each slot of the view

@@ -23,6 +23,8 @@ pub struct Scratch {
     pub candidates: Rows,
     /// One row of words: the increments of a listing.
     pub increments: Rows,
+    /// Of how many of the files that are found each number is.
+    pub counts: Vec<u32>,
     /// The places, in the order of words, of the words of a route.
     pub route: Vec<u32>,
     /// How many words the route has.
@@ -41,6 +43,7 @@ impl Scratch {
             locals: Rows::new(alloc, 1, limits.files)?,
             candidates: Rows::new(alloc, 1, limits.props)?,
             increments: Rows::new(alloc, 1, limits.props)?,
+            counts: vec![in alloc; 0; limits.props as usize]?,
             route: vec![in alloc; 0; limits.files as usize]?,
             steps: 0,
         })

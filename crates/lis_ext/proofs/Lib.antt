@@ -1,4 +1,5 @@
 pub mod Numbers
-mod Changes
-mod InStep
-pub mod Seen
+mod Stride
+pub mod Touched
+mod Bits
+pub mod Counted

@@ -1,3 +1,4 @@
 pub mod Numbers
 pub mod Ext
+pub mod Stride
 pub mod Inside

@@ -1,27 +1,32 @@
-ghost use Rattle.std.specs.Prelude.{◌≡◌, ℕ, ◌+◌, ◌*◌, ◌%◌, ◌<◌, ◌≤◌, All, [], length, slice_get, slice_set, IfOk};
+ghost use Rattle.std.specs.Prelude.{◌≡◌, ℕ, ◌+◌, ◌*◌, ◌%◌, ◌<◌, ◌≤◌, All, [], length, slice_get, slice_set, slice_index, IfOk};
+ghost use Rattle.std.specs.List.{list_any};
 ghost use Rattle.std.specs.List.Sorted.{IsStrictlyIncreasing};
-ghost use Rattle.lis_bits.specs.Rows.{HasShape, get, with_row};
+ghost use Rattle.lis_bits.specs.Rows.{get, with_row};
 ghost use Rattle.lis_bits.specs.Bytes.{bits_bytes};
-ghost use Rattle.lis_ext.specs.Numbers.{differs, numbers_where};
+ghost use Rattle.lis_ext.specs.Numbers.{differs, has_number, numbers_where};
 
+use crate::lists::Lists;
 use crate::tables;
 use lis_bits::{Rows, copy_row};
-use lis_limits::{MAX_FILES, MAX_PROPS};
+use lis_limits::{MAX_DESCRIPTION, MAX_FILES, MAX_PROPS};
 use std::alloc::{AllocError, Global};
 use std::marker::Model;
 
-/// The set of numbers of each file, kept as a row of bits for each number, and marks of the rows that have changed.
+/// The set of numbers of each file, how many files have each number, and marks of the numbers that a file got or lost.
 /// All memory is taken by `new`.
 #[derive(Drop)]
 pub struct Ext {
     props: u32,
     files: u32,
-    // Row p has bit i where file i has the number p.
+    // Row p has bit i if file i has the number p: the lists, by number. Images are spelled from them.
     rows: Rows,
-    // Row i has bit p where file i has the number p: the bits of `rows`, by file.
-    sets: Rows,
+    // The numbers of each file, in rising order.
+    lists: Lists,
+    // How many files have each number.
+    counts: Vec<u32>,
     // One row, of the numbers that are marked.
     marks: Rows,
+    edits: u64,
 }
 
 impl Model for Ext {
@@ -31,13 +36,13 @@ impl Model for Ext {
 
     ghost use Rattle.lis_ext.specs.Inside.{seen, IsSoundExt};
 
-    ghost view = { λ e. seen e.rows e.marks e.props e.files };
+    ghost view = { λ e. seen e.lists e.marks e.props e.edits };
 
-    ghost invariant = { λ e. IsSoundExt e.rows e.sets e.marks e.props e.files };
+    ghost invariant = { λ e. IsSoundExt e.lists e.counts.items e.rows e.marks e.props e.files };
 }
 
 impl Ext {
-    ghost use Rattle.lis_ext.specs.Ext.{has, set_of, empty_ext, with_marks};
+    ghost use Rattle.lis_ext.specs.Ext.{has, set_of, count_of, count_where, empty_ext, with_marks, IsKept};
 
     /// Empty sets of so many files.
     pub fn new(alloc: Global, props: u32, files: u32) -> Result<Ext, AllocError>
@@ -51,43 +56,51 @@ impl Ext {
             props,
             files,
             rows: Rows::new(alloc, props, files)?,
-            sets: Rows::new(alloc, files, props)?,
+            lists: Lists::new(alloc, files)?,
+            counts: vec![in alloc; 0; props as usize]?,
             marks: Rows::new(alloc, 1, props)?,
+            edits: 0,
         })
     }
 
-    /// Makes a file's set a new one, and marks the numbers that are in one of the two and not in both. Each set was in range, as always.
-    pub fn set_file(&mut self, file: u32, old: &[u16], new: &[u16])
+    /// Makes a file's set a new one, and marks the numbers that are in one of the two and not in both. Each set was in
+    /// range, as always.
+    pub fn set_file(&mut self, file: u32, new: &[u16])
         requires file { file < length self.old.sets }
-        requires old_set { set_of self.old file ≡ old.now }
+        requires few { length new.now ≤ MAX_DESCRIPTION }
         requires new_rises { IsStrictlyIncreasing new.now }
         requires new_in { All (λ number. number < self.old.props) new.now }
         ensures in_range { (i : ℕ) → i < length self.old.sets → All (λ p. p < self.old.props) (set_of self.old i) }
         ensures props { self.new.props ≡ self.old.props }
         ensures sets { self.new.sets ≡ slice_set self.old.sets file new.now }
-        ensures marks { self.new.marks ≡ with_marks self.old (differs old.now new.now) }
+        ensures marks { self.new.marks ≡ with_marks self.old (differs (set_of self.old file) new.now) }
         ensures edits { self.new.edits
-            ≤ self.old.edits + length (numbers_where self.old.props (differs old.now new.now)) }
+            ≤ self.old.edits + length (numbers_where self.old.props (differs (set_of self.old file) new.now)) }
         ensures no_fewer { self.old.edits ≤ self.new.edits }
     {
-        tables::add_numbers(
-            &mut self.rows,
-            &mut self.marks,
-            self.props,
-            self.files,
-            file,
-            new,
-        );
-        tables::drop_numbers(
-            &mut self.rows,
-            &mut self.marks,
-            self.props,
-            self.files,
-            file,
-            old,
-            new,
-        );
-        tables::put_set(&mut self.sets, self.props, self.files, file, new);
+        let old = self.lists.numbers(file);
+        let lost = tables::lose(&mut self.counts, &mut self.marks, self.props, old, new);
+        let gained = tables::gain(&mut self.counts, &mut self.marks, self.props, new, old);
+        let (props, files) = (self.props, self.files);
+        tables::put_bits(&mut self.rows, props, files, file, old, new, false);
+        tables::put_bits(&mut self.rows, props, files, file, new, old, true);
+        self.edits = self.edits.saturating_add(u64::from(lost + gained));
+        self.lists.set(file, new);
+    }
+
+    /// How many numbers there are. The contract also says what each `Ext` keeps.
+    pub fn props(&self) -> u32
+        ensures props { result ≡ self.now.props }
+        ensures kept { IsKept self.now }
+    {
+        self.props
+    }
+
+    /// How many files there are.
+    pub fn files(&self) -> u32
+        ensures { result ≡ length self.now.sets }
+    {
+        self.files
     }
 
     /// Whether a file has a number.
@@ -97,6 +110,59 @@ impl Ext {
         ensures { result ≡ has self.now prop file }
     {
         self.rows.get(prop, file)
+    }
+
+    /// The numbers of a file, in rising order. The contract also says what each `Ext` keeps.
+    pub fn numbers(&self, file: u32) -> &[u16]
+        requires { file < length self.now.sets }
+        ensures numbers { result.now ≡ set_of self.now file }
+        ensures few { length result.now ≤ MAX_DESCRIPTION }
+        ensures rise { IsStrictlyIncreasing result.now }
+        ensures in_range { All (λ p. p < self.now.props) result.now }
+        ensures kept { IsKept self.now }
+    {
+        self.lists.numbers(file)
+    }
+
+    /// How many files have a number.
+    pub fn count(&self, prop: u32) -> u32
+        requires { prop < self.now.props }
+        ensures { result ≡ count_of self.now.sets prop }
+    {
+        self.counts[prop as usize]
+    }
+
+    /// Whether some file has a number.
+    pub fn is_had(&self, prop: u32) -> bool
+        requires { prop < self.now.props }
+        ensures { result ≡ list_any (λ set. has_number set prop) self.now.sets }
+    {
+        self.counts[prop as usize] > 0
+    }
+
+    /// Counts for each number how many of the files in row 0 have it, and answers how many files are in the row.
+    pub fn count_among(&self, found: &Rows, counts: &mut [u32]) -> u32
+        requires row { 0 < length found.now.rows }
+        requires bits { found.now.bits ≡ length self.now.sets }
+        requires room { length counts.old ≡ self.now.props }
+        ensures counts { (p : ℕ) → p < self.now.props
+            → slice_index counts.new p ≡ count_where self.now (get found.now 0) p }
+        ensures found { result ≡ length (numbers_where (length self.now.sets) (get found.now 0)) }
+    {
+        counts.fill(0);
+        let mut many = 0;
+        let mut start = 0;
+        for _ in 0..self.files {
+            match found.next(0, start) {
+                None => return many,
+                Some(file) => {
+                    tables::count_all(counts, self.lists.numbers(file));
+                    many += 1;
+                    start = file + 1;
+                }
+            }
+        }
+        many
     }
 
     /// Writes the files that have a number into a row.
@@ -123,30 +189,11 @@ impl Ext {
         self.marks.fill(0, false);
     }
 
-    /// The rows: a row for each number, with a bit for each file. The contract also tells what each `Ext` keeps.
-    pub fn rows(&self) -> &Rows
-        ensures shape { HasShape result.now self.now.props (length self.now.sets) }
-        ensures values { (p i : ℕ) → p < self.now.props → i < length self.now.sets
-            → get result.now p i ≡ has self.now p i }
-        ensures edits { result.now.edits ≡ self.now.edits }
-        ensures rise { (i : ℕ) → i < length self.now.sets → IsStrictlyIncreasing (set_of self.now i) }
-        ensures in_range { (i : ℕ) → i < length self.now.sets → All (λ p. p < self.now.props) (set_of self.now i) }
-        ensures few_props { self.now.props ≤ MAX_PROPS }
-        ensures few_files { length self.now.sets ≤ MAX_FILES }
+    /// How often a file got or lost a number since `new`. It stays at its last value, 2^64 - 1.
+    pub fn edits(&self) -> u64
+        ensures { result ≡ self.now.edits }
     {
-        &self.rows
-    }
-
-    /// The sets: a row for each file, with a bit for each number.
-    pub fn sets(&self) -> &Rows
-        ensures shape { HasShape result.now (length self.now.sets) self.now.props }
-        ensures values { (i p : ℕ) → i < length self.now.sets → p < self.now.props
-            → get result.now i p ≡ has self.now p i }
-        ensures tells { (i : ℕ) → i < length self.now.sets
-            → set_of self.now i ≡ numbers_where self.now.props (get result.now i) }
-        ensures few_props { self.now.props ≤ MAX_PROPS }
-    {
-        &self.sets
+        self.edits
     }
 
     /// Writes the files that have a number as bytes: bit i % 8 of byte i / 8, bit 0 the lowest, tells file i.

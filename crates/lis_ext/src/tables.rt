@@ -1,10 +1,11 @@
-ghost use Rattle.std.specs.Prelude.{◌≡◌, ◌+◌, ◌<◌, ◌==◌, if◌then◌else◌, All, slice_get};
+ghost use Rattle.std.specs.Prelude.{◌≡◌, ℕ, ◌+◌, ◌<◌, ◌≤◌, ◌^◌, true, All, length, slice_get, slice_index};
 ghost use Rattle.std.specs.List.Sorted.{IsStrictlyIncreasing};
 ghost use Rattle.lis_bits.specs.Rows.{HasShape, get};
 ghost use Rattle.lis_ext.specs.Numbers.{has_number, numbers_where};
-ghost use Rattle.lis_ext.specs.Inside.{AddsNumbers, DropsNumbers, HasSets};
+ghost use Rattle.lis_ext.specs.Inside.{CountsUp, Touches, PutsBits, has_alone};
 
 use lis_bits::Rows;
+use lis_limits::MAX_DESCRIPTION;
 
 // Whether the number is one of those that rise.
 fn is_among(numbers: &[u16], number: u16) -> bool
@@ -14,68 +15,99 @@ fn is_among(numbers: &[u16], number: u16) -> bool
     numbers.binary_search(&number).is_ok()
 }
 
-// Sets the file's bit in the row of each of the numbers that lacks it, and marks these rows.
-pub(crate) fn add_numbers(
-    rows: &mut Rows,
+// Counts one more of each number that is none of the others, and marks it. Answers how many these are.
+pub(crate) fn gain(
+    counts: &mut [u32],
     marks: &mut Rows,
+    props: u32,
+    numbers: &[u16],
+    others: &[u16],
+) -> u32
+    requires room { length counts.old ≡ props }
+    requires marks_shape { HasShape marks.old 1 props }
+    requires in_props { All (λ number. number < props) numbers.now }
+    requires rise { IsStrictlyIncreasing numbers.now }
+    requires others_rise { IsStrictlyIncreasing others.now }
+    requires short { length numbers.now ≤ MAX_DESCRIPTION }
+    requires fit { (p : ℕ) → p < props → slice_index counts.old p + 1 < 2 ^ 32 }
+    ensures counts { CountsUp counts.old counts.new props (has_alone numbers.now others.now) }
+    ensures marks { Touches marks.old marks.new props (has_alone numbers.now others.now) result }
+    ensures few { result ≤ length numbers.now }
+{
+    let mut gained = 0;
+    for number in numbers {
+        if !is_among(others, *number) {
+            counts[*number as usize] += 1;
+            marks.put(0, u32::from(*number), true);
+            gained += 1;
+        }
+    }
+    gained
+}
+
+// Counts one less of each number that is none of the others, and marks it. Answers how many these are.
+pub(crate) fn lose(
+    counts: &mut [u32],
+    marks: &mut Rows,
+    props: u32,
+    numbers: &[u16],
+    others: &[u16],
+) -> u32
+    requires room { length counts.old ≡ props }
+    requires marks_shape { HasShape marks.old 1 props }
+    requires in_props { All (λ number. number < props) numbers.now }
+    requires rise { IsStrictlyIncreasing numbers.now }
+    requires others_rise { IsStrictlyIncreasing others.now }
+    requires short { length numbers.now ≤ MAX_DESCRIPTION }
+    requires counted { (p : ℕ) → has_number numbers.now p ≡ true → 0 < slice_index counts.old p }
+    ensures counts { CountsUp counts.new counts.old props (has_alone numbers.now others.now) }
+    ensures marks { Touches marks.old marks.new props (has_alone numbers.now others.now) result }
+    ensures few { result ≤ length numbers.now }
+{
+    let mut lost = 0;
+    for number in numbers {
+        if !is_among(others, *number) {
+            counts[*number as usize] -= 1;
+            marks.put(0, u32::from(*number), true);
+            lost += 1;
+        }
+    }
+    lost
+}
+
+// Sets the file's bit in the row of each number that is none of the others.
+pub(crate) fn put_bits(
+    rows: &mut Rows,
     props: u32,
     files: u32,
     file: u32,
-    new: &[u16],
+    numbers: &[u16],
+    others: &[u16],
+    value: bool,
 )
-    requires rows_shape { HasShape rows.old props files }
-    requires marks_shape { HasShape marks.old 1 props }
-    requires file { file < files }
-    requires in_props { All (λ number. number < props) new.now }
-    ensures { AddsNumbers rows.old rows.new marks.old marks.new props files file new.now }
-{
-    for number in new {
-        let prop = u32::from(*number);
-        if !rows.get(prop, file) {
-            rows.put(prop, file, true);
-            marks.put(0, prop, true);
-        }
-    }
-}
-
-// Clears the file's bit in the row of each old number that is no new one, and marks these rows.
-pub(crate) fn drop_numbers(
-    rows: &mut Rows,
-    marks: &mut Rows,
-    props: u32,
-    files: u32,
-    file: u32,
-    old: &[u16],
-    new: &[u16],
-)
-    requires rows_shape { HasShape rows.old props files }
-    requires marks_shape { HasShape marks.old 1 props }
-    requires file { file < files }
-    requires in_props { All (λ number. number < props) old.now }
-    requires old_rises { IsStrictlyIncreasing old.now }
-    requires new_rises { IsStrictlyIncreasing new.now }
-    ensures { DropsNumbers rows.old rows.new marks.old marks.new props files file old.now new.now }
-{
-    for number in old {
-        let prop = u32::from(*number);
-        if !is_among(new, *number) {
-            rows.put(prop, file, false);
-            marks.put(0, prop, true);
-        }
-    }
-}
-
-// Sets the row of a file to these numbers.
-pub(crate) fn put_set(sets: &mut Rows, props: u32, files: u32, file: u32, numbers: &[u16])
-    requires shape { HasShape sets.old files props }
+    requires shape { HasShape rows.old props files }
     requires file { file < files }
     requires in_props { All (λ number. number < props) numbers.now }
-    ensures { HasSets sets.new props files
-        (λ i p. if i == file then has_number numbers.now p else get sets.old i p) }
+    requires rise { IsStrictlyIncreasing numbers.now }
+    requires others_rise { IsStrictlyIncreasing others.now }
+    ensures { PutsBits rows.old rows.new props files file (has_alone numbers.now others.now) value }
 {
-    sets.fill(file, false);
     for number in numbers {
-        sets.put(file, u32::from(*number), true);
+        if !is_among(others, *number) {
+            rows.put(u32::from(*number), file, value);
+        }
+    }
+}
+
+// Counts one more of each of these numbers.
+pub(crate) fn count_all(counts: &mut [u32], numbers: &[u16])
+    requires in_counts { All (λ number. number < length counts.old) numbers.now }
+    requires rise { IsStrictlyIncreasing numbers.now }
+    requires fit { (p : ℕ) → p < length counts.old → slice_index counts.old p + 1 < 2 ^ 32 }
+    ensures { CountsUp counts.old counts.new (length counts.old) (has_number numbers.now) }
+{
+    for number in numbers {
+        counts[*number as usize] += 1;
     }
 }
 

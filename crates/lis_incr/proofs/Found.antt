@@ -1,17 +1,20 @@
 -- The files found, and the words that split them.
-use Rattle.std.proofs.Common.{◌≡◌, ◌⊎◌, ℕ, ◌<◌, ◌==◌, Bool, true, false, not, Option, Some, None, List, length, filter, IsTrue, ◌↔◌, refl, sym, ap, ◌∙◌, inl, inr, arith}
+use Rattle.std.proofs.Common.{◌≡◌, ◌≢◌, ◌⊎◌, ℕ, ◌+◌, ◌<◌, ◌==◌, nat_lt, Bool, true, not, ◌&&◌, Option, Some, None, List, length, get_or, filter, refl, sym, ap, ◌∙◌, inl, inr, arith}
 use Rattle.std.specs.Bool.{one_answer}
 use Rattle.std.specs.List.{list_any, Contains}
-use Rattle.std.proofs.lemmas.Bool.{eqb-true}
+use Rattle.std.proofs.lemmas.Bool.{eqb-true, ltb-true, lt-ltb, and_parts, and_from}
 use Rattle.lis_graph.proofs.Members.{Among, among_from_contains, contains_from_among, among_from_any, any_from_among, among_filter, filter_among, among_map, map_among}
 use Rattle.lis_words.specs.Words.{has_word}
-use Rattle.lis_bits.specs.Rows.{Rows, get, Meets}
+use Rattle.lis_bits.specs.Rows.{Rows, HasShape, SetsBits, get, with_row}
+use Rattle.lis_bits.proofs.Laws.{shaped, new_row}
 use Rattle.lis_model.specs.Table.{Entry}
 use Rattle.lis_model.specs.Listing.{is_candidate}
+use Rattle.lis_ext.specs.Numbers.{numbers_where}
 use Rattle.lis_ext.specs.Ext as ext
+use Rattle.lis_ext.proofs.Counted.{some_where, where_some, where_split}
 use Rattle.lis_eval.specs.View.{Placed, Seen, file_in, IsView, TellsFiles}
 use Rattle.lis_eval.proofs.Members.{find_is}
-use Rattle.lis_incr.specs.Marked.{found_files, Finds}
+use Rattle.lis_incr.specs.Marked.{found_files, Finds, SplitBy, splits_by}
 
 -- a slot has a file, or is free
 pub slot_file : (v : Seen) (slot : ℕ) → ((f : Placed) × Contains v.files f × (f.slot ≡ slot)) ⊎ (file_in v slot ≡ None)
@@ -33,81 +36,58 @@ module _ (v : Seen) (found : Rows) where
       let parts = among_filter (λ (g : Placed). get found 0 g.slot) v.files source.0 source.1 in
       (source.0, contains_from_among v.files source.0 parts.0, parts.1, source.2)
 
-not_twice : (a b : Bool) → a ≡ not b → not a ≡ b
-not_twice a true e = ap not e
-not_twice a false e = ap not e
+-- the set of a file's slot tells which words the file has
+pub has_told : (v : Seen) (e : ext.Ext) → TellsFiles v e → (w : List ℕ × ℕ) → Contains v.words w → (number : ℕ) → w.1 ≡ number → (f : Placed) → Contains v.files f → ext.has e number f.slot ≡ has_word f.entry.words w.0
+has_told v e tells w there number numbered f here = ap (λ n. ext.has e n f.slot) (sym numbered) ∙ tells.told w f there here
 
-not_true : (b : Bool) → not b ≡ true → b ≡ false
-not_true true e = absurd cc
-not_true false e = refl
+-- some slot found passes where some file found does
+some_found : (v : Seen) (found : Rows) → IsView v → Finds v found → (test : ℕ → Bool) (passes : Entry → Bool) → ((f : Placed) → Contains v.files f → test f.slot ≡ passes f.entry)
+    → nat_lt 0 (length (numbers_where v.limits.files (λ k. get found 0 k && test k))) ≡ list_any passes (found_files v found)
+some_found v found kept finds test passes told = one_answer (nat_lt 0 (length (numbers_where v.limits.files (λ k. get found 0 k && test k)))) (list_any passes (found_files v found)) (only, all) (λ e. e, λ e. e)
+  where
+    at : (slot : ℕ) → slot < v.limits.files → get found 0 slot ≡ true → test slot ≡ true → ((f : Placed) × Contains v.files f × (f.slot ≡ slot)) ⊎ (file_in v slot ≡ None) → list_any passes (found_files v found) ≡ true
+    at slot lt here set (inl f) = any_from_among passes (found_files v found) f.0.entry (in_found v found f.0 f.1 (ap (get found 0) f.2 ∙ here)) (sym (told f.0 f.1) ∙ (ap test f.2 ∙ set))
+    at slot lt here set (inr free) = absurd (let none = finds.none slot lt free in cc)
 
-not_false : (b : Bool) → b ≡ false → not b ≡ true
-not_false b e = ap not e
+    only : nat_lt 0 (length (numbers_where v.limits.files (λ k. get found 0 k && test k))) ≡ true → list_any passes (found_files v found) ≡ true
+    only some =
+        let slot = some_where v.limits.files (λ k. get found 0 k && test k) (ltb-true 0 (length (numbers_where v.limits.files (λ k. get found 0 k && test k))) some) in
+        let parts = and_parts (get found 0 slot.0) (test slot.0) slot.2 in
+        at slot.0 slot.1 parts.0 parts.1 (slot_file v slot.0)
 
--- the row of a word's number tells which files have the word
-pub row_told : (v : Seen) → IsView v → (e : ext.Ext) → TellsFiles v e → (rows : Rows) → ((p i : ℕ) → p < e.props → i < length e.sets → get rows p i ≡ ext.has e p i) → (w : List ℕ × ℕ) → Contains v.words w → (number : ℕ) → w.1 ≡ number
-    → (f : Placed) → Contains v.files f → get rows number f.slot ≡ has_word f.entry.words w.0
-row_told v kept e tells rows values w there number numbered f here =
-    let low = kept.numbers w there in
-    let slot = kept.slots f here in
-    let props = tells.props in
-    let files = tells.files in
-    values number f.slot (omega arith) (omega arith) ∙ (ap (λ n. ext.has e n f.slot) (sym numbered) ∙ tells.told w f there here)
+    all : list_any passes (found_files v found) ≡ true → nat_lt 0 (length (numbers_where v.limits.files (λ k. get found 0 k && test k))) ≡ true
+    all any =
+        let some = among_from_any passes (found_files v found) any in
+        let f = from_found v found some.0 some.1 in
+        lt-ltb 0 (length (numbers_where v.limits.files (λ k. get found 0 k && test k))) (where_some v.limits.files (λ k. get found 0 k && test k) f.0.slot (kept.slots f.0 f.1) (and_from (get found 0 f.0.slot) (test f.0.slot) f.2 (told f.0 f.1 ∙ (ap passes f.3 ∙ some.2))))
 
--- the row of a word against the files found
-module _ (v : Seen) (kept : IsView v) (found : Rows) (finds : Finds v found) (rows : Rows) (w : List ℕ × ℕ) (number : ℕ) (told : (f : Placed) → Contains v.files f → get rows number f.slot ≡ has_word f.entry.words w.0) where
-  some_has : Meets found 0 rows number → list_any (λ (e : Entry). has_word e.words w.0) (found_files v found) ≡ true
-  some_has common = at (slot_file v common.0)
-    where
-      at : ((f : Placed) × Contains v.files f × (f.slot ≡ common.0)) ⊎ (file_in v common.0 ≡ None) → list_any (λ (e : Entry). has_word e.words w.0) (found_files v found) ≡ true
-      at (inl f) = any_from_among (λ (e : Entry). has_word e.words w.0) (found_files v found) f.0.entry (in_found v found f.0 f.1 (ap (get found 0) f.2 ∙ common.2)) (sym (told f.0 f.1) ∙ (ap (get rows number) f.2 ∙ common.3))
-      at (inr free) = absurd (let lt = common.1 in let none = finds.none common.0 (omega (arith, finds.shape.wide)) free in let set = common.2 in cc)
+-- fewer than all, where there are others
+fewer : (a b : ℕ) → nat_lt a (a + b) ≡ nat_lt 0 b
+fewer a b = one_answer (nat_lt a (a + b)) (nat_lt 0 b) (λ e. let lt = ltb-true a (a + b) e in lt-ltb 0 b (omega arith), λ e. let lt = ltb-true 0 b e in lt-ltb a (a + b) (omega arith)) (λ e. e, λ e. e)
 
-  has_some : list_any (λ (e : Entry). has_word e.words w.0) (found_files v found) ≡ true → Meets found 0 rows number
-  has_some any =
-      let some = among_from_any (λ (e : Entry). has_word e.words w.0) (found_files v found) any in
-      let f = from_found v found some.0 some.1 in
-      (f.0.slot, omega (arith, kept.slots f.0 f.1, finds.shape.wide), f.2, told f.0 f.1 ∙ (ap (λ (e : Entry). has_word e.words w.0) f.3 ∙ some.2))
+splits : (count many a b : ℕ) (some others : Bool) → count ≡ a → many ≡ a + b → nat_lt 0 a ≡ some → nat_lt 0 b ≡ others → (nat_lt 0 count && nat_lt count many) ≡ (some && others)
+splits count many a b some others count_is many_is has lacks = rw (count_is, many_is, fewer a b, has, lacks) refl
 
-  pub meets_is : (met : Bool) → IsTrue met ↔ Meets found 0 rows number → met ≡ list_any (λ (e : Entry). has_word e.words w.0) (found_files v found)
-  meets_is met is = one_answer met (list_any (λ (e : Entry). has_word e.words w.0) (found_files v found)) is (has_some, some_has)
+-- what counts of the files found tell
+pub split_by : (v : Seen) → IsView v → (found : Rows) → Finds v found → (e : ext.Ext) → TellsFiles v e → (counts : List ℕ) (many : ℕ) → length counts ≡ v.limits.props
+    → ((p : ℕ) → p < e.props → get_or counts p 0 ≡ ext.count_where e (get found 0) p) → many ≡ length (numbers_where (length e.sets) (get found 0)) → SplitBy v (found_files v found) counts many
+split_by v kept found finds e tells counts many room counted total = record { room = room; told = λ w there. told w there }
+  where
+    told : (w : List ℕ × ℕ) → Contains v.words w → splits_by counts many w.1 ≡ is_candidate (found_files v found) w.0
+    told w there = splits (get_or counts w.1 0) many (length (numbers_where v.limits.files (λ k. get found 0 k && ext.has e w.1 k))) (length (numbers_where v.limits.files (λ k. get found 0 k && not (ext.has e w.1 k))))
+        (list_any (λ (f : Entry). has_word f.words w.0) (found_files v found)) (list_any (λ (f : Entry). not (has_word f.words w.0)) (found_files v found))
+        (let low = kept.numbers w there in counted w.1 (omega (arith, tells.props)) ∙ ap (λ n. length (numbers_where n (λ k. get found 0 k && ext.has e w.1 k))) tells.files)
+        (total ∙ (ap (λ n. length (numbers_where n (get found 0))) tells.files ∙ where_split v.limits.files (get found 0) (ext.has e w.1)))
+        (some_found v found kept finds (ext.has e w.1) (λ (f : Entry). has_word f.words w.0) (λ f here. tells.told w f there here))
+        (some_found v found kept finds (λ k. not (ext.has e w.1 k)) (λ (f : Entry). not (has_word f.words w.0)) (λ f here. ap not (tells.told w f there here)))
 
-  Inside : Type 0
-  Inside = (bit : ℕ) → bit < found.bits → IsTrue (get found 0 bit) → IsTrue (get rows number bit)
+-- a row of those found that have a number too
+module _ (found mid : Rows) (files : ℕ) (had : ℕ → Bool) (shape : HasShape found 65 files) (copied : SetsBits found mid 65 files 1 had) where
+  pub both_shape : HasShape (with_row mid 0 (λ bit. get mid 0 bit && get mid 1 bit)) 65 files
+  both_shape = shaped mid 65 files 0 (λ bit. get mid 0 bit && get mid 1 bit) copied.shape
 
-  none_lacks : Inside → not (list_any (λ (e : Entry). not (has_word e.words w.0)) (found_files v found)) ≡ true
-  unfolding Inside
-  none_lacks inside = by (list_any (λ (e : Entry). not (has_word e.words w.0)) (found_files v found)) refl
-    where
-      by : (b : Bool) → list_any (λ (e : Entry). not (has_word e.words w.0)) (found_files v found) ≡ b → not b ≡ true
-      by false e = refl
-      by true e =
-          let some = among_from_any (λ (e : Entry). not (has_word e.words w.0)) (found_files v found) e in
-          let f = from_found v found some.0 some.1 in
-          let lacks = not_true (has_word some.0.words w.0) some.2 in
-          let has = inside f.0.slot (omega (arith, kept.slots f.0 f.1, finds.shape.wide)) f.2 in
-          let same = sym (told f.0 f.1) in
-          let entry = ap (λ (e : Entry). has_word e.words w.0) f.3 in
-          absurd cc
-
-  lacks_none : not (list_any (λ (e : Entry). not (has_word e.words w.0)) (found_files v found)) ≡ true → Inside
-  unfolding Inside
-  lacks_none none bit lt set = at (slot_file v bit)
-    where
-      has : (f : Placed) → Contains v.files f → get found 0 f.slot ≡ true → (b : Bool) → has_word f.entry.words w.0 ≡ b → b ≡ true
-      has f there is true e = refl
-      has f there is false e = absurd (let any = any_from_among (λ (e : Entry). not (has_word e.words w.0)) (found_files v found) f.entry (in_found v found f there is) (not_false (has_word f.entry.words w.0) e) in let no = not_true _ none in cc)
-
-      at : ((f : Placed) × Contains v.files f × (f.slot ≡ bit)) ⊎ (file_in v bit ≡ None) → get rows number bit ≡ true
-      at (inl f) = ap (get rows number) (sym f.2) ∙ (told f.0 f.1 ∙ has f.0 f.1 (ap (get found 0) f.2 ∙ set) (has_word f.0.entry.words w.0) refl)
-      at (inr free) = absurd (let no = finds.none bit (omega (arith, finds.shape.wide)) free in cc)
-
-  pub within_is : (within : Bool) → IsTrue within ↔ ((bit : ℕ) → bit < found.bits → IsTrue (get found 0 bit) → IsTrue (get rows number bit)) → not within ≡ list_any (λ (e : Entry). not (has_word e.words w.0)) (found_files v found)
-  unfolding Inside
-  within_is within is = not_twice within (list_any (λ (e : Entry). not (has_word e.words w.0)) (found_files v found)) (one_answer within (not (list_any (λ (e : Entry). not (has_word e.words w.0)) (found_files v found))) is (lacks_none, none_lacks))
-
-  pub no_split : (met : Bool) → IsTrue met ↔ Meets found 0 rows number → met ≡ false → false ≡ is_candidate (found_files v found) w.0
-  no_split met is none = rw (sym (meets_is met is) ∙ none)
-
-  pub split : (met within : Bool) → IsTrue met ↔ Meets found 0 rows number → IsTrue within ↔ ((bit : ℕ) → bit < found.bits → IsTrue (get found 0 bit) → IsTrue (get rows number bit)) → met ≡ true → not within ≡ is_candidate (found_files v found) w.0
-  split met within is inside some = within_is within inside ∙ rw (sym (meets_is met is) ∙ some)
+  pub both_at : (bit : ℕ) → bit < files → get (with_row mid 0 (λ bit. get mid 0 bit && get mid 1 bit)) 0 bit ≡ (get found 0 bit && had bit)
+  both_at bit lt =
+      let first : 0 ≢ 1 = omega arith in
+      new_row mid 65 files 0 bit (λ bit. get mid 0 bit && get mid 1 bit) copied.shape (omega arith) lt
+      ∙ (ap (λ b. b && get mid 1 bit) (copied.others 0 bit first) ∙ ap (λ b. get found 0 bit && b) (copied.at bit lt))

@@ -1,8 +1,8 @@
 -- Rows of marks on words and on files. No public clause cites this module.
-use Rattle.std.specs.Prelude.{◌≡◌, ℕ, ◌<◌, ◌==◌, Bool, false, not, ◌&&◌, ◌||◌, None, List, map, filter, take}
+use Rattle.std.specs.Prelude.{◌≡◌, ℕ, ◌<◌, ◌≤◌, ◌==◌, nat_lt, Bool, false, not, ◌&&◌, None, List, length, map, filter, take, slice_index}
 use Rattle.std.specs.List.{list_any, Contains}
 use Rattle.lis_words.specs.Words.{same_word, has_word}
-use Rattle.lis_bits.specs.Rows.{Rows, HasShape, get, SetsBits}
+use Rattle.lis_bits.specs.Rows.{Rows, HasShape, get}
 use Rattle.lis_model.specs.Table.{Table, Entry, entails}
 use Rattle.lis_model.specs.Listing.{is_candidate, is_local}
 use Rattle.lis_eval.specs.View.{Placed, Seen, file_in}
@@ -35,12 +35,6 @@ pub record IsSame (old new : Rows) (bits : ℕ) : Type 0 where
   pub shape : HasShape new 1 bits
   pub same : (n : ℕ) → n < bits → get new 0 n ≡ get old 0 n
 
--- the word is marked where it splits the files, and then no local has it
-pub record MarksWord (v : Seen) (files : List Entry) (w : List ℕ × ℕ) (old_marks new_marks old_locals new_locals : Rows) : Type 0 where
-  pub marks : SetsBits old_marks new_marks 1 v.limits.props 0 (λ n. get old_marks 0 n || ((w.1 == n) && is_candidate files w.0))
-  pub shape : HasShape new_locals 1 v.limits.files
-  pub locals : (f : Placed) → Contains v.files f → get new_locals 0 f.slot ≡ (get old_locals 0 f.slot && not (is_candidate files w.0 && has_word f.entry.words w.0))
-
 -- the row has the files found of which no word splits the files
 pub record LeavesLocals (v : Seen) (files : List Entry) (found locals : Rows) : Type 0 where
   pub shape : HasShape locals 1 v.limits.files
@@ -50,10 +44,20 @@ pub record LeavesLocals (v : Seen) (files : List Entry) (found locals : Rows) : 
 abbrev pub is_covered : List Entry → List (List ℕ × ℕ) → Entry → Bool
 is_covered files words e = list_any (λ (w : List ℕ × ℕ). is_candidate files w.0 && has_word e.words w.0) words
 
--- the row has the files found that none of the first k words covers
-pub record LeftTo (v : Seen) (files : List Entry) (found : Rows) (k : ℕ) (locals : Rows) : Type 0 where
+-- the counts tell that some file has the word of a number, and not each of so many
+abbrev pub splits_by : List ℕ → ℕ → ℕ → Bool
+splits_by counts many number = nat_lt 0 (slice_index counts number) && nat_lt (slice_index counts number) many
+
+-- the counts tell of each word whether it splits the files
+pub record SplitBy (v : Seen) (files : List Entry) (counts : List ℕ) (many : ℕ) : Type 0 where
+  pub room : length counts ≡ v.limits.props
+  pub told : (w : List ℕ × ℕ) → Contains v.words w → splits_by counts many w.1 ≡ is_candidate files w.0
+
+-- the row has, of the files in the first k slots, those found that no word covers, and of the others those found
+pub record LocalsTo (v : Seen) (files : List Entry) (found : Rows) (k : ℕ) (locals : Rows) : Type 0 where
   pub shape : HasShape locals 1 v.limits.files
-  pub left : (f : Placed) → Contains v.files f → get locals 0 f.slot ≡ (get found 0 f.slot && not (is_covered files (take k v.words) f.entry))
+  pub done : (f : Placed) → Contains v.files f → f.slot < k → get locals 0 f.slot ≡ (get found 0 f.slot && not (is_covered files v.words f.entry))
+  pub left : (slot : ℕ) → k ≤ slot → slot < v.limits.files → get locals 0 slot ≡ get found 0 slot
 
 -- the word passes the test, and no other known word that it entails does
 abbrev pub is_top : Table → (List ℕ → Bool) → List ℕ → Bool

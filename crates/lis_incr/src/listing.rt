@@ -7,7 +7,7 @@ ghost use Rattle.lis_eval.specs.Room.{HasRoom};
 ghost use Rattle.lis_incr.specs.Lines.{listing, words_from, names_from, lines_from};
 
 use crate::increments::mark_increments;
-use crate::marks::mark_candidates;
+use crate::marks::{count_words, leave_locals, mark_candidates};
 use lis_bits::Rows;
 use lis_eval::{Scratch, View, evaluate};
 use lis_place::Place;
@@ -125,12 +125,14 @@ pub fn make_listing<V: View>(view: &V, scratch: &mut Scratch, place: &Place)
 {
     evaluate(view, scratch, place);
     let props = scratch.limits.props;
-    mark_candidates(
+    let many = count_words(view, &scratch.files, &mut scratch.counts);
+    mark_candidates(view, &scratch.counts, many, &mut scratch.candidates, props);
+    leave_locals(
         view,
         &scratch.files,
-        &mut scratch.candidates,
+        &scratch.candidates,
         &mut scratch.locals,
-        props,
+        scratch.limits.files,
     );
     mark_increments(
         view,

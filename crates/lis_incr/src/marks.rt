@@ -1,111 +1,175 @@
 //! Which words split the files found, and which files no such word covers.
 
-ghost use Rattle.std.specs.Prelude.{◌≡◌, ℕ, ◌<◌, ◌==◌, ◌&&◌, ◌||◌, List};
-ghost use Rattle.std.specs.List.{Contains};
+ghost use Rattle.std.specs.Prelude.{◌≡◌, ◌≢◌, ℕ, ◌<◌, ◌==◌, ◌&&◌, ◌||◌, not, All, List, length};
+ghost use Rattle.std.specs.List.{Contains, list_any};
 ghost use Rattle.lis_bits.specs.Rows.{HasShape, get, SetsBits};
 ghost use Rattle.lis_words.specs.Words.{has_word};
+ghost use Rattle.lis_model.specs.Table.{Entry};
 ghost use Rattle.lis_model.specs.Listing.{is_candidate};
 ghost use Rattle.lis_eval.specs.View.{Placed, IsView};
-ghost use Rattle.lis_incr.specs.Marked.{found_files, Finds, AreMarked, MarksWord, LeavesLocals};
+ghost use Rattle.lis_incr.specs.Marked.{found_files, Finds, AreMarked, SplitBy, LeavesLocals, splits_by, is_covered};
 
-use lis_bits::{Rows, and_not_row, copy_row, meets, within};
+use lis_bits::{Rows, copy_row};
 use lis_eval::View;
 
-// Whether some of the files found has the word of a number, and some lacks it.
-pub(crate) fn splits<V: View>(view: &V, found: &Rows, number: u32) -> bool
+// Counts for each number how many of the files found have it, and answers how many are found.
+pub(crate) fn count_words<V: View>(view: &V, found: &Rows, counts: &mut [u32]) -> u32
     requires found { Finds (V.seen view.now) found.now }
-    requires number { number < (V.seen view.now).limits.props }
-    ensures { (w : List ℕ × ℕ) → Contains (V.seen view.now).words w → w.1 ≡ number
-        → result ≡ is_candidate (found_files (V.seen view.now) found.now) w.0 }
+    requires room { length counts.old ≡ (V.seen view.now).limits.props }
+    ensures { SplitBy (V.seen view.now) (found_files (V.seen view.now) found.now) counts.new result }
 {
-    let rows = view.ext().rows();
-    if !meets(found, 0, rows, number) {
-        return false;
-    }
-    !within(found, 0, rows, number)
+    view.ext().count_among(found, counts)
 }
 
-// Marks a word that splits the files found, and takes the files that have it from the locals.
-fn mark_word<V: View>(view: &V, found: &Rows, candidates: &mut Rows, locals: &mut Rows, number: u32)
-    requires found { Finds (V.seen view.now) found.now }
-    requires number { number < (V.seen view.now).limits.props }
-    requires candidates { HasShape candidates.old 1 (V.seen view.now).limits.props }
-    requires locals { HasShape locals.old 1 (V.seen view.now).limits.files }
-    ensures { (w : List ℕ × ℕ) → Contains (V.seen view.now).words w → w.1 ≡ number
-        → MarksWord (V.seen view.now) (found_files (V.seen view.now) found.now) w candidates.old candidates.new locals.old locals.new }
+// Whether some of the files has a number, and some lacks it.
+fn splits(counts: &[u32], many: u32, number: u32) -> bool
+    requires { number < length counts.now }
+    ensures { result ≡ splits_by counts.now many number }
 {
-    if splits(view, found, number) {
+    let count = counts[number as usize];
+    count > 0 && count < many
+}
+
+// Marks a number that splits the files.
+fn mark_number(counts: &[u32], many: u32, candidates: &mut Rows, number: u32)
+    requires number { number < length counts.now }
+    requires candidates { HasShape candidates.old 1 (length counts.now) }
+    ensures { SetsBits candidates.old candidates.new 1 (length counts.now) 0
+        (λ n. get candidates.old 0 n || ((number == n) && splits_by counts.now many number)) }
+{
+    if splits(counts, many, number) {
         candidates.put(0, number, true);
-        and_not_row(view.ext().rows(), number, locals, 0);
     }
 }
 
-// Marks the words that split the files found, and leaves as locals the files found that have none of them.
+// Marks the words that split the files.
 pub(crate) fn mark_candidates<V: View>(
     view: &V,
-    found: &Rows,
+    counts: &[u32],
+    many: u32,
     candidates: &mut Rows,
-    locals: &mut Rows,
     props: u32,
 )
-    requires found { Finds (V.seen view.now) found.now }
     requires kept { IsView (V.seen view.now) }
     requires props { props ≡ (V.seen view.now).limits.props }
+    requires room { length counts.now ≡ (V.seen view.now).limits.props }
     requires candidates { HasShape candidates.old 1 (V.seen view.now).limits.props }
-    requires locals { HasShape locals.old 1 (V.seen view.now).limits.files }
-    ensures marked { AreMarked (V.seen view.now) (is_candidate (found_files (V.seen view.now) found.now)) candidates.new }
-    ensures locals { LeavesLocals (V.seen view.now) (found_files (V.seen view.now) found.now) found.now locals.new }
+    ensures shape { HasShape candidates.new 1 (V.seen view.now).limits.props }
+    ensures marked { (files : List Entry) → SplitBy (V.seen view.now) files counts.now many
+        → AreMarked (V.seen view.now) (is_candidate files) candidates.new }
 {
     candidates.fill(0, false);
-    copy_row(found, 0, locals, 0);
     for k in 0..props {
         match view.word_at(k) {
             None => return,
-            Some((_, number)) => mark_word(view, found, candidates, locals, u32::from(number)),
+            Some((_, number)) => mark_number(counts, many, candidates, u32::from(number)),
         }
     }
 }
 
-// Marks a word that splits the files found and that the file in the slot has.
-fn mark_own<V: View>(view: &V, found: &Rows, candidates: &mut Rows, slot: u32, number: u32)
+// Whether one of the numbers is marked.
+fn has_marked(numbers: &[u16], marks: &Rows) -> bool
+    requires row { 0 < length marks.now.rows }
+    requires in_range { All (λ number. number < marks.now.bits) numbers.now }
+    ensures { result ≡ list_any (get marks.now 0) numbers.now }
+{
+    for number in numbers {
+        if marks.get(0, u32::from(*number)) {
+            return true;
+        }
+    }
+    false
+}
+
+// Takes the file in a slot from the locals where one of its words is marked.
+fn take_covered<V: View>(view: &V, candidates: &Rows, locals: &mut Rows, slot: u32)
+    requires kept { IsView (V.seen view.now) }
+    requires candidates { HasShape candidates.now 1 (V.seen view.now).limits.props }
+    requires locals { HasShape locals.old 1 (V.seen view.now).limits.files }
+    requires slot { slot < (V.seen view.now).limits.files }
+    ensures shape { HasShape locals.new 1 (V.seen view.now).limits.files }
+    ensures others { (k : ℕ) → k < (V.seen view.now).limits.files → k ≢ slot → get locals.new 0 k ≡ get locals.old 0 k }
+    ensures own { (files : List Entry) (f : Placed) → AreMarked (V.seen view.now) (is_candidate files) candidates.now → Contains (V.seen view.now).files f → f.slot ≡ slot
+        → get locals.new 0 slot ≡ (get locals.old 0 slot && not (is_covered files (V.seen view.now).words f.entry)) }
+{
+    if !locals.get(0, slot) {
+        return;
+    }
+    if has_marked(view.ext().numbers(slot), candidates) {
+        locals.put(0, slot, false);
+    }
+}
+
+// Leaves as locals the files found that have none of the words that are marked.
+pub(crate) fn leave_locals<V: View>(
+    view: &V,
+    found: &Rows,
+    candidates: &Rows,
+    locals: &mut Rows,
+    files: u32,
+)
     requires found { Finds (V.seen view.now) found.now }
-    requires number { number < (V.seen view.now).limits.props }
+    requires kept { IsView (V.seen view.now) }
+    requires files { files ≡ (V.seen view.now).limits.files }
+    requires candidates { AreMarked (V.seen view.now) (is_candidate (found_files (V.seen view.now) found.now)) candidates.now }
+    requires locals { HasShape locals.old 1 (V.seen view.now).limits.files }
+    ensures { LeavesLocals (V.seen view.now) (found_files (V.seen view.now) found.now) found.now locals.new }
+{
+    copy_row(found, 0, locals, 0);
+    for slot in 0..files {
+        take_covered(view, candidates, locals, slot);
+    }
+}
+
+// Marks a word that splits the files and that the file in the slot has.
+fn mark_own<V: View>(
+    view: &V,
+    counts: &[u32],
+    many: u32,
+    candidates: &mut Rows,
+    slot: u32,
+    number: u32,
+)
+    requires number { number < length counts.now }
+    requires room { length counts.now ≡ (V.seen view.now).limits.props }
     requires candidates { HasShape candidates.old 1 (V.seen view.now).limits.props }
-    requires slot { (f : Placed) × Contains (V.seen view.now).files f × (f.slot ≡ slot) }
-    ensures { (f : Placed) (w : List ℕ × ℕ) → Contains (V.seen view.now).files f → f.slot ≡ slot → Contains (V.seen view.now).words w → w.1 ≡ number
+    requires slot { slot < (V.seen view.now).limits.files }
+    ensures shape { HasShape candidates.new 1 (V.seen view.now).limits.props }
+    ensures marks { (f : Placed) (w : List ℕ × ℕ) → Contains (V.seen view.now).files f → f.slot ≡ slot → Contains (V.seen view.now).words w → w.1 ≡ number
         → SetsBits candidates.old candidates.new 1 (V.seen view.now).limits.props 0
-        (λ n. get candidates.old 0 n
-        || ((w.1 == n) && (has_word f.entry.words w.0 && is_candidate (found_files (V.seen view.now) found.now) w.0))) }
+        (λ n. get candidates.old 0 n || ((number == n) && (has_word f.entry.words w.0 && splits_by counts.now many number))) }
 {
     if !view.ext().has(number, slot) {
         return;
     }
-    if splits(view, found, number) {
-        candidates.put(0, number, true);
-    }
+    mark_number(counts, many, candidates, number);
 }
 
-// Marks the words of the file in the slot that split the files found.
+// Marks the words of the file in the slot that split the files.
 pub(crate) fn mark_all_own<V: View>(
     view: &V,
-    found: &Rows,
+    counts: &[u32],
+    many: u32,
     candidates: &mut Rows,
     slot: u32,
     props: u32,
 )
-    requires found { Finds (V.seen view.now) found.now }
     requires kept { IsView (V.seen view.now) }
     requires props { props ≡ (V.seen view.now).limits.props }
+    requires room { length counts.now ≡ (V.seen view.now).limits.props }
     requires candidates { HasShape candidates.old 1 (V.seen view.now).limits.props }
     requires slot { (f : Placed) × Contains (V.seen view.now).files f × (f.slot ≡ slot) }
-    ensures { (f : Placed) → Contains (V.seen view.now).files f → f.slot ≡ slot
-        → AreMarked (V.seen view.now) (λ word. has_word f.entry.words word && is_candidate (found_files (V.seen view.now) found.now) word) candidates.new }
+    ensures shape { HasShape candidates.new 1 (V.seen view.now).limits.props }
+    ensures marked { (files : List Entry) (f : Placed) → SplitBy (V.seen view.now) files counts.now many → Contains (V.seen view.now).files f → f.slot ≡ slot
+        → AreMarked (V.seen view.now) (λ word. has_word f.entry.words word && is_candidate files word) candidates.new }
 {
     candidates.fill(0, false);
     for k in 0..props {
         match view.word_at(k) {
             None => return,
-            Some((_, number)) => mark_own(view, found, candidates, slot, u32::from(number)),
+            Some((_, number)) => {
+                mark_own(view, counts, many, candidates, slot, u32::from(number))
+            }
         }
     }
 }

@@ -70,6 +70,7 @@ pub fn make_route<V: View>(view: &V, scratch: &mut Scratch, place: &Place, name:
     scratch.steps = walk(
         view,
         files,
+        &mut scratch.counts,
         &mut scratch.candidates,
         &mut scratch.route,
         slot,

@@ -12,8 +12,8 @@ ghost use Rattle.lis_incr.specs.Ways.{AreKnown, words_of};
 ghost use Rattle.lis_incr.specs.Walking.{IsFirst};
 
 use crate::increments::is_top;
-use crate::marks::mark_all_own;
-use lis_bits::{Rows, and_row};
+use crate::marks::{count_words, mark_all_own};
+use lis_bits::Rows;
 use lis_eval::View;
 
 // How many files are found.
@@ -42,6 +42,7 @@ pub(crate) fn count_found<V: View>(view: &V, found: &Rows, files: u32) -> u32
 fn first_step<V: View>(
     view: &V,
     found: &Rows,
+    counts: &mut [u32],
     candidates: &mut Rows,
     slot: u32,
     props: u32,
@@ -49,12 +50,14 @@ fn first_step<V: View>(
     requires found { Finds (V.seen view.now) found.now }
     requires kept { IsView (V.seen view.now) }
     requires props { props ≡ (V.seen view.now).limits.props }
+    requires room { length counts.old ≡ (V.seen view.now).limits.props }
     requires candidates { HasShape candidates.old 1 (V.seen view.now).limits.props }
     requires slot { (f : Placed) × Contains (V.seen view.now).files f × (f.slot ≡ slot) }
     ensures shape { HasShape candidates.new 1 (V.seen view.now).limits.props }
     ensures first { (f : Placed) → Contains (V.seen view.now).files f → f.slot ≡ slot → IsFirst (V.seen view.now) found.now f.entry result }
 {
-    mark_all_own(view, found, candidates, slot, props);
+    let many = count_words(view, found, counts);
+    mark_all_own(view, counts, many, candidates, slot, props);
     for k in 0..props {
         match view.word_at(k) {
             None => return None,
@@ -74,6 +77,7 @@ fn first_step<V: View>(
 pub(crate) fn walk<V: View>(
     view: &V,
     found: &mut Rows,
+    counts: &mut [u32],
     candidates: &mut Rows,
     route: &mut [u32],
     slot: u32,
@@ -83,6 +87,7 @@ pub(crate) fn walk<V: View>(
     requires found { Finds (V.seen view.now) found.old }
     requires kept { IsView (V.seen view.now) }
     requires props { props ≡ (V.seen view.now).limits.props }
+    requires room { length counts.old ≡ (V.seen view.now).limits.props }
     requires candidates { HasShape candidates.old 1 (V.seen view.now).limits.props }
     requires slot { (f : Placed) × Contains (V.seen view.now).files f × (f.slot ≡ slot) }
     requires most { most ≤ length route.old }
@@ -95,10 +100,11 @@ pub(crate) fn walk<V: View>(
         → words_of (V.seen view.now) (take result route.new) ≡ route_within most (table_of (V.seen view.now)) place f.entry }
 {
     for step in 0..most {
-        match first_step(view, found, candidates, slot, props) {
+        match first_step(view, found, counts, candidates, slot, props) {
             None => return step,
             Some((place, number)) => {
-                and_row(view.ext().rows(), number, found, 0);
+                view.ext().copy_row(number, found, 1);
+                found.and(0, 1);
                 route[step as usize] = place;
             }
         }

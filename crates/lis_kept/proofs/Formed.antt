@@ -4,7 +4,7 @@ use Rattle.lis_kept.proofs.Common.{rules, data_start, ◌≡◌, ◌⊎◌, inl,
 use Rattle.std.specs.List.{All}
 use Rattle.std.proofs.lemmas.Option.{unwrap_or-slice_get}
 use Rattle.lis_ext.specs.Ext.{set_of}
-use Rattle.lis_ext.proofs.Seen.{each_below}
+use Rattle.lis_ext.proofs.Counted.{each_below}
 use Rattle.lis_fields.specs.Layouts.{is_axiom, is_file, is_record}
 use Rattle.lis_kept.specs.Metadata.{Metadata, axiom_at, file_by, record_at}
 use Rattle.lis_kept.specs.Sound.{AreSound, IsSoundAxiom, is_sound_record, FreeSlotsAreEmpty}

@@ -3,7 +3,6 @@ use Rattle.std.proofs.Common.{arith}
 use Rattle.lis_kept.proofs.Common.{common_steps, rules, ◌≡◌, ◌⊎◌, inl, inr, slice_get, refl, sym, ap, ap₂, ◌∙◌, ℕ, ◌<◌, ◌==◌, ◌||◌, Bool, true, false, List, [], ◌∷◌, length, Option, Some, None, is_some, IsSome, IfSome, IfNone, list_any, and_parts, ne_eqb, eqb-true, or_cases, Among, among_from_any, contains_from_among, NoneTrue, get, Dict, IsDict, word_of, number_from_word, word_from_number, Ext, has, AxiomSlot, FreeAxiom, Pair, is_valued, same_word_decides, head_not_valued, and_from, both_ways, false_from_ne_true, or_left, or_right, any_from_among, same_tests}
 use Rattle.std.proofs.lemmas.Bool.{eq-eqb}
 use Rattle.std.proofs.lemmas.List.{get_or_default}
-use Rattle.lis_bits.specs.Rows.{Rows, HasShape}
 use Rattle.lis_blockmap.specs.Bitmap.{is_taken}
 use Rattle.lis_kept.specs.Metadata.{Metadata}
 use Rattle.lis_kept.specs.Telling.{is_left_of, is_head_by, is_left_head_of, is_had, is_named_left, is_used}
@@ -11,15 +10,10 @@ use Rattle.lis_kept.specs.Edges.{head_number}
 use Rattle.lis_kept.proofs.OwnLinks.{slot_at, among_slot}
 use Rattle.lis_kept.proofs.WordLess.{had_from}
 
--- ---- by rows
+-- ---- by slots
 -- a description that has the number is that of some slot
 pub had_at : (e : Ext) (n : ℕ) → is_had e n ≡ true → (slot : ℕ) × (slot < length e.sets) × (has e n slot ≡ true)
 had_at e n had = search (rules, among_from_any, contains_from_among, get_or_default)
-
-pub had_by_row : (e : Ext) (n : ℕ) (rows : Rows) → HasShape rows e.props (length e.sets)
-    → ((p i : ℕ) → p < e.props → i < length e.sets → get rows p i ≡ has e p i) → n < e.props
-    → (o : Option ℕ) → IfSome o (λ bit. get rows n bit ≡ true) → IfSome o (λ bit. bit < rows.bits) → IfNone o (NoneTrue rows n 0 rows.bits) → is_some o ≡ is_had e n
-had_by_row e n rows h1 h2 h3 o h4 h5 h6 = search (rules, false_from_ne_true, had_at, both_ways, had_from)
 
 -- ---- why a number is in use
 module _ (k : Metadata) where

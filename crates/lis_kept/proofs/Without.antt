@@ -1,7 +1,9 @@
--- Whether a description has a number where that in a slot is left out, told by rows.
-use Rattle.std.proofs.Common.{arith}
-use Rattle.lis_kept.proofs.Common.{rules, ◌≡◌, sym, ap, ◌∙◌, subst, ℕ, ◌+◌, ◌<◌, ◌≤◌, true, false, Option, is_some, IfSome, IfNone, [], length, set, get_or-set_same, get_or-set_other, length-set, get_or_past, cases_lt, NoneTrue, get, Ext, has, both_ways, false_from_ne_true}
-use Rattle.lis_bits.specs.Rows.{Rows, HasShape}
+-- Whether a description has a number where that in a slot is left out, told by counts.
+use Rattle.std.proofs.Common.{◌⊎◌, inl, inr, zero, suc, nat_lt, if◌then◌else◌, refl, arith}
+use Rattle.std.proofs.lemmas.List.{set_past}
+use Rattle.lis_kept.proofs.Common.{rules, ◌≡◌, sym, ap, ◌∙◌, subst, ℕ, ◌+◌, ◌<◌, ◌≤◌, true, false, [], length, set, get_or-set_same, get_or-set_other, length-set, get_or_past, cases_lt, lt-ltb, Ext, has, both_ways}
+use Rattle.lis_ext.specs.Ext.{count_of}
+use Rattle.lis_ext.proofs.Counted.{counted_set, any_counted}
 use Rattle.lis_kept.specs.Telling.{is_had}
 use Rattle.lis_kept.proofs.Used.{had_at}
 use Rattle.lis_kept.proofs.WordLess.{had_from}
@@ -27,13 +29,34 @@ module _ (e : Ext) (slot n : ℕ) where
   pub elsewhere_had : (at : ℕ) → (at ≡ slot → ⊥) → has e n at ≡ true → is_had (left_out e slot) n ≡ true
   elsewhere_had at differ has_it = had_from (left_out e slot) n at (same_elsewhere at differ ∙ has_it)
 
-  module _ (rows : Rows) (shape : HasShape rows e.props (length e.sets)) (values : (p i : ℕ) → p < e.props → i < length e.sets → get rows p i ≡ has e p i) (below : n < e.props) where
-    pub none_had : NoneTrue rows n 0 rows.bits → false ≡ is_had (left_out e slot) n
-    none_had none = search (rules, false_from_ne_true, had_elsewhere, both_ways)
+  -- it is had by as many more sets as have it, of which that in the slot is one
+  pub counted_out : slot < length e.sets → count_of (left_out e slot).sets n + (if has e n slot then 1 else 0) ≡ count_of e.sets n
+  counted_out lt = let sum = counted_set e.sets slot [] n lt in omega (arith, sum)
 
-    pub first_had : (first : ℕ) → get rows n first ≡ true → first < rows.bits → (first ≡ slot → ⊥) → true ≡ is_had (left_out e slot) n
-    first_had first bit in_row differ = sym (elsewhere_had first differ (sym (values n first below (omega (arith, in_row, shape.wide))) ∙ bit))
+  pub had_counted : nat_lt 0 (count_of (left_out e slot).sets n) ≡ is_had (left_out e slot) n
+  had_counted = any_counted (λ ns. has_number ns n) (left_out e slot).sets
 
-    pub next_had : (first : ℕ) → first ≡ slot → NoneTrue rows n 0 first → (o : Option ℕ) → IfSome o (λ bit. get rows n bit ≡ true) → IfSome o (λ bit. bit < rows.bits)
-        → IfSome o (λ bit. first + 1 ≤ bit) → IfNone o (NoneTrue rows n (first + 1) rows.bits) → is_some o ≡ is_had (left_out e slot) n
-    next_had first here least o bit in_row from none = search (rules, false_from_ne_true, had_elsewhere, both_ways, cases_lt, elsewhere_had)
+  -- the slot has it, and then another one where there are two
+  pub had_twice : has e n slot ≡ true → nat_lt 1 (count_of e.sets n) ≡ is_had (left_out e slot) n
+  had_twice here = by (cases_lt slot (length e.sets))
+    where
+      one_less : (m : ℕ) → nat_lt 1 (m + 1) ≡ nat_lt 0 m
+      one_less zero = refl
+      one_less (suc m) = lt-ltb 1 (suc m + 1) (omega arith) ∙ sym (lt-ltb 0 (suc m) (omega arith))
+
+      by : (slot < length e.sets) ⊎ (length e.sets ≤ slot) → nat_lt 1 (count_of e.sets n) ≡ is_had (left_out e slot) n
+      by (inl lt) =
+          let sum = rw here at (counted_out lt) in
+          ap (nat_lt 1) (sym sum) ∙ (one_less (count_of (left_out e slot).sets n) ∙ had_counted)
+      by (inr past) = absurd (both_ways (has e n slot) (ap (λ ns. has_number ns n) (get_or_past e.sets slot [] past)) here)
+
+  -- the slot lacks it
+  pub had_once : has e n slot ≡ false → nat_lt 0 (count_of e.sets n) ≡ is_had (left_out e slot) n
+  had_once lacks = by (cases_lt slot (length e.sets))
+    where
+      by : (slot < length e.sets) ⊎ (length e.sets ≤ slot) → nat_lt 0 (count_of e.sets n) ≡ is_had (left_out e slot) n
+      by (inl lt) =
+          let sum = rw lacks at (counted_out lt) in
+          let same : count_of e.sets n ≡ count_of (left_out e slot).sets n = omega (arith, sum) in
+          ap (nat_lt 0) same ∙ had_counted
+      by (inr past) = ap (λ sets. nat_lt 0 (count_of sets n)) (sym (set_past e.sets slot [] past)) ∙ had_counted

@@ -6,7 +6,7 @@ ghost use Rattle.std.specs.List.Sorted.{IsStrictlyIncreasing};
 ghost use Rattle.lis_content.specs.Content.{marked};
 ghost use Rattle.lis_catalog.specs.Catalog.{rec_at, slot_of};
 ghost use Rattle.lis_dict.specs.Dict.{word_of};
-ghost use Rattle.lis_ext.specs.Ext.{set_of, has};
+ghost use Rattle.lis_ext.specs.Ext.{has};
 ghost use Rattle.lis_model.specs.Image.{data_start};
 ghost use Rattle.lis_model.specs.Ranges.{are_in_range};
 ghost use Rattle.lis_kept.specs.Areas.{block_of};
@@ -21,7 +21,7 @@ use crate::places::{files_start, rows_start};
 use lis_bits::Flags;
 use lis_ext::Ext;
 use lis_fields::FileRec;
-use lis_limits::{BLOCK_LEN, FILES_PER_BLOCK};
+use lis_limits::{BLOCK_LEN, FILES_PER_BLOCK, MAX_DESCRIPTION};
 use lis_model::limits::Limits;
 
 // Marks the blocks of the rows that changed.
@@ -57,15 +57,15 @@ fn mark_file(marks: &mut Flags, limits: &Limits, slot: u16)
 
 impl Metadata {
     /// Gives a file slot other numbers, those of its file's description.
-    pub fn describe(&mut self, slot: u16, old: &[u16], new: &[u16])
+    pub fn describe(&mut self, slot: u16, new: &[u16])
         requires slot { slot < self.old.limits.files }
-        requires was { set_of self.old.ext slot ≡ old.now }
+        requires few { length new.now ≤ MAX_DESCRIPTION }
         requires rising { IsStrictlyIncreasing new.now }
         requires named { IsTrue (list_all (λ n. is_some (word_of self.old.dict n)) new.now) }
         ensures describes { Describes slot new.now self.old self.new }
         ensures sound { AreSound self.new }
     {
-        self.ext.set_file(u32::from(slot), old, new);
+        self.ext.set_file(u32::from(slot), new);
         mark_rows(&self.ext, &self.limits, &mut self.marks);
         self.ext.settle();
     }

@@ -147,13 +147,6 @@ impl Metadata {
         }
         let width = self.limits.files / 8;
         let count = BLOCK_LEN as u32 / width;
-        write_rows(
-            &self.ext,
-            self.limits.props,
-            count * (n - rows),
-            width as usize,
-            count,
-            block,
-        );
+        write_rows(&self.ext, count * (n - rows), width as usize, count, block);
     }
 }

@@ -1,10 +1,12 @@
 //! What memory keeps, as calls read it.
 
 ghost use Rattle.std.specs.Prelude.{◌≡◌, ℕ, ◌<◌, ◌≤◌, List, Some, None, MatchOption, length, filter, slice_get, IsSome, IsTrue};
+ghost use Rattle.std.specs.List.Sorted.{IsStrictlyIncreasing};
 ghost use Rattle.std.specs.Option.{option_map};
 ghost use Rattle.lis_blockmap.specs.Bitmap.{free_count, is_taken};
 ghost use Rattle.lis_catalog.specs.Catalog.{Filed, slot_of, rec_at};
 ghost use Rattle.lis_dict.specs.Dict.{number_of, word_of};
+ghost use Rattle.lis_ext.specs.Ext.{set_of};
 ghost use Rattle.lis_fields.specs.Records.{FileRecord};
 ghost use Rattle.lis_words.specs.Words.{is_file_name, test_of};
 ghost use Rattle.lis_kept.specs.Links.{TellsLinks};
@@ -14,7 +16,7 @@ use crate::metadata::Metadata;
 use lis_blockmap::BlockMap;
 use lis_ext::Ext;
 use lis_fields::FileRec;
-use lis_limits::MAX_ASSIGNED;
+use lis_limits::{MAX_ASSIGNED, MAX_DESCRIPTION};
 use lis_taxonomy::Taxonomy;
 use lis_words::{Name, Word};
 
@@ -127,6 +129,16 @@ impl Metadata {
         ensures { result.now ≡ self.now.ext }
     {
         &self.ext
+    }
+
+    /// The numbers of the description of the file in a slot, in rising order.
+    pub fn numbers(&self, slot: u16) -> &[u16]
+        requires { IsSome (rec_at self.now.catalog slot) }
+        ensures numbers { result.now ≡ set_of self.now.ext slot }
+        ensures few { length result.now ≤ MAX_DESCRIPTION }
+        ensures rising { IsStrictlyIncreasing result.now }
+    {
+        self.ext.numbers(u32::from(slot))
     }
 
     /// The links between the words that have numbers.

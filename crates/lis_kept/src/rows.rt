@@ -8,14 +8,12 @@ use lis_ext::Ext;
 use lis_limits::BLOCK_LEN;
 
 // Writes the row of a number, which is empty past the last one.
-fn write_row(ext: &Ext, props: u32, number: u32, row: &mut [u8])
-    requires props { props ≡ ext.now.props }
+fn write_row(ext: &Ext, number: u32, row: &mut [u8])
     requires whole { 8 * length row.old ≡ length ext.now.sets }
     ensures { row.new ≡ row_bytes ext.now number }
 {
-    let rows = ext.rows();
-    if number < props {
-        rows.row_bytes(number, row);
+    if number < ext.props() {
+        ext.row_bytes(number, row);
         return;
     }
     row.fill(0);
@@ -25,8 +23,7 @@ fn write_row(ext: &Ext, props: u32, number: u32, row: &mut [u8])
 const MAX_ROWS: u32 = 2_000_000;
 
 /// Writes so many rows, from that of a number on.
-pub fn write_rows(ext: &Ext, props: u32, first: u32, width: usize, count: u32, block: &mut [u8])
-    requires props { props ≡ ext.now.props }
+pub fn write_rows(ext: &Ext, first: u32, width: usize, count: u32, block: &mut [u8])
     requires width { 8 * width ≡ length ext.now.sets }
     requires whole { width * count ≡ BLOCK_LEN }
     requires few { first + count ≤ MAX_ROWS }
@@ -35,6 +32,6 @@ pub fn write_rows(ext: &Ext, props: u32, first: u32, width: usize, count: u32, b
 {
     for k in 0..count {
         let at = width * k as usize;
-        write_row(ext, props, first + k, &mut block[at..at + width]);
+        write_row(ext, first + k, &mut block[at..at + width]);
     }
 }

@@ -94,7 +94,7 @@ fn is_had(ext: &Ext, number: u16) -> bool
     requires { number < ext.now.props }
     ensures { result ≡ is_had ext.now number }
 {
-    ext.rows().next(u32::from(number), 0).is_some()
+    ext.is_had(u32::from(number))
 }
 
 // Whether some file's description has a number, but that in a slot, if one is given.

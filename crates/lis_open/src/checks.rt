@@ -89,7 +89,7 @@ fn is_stray(words: &Words, ext: &Ext, lefts: &Rows, number: u16) -> bool
     if words.declared.get(number) {
         return false;
     }
-    if ext.rows().next(number, 0).is_some() {
+    if ext.is_had(number) {
         return false;
     }
     !lefts.get(0, number)

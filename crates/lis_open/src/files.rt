@@ -230,13 +230,14 @@ fn file(files: &mut Files, slot: u16, rec: FileRec, blocks: &[u16], numbers: &[u
     requires name { slot_of files.old.catalog rec.name ≡ None }
     requires free { IsTrue (are_free files.old.map blocks.now) }
     requires slot { IsFreeSlot files.old slot }
+    requires few { length numbers.now ≤ MAX_DESCRIPTION }
     requires rise { IsStrictlyIncreasing numbers.now }
     requires in_range { All (λ n. n < files.old.ext.props) numbers.now }
     ensures { TakesNumbers slot rec blocks.now numbers.now files.old files.new }
 {
     mark_all(&mut files.map, blocks);
     files.catalog.place(slot, rec);
-    files.ext.set_file(u32::from(slot), &[], numbers);
+    files.ext.set_file(u32::from(slot), numbers);
     files.ext.settle();
 }
 

@@ -39,6 +39,7 @@ pub mod FreeBlocks
 pub mod Assigned
 pub mod Under
 pub mod Crowded
+pub mod Widened
 pub mod Tested
 pub mod Without
 pub mod Gathered

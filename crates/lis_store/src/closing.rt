@@ -11,7 +11,6 @@ ghost use Rattle.lis_store.specs.Stored.{DescriptionsAreShort};
 ghost use Rattle.lis_model.specs.Sets.{has_number};
 
 use crate::crowding::is_met_at;
-use crate::removing::numbers_at;
 use arrayvec::ArrayVec;
 use lis_kept::Metadata;
 use lis_limits::MAX_DESCRIPTION;
@@ -130,6 +129,7 @@ fn base_at(metadata: &Metadata, how: Rebuild, slot: u16, numbers: &[u16]) -> Arr
 
 // Makes the description in a slot anew, if it is concerned.
 fn rebuild_slot(metadata: &mut Metadata, how: Rebuild, slot: u16)
+    requires sound { AreSound metadata.old }
     requires words { has_words metadata.old how ≡ true }
     requires slot { slot < metadata.old.limits.files }
     requires named { (n : ℕ) → has metadata.old.ext n slot ≡ true → IsSome (word_of metadata.old.dict n) }
@@ -138,14 +138,13 @@ fn rebuild_slot(metadata: &mut Metadata, how: Rebuild, slot: u16)
     ensures gives { SlotHas slot (rebuilt metadata.old how slot) metadata.old metadata.new }
     ensures sound { AreSound metadata.new }
 {
-    let props = metadata.limits().props;
     if !is_concerned(metadata, how, slot) {
         return;
     }
-    let old = numbers_at(metadata.ext(), props, slot);
-    let base = base_at(metadata, how, slot, old.as_slice());
+    let old = metadata.ext().numbers(u32::from(slot));
+    let base = base_at(metadata, how, slot, old);
     let new = all_entailed(metadata, base.as_slice());
-    metadata.describe(slot, old.as_slice(), new.as_slice());
+    metadata.describe(slot, new.as_slice());
 }
 
 /// Makes all descriptions anew that are concerned.

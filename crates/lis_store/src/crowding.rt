@@ -5,7 +5,7 @@ ghost use Rattle.std.specs.List.{list_all};
 ghost use Rattle.lis_dict.specs.Dict.{word_of};
 ghost use Rattle.lis_words.specs.Words.{test_of};
 ghost use Rattle.lis_kept.specs.Sound.{AreSound};
-ghost use Rattle.lis_store.specs.Closing.{is_gained, is_met_at, wider};
+ghost use Rattle.lis_store.specs.Closing.{closure, is_gained, is_met_at, wider};
 ghost use Rattle.lis_store.specs.Testing.{is_crowded, has_crowded};
 
 use lis_kept::Metadata;
@@ -23,6 +23,36 @@ pub(crate) fn is_met_at(metadata: &Metadata, test: Test, slot: u16) -> bool
     }
 }
 
+// How many numbers all that the words of the numbers entail have.
+fn gained_count(metadata: &Metadata, numbers: &[u16]) -> u32
+    requires sound { AreSound metadata.now }
+    requires named { IsTrue (list_all (λ n. is_some (word_of metadata.now.dict n)) numbers.now) }
+    ensures { result ≡ length (closure metadata.now numbers.now) }
+{
+    if numbers.is_empty() {
+        return 0;
+    }
+    let entailed = metadata.taxonomy().rows();
+    entailed.count_with(u32::from(numbers[0]), entailed, numbers)
+}
+
+// Whether a word of the numbers entails that of another one.
+fn is_gained(metadata: &Metadata, numbers: &[u16], number: u16) -> bool
+    requires sound { AreSound metadata.now }
+    requires named { IsTrue (list_all (λ n. is_some (word_of metadata.now.dict n)) numbers.now) }
+    requires number { number < metadata.now.limits.props }
+    ensures { result ≡ is_gained metadata.now numbers.now number }
+{
+    let entailed = metadata.taxonomy().rows();
+    let bit = u32::from(number);
+    for held in numbers {
+        if entailed.get(u32::from(*held), bit) {
+            return true;
+        }
+    }
+    false
+}
+
 // How many numbers the description in a slot would have with all that the words of the numbers entail.
 fn wider_count(metadata: &Metadata, numbers: &[u16], slot: u16) -> u32
     requires sound { AreSound metadata.now }
@@ -30,11 +60,14 @@ fn wider_count(metadata: &Metadata, numbers: &[u16], slot: u16) -> u32
     requires slot { slot < metadata.now.limits.files }
     ensures { result ≡ length (wider metadata.now (is_gained metadata.now numbers.now) slot) }
 {
-    let entailed = metadata.taxonomy().rows();
-    metadata
-        .ext()
-        .sets()
-        .count_with(u32::from(slot), entailed, numbers)
+    let own = metadata.ext().numbers(u32::from(slot));
+    let mut count = gained_count(metadata, numbers);
+    for number in own {
+        if !is_gained(metadata, numbers, *number) {
+            count += 1;
+        }
+    }
+    count
 }
 
 /// Whether it would have more than so many.

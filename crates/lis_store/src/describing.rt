@@ -126,11 +126,7 @@ fn is_leaving(metadata: &Metadata, row: &Rows, slot: u16, number: u16) -> bool
     requires shape { HasShape row.now 1 metadata.now.limits.props }
     ensures { result ≡ is_leaving metadata.now row.now slot number }
 {
-    if !metadata
-        .ext()
-        .rows()
-        .get(u32::from(number), u32::from(slot))
-    {
+    if !metadata.ext().has(u32::from(number), u32::from(slot)) {
         return false;
     }
     if row.get(0, u32::from(number)) {

@@ -19,7 +19,6 @@ ghost use Rattle.lis_store.specs.Instead.{given_before, free_instead, instead_ch
 use crate::admitting::blocks_taken;
 use crate::assigning::{all_assignable, put_word};
 use crate::describing::{Draft, FileWords, measure};
-use crate::removing::numbers_at;
 use arrayvec::ArrayVec;
 use lis_derive::derive_words;
 use lis_eval::Scratch;
@@ -111,8 +110,7 @@ pub(crate) fn own_in(metadata: &Metadata, slot: u16) -> ArrayVec<Word, MAX_DESCR
     ensures own { result.items ≡ own_kept metadata.now slot }
     ensures few { length result.items ≤ MAX_DESCRIPTION }
 {
-    let numbers = numbers_at(metadata.ext(), metadata.limits().props, slot);
-    own_among(metadata, numbers.as_slice())
+    own_among(metadata, metadata.numbers(slot))
 }
 
 // How many blocks are free for other bytes of the file in a slot.

@@ -113,11 +113,7 @@ fn settle_in(
         (drafted draft.entry.name.now draft.entry.size draft.entry.assigned.now draft.entry.own.now) blocks.items metadata.old metadata.new }
 {
     let numbers = learn_own(metadata, scratch, draft);
-    metadata.describe(
-        new_slot.slot,
-        new_slot.numbers.as_slice(),
-        numbers.all.as_slice(),
-    );
+    metadata.describe(new_slot.slot, numbers.all.as_slice());
     metadata.place_record(
         new_slot.slot,
         FileRec {

@@ -11,7 +11,6 @@ ghost use Rattle.lis_store.specs.Stored.{DescriptionsAreShort};
 ghost use Rattle.lis_store.specs.Testing.{MayDeclare, DeclaresTested, without_number, undescribed, UndeclaresUnmet};
 
 use crate::closing::{Rebuild, rebuild_all};
-use crate::removing::numbers_at;
 use arrayvec::ArrayVec;
 use lis_kept::Metadata;
 use lis_limits::MAX_DESCRIPTION;
@@ -50,6 +49,7 @@ fn numbers_without(numbers: &[u16], number: u16) -> ArrayVec<u16, MAX_DESCRIPTIO
 
 // Takes a number out of the description in a slot.
 fn describe_without(metadata: &mut Metadata, number: u16, slot: u16)
+    requires sound { AreSound metadata.old }
     requires number { IsSome (word_of metadata.old.dict number) }
     requires slot { slot < metadata.old.limits.files }
     requires had { (n : ℕ) → has metadata.old.ext n slot ≡ true → IsSome (word_of metadata.old.dict n) }
@@ -57,13 +57,12 @@ fn describe_without(metadata: &mut Metadata, number: u16, slot: u16)
     ensures gives { SlotHas slot (without_number metadata.old number slot) metadata.old metadata.new }
     ensures sound { AreSound metadata.new }
 {
-    let props = metadata.limits().props;
     if !metadata.ext().has(u32::from(number), u32::from(slot)) {
         return;
     }
-    let old = numbers_at(metadata.ext(), props, slot);
-    let new = numbers_without(old.as_slice(), number);
-    metadata.describe(slot, old.as_slice(), new.as_slice());
+    let old = metadata.ext().numbers(u32::from(slot));
+    let new = numbers_without(old, number);
+    metadata.describe(slot, new.as_slice());
 }
 
 // Takes a number out of all descriptions.

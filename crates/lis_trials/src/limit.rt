@@ -110,7 +110,7 @@ fn a_session_ends_at_its_limit(rt: HostRuntime) -> Result<(), Fail> {
 fn edits_by(alloc: Global, row: &str, station: &mut MemStation) -> Result<u64, Fail> {
     let mut session = opened(alloc, station)?;
     let status = serve_row(alloc, &mut session, row, station, 1_000);
-    let edits = session.store().descriptions().rows().edits();
+    let edits = session.store().descriptions().edits();
     session.close();
     status?;
     Ok(edits)

@@ -3,6 +3,7 @@
 ghost use Rattle.std.specs.Prelude.{◌≡◌, ◌<◌, None, [], slice_set, IsSome};
 ghost use Rattle.lis_dict.specs.Dict.{word_of};
 ghost use Rattle.lis_catalog.specs.Catalog.{rec_at};
+ghost use Rattle.lis_ext.specs.Ext.{has};
 ghost use Rattle.lis_kept.specs.Forgetting.{emptied, MayForget, ForgetsWithout};
 ghost use Rattle.lis_kept.specs.Sound.{AreSound};
 ghost use Rattle.lis_kept.specs.Telling.{is_had, is_used};
@@ -10,19 +11,28 @@ ghost use Rattle.lis_kept.specs.Telling.{is_had, is_used};
 use crate::metadata::Metadata;
 use lis_ext::Ext;
 
+// Whether the description in a slot, if it is one, has a number.
+fn has_at(ext: &Ext, slot: u16, number: u16) -> bool
+    requires { number < ext.now.props }
+    ensures { result ≡ has ext.now number slot }
+{
+    let slot = u32::from(slot);
+    if slot >= ext.files() {
+        return false;
+    }
+    ext.has(u32::from(number), slot)
+}
+
 // Whether the description of a file in another slot has a number.
 pub(crate) fn is_had_without(ext: &Ext, slot: u16, number: u16) -> bool
     requires { number < ext.now.props }
     ensures { result ≡ is_had (record ext.now { sets = slice_set ext.now.sets slot [] }) number }
 {
-    let rows = ext.rows();
-    let Some(first) = rows.next(u32::from(number), 0) else {
-        return false;
-    };
-    if first != u32::from(slot) {
-        return true;
+    let count = ext.count(u32::from(number));
+    if has_at(ext, slot, number) {
+        return count > 1;
     }
-    rows.next(u32::from(number), first + 1).is_some()
+    count > 0
 }
 
 impl Metadata {

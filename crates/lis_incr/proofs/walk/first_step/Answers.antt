@@ -12,10 +12,10 @@ use Rattle.lis_incr.proofs.walk.first_step.Goals as goal
 
 pub loop-k-init : goal.loop-k-init
 loop-k-init g c =
-    let own = c.requires.slot in
+    let v = g.V.View.seen c.args.view.now in
     record {
-      shape = (c.mark_all_own.ensures own.0 own.1 own.2).shape;
-      marked = λ f here placed. c.mark_all_own.ensures f here placed;
+      shape = c.mark_all_own.ensures.shape;
+      marked = λ f here placed. c.mark_all_own.ensures.marked (found_files v c.args.found.now) f c.count_words-many.ensures here placed;
       none = λ f here placed. refl;
     }
 

@@ -1,35 +1,66 @@
-use Rattle.lis_store.proofs.Common.{◌≡◌, ◌||◌, ◌∙◌, ◌<◌, Bool, count_by, ap, ap₂, length, arith, get, get_any, Ext, has, numbers_where, numbers_same}
-use Rattle.lis_bits.specs.Rows.{row_of}
-use Rattle.lis_store.specs.Closing.{is_gained}
-use Rattle.lis_store.proofs.Closed.{rows_below, wide_as, any_led}
-use Rattle.lis_store.proofs.Measured.{row_counted}
+use Rattle.std.proofs.Common.{take, length-take}
+use Rattle.std.proofs.lemmas.List.{take_all}
+use Rattle.std.proofs.lemmas.List.Sums.{count_by_more_no, count_by_more_yes, count_by-le-length}
+use Rattle.lis_store.proofs.Common.{◌≡◌, ◌+◌, ◌||◌, ◌∙◌, ℕ, List, Bool, not, count_by, ap, sym, subst, length, arith, numbers_where, Ext}
+use Rattle.lis_ext.specs.Numbers.{has_number}
+use Rattle.lis_ext.specs.Ext.{set_of}
+use Rattle.lis_ext.proofs.Counted.{where_le}
+use Rattle.lis_store.specs.Closing.{closure, is_gained}
+use Rattle.lis_store.proofs.Widened.{widened}
+use Rattle.lis_store.proofs.crowding.wider_count.Goals.{then-not-is_gained, else-not-is_gained}
 use Rattle.lis_store.proofs.crowding.wider_count.Goals as goal
 
-pub count_with-requires-clause-others : goal.count_with-requires-clause-others
-count_with-requires-clause-others c = rows_below c.args.metadata.now c.requires.sound c.taxonomy.result.now c.taxonomy.ensures c.rows-entailed.result.now c.rows-entailed.ensures.shape c.args.numbers.now c.requires.named
+pub numbers-own-requires : goal.numbers-own-requires
+numbers-own-requires c = omega (arith, c.requires.slot, c.requires.sound.files, c.from.ensures, ap (λ (e : Ext). length e.sets) c.ext.ensures)
 
-pub count_with-requires-clause-row : goal.count_with-requires-clause-row
-count_with-requires-clause-row c = omega (arith, c.requires.slot, c.requires.sound.files, c.sets.ensures.shape.tall, c.from.ensures, ap (λ (e : Ext). length e.sets) c.ext.ensures)
+pub is_gained-requires-clause-number : goal.is_gained-requires-clause-number
+is_gained-requires-clause-number c =
+    let below = c.numbers-own.ensures.in_range c.loop-number.number-index 0 c.loop-number-test.true in
+    omega (arith, below, ap (λ (e : Ext). e.props) c.ext.ensures, c.requires.sound.rows)
 
-pub count_with-requires-clause-bits : goal.count_with-requires-clause-bits
-count_with-requires-clause-bits c =
-    let wide = wide_as c.args.metadata.now c.taxonomy.result.now c.taxonomy.ensures c.rows-entailed.result.now c.rows-entailed.ensures.shape in
-    omega (arith, wide, c.sets.ensures.shape.wide, ap (λ (e : Ext). e.props) c.ext.ensures, c.requires.sound.rows)
+pub overflow_add-count : goal.overflow_add-count
+overflow_add-count c =
+    let k = c.args.metadata.now in
+    let numbers = c.args.numbers.now in
+    let own = c.numbers-own.result.now in
+    let i = c.loop-number.number-index in
+    let few = count_by-le-length (λ n. not (is_gained k numbers n)) (take i own) in
+    omega (
+      arith,
+      c.loop-number.invariant,
+      where_le k.limits.props (is_gained k numbers),
+      few,
+      length-take i own,
+      c.numbers-own.ensures.few,
+      c.numbers-own.ensures.kept.few_props,
+      ap (λ (e : Ext). e.props) c.ext.ensures,
+      c.requires.sound.rows,
+    )
+
+pub loop-number-preserved : goal.loop-number-preserved
+loop-number-preserved c =
+    let k = c.args.metadata.now in
+    let numbers = c.args.numbers.now in
+    let own = c.numbers-own.result.now in
+    let i = c.loop-number.number-index in
+    let lt = c.loop-number-test.true in
+    let new : ℕ → Bool = λ n. not (is_gained k numbers n) in
+    elim c.if-not-is_gained.branch [
+      | then-not-is_gained w ↦ rw w.count-is (omega (arith, c.loop-number.invariant, count_by_more_yes new own i 0 lt (ap not (sym c.is_gained.ensures) ∙ ap not w.if-not-is_gained.true)))
+      | else-not-is_gained w ↦ rw w.count-is (omega (arith, c.loop-number.invariant, count_by_more_no new own i 0 lt (ap not (sym c.is_gained.ensures) ∙ ap not w.if-not-is_gained.false)))
+    ]
 
 pub returns : goal.returns
 returns c =
     let k = c.args.metadata.now in
-    let sets = c.sets.result.now in
-    let rows = c.rows-entailed.result.now in
     let numbers = c.args.numbers.now in
-    let slot = c.args.slot in
-    let bits : sets.bits ≡ k.ext.props = c.sets.ensures.shape.wide ∙ ap (λ (e : Ext). e.props) c.ext.ensures in
-    let inside : slot < length c.ext.result.now.sets = omega (arith, c.requires.slot, c.requires.sound.files, ap (λ (e : Ext). length e.sets) c.ext.ensures) in
-    c.count_with.ensures
-    ∙ (ap (λ i. count_by (λ (b : Bool). b) (row_of sets.bits (λ bit. get sets i bit || get_any rows numbers bit))) c.from.ensures
-    ∙ (row_counted sets.bits (λ bit. get sets slot bit || get_any rows numbers bit)
-    ∙ (ap (λ n. length (numbers_where n (λ bit. get sets slot bit || get_any rows numbers bit))) bits
-    ∙ ap length (numbers_same k.ext.props (λ bit. get sets slot bit || get_any rows numbers bit) (λ n. has k.ext n slot || is_gained k numbers n) (λ n lt.
-    ap₂ (λ a b. a || b)
-    (c.sets.ensures.values slot n inside (omega (arith, lt, ap (λ (e : Ext). e.props) c.ext.ensures)) ∙ ap (λ (e : Ext). has e n slot) c.ext.ensures)
-    (any_led k c.requires.sound c.taxonomy.result.now c.taxonomy.ensures rows c.rows-entailed.ensures.shape c.rows-entailed.ensures.values numbers c.requires.named n (omega (arith, lt, c.requires.sound.rows))))))))
+    let own = c.numbers-own.result.now in
+    let all = take_all c.loop-number.number-index own (omega arith) in
+    let same : k.ext.props ≡ c.ext.result.now.props = sym (ap (λ (e : Ext). e.props) c.ext.ensures) in
+    let set : own ≡ set_of k.ext c.args.slot = c.numbers-own.ensures.numbers ∙ (ap (set_of c.ext.result.now) c.from.ensures ∙ ap (λ (e : Ext). set_of e c.args.slot) c.ext.ensures) in
+    let sum = widened c.ext.result.now.props (is_gained k numbers) own c.numbers-own.ensures.rise c.numbers-own.ensures.in_range in
+    let gained = ap (λ n. length (numbers_where n (is_gained k numbers))) (sym c.requires.sound.rows ∙ same) in
+    let own_all = ap (count_by (λ n. not (is_gained k numbers n))) all in
+    let told = ap (λ n. length (numbers_where n (λ p. has_number own p || is_gained k numbers p))) (sym same)
+    ∙ ap (λ (ns : List ℕ). length (numbers_where k.ext.props (λ p. has_number ns p || is_gained k numbers p))) set in
+    omega (arith, c.loop-number.invariant, own_all, gained, sum) ∙ told

@@ -1,5 +1,4 @@
 use Rattle.lis_store.proofs.Common.{◌∙◌, ℕ, List, is_some, sym, ap, subst, arith, list_all, IsStrictlyIncreasing, slot_of, word_of, FileRecord, size_fits, Metadata, is_sound_record, Describes}
-use Rattle.lis_ext.specs.Ext.{set_of}
 use Rattle.lis_kept.specs.Changes.{Files}
 use Rattle.lis_store.specs.Drafts.{drafted}
 use Rattle.lis_store.specs.Admitting.{described_by}
@@ -15,42 +14,38 @@ learn_own-numbers-requires-clause-sound c = c.requires.vacant.sound
 pub describe-requires-clause-slot : goal.describe-requires-clause-slot
 describe-requires-clause-slot c = omega (arith, c.requires.vacant.below, ap (λ (k : Metadata). k.limits.files) c.learn_own-numbers.ensures.learnt.learns.metadata)
 
-pub describe-requires-clause-was : goal.describe-requires-clause-was
-describe-requires-clause-was c =
-    ap (λ (k : Metadata). set_of k.ext c.args.new_slot.now.slot) c.learn_own-numbers.ensures.learnt.learns.metadata ∙ (c.requires.vacant.was ∙ sym c.as_slice.ensures.value)
-
 pub describe-requires-clause-rising : goal.describe-requires-clause-rising
 describe-requires-clause-rising c =
     let own = c.learn_own-numbers.ensures.learnt in
-    subst (λ ns. IsStrictlyIncreasing ns) (sym (c.as_slice-2.ensures.value ∙ own.numbered))
+    subst (λ ns. IsStrictlyIncreasing ns) (sym (c.as_slice.ensures.value ∙ own.numbered))
     (named_rising c.learn_own-numbers.new.metadata own.sound (described_by c.args.metadata.now (drafted c.args.draft.name.now c.args.draft.size c.args.draft.assigned.now c.args.draft.own.now)))
 
 pub describe-requires-clause-named : goal.describe-requires-clause-named
 describe-requires-clause-named c =
     let own = c.learn_own-numbers.ensures.learnt in
-    ap (list_all (λ n. is_some (word_of c.learn_own-numbers.new.metadata.dict n))) (c.as_slice-2.ensures.value ∙ own.numbered)
+    ap (list_all (λ n. is_some (word_of c.learn_own-numbers.new.metadata.dict n))) (c.as_slice.ensures.value ∙ own.numbered)
     ∙ named_worded c.learn_own-numbers.new.metadata own.sound (described_by c.args.metadata.now (drafted c.args.draft.name.now c.args.draft.size c.args.draft.assigned.now c.args.draft.own.now))
 
 pub place_record-requires-clause-below : goal.place_record-requires-clause-below
 place_record-requires-clause-below c =
     let D : List ℕ → Type 0 = λ ns. Describes c.args.new_slot.now.slot ns c.learn_own-numbers.new.metadata c.describe.new.self in
-    below_described c.requires.vacant c.requires.may c.learn_own-numbers.ensures.learnt (subst D c.as_slice-2.ensures.value c.describe.ensures.describes)
+    below_described c.requires.vacant c.requires.may c.learn_own-numbers.ensures.learnt (subst D c.as_slice.ensures.value c.describe.ensures.describes)
 
 pub place_record-requires-clause-free : goal.place_record-requires-clause-free
 place_record-requires-clause-free c =
     let D : List ℕ → Type 0 = λ ns. Describes c.args.new_slot.now.slot ns c.learn_own-numbers.new.metadata c.describe.new.self in
-    free_described c.requires.vacant c.requires.may c.learn_own-numbers.ensures.learnt (subst D c.as_slice-2.ensures.value c.describe.ensures.describes)
+    free_described c.requires.vacant c.requires.may c.learn_own-numbers.ensures.learnt (subst D c.as_slice.ensures.value c.describe.ensures.describes)
 
 pub place_record-requires-clause-described : goal.place_record-requires-clause-described
 place_record-requires-clause-described c =
     let D : List ℕ → Type 0 = λ ns. Describes c.args.new_slot.now.slot ns c.learn_own-numbers.new.metadata c.describe.new.self in
-    numbers_described c.requires.vacant c.requires.may c.learn_own-numbers.ensures.learnt (subst D c.as_slice-2.ensures.value c.describe.ensures.describes)
+    numbers_described c.requires.vacant c.requires.may c.learn_own-numbers.ensures.learnt (subst D c.as_slice.ensures.value c.describe.ensures.describes)
 
 pub place_record-requires-clause-new : goal.place_record-requires-clause-new
 place_record-requires-clause-new c =
     let D : List ℕ → Type 0 = λ ns. Describes c.args.new_slot.now.slot ns c.learn_own-numbers.new.metadata c.describe.new.self in
     ap (slot_of c.describe.new.self.catalog) c.copied.ensures
-    ∙ name_described c.requires.vacant c.requires.may c.learn_own-numbers.ensures.learnt (subst D c.as_slice-2.ensures.value c.describe.ensures.describes)
+    ∙ name_described c.requires.vacant c.requires.may c.learn_own-numbers.ensures.learnt (subst D c.as_slice.ensures.value c.describe.ensures.describes)
 
 pub place_record-requires-clause-sound : goal.place_record-requires-clause-sound
 place_record-requires-clause-sound c =
@@ -58,7 +53,7 @@ place_record-requires-clause-sound c =
     let D : List ℕ → Type 0 = λ ns. Describes c.args.new_slot.now.slot ns c.learn_own-numbers.new.metadata d in
     let make : List ℕ → FileRecord = λ name. record { name = name; size = c.args.draft.size; tags = c.learn_own-numbers.result.tags.items; blocks = c.args.blocks.items } in
     ap (λ name. is_sound_record d.limits.version d.dict d.limits.blocks (make name)) c.copied.ensures
-    ∙ record_described c.requires.vacant c.requires.may c.learn_own-numbers.ensures.learnt (subst D c.as_slice-2.ensures.value c.describe.ensures.describes) c.args.blocks.items c.requires.in_form c.requires.below
+    ∙ record_described c.requires.vacant c.requires.may c.learn_own-numbers.ensures.learnt (subst D c.as_slice.ensures.value c.describe.ensures.describes) c.args.blocks.items c.requires.in_form c.requires.below
 
 pub overflow_cast-draft : goal.overflow_cast-draft
 overflow_cast-draft c = omega (arith, size_fits c.args.metadata.now.limits.version c.args.draft.size c.requires.may.small)
@@ -75,7 +70,7 @@ returns-clause-settles c =
       learnt = c.learn_own-numbers.new.metadata;
       own = subst (λ tags. L tags (numbers_named c.learn_own-numbers.new.metadata.dict (described_by c.args.metadata.now draft))) own.tagged (subst (L c.learn_own-numbers.result.tags.items) own.numbered own);
       described = c.describe.new.self;
-      describes = subst D (c.as_slice-2.ensures.value ∙ own.numbered) c.describe.ensures.describes;
+      describes = subst D (c.as_slice.ensures.value ∙ own.numbered) c.describe.ensures.describes;
       files = subst (F c.args.draft.name.now) own.tagged (subst (λ name. F name c.learn_own-numbers.result.tags.items) c.copied.ensures c.place_record.ensures.files);
       sound = c.place_record.ensures.sound;
     }

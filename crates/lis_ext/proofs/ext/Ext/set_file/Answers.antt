@@ -1,68 +1,61 @@
-use Rattle.std.proofs.Common.{refl, arith}
-use Rattle.lis_ext.proofs.Seen.{length-sets_of, set_rises, set_below, each_below, sets_set, marks_set, edits_set, in_step_set}
+use Rattle.std.proofs.Common.{◌≡◌, ℕ, ◌<◌, List, length, get_or, sym, ap, subst, ◌∙◌, arith, length-set}
+use Rattle.std.specs.List.{All}
+use Rattle.std.specs.List.Sorted.{IsStrictlyIncreasing}
+use Rattle.lis_ext.specs.Ext.{count_of}
+use Rattle.lis_ext.specs.Inside.{IsSoundExt}
+use Rattle.lis_ext.proofs.Bits.{in_step_set}
+use Rattle.lis_ext.proofs.Numbers.{has_decides}
+use Rattle.lis_ext.proofs.Counted.{retaken, each_set, each_below, counted_some, counts_set, marks_set, edits_set}
 use Rattle.lis_ext.proofs.ext.Ext.set_file.Goals as goal
 
-pub add_numbers-requires-clause-file : goal.add_numbers-requires-clause-file
-add_numbers-requires-clause-file c = rw (← c.self.view_is, length-sets_of c.self.inside.rows c.self.inside.props c.self.inside.files) at c.requires.file
-
-pub drop_numbers-requires-clause-file : goal.drop_numbers-requires-clause-file
-drop_numbers-requires-clause-file c = rw (← c.self.view_is, length-sets_of c.self.inside.rows c.self.inside.props c.self.inside.files) at c.requires.file
-
-pub drop_numbers-requires-clause-in_props : goal.drop_numbers-requires-clause-in_props
-drop_numbers-requires-clause-in_props c =
+pub lose-lost-requires-clause-counted : goal.lose-lost-requires-clause-counted
+lose-lost-requires-clause-counted c = λ p there.
     let e = c.self.inside in
-    let file_in = rw (← c.self.view_is, length-sets_of e.rows e.props e.files) at c.requires.file in
-    set_below e.rows e.props e.files c.args.file c.args.old.now file_in (rw (← c.self.view_is) at c.requires.old_set)
-
-pub drop_numbers-requires-clause-old_rises : goal.drop_numbers-requires-clause-old_rises
-drop_numbers-requires-clause-old_rises c =
-    let e = c.self.inside in
-    let file_in = rw (← c.self.view_is, length-sets_of e.rows e.props e.files) at c.requires.file in
-    set_rises e.rows e.props e.files c.args.file c.args.old.now file_in (rw (← c.self.view_is) at c.requires.old_set)
-
-pub put_set-requires-clause-file : goal.put_set-requires-clause-file
-put_set-requires-clause-file c = rw (← c.self.view_is, length-sets_of c.self.inside.rows c.self.inside.props c.self.inside.files) at c.requires.file
+    let inv = c.self.invariant in
+    let file = c.args.file in
+    let old = c.numbers-old.result.now in
+    let file_in = rw (← c.self.view_is) at c.requires.file in
+    let in_files : file < e.files = omega (arith, inv.long, file_in) in
+    let low = each_below e.props old (rw (sym c.numbers-old.ensures.numbers) at (inv.in_range file in_files)) p ((has_decides old p).0 there) in
+    let some = counted_some e.lists file p file_in (rw c.numbers-old.ensures.numbers at there) in
+    rw c.deref_mut.ensures.value (omega (arith, inv.counted p low, some))
 
 pub invariant_of-self : goal.invariant_of-self
 invariant_of-self c =
     let e = c.self.inside in
-    let file_in = rw (← c.self.view_is, length-sets_of e.rows e.props e.files) at c.requires.file in
-    let old_set = rw (← c.self.view_is) at c.requires.old_set in
-    record {
-      few_props = c.self.invariant.few_props;
-      few_files = c.self.invariant.few_files;
-      rows_shape = c.drop_numbers.ensures.rows_shape;
-      marks_shape = c.drop_numbers.ensures.marks_shape;
-      in_step = in_step_set e.rows c.add_numbers.new.rows c.drop_numbers.new.rows e.marks c.add_numbers.new.marks c.drop_numbers.new.marks e.props e.files c.args.file c.args.old.now c.args.new.now file_in old_set
-          c.add_numbers.ensures c.drop_numbers.ensures e.sets c.put_set.new.sets c.self.invariant.in_step c.put_set.ensures;
-    }
-
-pub returns-clause-in_range : goal.returns-clause-in_range
-returns-clause-in_range c =
-    let e = c.self.inside in
-    rw (← c.self.view_is) (λ i lt. set_below e.rows e.props e.files i _ (omega (arith, length-sets_of e.rows e.props e.files)) refl)
-
-pub returns-clause-sets : goal.returns-clause-sets
-returns-clause-sets c =
-    let e = c.self.inside in
-    let file_in = rw (← c.self.view_is, length-sets_of e.rows e.props e.files) at c.requires.file in
-    let old_set = rw (← c.self.view_is) at c.requires.old_set in
+    let inv = c.self.invariant in
+    let file = c.args.file in
+    let old = c.numbers-old.result.now in
+    let new = c.args.new.now in
+    let mid = c.lose-lost.new.counts in
+    let after = c.gain-gained.new.counts in
+    let file_in = rw (← c.self.view_is) at c.requires.file in
     let new_in = rw (← c.self.view_is) at c.requires.new_in in
-    rw (← c.self.view_is) (sets_set e.rows c.add_numbers.new.rows c.drop_numbers.new.rows e.marks c.add_numbers.new.marks c.drop_numbers.new.marks e.props e.files c.args.file c.args.old.now c.args.new.now file_in old_set
-    c.add_numbers.ensures c.drop_numbers.ensures c.requires.new_rises (each_below e.props c.args.new.now new_in))
+    let mid_long : length mid ≡ e.counts.len = omega (arith, c.lose-lost.auto.counts, c.deref_mut.ensures.len) in
+    let mid_is : c.deref_mut-2.result.now ≡ mid = c.deref_mut-2.ensures.value ∙ retaken e.counts.len mid _ mid_long in
+    let after_long : length after ≡ e.counts.len = omega (arith, c.gain-gained.auto.counts, ap length mid_is, mid_long) in
+    let up = rw mid_is at c.gain-gained.ensures.counts in
+    subst (λ (xs : List ℕ). IsSoundExt c.set.new.self xs c.put_bits-2.new.rows c.gain-gained.new.marks e.props e.files) (sym (retaken e.counts.len after _ after_long)) (record {
+      few_props = inv.few_props;
+      few_files = inv.few_files;
+      long = omega (arith, ap length c.set.ensures, length-set e.lists file new, inv.long);
+      rows_shape = c.put_bits-2.ensures.shape;
+      marks_shape = c.gain-gained.ensures.marks.shape;
+      room = omega (arith, after_long, c.deref_mut.ensures.len, ap length c.deref_mut.ensures.value, inv.room);
+      rise = λ i lt. rw c.set.ensures (each_set IsStrictlyIncreasing e.lists file new (λ k low. inv.rise k (omega (arith, inv.long))) c.requires.new_rises i (omega (arith, inv.long)));
+      in_range = λ i lt. rw c.set.ensures (each_set (All (λ p. p < e.props)) e.lists file new (λ k low. inv.in_range k (omega (arith, inv.long))) new_in i (omega (arith, inv.long)));
+      counted = λ p lt. counts_set e.props old new c.deref_mut.result.now mid after e.lists file file_in (sym c.numbers-old.ensures.numbers) c.lose-lost.ensures.counts up
+          (λ k low. ap (λ (xs : List ℕ). get_or xs k 0) c.deref_mut.ensures.value ∙ inv.counted k low) p lt ∙ ap (λ (sets : List (List ℕ)). count_of sets p) (sym c.set.ensures);
+      in_step = rw c.set.ensures (in_step_set e.lists e.rows c.put_bits.new.rows c.put_bits-2.new.rows e.props e.files file old new inv.long (omega (arith, inv.long, file_in)) (sym c.numbers-old.ensures.numbers) inv.in_step c.put_bits.ensures c.put_bits-2.ensures);
+    })
 
 pub returns-clause-marks : goal.returns-clause-marks
 returns-clause-marks c =
     let e = c.self.inside in
-    let file_in = rw (← c.self.view_is, length-sets_of e.rows e.props e.files) at c.requires.file in
-    let old_set = rw (← c.self.view_is) at c.requires.old_set in
-    rw (← c.self.view_is) (marks_set e.rows c.add_numbers.new.rows c.drop_numbers.new.rows e.marks c.add_numbers.new.marks c.drop_numbers.new.marks e.props e.files c.args.file c.args.old.now c.args.new.now file_in old_set
-    c.add_numbers.ensures c.drop_numbers.ensures)
+    rw (← c.self.view_is, ← c.numbers-old.ensures.numbers) (marks_set e.props c.numbers-old.result.now c.args.new.now e.marks c.lose-lost.new.marks c.gain-gained.new.marks c.lose-lost.result c.gain-gained.result c.lose-lost.ensures.marks c.gain-gained.ensures.marks)
 
 pub returns-clause-edits : goal.returns-clause-edits
 returns-clause-edits c =
     let e = c.self.inside in
-    let file_in = rw (← c.self.view_is, length-sets_of e.rows e.props e.files) at c.requires.file in
-    let old_set = rw (← c.self.view_is) at c.requires.old_set in
-    rw (← c.self.view_is) (edits_set e.rows c.add_numbers.new.rows c.drop_numbers.new.rows e.marks c.add_numbers.new.marks c.drop_numbers.new.marks e.props e.files c.args.file c.args.old.now c.args.new.now file_in old_set
-    c.add_numbers.ensures c.drop_numbers.ensures)
+    let both = edits_set e.props c.numbers-old.result.now c.args.new.now e.marks c.lose-lost.new.marks c.gain-gained.new.marks c.lose-lost.result c.gain-gained.result c.lose-lost.ensures.marks c.gain-gained.ensures.marks in
+    rw (← c.self.view_is, ← c.numbers-old.ensures.numbers) (omega (arith, c.saturating_add-self-inside.ensures, c.from.ensures, both))

@@ -1,6 +1,0 @@
-use Rattle.std.proofs.Common.{take}
-use Rattle.lis_ext.specs.Inside.{DropsNumbers}
-use Rattle.lis_ext.proofs.tables.drop_numbers.Given as goal
-
-abbrev pub invariant-loop-number : goal.invariant-loop-number
-invariant-loop-number l = DropsNumbers l.initial.rows l.rows l.initial.marks l.marks l.props l.files l.file (take l.number-index l.old) l.new
