@@ -1,5 +1,5 @@
 """What tests and measures share, and the one place from which they find the rest: importing it puts the package `lisfs` and the modules of
-`bench/` on the path. Scripts in `bench/`, `.ci/` and `docs/` reach it by a link of this name beside them.
+`bench/` on the path. Scripts in `bench/`, `.ci/` and `docs/` reach it by a module of this name beside them.
 
 - `waiting`: waits for what must come, from processes, pipes and sockets.
 - `costs`: processor time beside a yardstick.
