@@ -153,7 +153,10 @@ module _ (k p : Metadata) (t u : Taxonomy) (left right slot : ℕ) (axioms : Lis
   one = search (rules, same_sides, same_Some)
 
   edges_then : (x y : ℕ) → has_edge u x y ≡ is_edge linked x y
-  edges_then x y = search (rules, has_edge-with_edge, swapped, edges_more, into)
+  edges_then x y =
+      ap (λ (v : Taxonomy). has_edge v x y) linked_is
+      ∙ (has_edge-with_edge t left right x y
+      ∙ (ap₂ (λ a b. a || b) (ap₂ (λ a b. a && b) (swapped x left) (swapped y right)) (held.links.edges x y) ∙ sym (edges_more p held.sound marks into x y)))
 
   pub links : AreHeld linked u × Links left right k linked
   links = (

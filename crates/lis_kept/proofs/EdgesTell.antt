@@ -31,16 +31,18 @@ module _ (k : Metadata) (dict : IsDict k.dict) (t : Taxonomy) (has : HasEdges k 
   pair_edge p q h = has.edges p q ∙ or_right (is_head_by (word_of k.dict p) (word_of k.dict q) || is_next_test k.dict k.declared p q) (has_pair k.axioms p q) h
 
   -- a test leads to each that is weaker: both are less far from one between them
+  -- by what leads to what is nearer
+  step : (most p q : ℕ) → ((x y : ℕ) → apart_by (test x) (test y) < most → is_test_link k.dict k.declared x y ≡ true → Leads t x y) → apart_by (test p) (test q) < suc most
+      → is_test_link k.dict k.declared p q ≡ true → (is_between k.dict k.declared p q ≡ true) ⊎ (is_between k.dict k.declared p q ≡ false) → Leads t p q
+  step most p q nearer_leads far link (inl some) =
+      let mid = between k.dict dict k.declared p q some in
+      let nearer = nearer_between (test q) (test mid.0) (test p) mid.2 mid.1 in
+      leads_joined t p mid.0 q (nearer_leads p mid.0 (omega (arith, far, nearer.0)) mid.1) (nearer_leads mid.0 q (omega (arith, far, nearer.1)) mid.2)
+  step most p q nearer_leads far link (inr none) = edge_leads t p q (next_edge p q (next_made k.dict dict k.declared p q link none))
+
   test_leads : (most p q : ℕ) → apart_by (test p) (test q) < most → is_test_link k.dict k.declared p q ≡ true → Leads t p q
   test_leads zero p q far link = absurd (omega (arith, far))
-  test_leads (suc most) p q far link = by (cases_Bool (is_between k.dict k.declared p q))
-    where
-      by : (is_between k.dict k.declared p q ≡ true) ⊎ (is_between k.dict k.declared p q ≡ false) → Leads t p q
-      by (inl some) =
-          let mid = between k.dict dict k.declared p q some in
-          let nearer = nearer_between (test q) (test mid.0) (test p) mid.2 mid.1 in
-          leads_joined t p mid.0 q (test_leads most p mid.0 (omega (arith, far, nearer.0)) mid.1) (test_leads most mid.0 q (omega (arith, far, nearer.1)) mid.2)
-      by (inr none) = edge_leads t p q (next_edge p q (next_made k.dict dict k.declared p q link none))
+  test_leads (suc most) p q far link = step most p q (test_leads most) far link (cases_Bool (is_between k.dict k.declared p q))
 
   pub tells_links : TellsLinks k t
   tells_links = record {

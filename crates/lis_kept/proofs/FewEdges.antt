@@ -1,6 +1,6 @@
 -- The edges are few: each word has at most one edge of its own, to its head or to the next weaker test, and each axiom has one.
 use Rattle.std.proofs.Common.{arith, filter, length-append}
-use Rattle.lis_kept.proofs.Common.{rules, ◌≡◌, ◌⊎◌, inl, inr, refl, sym, ap, ap₂, ◌∙◌, subst, ℕ, zero, suc, ◌+◌, ◌-◌, ◌*◌, ◌<◌, ◌≤◌, ◌==◌, ◌&&◌, ◌||◌, not, cond, Bool, true, false, Option, Some, None, is_some, List, [], ◌∷◌, ◌++◌, length, map, count_by, Among, among_filter, filter_among, map_among, among_right, or_cases, and_parts, and_from, both_ways, false_from_ne_true, same_Some, length-map, Dict, IsDict, word_of, number_of, number_from_word, AxiomSlot, FreeAxiom, Pair, Taxonomy, has_edge, without_edge, same_word, same_word_decides, is_valued, head_bytes, is_test, slice_get, sum_by-cons}
+use Rattle.lis_kept.proofs.Common.{rules, ◌≡◌, ◌⊎◌, inl, inr, refl, sym, ap, ap₂, ◌∙◌, subst, ℕ, zero, suc, ◌+◌, ◌-◌, ◌*◌, ◌<◌, ◌≤◌, ◌==◌, ◌&&◌, ◌||◌, not, cond, Bool, true, false, Option, Some, None, is_some, List, [], ◌∷◌, ◌++◌, length, map, count_by, Among, among_filter, filter_among, map_among, among_right, or_cases, and_parts, and_from, both_ways, not-true, false_from_ne_true, same_Some, length-map, Dict, IsDict, word_of, number_of, number_from_word, AxiomSlot, FreeAxiom, Pair, Taxonomy, has_edge, without_edge, same_word, same_word_decides, is_valued, head_bytes, is_test, slice_get, sum_by-cons}
 use Rattle.std.proofs.lemmas.Bool.{cases_Bool, eq-eqb}
 use Rattle.std.proofs.lemmas.List.Sums.{length-filter}
 use Rattle.std.specs.FinSet as set
@@ -24,31 +24,29 @@ use Rattle.lis_laws.proofs.Chains.{tests_by}
 use Rattle.lis_kept.proofs.Used.{headed}
 
 -- ---- edges that are all in a list are no more than it has
+-- what is in the list without its first one
+others_listed : (e : ℕ × ℕ) (edges : List (ℕ × ℕ)) (t : Taxonomy) → ((p q : ℕ) → has_edge t p q ≡ true → Among (e ∷ edges) (p, q)) → (p q : ℕ) → has_edge (without_edge t e.0 e.1) p q ≡ true → Among edges (p, q)
+others_listed e edges t all p q h = by both.0 (all p q both.1)
+  where
+    both : (not ((p == e.0) && (q == e.1)) ≡ true) × (has_edge t p q ≡ true)
+    both = and_parts (not ((p == e.0) && (q == e.1))) (has_edge t p q) (sym (has_edge-without_edge t e.0 e.1 p q) ∙ h)
+
+    by : not ((p == e.0) && (q == e.1)) ≡ true → Among (e ∷ edges) (p, q) → Among edges (p, q)
+    by differ (inl same) =
+        let one : ((p == e.0) && (q == e.1)) ≡ true = and_from (p == e.0) (q == e.1) (eq-eqb p e.0 (sym (ap (λ (x : ℕ × ℕ). x.0) same))) (eq-eqb q e.1 (sym (ap (λ (x : ℕ × ℕ). x.1) same))) in
+        absurd (both_ways ((p == e.0) && (q == e.1)) (not-true ((p == e.0) && (q == e.1)) differ) one)
+    by differ (inr more) = more
+
+one_fewer : (e : ℕ × ℕ) (t : Taxonomy) (most : ℕ) → set.len (without_edge t e.0 e.1).edges ≤ most → (set.contains t.edges e ≡ true) ⊎ (set.contains t.edges e ≡ false) → set.len t.edges ≤ suc most
+one_fewer e t most fewer (inl there) = omega (arith, fewer, set.len-remove edge_order t.edges e ∙ ap (λ b. cond b (set.len t.edges - 1) (set.len t.edges)) there)
+one_fewer e t most fewer (inr none) = omega (arith, fewer, set.len-remove edge_order t.edges e ∙ ap (λ b. cond b (set.len t.edges - 1) (set.len t.edges)) none)
+
+no_edges : (t : Taxonomy) → ((p q : ℕ) → has_edge t p q ≡ false) → set.len t.edges ≡ 0
+no_edges t none = ap set.len (set.same_set edge_order same_pairs t.edges set.empty (λ e. none e.0 e.1 ∙ sym (set.contains-empty pair_cmp e))) ∙ set.len-empty pair_cmp
+
 pub listed : (edges : List (ℕ × ℕ)) (t : Taxonomy) → ((p q : ℕ) → has_edge t p q ≡ true → Among edges (p, q)) → set.len t.edges ≤ length edges
-listed [] t all = omega (arith, ap set.len none, set.len-empty pair_cmp)
-  where
-    none : t.edges ≡ set.empty
-    none =
-        set.same_set edge_order same_pairs t.edges set.empty (λ e. false_from_ne_true (has_edge t e.0 e.1) (λ h. all e.0 e.1 h) ∙ sym (set.contains-empty pair_cmp e))
-listed (e ∷ edges) t all = by (cases_Bool (set.contains t.edges e))
-  where
-    others : (p q : ℕ) → has_edge (without_edge t e.0 e.1) p q ≡ true → Among edges (p, q)
-    others p q h =
-        let both = and_parts (not ((p == e.0) && (q == e.1))) (has_edge t p q) (sym (has_edge-without_edge t e.0 e.1 p q) ∙ h) in
-        other both.0 (all p q both.1)
-      where
-        other : not ((p == e.0) && (q == e.1)) ≡ true → Among (e ∷ edges) (p, q) → Among edges (p, q)
-        other differ (inl same) =
-            let one : ((p == e.0) && (q == e.1)) ≡ true = and_from (p == e.0) (q == e.1) (eq-eqb p e.0 (sym (ap (λ (x : ℕ × ℕ). x.0) same))) (eq-eqb q e.1 (sym (ap (λ (x : ℕ × ℕ). x.1) same))) in
-            absurd (both_ways true (sym (ap not one) ∙ differ) refl)
-        other differ (inr more) = more
-
-    fewer : set.len (without_edge t e.0 e.1).edges ≤ length edges
-    fewer = listed edges (without_edge t e.0 e.1) others
-
-    by : (set.contains t.edges e ≡ true) ⊎ (set.contains t.edges e ≡ false) → set.len t.edges ≤ length (e ∷ edges)
-    by (inl there) = omega (arith, fewer, set.len-remove edge_order t.edges e ∙ ap (λ b. cond b (set.len t.edges - 1) (set.len t.edges)) there)
-    by (inr none) = omega (arith, fewer, set.len-remove edge_order t.edges e ∙ ap (λ b. cond b (set.len t.edges - 1) (set.len t.edges)) none)
+listed [] t all = omega (arith, no_edges t (λ p q. false_from_ne_true (has_edge t p q) (λ h. all p q h)))
+listed (e ∷ edges) t all = one_fewer e t (length edges) (listed edges (without_edge t e.0 e.1) (others_listed e edges t all)) (cases_Bool (set.contains t.edges e))
 
 -- ---- the edge that a number has of its own
 abbrev first_or_none : List ℕ → ℕ
@@ -148,7 +146,9 @@ pair_listed axioms p q h =
 pub edges_few : (k : Metadata) → IsDict k.dict → (t : Taxonomy) → HasEdges k t → set.len t.edges ≤ length k.dict.entries + count_by is_filled k.axioms
 edges_few k kept t has =
     let few = listed (own_list ++ pair_list) t all in
-    omega (arith, few, length-append own_list pair_list, length-map (own_edge_of k.dict kept k.declared) k.dict.entries, length-map sides_of (filter is_filled k.axioms), length-filter is_filled k.axioms)
+    let own_long : length own_list ≡ length k.dict.entries = search (rules, length-map) in
+    let pairs_long : length pair_list ≡ length (filter is_filled k.axioms) = search (rules, length-map) in
+    omega (arith, few, length-append own_list pair_list, own_long, pairs_long, length-filter is_filled k.axioms)
   where
     own_list : List (ℕ × ℕ)
     own_list = map (own_edge_of k.dict kept k.declared) k.dict.entries
@@ -188,7 +188,7 @@ filled_less n slot [] below lt free = absurd cc
 filled_less zero slot (x ∷ xs) below lt free = absurd (omega (arith, lt))
 filled_less (suc n) zero (x ∷ xs) below lt free =
     let first : x ≡ FreeAxiom = same_Some x FreeAxiom free in
-    omega (arith, filled_few n xs (below_tail n x xs below), sum_by-cons (λ a. cond (is_filled a) 1 0) x xs, ap (λ a. cond (is_filled a) 1 0) first)
+    omega (arith, filled_few n xs (below_tail n x xs below), sum_by-cons (λ a. cond (is_filled a) 1 0) x xs, ap {B = ℕ} (λ a. cond (is_filled a) 1 0) first)
 filled_less (suc n) (suc slot) (x ∷ xs) below lt free = omega (arith, filled_most x xs, filled_less n slot xs (below_tail n x xs below) (omega (arith, lt)) free)
 
 module _ (k : Metadata) (sound : AreSound k) (t : Taxonomy) (has : HasEdges k t) where

@@ -60,13 +60,7 @@ fn declared_test(dict: &Dict, declared: &Flags, number: u32) -> Option<Test>
 }
 
 // The declared test of a number, where it is on that side of a test.
-fn test_past(
-    dict: &Dict,
-    declared: &Flags,
-    number: u32,
-    test: Test,
-    side: Side,
-) -> Option<Test>
+fn test_past(dict: &Dict, declared: &Flags, number: u32, test: Test, side: Side) -> Option<Test>
     requires long { number < length declared.now }
     requires small { number < NUMBERS }
     ensures there { IfSome result (λ found. declared_test dict.now declared.now number ≡ Some found) }
@@ -174,13 +168,7 @@ fn unlink_pair(dict: &Dict, taxonomy: &mut Taxonomy, from: Option<u32>, to: Opti
 }
 
 /// Adds the edge from a number to that of the next weaker test, where its word is a declared test and there is a weaker one.
-pub fn link_next(
-    dict: &Dict,
-    declared: &Flags,
-    taxonomy: &mut Taxonomy,
-    props: u32,
-    number: u32,
-)
+pub fn link_next(dict: &Dict, declared: &Flags, taxonomy: &mut Taxonomy, props: u32, number: u32)
     requires props { props ≡ taxonomy.old.props }
     requires few { props ≤ MAX_PROPS }
     requires number { number < props }
