@@ -10,7 +10,7 @@ use Rattle.lis_kept.specs.Areas.{Area, slots_of, block_of, spelled}
 use Rattle.lis_kept.specs.Areas.Area.{Axioms}
 use Rattle.lis_kept.specs.Telling.{declared_of, pairs_told, axioms_of, state_of, is_head_by, is_used}
 use Rattle.lis_kept.specs.Sound.{AreSound, IsSoundAxiom}
-use Rattle.lis_kept.specs.Links.{AreHeld, is_pair, has_pair, is_own_link, is_linked, is_edge}
+use Rattle.lis_kept.specs.Links.{AreHeld, is_pair, has_pair, is_linked, is_edge}
 use Rattle.lis_kept.specs.Linking.{are_both, MayLink, Links, MayUnlink, Unlinks}
 use Rattle.lis_kept.specs.Changes.{Marks}
 use Rattle.lis_kept.proofs.InArea.{among_slots}

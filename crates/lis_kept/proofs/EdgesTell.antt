@@ -1,12 +1,12 @@
 -- The edges tell the links: each link between tests is a chain of edges from one to the next.
 use Rattle.std.proofs.Common.{arith}
 use Rattle.std.proofs.lemmas.Bool.{cases_Bool}
-use Rattle.lis_kept.proofs.Common.{rules, ◌≡◌, ◌⊎◌, inl, inr, sym, ap, ◌∙◌, ℕ, zero, suc, ◌<◌, ◌+◌, ◌||◌, Bool, true, false, Option, List, IsDict, or_cases, or_left, or_right, Taxonomy, has_edge, word_of}
+use Rattle.lis_kept.proofs.Common.{rules, ◌≡◌, ◌⊎◌, inl, inr, sym, ◌∙◌, ℕ, zero, suc, ◌<◌, ◌+◌, ◌||◌, true, false, Option, IsDict, or_cases, or_left, or_right, Taxonomy, has_edge, word_of}
 use Rattle.lis_taxonomy.specs.Taxonomy.{Entails as Leads}
 use Rattle.lis_words.specs.declared.test.Test.{Test}
 use Rattle.lis_kept.specs.Metadata.{Metadata}
 use Rattle.lis_kept.specs.Telling.{is_head_by}
-use Rattle.lis_kept.specs.Links.{has_pair, is_linked, is_edge, HasEdges, TellsLinks}
+use Rattle.lis_kept.specs.Links.{has_pair, HasEdges, TellsLinks}
 use Rattle.lis_kept.specs.TestEdges.{declared_test, is_test_link, is_between, is_next_test}
 use Rattle.lis_kept.proofs.Entailed.{leads_joined, edge_leads}
 use Rattle.lis_kept.proofs.NextTests.{between, next_made}

@@ -1,6 +1,6 @@
 -- The edges are few: each word has at most one edge of its own, to its head or to the next weaker test, and each axiom has one.
 use Rattle.std.proofs.Common.{arith, filter, length-append}
-use Rattle.lis_kept.proofs.Common.{rules, ◌≡◌, ◌⊎◌, inl, inr, refl, sym, ap, ap₂, ◌∙◌, subst, ℕ, zero, suc, ◌+◌, ◌-◌, ◌*◌, ◌<◌, ◌≤◌, ◌==◌, ◌&&◌, ◌||◌, not, cond, Bool, true, false, Option, Some, None, is_some, List, [], ◌∷◌, ◌++◌, length, map, count_by, Among, among_filter, filter_among, map_among, among_right, or_cases, and_parts, and_from, both_ways, not-true, false_from_ne_true, same_Some, length-map, Dict, IsDict, word_of, number_of, number_from_word, AxiomSlot, FreeAxiom, Pair, Taxonomy, has_edge, without_edge, same_word, same_word_decides, is_valued, head_bytes, is_test, slice_get, sum_by-cons}
+use Rattle.lis_kept.proofs.Common.{rules, ◌≡◌, ◌⊎◌, inl, inr, refl, sym, ap, ◌∙◌, subst, ℕ, zero, suc, ◌+◌, ◌-◌, ◌*◌, ◌<◌, ◌≤◌, ◌==◌, ◌&&◌, ◌||◌, not, cond, Bool, true, false, Option, Some, None, is_some, List, [], ◌∷◌, ◌++◌, length, map, count_by, Among, among_filter, filter_among, map_among, among_right, or_cases, and_parts, and_from, both_ways, not-true, false_from_ne_true, same_Some, length-map, Dict, IsDict, word_of, number_of, number_from_word, AxiomSlot, FreeAxiom, Pair, Taxonomy, has_edge, without_edge, same_word, same_word_decides, is_valued, head_bytes, is_test, slice_get, sum_by-cons}
 use Rattle.std.proofs.lemmas.Bool.{cases_Bool, eq-eqb}
 use Rattle.std.proofs.lemmas.List.Sums.{length-filter}
 use Rattle.std.specs.FinSet as set
@@ -10,16 +10,15 @@ use Rattle.lis_graph.proofs.Members.{among_left}
 use Rattle.lis_graph.proofs.Ranges.{range_among}
 use Rattle.lis_taxonomy.specs.Taxonomy.{pair_cmp}
 use Rattle.lis_words.proofs.Tests.{valued_not_test}
-use Rattle.lis_words.specs.Words.{test_of}
 use Rattle.lis_kept.specs.Metadata.{Metadata}
 use Rattle.lis_kept.specs.Sound.{AreSound}
 use Rattle.lis_kept.specs.Telling.{is_head_by}
 use Rattle.lis_kept.specs.Linking.{is_filled}
-use Rattle.lis_kept.specs.Links.{has_pair, is_edge, HasEdges}
+use Rattle.lis_kept.specs.Links.{has_pair, HasEdges}
 use Rattle.lis_kept.specs.TestEdges.{declared_test, is_next_test}
 use Rattle.lis_kept.proofs.HeadEdges.{pair_order as edge_order, same_pairs, has_edge-without_edge}
 use Rattle.lis_kept.proofs.OwnLinks.{pair_slot, among_slot}
-use Rattle.lis_kept.proofs.NextTests.{IsNext, next_is, next_parts, below_one, Ranked, linked_below, HasTest, has_test}
+use Rattle.lis_kept.proofs.NextTests.{IsNext, next_is, next_parts, below_one, Ranked, linked_below, has_test}
 use Rattle.lis_laws.proofs.Chains.{tests_by}
 use Rattle.lis_kept.proofs.Used.{headed}
 

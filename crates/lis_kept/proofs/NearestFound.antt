@@ -2,13 +2,12 @@
 use Rattle.std.proofs.Common.{arith, below_more, MatchOption}
 use Rattle.std.specs.Option.{option_map}
 use Rattle.lis_kept.proofs.Common.{rules, ◌≡◌, ◌⊎◌, inl, inr, refl, sym, ap, ◌∙◌, ℕ, ◌+◌, ◌<◌, ◌≤◌, Bool, true, false, if◌then◌else◌, Option, Some, None, IfSome, List, length, both_ways, false_from_ne_true, cases_lt, get_or_past, are_weaker, Dict, word_of}
-use Rattle.lis_blockmap.specs.Bitmap.{is_taken}
 use Rattle.lis_words.specs.declared.test.Test.{Test}
 use Rattle.lis_laws.proofs.Chains.{weaker_trans, weaker_apart}
 use Rattle.lis_kept.specs.declared.test_edges.Found.{Found}
 use Rattle.lis_kept.specs.declared.test_edges.Side.{Side}
 use Rattle.lis_kept.specs.declared.test_edges.Side.TheVariants.{Weaker, Stronger}
-use Rattle.lis_kept.specs.TestEdges.{test_by, declared_test, is_past, IsNearest, IsNeighbour}
+use Rattle.lis_kept.specs.TestEdges.{test_by, declared_test, is_past, IsNeighbour}
 use Rattle.lis_kept.proofs.NextTests.{none_weaker}
 
 -- ---- sides
@@ -24,7 +23,7 @@ none_past : (side : Side) (a : Option Test) → is_past side None a ≡ false
 none_past Weaker a = refl
 none_past Stronger a = none_weaker a
 
-pub past_none : (side : Side) (a : Option Test) → is_past side a None ≡ false
+past_none : (side : Side) (a : Option Test) → is_past side a None ≡ false
 past_none Weaker a = none_weaker a
 past_none Stronger a = refl
 
@@ -115,7 +114,3 @@ module _ (side : Side) (d : Dict) (bits : List Bool) (test : Test) where
       by : (r : ℕ) → is_past side (declared_test d bits r) (Some test) ≡ true → (r < end) ⊎ (end ≤ r) → is_past side (Some f.test) (declared_test d bits r) ≡ false
       by r past (inl lt) = before.nearest r lt past
       by r past (inr le) = ap (is_past side (Some f.test)) (no_test_past end r long le) ∙ past_none side (Some f.test)
-
--- a number without a declared test has no neighbours
-pub no_neighbour : (side : Side) (d : Dict) (bits : List Bool) (o : Option Test) → o ≡ None → IsNeighbour side d bits o None
-no_neighbour side d bits o none r = ap (is_past side (declared_test d bits r)) none ∙ past_none side (declared_test d bits r)

@@ -1,6 +1,6 @@
 -- The next weaker test of a test, and what becomes of it where a test comes or goes.
-use Rattle.std.proofs.Common.{arith, Decides}
-use Rattle.lis_kept.proofs.Common.{rules, ◌≡◌, ◌⊎◌, inl, inr, refl, sym, ap, ap₂, ◌∙◌, subst, ℕ, ◌+◌, ◌<◌, ◌≤◌, ◌==◌, ◌&&◌, ◌||◌, not, if◌then◌else◌, Bool, true, false, Option, Some, None, is_some, IsSome, List, same_Some, and_parts, and_from, or_cases, eqb-true, ne_eqb, both_ways, false_from_ne_true, not-true, not_from_false, are_weaker, same_tests, Among, among_from_any, any_from_among, list_any, Dict, IsDict, word_of, number_of, number_from_word, number_below, cases_eq}
+use Rattle.std.proofs.Common.{arith}
+use Rattle.lis_kept.proofs.Common.{rules, ◌≡◌, ◌⊎◌, inl, inr, refl, sym, ap, ap₂, ◌∙◌, subst, ℕ, ◌+◌, ◌<◌, ◌≤◌, ◌==◌, ◌&&◌, ◌||◌, not, if◌then◌else◌, Bool, true, false, Option, Some, None, is_some, List, same_Some, and_parts, and_from, eqb-true, both_ways, false_from_ne_true, not-true, not_from_false, are_weaker, same_tests, among_from_any, any_from_among, Dict, IsDict, word_of, number_of, number_from_word, number_below}
 use Rattle.std.proofs.lemmas.Bool.{eq-eqb}
 use Rattle.std.specs.List.{range_with_len}
 use Rattle.lis_graph.proofs.Ranges.{range_among}
@@ -10,7 +10,7 @@ use Rattle.lis_words.specs.Words.{test_of}
 use Rattle.lis_laws.proofs.Chains.{weaker_trans, tests_by}
 use Rattle.lis_kept.specs.Edges.{is_at}
 use Rattle.lis_kept.specs.declared.test_edges.Side.TheVariants.{Weaker, Stronger}
-use Rattle.lis_kept.specs.TestEdges.{test_by, declared_test, is_test_link, is_between, is_next_test, IsNeighbour, AreNeighbours}
+use Rattle.lis_kept.specs.TestEdges.{test_by, declared_test, is_test_link, is_between, is_next_test, IsNeighbour}
 use Rattle.lis_kept.proofs.TestOrder.{ordered_weaker, ordered_stronger, one_word_a_test}
 
 -- ---- tests of numbers

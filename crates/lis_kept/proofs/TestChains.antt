@@ -1,13 +1,12 @@
 -- Edges between tests close no circle.
 use Rattle.std.proofs.Common.{OnOk, OnErr, arith}
 use Rattle.lis_words.specs.declared.test.Test.{Test}
-use Rattle.lis_kept.proofs.Common.{rules, ◌≡◌, ◌⊎◌, ℕ, zero, suc, ◌==◌, ◌&&◌, ◌||◌, not, Bool, true, false, Option, Some, None, is_some, IfSome, List, ◌↔◌, Result, Ok, Err, IsTrue, refl, sym, ap, ap₂, ◌∙◌, subst, inl, inr, Contains, and_parts, or_cases, ne_eqb, eqb-true, Chain, among_from_contains, Dict, IsDict, word_of, EdgeFault, Present, Cycle, Absent, Taxonomy, no_links, has_edge, with_edge, without_edge, are_weaker, both_ways}
-use Rattle.std.proofs.Math.Bool.{and-false}
+use Rattle.lis_kept.proofs.Common.{rules, ◌≡◌, ◌⊎◌, ℕ, zero, suc, ◌==◌, ◌&&◌, ◌||◌, not, Bool, true, false, Option, Some, None, is_some, List, ◌↔◌, Result, Ok, Err, IsTrue, refl, sym, ap, ap₂, ◌∙◌, subst, inl, inr, Contains, and_parts, or_cases, eqb-true, Chain, among_from_contains, Dict, IsDict, word_of, EdgeFault, Present, Cycle, Absent, Taxonomy, no_links, has_edge, with_edge, without_edge, are_weaker}
 use Rattle.lis_taxonomy.specs.Taxonomy.{Entails}
 use Rattle.lis_laws.proofs.Chains.{weaker_trans, weaker_apart, tests_by}
 use Rattle.lis_kept.specs.Edges.{is_at}
 use Rattle.lis_kept.specs.declared.test_edges.Side.TheVariants.{Weaker, Stronger}
-use Rattle.lis_kept.specs.TestEdges.{test_by, declared_test, is_test_link, is_next_test, TestsAreOrdered, IsNeighbour, AreNeighbours, AreInOrder, LinksPair, UnlinksPair, LinksNext, InsertsTest, RemovesTest}
+use Rattle.lis_kept.specs.TestEdges.{test_by, declared_test, is_test_link, is_next_test, TestsAreOrdered, IsNeighbour, AreInOrder, LinksPair, UnlinksPair, LinksNext}
 use Rattle.lis_kept.proofs.HeadEdges.{has_edge-with_edge, has_edge-without_edge, edge_there, swapped}
 use Rattle.lis_kept.proofs.NextTests.{test_link, next_from_here}
 use Rattle.std.specs.FinSet as set
@@ -80,19 +79,6 @@ pair_unlinked t u x y (Err fault) gone same only absent =
     by p q true false e f = refl
     by p q false b e f = refl
 
--- no edge, where there are not both
-pub no_pair_from : (to : Option ℕ) (t : Taxonomy) → LinksPair None to t t
-no_pair_from to t = record { props = refl; edges = λ p q. refl }
-
-pub no_pair_to : (from : Option ℕ) (t : Taxonomy) → LinksPair from None t t
-no_pair_to from t = record { props = refl; edges = λ p q. sym (ap (λ b. b || has_edge t p q) (and-false (is_at from p))) }
-
-pub none_gone_from : (to : Option ℕ) (t : Taxonomy) → UnlinksPair None to t t
-none_gone_from to t = record { props = refl; edges = λ p q. refl }
-
-pub none_gone_to : (from : Option ℕ) (t : Taxonomy) → UnlinksPair from None t t
-none_gone_to from t = record { props = refl; edges = λ p q. sym (ap (λ b. not b && has_edge t p q) (and-false (is_at from p))) }
-
 -- ---- to tests edges lead from stronger tests alone, then as before
 pub linked_ordered : (dict : Dict) (declared : List Bool) (from to : Option ℕ) (t u : Taxonomy) → LinksPair from to t u → AreInOrder dict declared from to → TestsAreOrdered dict t → TestsAreOrdered dict u
 linked_ordered dict declared from to t u links order ordered p q edge tested = by (or_cases (is_at from p && is_at to q) (has_edge t p q) (sym (links.edges p q) ∙ edge))
@@ -115,18 +101,13 @@ module _ (dict : Dict) (declared : List Bool) (n : ℕ) where
   order_below None near = tt
   order_below (Some m) near = near.past
 
-  pub order_above : (o : Option ℕ) → IsNeighbour Stronger dict declared (declared_test dict declared n) o → AreInOrder dict declared o (Some n)
-  order_above None near = tt
-  order_above (Some m) near = near.past
-
   pub order_around : (o r : Option ℕ) → IsNeighbour Stronger dict declared (declared_test dict declared n) o → IsNeighbour Weaker dict declared (declared_test dict declared n) r
       → AreInOrder dict declared o r
   order_around None r high low = tt
   order_around (Some m) None high low = tt
   order_around (Some m) (Some k) high low = weaker_trans (declared_test dict declared k) (declared_test dict declared n) (declared_test dict declared m) low.past high.past
 
-  -- ---- the edges of a number
-  -- that to the next weaker test
+  -- the edge to the next weaker test is the one of the number
   pub links_next : IsDict dict → (o : Option ℕ) (t u : Taxonomy) → IsNeighbour Weaker dict declared (declared_test dict declared n) o → LinksPair (Some n) o t u → LinksNext dict declared n t u
   links_next kept o t u near links = record {
     props = links.props;
@@ -136,28 +117,3 @@ module _ (dict : Dict) (declared : List Bool) (n : ℕ) where
       by : (p q : ℕ) (b : Bool) → (n == p) ≡ b → (b && is_at o q) ≡ (b && is_next_test dict declared p q)
       by p q true e = sym (subst (λ m. is_next_test dict declared m q ≡ is_at o q) (eqb-true n p e) (next_from_here dict kept declared n o near q))
       by p q false e = refl
-
-  -- those to and from it, in place of the one between its neighbours
-  module _ (o r : Option ℕ) (near : AreNeighbours dict declared n o r) (t mid next u : Taxonomy) where
-    pub inserts_test : UnlinksPair o r t mid → LinksPair (Some n) r mid next → LinksPair o (Some n) next u → InsertsTest dict declared n t u
-    inserts_test first second third = record {
-      stronger = o;
-      weaker = r;
-      neighbours = near;
-      props = third.props ∙ (second.props ∙ first.props);
-      edges = λ p q.
-          third.edges p q ∙ ap (λ b. (is_at o p && (n == q)) || b)
-          (second.edges p q ∙ ap (λ b. ((n == p) && is_at r q) || b) (first.edges p q));
-    }
-
-    -- and the other way round
-    pub removes_test : UnlinksPair (Some n) r t mid → UnlinksPair o (Some n) mid next → LinksPair o r next u → RemovesTest dict declared n t u
-    removes_test first second third = record {
-      stronger = o;
-      weaker = r;
-      neighbours = near;
-      props = third.props ∙ (second.props ∙ first.props);
-      edges = λ p q.
-          third.edges p q ∙ ap (λ b. (is_at o p && is_at r q) || b)
-          (second.edges p q ∙ ap (λ b. not (is_at o p && (n == q)) && b) (first.edges p q));
-    }

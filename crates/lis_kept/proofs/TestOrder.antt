@@ -1,15 +1,16 @@
 -- The order of tests: of two tests on one side of a third, one is weaker, and two words of the same test are one.
 use Rattle.std.proofs.Common.{arith, codes, nat_le}
 use Rattle.std.specs.Prelude.{◌^◌}
-use Rattle.lis_kept.proofs.Common.{rules, ◌≡◌, ◌⊎◌, inl, inr, refl, sym, ap, ap₂, ◌∙◌, ℕ, ◌+◌, ◌-◌, ◌<◌, ◌≤◌, ◌*◌, ◌++◌, ◌&&◌, ◌||◌, nat_lt, ◌==◌, Bool, true, false, cond, not, Option, Some, None, is_some, List, [], ◌∷◌, length, take, drop, get_or, same_Some, and_parts, or_cases, eqb-true, lt-ltb, ltb-true, not-true, both_ways, are_weaker, same_word, cases_lt}
+use Rattle.lis_kept.proofs.Common.{rules, ◌≡◌, ◌⊎◌, inl, inr, refl, sym, ap, ap₂, ◌∙◌, ℕ, ◌+◌, ◌-◌, ◌<◌, ◌≤◌, ◌*◌, ◌++◌, ◌&&◌, ◌||◌, nat_lt, ◌==◌, Bool, true, false, cond, not, Option, Some, None, is_some, List, [], ◌∷◌, length, take, drop, get_or, same_Some, and_parts, or_cases, eqb-true, lt-ltb, ltb-true, not-true, are_weaker, same_word, cases_lt}
 use Rattle.std.specs.Char.{is_ascii_digit}
 use Rattle.std.specs.Cmp.Lexicographic.{same_text}
-use Rattle.std.specs.List.{list_all, fold}
+use Rattle.std.specs.List.{list_all}
 use Rattle.std.proofs.lemmas.Bool.{leb-true}
 use Rattle.std.proofs.lemmas.List.{take-append-drop}
-use Rattle.std.proofs.lemmas.Str.Parse.{IsNumeralModel, numerals_by_fold, digits_value_short}
+use Rattle.std.proofs.lemmas.Str.Parse.{digits_value_short}
 use Rattle.std.proofs.lemmas.Fmt.{decimal-digits_value}
 use Rattle.std.specs.Fmt.{decimal}
+use Rattle.lis_grammar.proofs.Printed.{numerals}
 use Rattle.lis_words.specs.declared.test.Test.{Test}
 use Rattle.lis_words.specs.Words.{is_count, is_number, begins_with_zero, count_of, number_behind, test_of, test_by}
 use Rattle.lis_model.specs.Tests.{is_weaker}
@@ -92,9 +93,6 @@ nearer_between (Some r) (Some m) (Some p) h g = by p.at_least refl
         (omega (arith, lower, upper), omega (arith, lower, upper))
 
 -- ---- a test has one word
-numerals : IsNumeralModel (λ ds. list_all is_ascii_digit ds ≡ true) count_of
-numerals = numerals_by_fold _ (search rules) (fold (λ n digit. 10 * n + (digit - 48))) (search (rules, arith))
-
 -- the digits of a number are those that its count is written with
 number_spelled : (ds : List ℕ) → is_number ds ≡ true → decimal (count_of ds) ≡ ds
 number_spelled ds h =

@@ -1,11 +1,11 @@
 -- The next weaker tests with a number's test and without it.
 use Rattle.std.proofs.Common.{arith}
-use Rattle.lis_kept.proofs.Common.{rules, ◌≡◌, ◌⊎◌, inl, inr, refl, sym, ap, ap₂, ◌∙◌, subst, ℕ, ◌==◌, ◌&&◌, ◌||◌, not, Bool, true, false, Option, Some, None, is_some, List, eqb-true, ne_eqb, and_parts, both_ways, false_from_ne_true, are_weaker, Dict, IsDict, cases_eq, same_tests}
+use Rattle.lis_kept.proofs.Common.{rules, ◌≡◌, ◌⊎◌, inl, inr, refl, sym, ap, ap₂, ◌∙◌, subst, ℕ, ◌==◌, ◌&&◌, ◌||◌, not, Bool, true, false, Option, None, List, eqb-true, ne_eqb, and_parts, both_ways, false_from_ne_true, are_weaker, Dict, IsDict, cases_eq, same_tests}
 use Rattle.std.proofs.lemmas.Bool.{eq-eqb, cases_Bool}
 use Rattle.lis_laws.proofs.Chains.{weaker_trans, weaker_apart}
 use Rattle.lis_kept.specs.Edges.{is_at}
 use Rattle.lis_kept.specs.TestEdges.{declared_test, is_test_link, is_next_test, AreNeighbours}
-use Rattle.lis_kept.proofs.NextTests.{none_weaker, IsNext, next_is, next_from, next_from_here, next_to_here, below_one, above_one, Ranked}
+use Rattle.lis_kept.proofs.NextTests.{none_weaker, IsNext, next_is, next_from, next_from_here, next_to_here, below_one, Ranked}
 
 -- `d` and `bits` are with the number, `e` and `less` without it
 module _ (d : Dict) (kept : IsDict d) (bits : List Bool) (e : Dict) (kept_e : IsDict e) (less : List Bool) (n : ℕ) (same : (x : ℕ) → (x ≡ n → ⊥) → declared_test d bits x ≡ declared_test e less x) (gone : declared_test e less n ≡ None)

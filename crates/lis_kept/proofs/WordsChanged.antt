@@ -1,6 +1,6 @@
 -- A word that is declared, known or forgotten.
 use Rattle.std.proofs.Common.{eq-eqb, arith}
-use Rattle.lis_kept.proofs.Common.{rules, ◌≡◌, ◌⊎◌, refl, sym, ap, ap₂, ◌∙◌, subst, inl, inr, ℕ, ◌==◌, ◌&&◌, ◌||◌, not, Bool, true, false, List, length, set, Option, Some, None, is_some, length-set, get_or-set_same, get_or-set_other, ◌<◌, if◌then◌else◌, IsSome, IfSome, [], ◌∷◌, cases_eq, eqb-true, ne_eqb, Dict, IsDict, word_of, is_prop, Taxonomy, has_edge, same_word, head_bytes, are_weaker, with_word, is_declarable, declarable_not_valued, same_Some, Among, among_insert_key, insert_key_old, sorted_insert_key, sorted_from_rising, number_of, word_from_number, number_below, is_undeclared, word_cmp, is_valued, word_order, same_word_decides, head_not_valued, without_word, or_left, both_ways, false_from_ne_true, common_steps, map_among, words, same_words}
+use Rattle.lis_kept.proofs.Common.{rules, ◌≡◌, ◌⊎◌, refl, sym, ap, ap₂, ◌∙◌, subst, inl, inr, ℕ, ◌==◌, ◌&&◌, ◌||◌, not, Bool, true, false, List, length, set, Option, Some, None, is_some, length-set, get_or-set_same, get_or-set_other, ◌<◌, if◌then◌else◌, IsSome, IfSome, [], ◌∷◌, cases_eq, ne_eqb, Dict, word_of, is_prop, Taxonomy, has_edge, same_word, head_bytes, are_weaker, with_word, is_declarable, declarable_not_valued, same_Some, Among, among_insert_key, insert_key_old, sorted_insert_key, sorted_from_rising, number_of, word_from_number, number_below, is_undeclared, word_cmp, is_valued, word_order, same_word_decides, head_not_valued, without_word, or_left, both_ways, false_from_ne_true, common_steps, map_among, words, same_words}
 use Rattle.std.proofs.Math.Bool.{or-false}
 use Rattle.lis_blockmap.specs.Bitmap.{is_taken}
 use Rattle.lis_fields.proofs.Parts.{declarable_word, undeclared_word}
@@ -54,9 +54,6 @@ module _ (p : Metadata) (t : Taxonomy) (held : AreHeld p t) {word : List ℕ} {n
   one = one_word (set p.marks (block_of p.limits Properties number) true) refl
 
   -- ---- the edges, and those between tests on the way
-  pub dict_after : IsDict d
-  dict_after = one.dict
-
   pub ordered_after : TestsAreOrdered d t
   ordered_after x y edge tested = by (cases_eq x number) (cases_eq y number)
     where

@@ -4,7 +4,7 @@ use Rattle.lis_bits.proofs.Subset.{implied}
 use Rattle.lis_laws.proofs.Apart.{declarable_not_valued}
 use Rattle.lis_laws.proofs.Counts.{all_from, rising_from_sorted}
 use Rattle.lis_kept.specs.Sound.{IsSoundAxiom, FreeSlotsAreEmpty}
-use Rattle.lis_kept.specs.Links.{AreHeld}
+use Rattle.lis_kept.specs.Links.{AreHeld, is_linked}
 use Rattle.lis_kept.specs.Telling.{AreUsed}
 use Rattle.lis_kept.specs.Forgetting.{KeepsInUse}
 use Rattle.lis_store.specs.Drafts.{draft_of}
@@ -13,7 +13,7 @@ use Rattle.lis_store.specs.Stored.{AreClosed, TestsAreMet}
 use Rattle.lis_open.specs.declared.words.Words.{Words}
 use Rattle.lis_open.specs.declared.axioms.Axioms.{Axioms}
 use Rattle.lis_open.specs.declared.files.Files.{Files}
-use Rattle.lis_open.specs.ReadWords.{declared_words}
+use Rattle.lis_open.specs.ReadWords.{declared_words, kept_words}
 use Rattle.lis_open.specs.ReadFiles.{described, found_words, own_numbers, HasSomeNumbers, AreNumbers, is_assignable_number, AreFirstFiles}
 use Rattle.lis_open.specs.ReadAll.{AreNoMarks, metadata_in, AreRead, AreSpelled, StoreTells}
 use Rattle.lis_open.proofs.Descriptions.{Sides, sides, assignable_word, some_from, declared_flagged, IsNumbered, AreOf, file_with, tag_owned, left_numbered, entailed, word_below, leads_there, described_on, file_are, told_among, among_told, told_are}
