@@ -10,7 +10,7 @@ use Rattle.lis_kept.specs.Areas.{Area, slots_of, block_of, spelled}
 use Rattle.lis_kept.specs.Areas.Area.{Axioms}
 use Rattle.lis_kept.specs.Telling.{declared_of, pairs_told, axioms_of, state_of, is_head_by, is_used}
 use Rattle.lis_kept.specs.Sound.{AreSound, IsSoundAxiom}
-use Rattle.lis_kept.specs.Links.{AreHeld, is_pair, has_pair, is_own_link, is_linked}
+use Rattle.lis_kept.specs.Links.{AreHeld, is_pair, has_pair, is_linked, is_edge}
 use Rattle.lis_kept.specs.Linking.{are_both, MayLink, Links, MayUnlink, Unlinks}
 use Rattle.lis_kept.specs.Changes.{Marks}
 use Rattle.lis_kept.proofs.InArea.{among_slots}
@@ -18,7 +18,10 @@ use Rattle.lis_kept.proofs.Marking.{block_marked}
 use Rattle.lis_kept.proofs.HeadEdges.{has_edge-with_edge, swapped as edges_swapped, has_edge-without_edge}
 use Rattle.lis_kept.proofs.Known.{axiom_among, among_axiom}
 use Rattle.lis_kept.proofs.OwnLinks.{own_to_plain, pair_slot}
+use Rattle.lis_kept.specs.TestEdges.{is_next_test}
+use Rattle.lis_kept.proofs.EdgesTell.{tells_links}
 use Rattle.lis_kept.proofs.Entailed.{up_from_leads}
+use Rattle.lis_kept.proofs.TestLinks.{edge_linked, no_edge}
 use Rattle.lis_kept.proofs.AxiomSlots.{set_here, set_cases, set_there, any_set, axiom_within, same_sides, set_back}
 use Rattle.std.specs.List.{filter}
 use Rattle.lis_model.specs.Changes.{has_axiom}
@@ -94,6 +97,9 @@ module _ (few : Metadata) (sound : AreSound few) (marks : List Bool) {axioms : L
   pub links_more : (x y : ℕ) → is_linked many x y ≡ (are_both left right x y || is_linked few x y)
   links_more x y = search (rules, pairs_more, or_swapped)
 
+  pub edges_more : (x y : ℕ) → is_edge many x y ≡ (are_both left right x y || is_edge few x y)
+  edges_more x y = search (rules, pairs_more, or_swapped)
+
   pub used_then : (n : ℕ) → is_used many n ≡ ((left == n) || is_head_by (word_of few.dict left) (word_of few.dict n) || is_used few n)
   used_then n = search (rules, any_filled, used_more)
 
@@ -146,8 +152,11 @@ module _ (k p : Metadata) (t u : Taxonomy) (left right slot : ℕ) (axioms : Lis
   one : OneAxiom p slot (Pair left right) axioms marks
   one = search (rules, same_sides, same_Some)
 
-  edges_then : (x y : ℕ) → has_edge u x y ≡ is_linked linked x y
-  edges_then x y = search (rules, has_edge-with_edge, swapped, links_more, into)
+  edges_then : (x y : ℕ) → has_edge u x y ≡ is_edge linked x y
+  edges_then x y =
+      ap (λ (v : Taxonomy). has_edge v x y) linked_is
+      ∙ (has_edge-with_edge t left right x y
+      ∙ (ap₂ (λ a b. a || b) (ap₂ (λ a b. a && b) (swapped x left) (swapped y right)) (held.links.edges x y) ∙ sym (edges_more p held.sound marks into x y)))
 
   pub links : AreHeld linked u × Links left right k linked
   links = (
@@ -179,10 +188,10 @@ link_refused p t held left right may x y fault r is present cycle absent lefts r
     by : (fault : EdgeFault) → r ≡ Err fault → ⊥
     by Present said =
         let edge : has_edge t left right ≡ true = subst (λ n. has_edge t left n ≡ true) rights (subst (λ n. has_edge t n y ≡ true) lefts (present.0 said)) in
-        both_ways (is_linked p left right) not_linked (sym (held.links.edges left right) ∙ edge)
+        both_ways (is_linked p left right) not_linked (edge_linked p held.sound.dict left right (sym (held.links.edges left right) ∙ edge))
     by Cycle said =
         let leads : Leads t right left = subst (λ n. Leads t n left) rights (subst (λ n. Leads t y n) lefts (cycle.0 said)) in
-        let back = up_from_leads p held.sound t held.links right left may.to may.from may.is_right may.is_left leads in
+        let back = up_from_leads p held.sound t (tells_links p held.sound.dict t held.links) right left may.to may.from may.is_right may.is_left leads in
         both_ways (has_word (up (declared_of p) (axioms_of p) may.to) may.from) may.no_circle (has_word_from_among (up (declared_of p) (axioms_of p) may.to) may.from back)
     by Absent said = absent said
 
@@ -249,12 +258,19 @@ module _ (k p : Metadata) (t u : Taxonomy) (left right slot : ℕ) (axioms : Lis
   pairs_then : (x y : ℕ) → has_pair axioms x y ≡ (not (are_both left right x y) && has_pair p.axioms x y)
   pairs_then x y = without_one (are_both left right x y) (has_pair axioms x y) (has_pair p.axioms x y) (pairs_more unlinked sound_gone p.marks into_before x y) (gone_at x y)
 
-  links_then : (x y : ℕ) → is_linked unlinked x y ≡ (not (are_both left right x y) && is_linked p x y)
-  links_then x y = without_one (are_both left right x y) (is_linked unlinked x y) (is_linked p x y) (links_more unlinked sound_gone p.marks into_before x y)
-      (λ is. ap₂ (λ a b. a || b) (own_to_plain (declared_of p) (word_of p.dict x) (word_of p.dict y) (λ to at. may.plain to (ap (word_of p.dict) (both_sides left right x y is).1 ∙ at))) (gone_at x y is))
+  unlinked_at : (x y : ℕ) → are_both left right x y ≡ true → is_linked unlinked x y ≡ false
+  unlinked_at x y is =
+      ap₂ (λ a b. a || b) (own_to_plain (declared_of p) (word_of p.dict x) (word_of p.dict y) (λ to at. may.plain to (ap (word_of p.dict) (both_sides left right x y is).1 ∙ at))) (gone_at x y is)
 
-  edges_gone : (x y : ℕ) → has_edge u x y ≡ is_linked unlinked x y
-  edges_gone x y = search (rules, has_edge-without_edge, swapped, links_then)
+  links_then : (x y : ℕ) → is_linked unlinked x y ≡ (not (are_both left right x y) && is_linked p x y)
+  links_then x y = without_one (are_both left right x y) (is_linked unlinked x y) (is_linked p x y) (links_more unlinked sound_gone p.marks into_before x y) (unlinked_at x y)
+
+  edges_less : (x y : ℕ) → is_edge unlinked x y ≡ (not (are_both left right x y) && is_edge p x y)
+  edges_less x y = without_one (are_both left right x y) (is_edge unlinked x y) (is_edge p x y) (edges_more unlinked sound_gone p.marks into_before x y)
+      (λ is. no_edge unlinked sound_gone.dict x y (unlinked_at x y is))
+
+  edges_gone : (x y : ℕ) → has_edge u x y ≡ is_edge unlinked x y
+  edges_gone x y = search (rules, has_edge-without_edge, swapped, edges_less)
 
   told_then : (l r : List ℕ) → word_of p.dict left ≡ Some l → word_of p.dict right ≡ Some r → axioms_of unlinked ≡ filter (λ e. not (same_pair e (l, r))) (axioms_of p)
   told_then l r is_l is_r =
@@ -282,7 +298,7 @@ pub unlink_missed : {T : Type 0} (p : Metadata) (t : Taxonomy) → AreHeld p t �
     → ((r ≡ Err Absent) ↔ (has_edge t x y ≡ false)) → r ≡ Err Absent → x ≡ left → y ≡ right → ⊥
 unlink_missed p t held left right may x y fault r is absent only lefts rights =
     both_ways (has_edge t left right) (subst (λ n. has_edge t left n ≡ false) rights (subst (λ n. has_edge t n y ≡ false) lefts (absent.0 only)))
-    (held.links.edges left right ∙ by (is_own_link (declared_of p) (word_of p.dict left) (word_of p.dict right)))
+    (held.links.edges left right ∙ by (is_head_by (word_of p.dict left) (word_of p.dict right) || is_next_test p.dict p.declared left right))
   where
     by : (b : Bool) → (b || has_pair p.axioms left right) ≡ true
     by true = refl

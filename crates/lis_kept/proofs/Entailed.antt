@@ -1,8 +1,9 @@
 -- Chains of links between words that have numbers are chains of edges between their numbers.
 use Rattle.std.proofs.Common.{eq-eqb}
-use Rattle.lis_kept.proofs.Common.{rules, ◌≡◌, ◌⊎◌, ℕ, zero, suc, ◌==◌, true, List, Option, Some, None, refl, sym, ap, ◌∙◌, subst, inl, inr, or_cases, same_Some, Chain, Among, among_from_contains, contains_from_among, among_from_any, word_of, number_of, word_from_number, Taxonomy, no_links, has_edge, Pair, head_bytes, has_word, up, among_from_has_word, OwnLink, own_link, Head, Weaker, and_from, or_left, or_right, any_from_among, has_word_from_among, same_tests}
+use Rattle.lis_kept.proofs.Common.{rules, ◌≡◌, ◌⊎◌, ℕ, zero, suc, ◌+◌, ◌==◌, true, List, Option, Some, None, refl, sym, ap, ◌∙◌, subst, inl, inr, or_cases, same_Some, Chain, Among, among_from_contains, contains_from_among, among_from_any, word_of, number_of, word_from_number, Taxonomy, no_links, has_edge, Pair, head_bytes, has_word, up, among_from_has_word, OwnLink, own_link, Head, Weaker, and_from, or_left, or_right, any_from_among, has_word_from_among, same_tests}
 use Rattle.std.specs.Ordering.{eq_by_cmp}
 use Rattle.lis_graph.specs.Graph.{Linked}
+use Rattle.lis_graph.proofs.Graph.{chain_append}
 use Rattle.lis_taxonomy.specs.Taxonomy.{pair_cmp, Entails as Leads, entails as leads}
 use Rattle.lis_taxonomy.proofs.Laws.{entails_decides}
 use Rattle.lis_taxonomy.proofs.Seen.{pair_decides}
@@ -28,6 +29,13 @@ among_edge t p q m = set.contains-items t.edges (p, q) ∙ any_from_among (eq_by
 
 pub edge_of : (t : Taxonomy) (p q : ℕ) → Linked no_links (set.items t.edges) p q → has_edge t p q ≡ true
 edge_of t p q h1 = search (rules, among_from_contains, among_edge)
+
+pub leads_joined : (t : Taxonomy) (p q r : ℕ) → Leads t p q → Leads t q r → Leads t p r
+leads_joined t p q r first rest = (first.0 + rest.0, chain_append no_links (set.items t.edges) first.0 rest.0 p q r first.1 rest.1)
+
+-- an edge is a chain
+pub edge_leads : (t : Taxonomy) (p q : ℕ) → has_edge t p q ≡ true → Leads t p q
+edge_leads t p q edge = (1, (q, inr (contains_from_among (set.items t.edges) (p, q) (edge_among t p q edge)), refl))
 
 -- ---- links between words, and links between their numbers
 -- a number whose word the number before it links to
@@ -86,20 +94,19 @@ module _ (k : Metadata) (sound : AreSound k) where
 
   -- ---- chains
   module _ (t : Taxonomy) (tells : TellsLinks k t) where
-    pub chain_numbered : (len n : ℕ) (p q : List ℕ) → word_of k.dict n ≡ Some p → Chain (links (declared_of k)) (axioms_of k) len p q
-        → (m : ℕ) × (word_of k.dict m ≡ Some q) × Chain no_links (set.items t.edges) len n m
-    chain_numbered zero n p q is same = (n, is ∙ ap Some same, refl)
-    chain_numbered (suc len) n p q is c =
+    pub leads_numbered : (len n : ℕ) (p q : List ℕ) → word_of k.dict n ≡ Some p → Chain (links (declared_of k)) (axioms_of k) len p q
+        → (m : ℕ) × (word_of k.dict m ≡ Some q) × Leads t n m
+    leads_numbered zero n p q is same = (n, is ∙ ap Some same, (zero, refl))
+    leads_numbered (suc len) n p q is c =
         let link = link_numbered n p c.0 is c.1 in
-        let rest = chain_numbered len link.number c.0 q link.named c.2 in
-        let edge = edge_among t n link.number (tells.edges n link.number ∙ link.linked) in
-        (rest.0, rest.1, (link.number, inr (contains_from_among (set.items t.edges) (n, link.number) edge), rest.2))
+        let rest = leads_numbered len link.number c.0 q link.named c.2 in
+        (rest.0, rest.1, leads_joined t n link.number rest.0 (tells.leads n link.number link.linked) rest.2)
 
     pub chain_named : (len n m : ℕ) (p : List ℕ) → word_of k.dict n ≡ Some p → Chain no_links (set.items t.edges) len n m
         → (q : List ℕ) × (word_of k.dict m ≡ Some q) × Chain (links (declared_of k)) (axioms_of k) len p q
     chain_named zero n m p is same = (p, ap (word_of k.dict) (sym same) ∙ is, refl)
     chain_named (suc len) n m p is c =
-        let link = link_named n c.0 p is (sym (tells.edges n c.0) ∙ edge_of t n c.0 c.1) in
+        let link = link_named n c.0 p is (tells.linked n c.0 (edge_of t n c.0 c.1)) in
         let rest = chain_named len c.0 m link.0 link.1 c.2 in
         (rest.0, rest.1, (link.0, link.2, rest.2))
 
@@ -107,8 +114,8 @@ module _ (k : Metadata) (sound : AreSound k) where
     pub leads_from_up : (n m : ℕ) (p q : List ℕ) → word_of k.dict n ≡ Some p → word_of k.dict m ≡ Some q → Among (up (declared_of k) (axioms_of k) p) q → Leads t n m
     leads_from_up n m p q is_p is_q h =
         let chain = entails_from_up (declared_of k) (axioms_of k) p q h in
-        let numbered = chain_numbered chain.0 n p q is_p chain.1 in
-        (chain.0, subst (λ j. Chain no_links (set.items t.edges) chain.0 n j) (one_number k sound numbered.0 m q numbered.1 is_q) numbered.2)
+        let numbered = leads_numbered chain.0 n p q is_p chain.1 in
+        subst (λ j. Leads t n j) (one_number k sound numbered.0 m q numbered.1 is_q) numbered.2
 
     pub up_from_leads : (n m : ℕ) (p q : List ℕ) → word_of k.dict n ≡ Some p → word_of k.dict m ≡ Some q → Leads t n m → Among (up (declared_of k) (axioms_of k) p) q
     up_from_leads n m p q is_p is_q leads =

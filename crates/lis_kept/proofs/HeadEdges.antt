@@ -4,15 +4,17 @@ use Rattle.lis_kept.proofs.Common.{rules, ◌≡◌, ◌⊎◌, ℕ, zero, suc, 
 use Rattle.std.specs.Ordering.{nat_cmp, ordering_then, is_eq, eq_by_cmp}
 use Rattle.std.specs.Cmp.{IsTotalOrder, nat_cmp_total, unsigned_tied}
 use Rattle.std.proofs.Math.Bool.{or-false}
-use Rattle.std.proofs.lemmas.Map.Lookups.{exact_unsigned}
-use Rattle.lis_graph.proofs.Pairs.{pairs_total}
+use Rattle.std.proofs.lemmas.Map.Lookups.{CmpEqualImpliesEq, exact_unsigned}
+use Rattle.lis_graph.proofs.Pairs.{pairs_total, pairs_exact}
 use Rattle.lis_taxonomy.specs.Taxonomy.{pair_cmp, Entails}
-use Rattle.lis_kept.specs.Edges.{with_edge_to, without_edge_to}
-use Rattle.lis_kept.proofs.Used.{is_at}
+use Rattle.lis_kept.specs.Edges.{is_at, with_edge_to, without_edge_to}
 use Rattle.std.specs.FinSet as set
 
-pair_order : IsTotalOrder pair_cmp
+pub pair_order : IsTotalOrder pair_cmp
 pair_order = pairs_total nat_cmp nat_cmp nat_cmp_total nat_cmp_total exact_unsigned exact_unsigned
+
+pub same_pairs : CmpEqualImpliesEq pair_cmp
+same_pairs = pairs_exact nat_cmp nat_cmp nat_cmp_total nat_cmp_total exact_unsigned exact_unsigned
 
 both_equal : (a b : Ordering) → is_eq (ordering_then a b) ≡ (is_eq a && is_eq b)
 both_equal a b = search (rules)

@@ -8,8 +8,10 @@ pub mod Common
 pub mod Contents
 pub mod Described
 pub mod Dropped
+pub mod EdgesTell
 pub mod Emptied
 pub mod Entailed
+pub mod FewEdges
 pub mod Filed
 pub mod Filing
 pub mod FirstRight
@@ -20,7 +22,9 @@ pub mod Image
 pub mod InArea
 pub mod Known
 pub mod Marking
+pub mod NearestFound
 pub mod NeededTold
+pub mod NextTests
 pub mod Numbered
 pub mod OneWord
 pub mod OwnLinks
@@ -29,6 +33,8 @@ pub mod Staged
 pub mod StandsUnder
 pub mod TestChains
 pub mod TestLinks
+pub mod TestOrder
+pub mod TestsAround
 pub mod Used
 pub mod Without
 pub mod WordLess

@@ -1,6 +1,6 @@
 -- One number whose word comes or goes, and what stays of all else.
 use Rattle.std.proofs.Common.{filter, arith}
-use Rattle.lis_kept.proofs.Common.{rules, ◌≡◌, ◌⊎◌, refl, sym, ap, ap₂, ◌∙◌, subst, inl, inr, ℕ, ◌<◌, ◌==◌, if◌then◌else◌, ◌&&◌, ◌||◌, not, Bool, true, false, List, [], length, map, set, Option, Some, None, is_some, IsSome, length-set, insert_key, list_any, fold, and_parts, cases_eq, ne_eqb, not_from_false, not-true, same_Some, IsStrictlySortedBy-filter, Among, among_filter, among_insert_key, insert_key_old, insert_key_new, sorted_insert_key, Dict, IsDict, number_of, word_of, without_word, number_from_word, Filed, rec_at, has, FileRecord, is_prop, AxiomSlot, FreeAxiom, Pair, Taxonomy, has_edge, word_cmp, same_word, is_valued, head_bytes, with_word, word_order, same_word_decides, all_among, and_from, both_ways, false_from_ne_true, filter_among, same_words}
+use Rattle.lis_kept.proofs.Common.{rules, ◌≡◌, ◌⊎◌, refl, sym, ap, ap₂, ◌∙◌, subst, inl, inr, ℕ, ◌<◌, ◌==◌, if◌then◌else◌, ◌&&◌, ◌||◌, not, Bool, true, false, List, [], length, map, set, Option, Some, None, is_some, IsSome, length-set, insert_key, list_any, fold, and_parts, cases_eq, ne_eqb, not_from_false, not-true, same_Some, IsStrictlySortedBy-filter, Among, among_filter, among_insert_key, insert_key_old, insert_key_new, sorted_insert_key, Dict, IsDict, number_of, word_of, without_word, number_from_word, Filed, rec_at, has, FileRecord, is_prop, AxiomSlot, FreeAxiom, Pair, Taxonomy, has_edge, word_cmp, same_word, is_valued, head_bytes, with_word, word_order, same_word_decides, are_weaker, all_among, and_from, both_ways, false_from_ne_true, filter_among, same_words}
 use Rattle.std.specs.Option.{option_to_list}
 use Rattle.std.proofs.Math.Bool.{or-false}
 use Rattle.std.proofs.lemmas.Bool.{eq-eqb}
@@ -18,15 +18,16 @@ use Rattle.lis_kept.specs.Areas.{Area, slots_of, block_of, spelled}
 use Rattle.lis_kept.specs.Areas.Area.{Properties}
 use Rattle.lis_kept.specs.Telling.{declared_of, pair_by, pair_told, axioms_of, file_told, state_of, is_left_of, is_head_by, is_left_head_of, is_named_left, is_had, is_used}
 use Rattle.lis_kept.specs.Sound.{AreSound}
-use Rattle.lis_kept.specs.Links.{AreHeld, TellsLinks, has_pair, is_linked}
-use Rattle.lis_kept.specs.TestEdges.{test_by, declared_test, is_test_link}
+use Rattle.lis_kept.specs.Links.{AreHeld, HasEdges, has_pair, is_linked, is_edge}
+use Rattle.lis_kept.specs.TestEdges.{test_by, declared_test, is_test_link, is_next_test}
 use Rattle.lis_kept.specs.Changes.{Marks}
 use Rattle.lis_kept.proofs.InArea.{among_slots}
 use Rattle.lis_kept.proofs.Formed.{named_below, record_parts, record_stays}
 use Rattle.lis_kept.proofs.Marking.{block_marked}
 use Rattle.lis_kept.proofs.Filing.{map_all, filed_rec, among_from_number, number_from_among}
 use Rattle.lis_kept.proofs.OwnLinks.{IsNoSide, slot_at, no_some, no_side, no_pair_to, no_pair_from}
-use Rattle.lis_kept.proofs.TestLinks.{linked_by, none_weaker}
+use Rattle.lis_kept.proofs.NextTests.{none_weaker, next_parts, next_alike}
+use Rattle.lis_kept.proofs.TestLinks.{linked_by}
 use Rattle.lis_kept.proofs.WordMore.{flat_all, sorted_declared, declared_at, at_declared}
 
 -- Nothing names the number: no axiom does, no file was given it, and none has it.
@@ -45,21 +46,27 @@ unnamed k sound number free = record {
   had = λ slot file. false_from_ne_true (has k.ext number slot) (λ has_it. no_some k sound number free number (sound.named number slot file has_it) refl);
 }
 
--- the number's links are those of its word
-pub linked_unnamed : (k : Metadata) → IsDict k.dict → (number : ℕ) → IsNoSide k.axioms number → (x y : ℕ) → (x ≡ number) ⊎ (y ≡ number)
-    → is_linked k x y ≡ (is_head_by (word_of k.dict x) (word_of k.dict y) || is_test_link k.dict k.declared x y)
-linked_unnamed k dict number none x y which =
-    linked_by k dict x y ∙ (ap (λ b. (is_head_by (word_of k.dict x) (word_of k.dict y) || is_test_link k.dict k.declared x y) || b) (no_pair which)
-    ∙ or-false (is_head_by (word_of k.dict x) (word_of k.dict y) || is_test_link k.dict k.declared x y))
+-- no edge between tests leads from or to a number that is not declared
+no_next : (k : Metadata) → IsDict k.dict → (number : ℕ) → is_taken k.declared number ≡ false → (x y : ℕ) → (x ≡ number) ⊎ (y ≡ number) → is_next_test k.dict k.declared x y ≡ false
+no_next k dict number bit x y which = false_from_ne_true (is_next_test k.dict k.declared x y) (λ h. by which (next_parts k.dict dict k.declared x y h).0)
+  where
+    none : (n : ℕ) → n ≡ number → declared_test k.dict k.declared n ≡ None
+    none n same = ap (λ b. if b then test_by (word_of k.dict n) else None) (ap (is_taken k.declared) same ∙ bit)
+
+    by : (x ≡ number) ⊎ (y ≡ number) → is_test_link k.dict k.declared x y ≡ true → ⊥
+    by (inl same) link = both_ways (is_test_link k.dict k.declared x y) (ap (are_weaker (declared_test k.dict k.declared y)) (none x same) ∙ none_weaker (declared_test k.dict k.declared y)) link
+    by (inr same) link = both_ways (is_test_link k.dict k.declared x y) (ap (λ t. are_weaker t (declared_test k.dict k.declared x)) (none y same)) link
+
+-- its edges are those to its head and from words whose head it is
+pub edge_undeclared : (k : Metadata) → IsDict k.dict → (number : ℕ) → IsNoSide k.axioms number → is_taken k.declared number ≡ false → (x y : ℕ) → (x ≡ number) ⊎ (y ≡ number)
+    → is_edge k x y ≡ is_head_by (word_of k.dict x) (word_of k.dict y)
+edge_undeclared k dict number none bit x y which =
+    ap₂ (λ n b. (is_head_by (word_of k.dict x) (word_of k.dict y) || n) || b) (no_next k dict number bit x y which) (no_pair which)
+    ∙ (or-false (is_head_by (word_of k.dict x) (word_of k.dict y) || false) ∙ or-false (is_head_by (word_of k.dict x) (word_of k.dict y)))
   where
     no_pair : (x ≡ number) ⊎ (y ≡ number) → has_pair k.axioms x y ≡ false
     no_pair (inl same) = ap (λ n. has_pair k.axioms n y) same ∙ no_pair_from k.axioms number none y
     no_pair (inr same) = ap (has_pair k.axioms x) same ∙ no_pair_to k.axioms number none x
-
--- a number that is not declared links to its head alone, and is linked to as a head alone
-pub linked_undeclared : (k : Metadata) → IsDict k.dict → (number : ℕ) → IsNoSide k.axioms number → is_taken k.declared number ≡ false → (x y : ℕ) → (x ≡ number) ⊎ (y ≡ number)
-    → is_linked k x y ≡ is_head_by (word_of k.dict x) (word_of k.dict y)
-linked_undeclared k dict number none bit x y which = search (rules, linked_unnamed, or-false, none_weaker)
 
 -- The words and bits of all other numbers stay, and nothing names this one. The block of its slot is marked.
 pub record OneWord (p : Metadata) (number : ℕ) (d : Dict) (bits marks : List Bool) : Type 0 where
@@ -211,29 +218,42 @@ module _ (p : Metadata) (sound : AreSound p) {number : ℕ} {d : Dict} {bits mar
           ((same_word_decides v word).1 (same_Some v word (sym at.1 ∙ (ap (word_of p.dict) same ∙ there))))) at.1 at.2
 
   -- ---- links
-  -- the number's links are those of its word
-  pub linked_now : (x y : ℕ) → (x ≡ number) ⊎ (y ≡ number) → is_linked after x y ≡ (is_head_by (word_of d x) (word_of d y) || is_test_link d bits x y)
-  linked_now = linked_unnamed after w.dict number w.unnamed.sides
-
-  test_elsewhere : (n : ℕ) → (n ≡ number → ⊥) → declared_test d bits n ≡ declared_test p.dict p.declared n
+  pub test_elsewhere : (n : ℕ) → (n ≡ number → ⊥) → declared_test d bits n ≡ declared_test p.dict p.declared n
   test_elsewhere n differ = ap₂ (λ b o. if b then test_by o else None) (w.others n differ).1 (same_word_there n differ)
 
   pub linked_elsewhere : (x y : ℕ) → (x ≡ number → ⊥) → (y ≡ number → ⊥) → is_linked after x y ≡ is_linked p x y
   linked_elsewhere x y differ apart =
       grind (arith, linked_by after w.dict x y, same_word_there x differ, same_word_there y apart, test_elsewhere y apart, test_elsewhere x differ, linked_by p sound.dict x y)
 
-  -- edges that are the links of the number, and else those that there were
-  pub held_then : (t u : Taxonomy) → TellsLinks p t → u.props ≡ t.props → ((y : ℕ) → has_edge u number y ≡ is_linked after number y)
-      → ((x : ℕ) → (x ≡ number → ⊥) → has_edge u x number ≡ is_linked after x number) → ((x y : ℕ) → (x ≡ number → ⊥) → (y ≡ number → ⊥) → has_edge u x y ≡ has_edge t x y) → AreHeld after u
-  held_then t u links props from to elsewhere = record {
+  -- ---- edges
+  pub heads_elsewhere : (x y : ℕ) → (x ≡ number → ⊥) → (y ≡ number → ⊥) → is_head_by (word_of d x) (word_of d y) ≡ is_head_by (word_of p.dict x) (word_of p.dict y)
+  heads_elsewhere x y differ apart = ap₂ is_head_by (same_word_there x differ) (same_word_there y apart)
+
+  -- edges that are those of the number, and else those that there were, where its word is declared neither before nor after
+  pub held_then : (t u : Taxonomy) → HasEdges p t → u.props ≡ t.props → is_taken p.declared number ≡ false → is_taken bits number ≡ false → ((y : ℕ) → has_edge u number y ≡ is_edge after number y)
+      → ((x : ℕ) → (x ≡ number → ⊥) → has_edge u x number ≡ is_edge after x number) → ((x y : ℕ) → (x ≡ number → ⊥) → (y ≡ number → ⊥) → has_edge u x y ≡ has_edge t x y) → AreHeld after u
+  held_then t u links props was now from to elsewhere = record {
     sound = sound_then;
     links = record { props = props ∙ links.props; edges = λ x y. by x y (cases_eq x number) (cases_eq y number) };
   }
     where
-      by : (x y : ℕ) → (x ≡ number) ⊎ (x ≡ number → ⊥) → (y ≡ number) ⊎ (y ≡ number → ⊥) → has_edge u x y ≡ is_linked after x y
-      by x y (inl same) other = subst (λ n. has_edge u n y ≡ is_linked after n y) (sym same) (from y)
-      by x y (inr differ) (inl same) = subst (λ n. has_edge u x n ≡ is_linked after x n) (sym same) (to x differ)
-      by x y (inr differ) (inr apart) = elsewhere x y differ apart ∙ (links.edges x y ∙ sym (linked_elsewhere x y differ apart))
+      no_test_by : (o : Option (List ℕ)) (b : Bool) → b ≡ false → (if b then test_by o else None) ≡ None
+      no_test_by o b is = ap (λ c. if c then test_by o else None) is
+
+      test_by_cases : (n : ℕ) → (n ≡ number) ⊎ (n ≡ number → ⊥) → declared_test d bits n ≡ declared_test p.dict p.declared n
+      test_by_cases n (inl same) =
+          no_test_by (word_of d n) (is_taken bits n) (ap (is_taken bits) same ∙ now) ∙ sym (no_test_by (word_of p.dict n) (is_taken p.declared n) (ap (is_taken p.declared) same ∙ was))
+      test_by_cases n (inr differ) = test_elsewhere n differ
+
+      next_then : (x y : ℕ) → is_next_test d bits x y ≡ is_next_test p.dict p.declared x y
+      next_then = next_alike d p.dict w.dict sound.dict bits p.declared (λ n. test_by_cases n (cases_eq n number))
+
+      by : (x y : ℕ) → (x ≡ number) ⊎ (x ≡ number → ⊥) → (y ≡ number) ⊎ (y ≡ number → ⊥) → has_edge u x y ≡ is_edge after x y
+      by x y (inl same) other = subst (λ n. has_edge u n y ≡ is_edge after n y) (sym same) (from y)
+      by x y (inr differ) (inl same) = subst (λ n. has_edge u x n ≡ is_edge after x n) (sym same) (to x differ)
+      by x y (inr differ) (inr apart) =
+          elsewhere x y differ apart
+          ∙ (links.edges x y ∙ sym (ap₂ (λ h n. (h || n) || has_pair p.axioms x y) (heads_elsewhere x y differ apart) (next_then x y)))
 
   -- ---- what is used
   pub lefts_same : (n : ℕ) → (n ≡ number → ⊥) → is_named_left after n ≡ is_named_left p n

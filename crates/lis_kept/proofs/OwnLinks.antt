@@ -1,5 +1,5 @@
 -- The links that words have by themselves.
-use Rattle.lis_kept.proofs.Common.{common_steps, rules, [], ◌∷◌, ◌≡◌, ℕ, true, false, Option, Some, None, is_some, IsSome, slice_get, List, refl, ap, ◌∙◌, and_parts, or_cases, eqb-true, same_Some, Among, among_right, among_from_any, contains_from_among, word_of, AxiomSlot, Pair, same_word, has_word, head_bytes, is_valued, is_test, is_plain_word, is_undeclared, same_word_decides, among_from_has_word, all_among, OwnLink, own_link, Head, Weaker, Taxonomy, has_edge, and_from, both_ways, false_from_ne_true, has_word_from_among, same_tests}
+use Rattle.lis_kept.proofs.Common.{common_steps, rules, [], ◌∷◌, ◌≡◌, ℕ, true, false, Option, Some, None, is_some, IsSome, slice_get, List, refl, ap, ◌∙◌, and_parts, or_cases, eqb-true, same_Some, Among, among_right, among_from_any, contains_from_among, word_of, AxiomSlot, Pair, same_word, has_word, head_bytes, is_valued, is_test, is_plain_word, is_undeclared, same_word_decides, among_from_has_word, all_among, OwnLink, own_link, Head, Weaker, and_from, both_ways, false_from_ne_true, has_word_from_among, same_tests}
 use native.Mathlib.Omega.{arith}
 use Rattle.std.proofs.lemmas.Option.{slice_get-get_or}
 use Rattle.lis_words.proofs.Tests.{plain_not_test, head_not_test, valued_not_test}
@@ -8,7 +8,7 @@ use Rattle.lis_laws.proofs.Chains.{IsWeakerIn, weaker_tests_are, links_head}
 use Rattle.lis_kept.specs.Metadata.{Metadata}
 use Rattle.lis_kept.specs.Telling.{declared_of, is_head_by}
 use Rattle.lis_kept.specs.Sound.{AreSound}
-use Rattle.lis_kept.specs.Links.{AreHeld, is_own_link, is_linked, has_pair}
+use Rattle.lis_kept.specs.Links.{is_own_link, is_linked, has_pair}
 
 -- a member stands in some place
 pub placed_at : {X : Type 0} (xs : List X) (x : X) → Among xs x → (n : ℕ) × (slice_get xs n ≡ Some x)
@@ -94,10 +94,3 @@ module _ (k : Metadata) (sound : AreSound k) (number : ℕ) (free : word_of k.di
 
   pub unnamed_from : (y : ℕ) → is_linked k number y ≡ false
   unnamed_from y = grind (arith, no_pair_from k.axioms number no_side y)
-
--- nor an edge
-pub none_to : (p : Metadata) (t : Taxonomy) → AreHeld p t → (number : ℕ) → word_of p.dict number ≡ None → (x : ℕ) → has_edge t x number ≡ false
-none_to p t held number free x = held.links.edges x number ∙ unnamed_to p held.sound number free x
-
-pub none_from : (p : Metadata) (t : Taxonomy) → AreHeld p t → (number : ℕ) → word_of p.dict number ≡ None → (x : ℕ) → has_edge t number x ≡ false
-none_from p t held number free x = held.links.edges number x ∙ unnamed_from p held.sound number free x

@@ -1,49 +1,19 @@
 -- The links between declared tests, by their numbers.
-use Rattle.lis_kept.proofs.Common.{rules, ◌≡◌, ◌⊎◌, ℕ, if◌then◌else◌, ◌||◌, Bool, true, false, Option, Some, None, is_some, List, refl, sym, ap, ap₂, ◌∙◌, subst, inl, inr, and_parts, or_cases, Dict, IsDict, word_of, number_from_word, Taxonomy, same_word, has_word, is_valued, head_bytes, is_test, are_weaker, same_word_decides, among_from_has_word, OwnLink, own_link, Head, Weaker, and_from, or_left, or_right, both_ways, false_from_ne_true, has_word_from_among, same_tests}
+use Rattle.lis_kept.proofs.Common.{rules, ◌≡◌, ◌⊎◌, ℕ, if◌then◌else◌, ◌||◌, true, false, Option, Some, None, is_some, List, refl, sym, ap, ap₂, ◌∙◌, subst, inl, inr, and_parts, or_cases, IsDict, word_of, number_from_word, Taxonomy, has_edge, same_word, has_word, is_valued, head_bytes, is_test, are_weaker, same_word_decides, among_from_has_word, OwnLink, own_link, Head, Weaker, and_from, or_left, or_right, both_ways, false_from_ne_true, has_word_from_among, same_tests}
 use Rattle.lis_blockmap.specs.Bitmap.{is_taken}
-use Rattle.lis_words.specs.declared.test.Test.{Test}
 use Rattle.lis_words.specs.Words.{test_of}
 use Rattle.lis_words.proofs.Tests.{plain_not_test}
 use Rattle.lis_model.specs.State.{links}
-use Rattle.lis_laws.proofs.Chains.{links_weaker, head_no_test, weaker_apart}
+use Rattle.lis_laws.proofs.Chains.{links_weaker, head_no_test, tests_by}
 use Rattle.lis_kept.specs.Metadata.{Metadata}
+use Rattle.lis_kept.specs.Sound.{AreSound}
 use Rattle.lis_kept.specs.Telling.{bit_of, is_declared, declared_of, is_head_by}
-use Rattle.lis_kept.specs.Links.{is_own_link, is_linked, has_pair, AreHeld}
-use Rattle.lis_kept.specs.TestEdges.{test_by, declared_test, is_test_link, TestsAreOrdered}
+use Rattle.lis_kept.specs.Links.{is_own_link, is_linked, is_edge, has_pair, AreHeld}
+use Rattle.lis_kept.specs.TestEdges.{test_by, declared_test, is_test_link, is_next_test, TestsAreOrdered}
 use Rattle.lis_kept.proofs.Formed.{some_word}
-use Rattle.lis_kept.proofs.OwnLinks.{pair_slot, own_head}
+use Rattle.lis_kept.proofs.NextTests.{none_weaker, no_test, test_link, test_linked, next_parts}
+use Rattle.lis_kept.proofs.OwnLinks.{pair_slot, own_head, unnamed_to, unnamed_from}
 use Rattle.lis_kept.proofs.WordMore.{declared_there, there_declared}
-
--- ---- tests of numbers
-pub none_weaker : (t : Option Test) → are_weaker t None ≡ false
-none_weaker t = search (rules)
-
--- a number that has no word has no test
-pub no_test : (dict : Dict) (declared : List Bool) (n : ℕ) → word_of dict n ≡ None → declared_test dict declared n ≡ None
-no_test dict declared n none = search (rules)
-
--- a link between tests is one between the words
-pub record TestLink (dict : Dict) (declared : List Bool) (p q : ℕ) : Type 0 where
-  pub from : is_taken declared p ≡ true
-  pub to : is_taken declared q ≡ true
-  pub weaker : are_weaker (test_by (word_of dict q)) (test_by (word_of dict p)) ≡ true
-
-pub test_link : (dict : Dict) (declared : List Bool) (p q : ℕ) → is_test_link dict declared p q ≡ true → TestLink dict declared p q
-test_link dict declared p q h = by (is_taken declared p) refl (is_taken declared q) refl h
-  where
-    by : (a : Bool) → is_taken declared p ≡ a → (b : Bool) → is_taken declared q ≡ b → are_weaker (if b then test_by (word_of dict q) else None) (if a then test_by (word_of dict p) else None) ≡ true
-        → TestLink dict declared p q
-    by true e true f w = record { from = e; to = f; weaker = w }
-    by true e false f w = absurd cc
-    by false e b f w = absurd (both_ways (are_weaker (if b then test_by (word_of dict q) else None) None) (none_weaker (if b then test_by (word_of dict q) else None)) w)
-
-pub test_linked : (dict : Dict) (declared : List Bool) (p q : ℕ) → is_taken declared p ≡ true → is_taken declared q ≡ true → are_weaker (test_by (word_of dict q)) (test_by (word_of dict p)) ≡ true
-    → is_test_link dict declared p q ≡ true
-test_linked dict declared p q from to weaker = search (rules)
-
--- no test is weaker than itself
-pub not_itself : (dict : Dict) (declared : List Bool) (n : ℕ) → is_test_link dict declared n n ≡ false
-not_itself dict declared n = false_from_ne_true (is_test_link dict declared n n) (weaker_apart (declared_test dict declared n))
 
 -- ---- links of words by themselves are those to heads and between tests
 pub own_link_by : (k : Metadata) → IsDict k.dict → (p q : ℕ)
@@ -89,27 +59,76 @@ own_link_by k dict p q = by (word_of k.dict p) refl (word_of k.dict q) refl
 pub linked_by : (k : Metadata) → IsDict k.dict → (p q : ℕ) → is_linked k p q ≡ ((is_head_by (word_of k.dict p) (word_of k.dict q) || is_test_link k.dict k.declared p q) || has_pair k.axioms p q)
 linked_by k dict p q = ap (λ b. b || has_pair k.axioms p q) (own_link_by k dict p q)
 
--- ---- to a test links lead from stronger tests alone
-pub tests_ordered : (k : Metadata) (t : Taxonomy) → AreHeld k t → TestsAreOrdered k.dict t
-tests_ordered k t held p q edge test =
-    by (or_cases (is_head_by (word_of k.dict p) (word_of k.dict q) || is_test_link k.dict k.declared p q) (has_pair k.axioms p q) (sym (linked_by k held.sound.dict p q) ∙ (sym (held.links.edges p q) ∙ edge)))
+-- ---- edges are links
+-- that to a head, or between tests
+own_edge : (k : Metadata) → IsDict k.dict → (p q : ℕ) → (is_head_by (word_of k.dict p) (word_of k.dict q) || is_next_test k.dict k.declared p q) ≡ true
+    → is_own_link (declared_of k) (word_of k.dict p) (word_of k.dict q) ≡ true
+own_edge k dict p q h = own_link_by k dict p q ∙ by (or_cases (is_head_by (word_of k.dict p) (word_of k.dict q)) (is_next_test k.dict k.declared p q) h)
   where
-    not_head : (o r : Option (List ℕ)) → is_head_by o r ≡ true → is_some (test_by r) ≡ true → ⊥
-    not_head None r h tested = both_ways false refl h
-    not_head (Some w) None h tested = both_ways false refl h
-    not_head (Some w) (Some v) h tested =
-        let both = and_parts (is_valued w) (same_word (head_bytes w) v) h in
-        head_no_test w (subst (λ u. is_test u ≡ true) (sym ((same_word_decides (head_bytes w) v).0 both.1)) tested)
+    by : (is_head_by (word_of k.dict p) (word_of k.dict q) ≡ true) ⊎ (is_next_test k.dict k.declared p q ≡ true) → (is_head_by (word_of k.dict p) (word_of k.dict q) || is_test_link k.dict k.declared p q) ≡ true
+    by (inl head) = or_left (is_head_by (word_of k.dict p) (word_of k.dict q)) (is_test_link k.dict k.declared p q) head
+    by (inr next) = or_right (is_head_by (word_of k.dict p) (word_of k.dict q)) (is_test_link k.dict k.declared p q) (next_parts k.dict dict k.declared p q next).0
 
+pub no_own_edge : (k : Metadata) → IsDict k.dict → (p q : ℕ) → is_own_link (declared_of k) (word_of k.dict p) (word_of k.dict q) ≡ false
+    → (is_head_by (word_of k.dict p) (word_of k.dict q) || is_next_test k.dict k.declared p q) ≡ false
+no_own_edge k dict p q none =
+    false_from_ne_true (is_head_by (word_of k.dict p) (word_of k.dict q) || is_next_test k.dict k.declared p q)
+    (λ h. both_ways (is_own_link (declared_of k) (word_of k.dict p) (word_of k.dict q)) none (own_edge k dict p q h))
+
+pub edge_linked : (k : Metadata) → IsDict k.dict → (p q : ℕ) → is_edge k p q ≡ true → is_linked k p q ≡ true
+edge_linked k dict p q h = by (or_cases (is_head_by (word_of k.dict p) (word_of k.dict q) || is_next_test k.dict k.declared p q) (has_pair k.axioms p q) h)
+  where
+    by : ((is_head_by (word_of k.dict p) (word_of k.dict q) || is_next_test k.dict k.declared p q) ≡ true) ⊎ (has_pair k.axioms p q ≡ true) → is_linked k p q ≡ true
+    by (inl own) = or_left (is_own_link (declared_of k) (word_of k.dict p) (word_of k.dict q)) (has_pair k.axioms p q) (own_edge k dict p q own)
+    by (inr pair) = or_right (is_own_link (declared_of k) (word_of k.dict p) (word_of k.dict q)) (has_pair k.axioms p q) pair
+
+-- where there is no link there is no edge
+pub no_edge : (k : Metadata) → IsDict k.dict → (p q : ℕ) → is_linked k p q ≡ false → is_edge k p q ≡ false
+no_edge k dict p q none = false_from_ne_true (is_edge k p q) (λ h. both_ways (is_linked k p q) none (edge_linked k dict p q h))
+
+-- a number that has no word has no edge
+pub none_to : (p : Metadata) (t : Taxonomy) → AreHeld p t → (number : ℕ) → word_of p.dict number ≡ None → (x : ℕ) → has_edge t x number ≡ false
+none_to p t held number free x = held.links.edges x number ∙ no_edge p held.sound.dict x number (unnamed_to p held.sound number free x)
+
+pub none_from : (p : Metadata) (t : Taxonomy) → AreHeld p t → (number : ℕ) → word_of p.dict number ≡ None → (x : ℕ) → has_edge t number x ≡ false
+none_from p t held number free x = held.links.edges number x ∙ no_edge p held.sound.dict number x (unnamed_from p held.sound number free x)
+
+-- ---- to a test links lead from stronger tests alone
+pub no_head_none : (o : Option (List ℕ)) → is_head_by o None ≡ false
+no_head_none None = refl
+no_head_none (Some w) = refl
+
+no_head_to : (o r : Option (List ℕ)) → is_some (test_by r) ≡ true → is_head_by o r ≡ false
+no_head_to None r tested = refl
+no_head_to (Some w) None tested = refl
+no_head_to (Some w) (Some v) tested = false_from_ne_true (is_head_by (Some w) (Some v)) (λ h.
+    let both = and_parts (is_valued w) (same_word (head_bytes w) v) h in
+    head_no_test w (subst (λ u. is_test u ≡ true) (sym ((same_word_decides (head_bytes w) v).0 both.1)) tested))
+
+no_pair_to_test : (k : Metadata) → AreSound k → (p q : ℕ) → is_some (test_by (word_of k.dict q)) ≡ true → has_pair k.axioms p q ≡ false
+no_pair_to_test k sound p q tested = false_from_ne_true (has_pair k.axioms p q) (λ pair.
+    let at = pair_slot k.axioms p q pair in
+    let one = sound.axioms at.0 p q at.1 in
+    let word = some_word (word_of k.dict q) one.right in
+    both_ways (is_test word.0) (plain_not_test word.0 (one.plain word.0 word.1)) (subst (λ o. is_some (test_by o) ≡ true) word.1 tested))
+
+-- a link between tests is no other one
+pub beside_test : (k : Metadata) → AreSound k → (p q : ℕ) → is_test_link k.dict k.declared p q ≡ true → (is_head_by (word_of k.dict p) (word_of k.dict q) ≡ false) × (has_pair k.axioms p q ≡ false)
+beside_test k sound p q link =
+    let weaker = (test_link k.dict k.declared p q link).weaker in
+    let tested = (tests_by (test_by (word_of k.dict q)) (test_by (word_of k.dict p)) weaker).0 in
+    (no_head_to (word_of k.dict p) (word_of k.dict q) tested, no_pair_to_test k sound p q tested)
+
+pub tests_ordered : (k : Metadata) (t : Taxonomy) → AreHeld k t → TestsAreOrdered k.dict t
+tests_ordered k t held p q edge tested =
+    by (or_cases (is_head_by (word_of k.dict p) (word_of k.dict q) || is_test_link k.dict k.declared p q) (has_pair k.axioms p q)
+    (sym (linked_by k held.sound.dict p q) ∙ edge_linked k held.sound.dict p q (sym (held.links.edges p q) ∙ edge)))
+  where
     own : (is_head_by (word_of k.dict p) (word_of k.dict q) ≡ true) ⊎ (is_test_link k.dict k.declared p q ≡ true) → are_weaker (test_by (word_of k.dict q)) (test_by (word_of k.dict p)) ≡ true
-    own (inl head) = absurd (not_head (word_of k.dict p) (word_of k.dict q) head test)
+    own (inl head) = absurd (both_ways (is_head_by (word_of k.dict p) (word_of k.dict q)) (no_head_to (word_of k.dict p) (word_of k.dict q) tested) head)
     own (inr linked) = (test_link k.dict k.declared p q linked).weaker
 
     by : ((is_head_by (word_of k.dict p) (word_of k.dict q) || is_test_link k.dict k.declared p q) ≡ true) ⊎ (has_pair k.axioms p q ≡ true)
         → are_weaker (test_by (word_of k.dict q)) (test_by (word_of k.dict p)) ≡ true
     by (inl h) = own (or_cases (is_head_by (word_of k.dict p) (word_of k.dict q)) (is_test_link k.dict k.declared p q) h)
-    by (inr pair) =
-        let at = pair_slot k.axioms p q pair in
-        let one = held.sound.axioms at.0 p q at.1 in
-        let word = some_word (word_of k.dict q) one.right in
-        absurd (both_ways (is_test word.0) (plain_not_test word.0 (one.plain word.0 word.1)) (subst (λ o. is_some (test_by o) ≡ true) word.1 test))
+    by (inr pair) = absurd (both_ways (has_pair k.axioms p q) (no_pair_to_test k held.sound p q tested) pair)

@@ -1,12 +1,13 @@
 -- What the tests tell by which numbers in use are found.
 use Rattle.std.proofs.Common.{arith}
-use Rattle.lis_kept.proofs.Common.{common_steps, rules, ◌≡◌, ◌⊎◌, inl, inr, slice_get, refl, sym, ap, ap₂, ◌∙◌, ℕ, ◌<◌, ◌==◌, ◌||◌, Bool, true, false, List, [], ◌∷◌, length, Option, Some, None, is_some, IsSome, IfSome, IfNone, list_any, and_parts, ne_eqb, eqb-true, or_cases, Among, among_from_any, contains_from_among, NoneTrue, get, Dict, IsDict, word_of, number_from_word, word_from_number, Ext, has, AxiomSlot, FreeAxiom, Pair, is_valued, same_word_decides, head_not_valued, and_from, both_ways, false_from_ne_true, or_left, or_right, any_from_among, same_tests}
+use Rattle.lis_kept.proofs.Common.{common_steps, rules, ◌≡◌, ◌⊎◌, inl, inr, slice_get, refl, sym, ap, ap₂, ◌∙◌, ℕ, ◌<◌, ◌==◌, ◌||◌, Bool, true, false, List, [], ◌∷◌, length, Option, Some, is_some, IsSome, IfSome, IfNone, list_any, and_parts, ne_eqb, eqb-true, or_cases, Among, among_from_any, contains_from_among, NoneTrue, get, Dict, IsDict, word_of, number_from_word, word_from_number, Ext, has, AxiomSlot, FreeAxiom, Pair, is_valued, same_word_decides, head_not_valued, and_from, both_ways, false_from_ne_true, or_left, or_right, any_from_among, same_tests}
 use Rattle.std.proofs.lemmas.Bool.{eq-eqb}
 use Rattle.std.proofs.lemmas.List.{get_or_default}
 use Rattle.lis_blockmap.specs.Bitmap.{is_taken}
 use Rattle.lis_kept.specs.Metadata.{Metadata}
 use Rattle.lis_kept.specs.Telling.{is_left_of, is_head_by, is_left_head_of, is_had, is_named_left, is_used}
 use Rattle.lis_kept.specs.Edges.{head_number}
+pub use Rattle.lis_kept.specs.Edges.{is_at}
 use Rattle.lis_kept.proofs.OwnLinks.{slot_at, among_slot}
 use Rattle.lis_kept.proofs.WordLess.{had_from}
 
@@ -64,10 +65,6 @@ pub headed : (o w : Option (List ℕ)) → is_head_by o w ≡ true → (v : List
 headed o w h1 = search (rules, both_ways, and_parts)
 
 -- ---- by the number of a head
-abbrev pub is_at : Option ℕ → ℕ → Bool
-is_at None n = false
-is_at (Some m) n = m == n
-
 pub head_by_number : (d : Dict) → IsDict d → (word : List ℕ) (head : ℕ) → is_at (head_number d word) head ≡ is_head_by (Some word) (word_of d head)
 head_by_number d dict word head =
     grind (arith, common_steps, both_ways, word_from_number, eqb-true, and_from, same_word_decides, and_parts, number_from_word, eq-eqb, same_tests)

@@ -1,19 +1,21 @@
 -- A word that is declared, known or forgotten.
 use Rattle.std.proofs.Common.{eq-eqb, arith}
-use Rattle.lis_kept.proofs.Common.{rules, ◌≡◌, ◌⊎◌, refl, sym, ap, ap₂, ◌∙◌, subst, inl, inr, ℕ, ◌==◌, ◌&&◌, ◌||◌, Bool, true, false, List, length, set, Option, Some, None, is_some, length-set, get_or-set_same, get_or-set_other, ◌<◌, if◌then◌else◌, IsSome, IfSome, [], ◌∷◌, cases_eq, eqb-true, ne_eqb, Dict, IsDict, word_of, is_prop, Taxonomy, has_edge, same_word, head_bytes, are_weaker, with_word, is_declarable, declarable_not_valued, same_Some, Among, among_insert_key, insert_key_old, sorted_insert_key, sorted_from_rising, number_of, word_from_number, number_below, is_undeclared, word_cmp, is_valued, word_order, same_word_decides, head_not_valued, without_word, or_left, both_ways, false_from_ne_true, common_steps, map_among, words, same_words}
+use Rattle.lis_kept.proofs.Common.{rules, ◌≡◌, ◌⊎◌, refl, sym, ap, ap₂, ◌∙◌, subst, inl, inr, ℕ, ◌==◌, ◌&&◌, ◌||◌, not, Bool, true, false, List, length, set, Option, Some, None, is_some, length-set, get_or-set_same, get_or-set_other, ◌<◌, if◌then◌else◌, IsSome, IfSome, [], ◌∷◌, cases_eq, ne_eqb, Dict, word_of, is_prop, Taxonomy, has_edge, same_word, head_bytes, are_weaker, with_word, is_declarable, declarable_not_valued, same_Some, Among, among_insert_key, insert_key_old, sorted_insert_key, sorted_from_rising, number_of, word_from_number, number_below, is_undeclared, word_cmp, is_valued, word_order, same_word_decides, head_not_valued, without_word, or_left, both_ways, false_from_ne_true, common_steps, map_among, words, same_words}
+use Rattle.std.proofs.Math.Bool.{or-false}
 use Rattle.lis_blockmap.specs.Bitmap.{is_taken}
 use Rattle.lis_fields.proofs.Parts.{declarable_word, undeclared_word}
 use Rattle.lis_kept.specs.Metadata.{Metadata, property_by}
 use Rattle.lis_kept.specs.Areas.{block_of}
 use Rattle.lis_kept.specs.Areas.Area.{Properties}
 use Rattle.lis_kept.specs.Telling.{declared_of, is_head_by, is_had, is_named_left, is_used, AreUsed}
-use Rattle.lis_kept.specs.Links.{AreHeld, is_linked}
-use Rattle.lis_kept.specs.TestEdges.{test_by, is_test_link, TestsAreOrdered, LinksWeaker, LinksStronger}
+use Rattle.lis_kept.specs.Links.{AreHeld, has_pair, is_edge}
+use Rattle.lis_kept.specs.TestEdges.{test_by, declared_test, is_next_test, TestsAreOrdered, InsertsTest}
 use Rattle.lis_kept.specs.Changes.{Declares, Learns}
-use Rattle.lis_kept.proofs.OwnLinks.{none_to, none_from, no_some, unnamed_to, unnamed_from}
-use Rattle.lis_kept.proofs.TestLinks.{not_itself, tests_ordered}
-use Rattle.lis_kept.proofs.TestChains.{where_ordered}
-use Rattle.lis_kept.proofs.OneWord.{OneWord, after, same_word_there, marks_then, state_then, declared_more, linked_now, held_then, used_same, Comes, word_here, no_bit, no_head, comes, declared_same, linked_undeclared, number_then, IsUnnamed, sound_then, lefts_same, Goes, word_left, word_gone, not_gone, goes}
+use Rattle.lis_kept.proofs.OwnLinks.{no_some, unnamed_to, unnamed_from}
+use Rattle.lis_kept.proofs.NextTests.{no_test, next_parts}
+use Rattle.lis_kept.proofs.TestLinks.{none_to, none_from, no_edge, no_head_none, beside_test, tests_ordered}
+use Rattle.lis_kept.proofs.TestsAround.{inserted, met}
+use Rattle.lis_kept.proofs.OneWord.{OneWord, after, same_word_there, marks_then, state_then, declared_more, edge_undeclared, heads_elsewhere, test_elsewhere, held_then, used_same, Comes, word_here, no_bit, no_head, comes, declared_same, number_then, IsUnnamed, sound_then, lefts_same, Goes, word_left, word_gone, not_gone, goes}
 use Rattle.lis_dict.specs.Dict.{entry_cmp}
 use Rattle.lis_dict.proofs.Laws.{among_from_number}
 use Rattle.lis_kept.specs.Edges.{head_number, with_edge_to, without_edge_to}
@@ -26,17 +28,19 @@ use Rattle.lis_kept.specs.Forgetting.{MayGo}
 use Rattle.lis_kept.specs.Passes.{ForgetsWhere}
 use Rattle.lis_kept.proofs.WordLess.{not_left}
 
-either : (a b l : Bool) → (a ≡ true) ⊎ (b ≡ true) → ((a && l) || ((b && l) || false)) ≡ l
-either a b l is = grind arith
-
-neither : (a l h : Bool) → (a ≡ true → l ≡ false) → h ≡ false → ((a && l) || h) ≡ false
-neither a l h none was = grind arith
+-- edges of which some come for one that goes between tests: `a` and `b` are those, `s` the one, `h`, `g` and `c` to heads, between tests and by axioms
+placed : (a b s h g c : Bool) → (s ≡ true → (h ≡ false) × (c ≡ false)) → (a || (b || (not s && ((h || g) || c)))) ≡ ((h || (a || (b || (not s && g)))) || c)
+placed a b true h g c none =
+    let no = none refl in
+    sym (ap₂ (λ i j. (i || (a || (b || false))) || j) no.0 no.1 ∙ or-false (a || (b || false)))
+placed true b false true g c none = refl
+placed true b false false g c none = refl
+placed false true false true g c none = refl
+placed false true false false g c none = refl
+placed false false false h g c none = refl
 
 module _ (p : Metadata) (t : Taxonomy) (held : AreHeld p t) {word : List ℕ} {number : ℕ} {d : Dict} {bits : List Bool}
     (form : is_declarable word ≡ true) (come : Comes p word number d) (bits_are : bits ≡ set p.declared number true) where
-  abbrev link : ℕ → ℕ → Bool
-  link = is_test_link d bits
-
   bit_here : is_taken bits number ≡ true
   bit_here = ap (λ bs. is_taken bs number) bits_are ∙ get_or-set_same p.declared number true false (omega (arith, come.below, held.sound.numbers, held.sound.bits))
 
@@ -50,9 +54,6 @@ module _ (p : Metadata) (t : Taxonomy) (held : AreHeld p t) {word : List ℕ} {n
   one = one_word (set p.marks (block_of p.limits Properties number) true) refl
 
   -- ---- the edges, and those between tests on the way
-  pub dict_after : IsDict d
-  dict_after = one.dict
-
   pub ordered_after : TestsAreOrdered d t
   ordered_after x y edge tested = by (cases_eq x number) (cases_eq y number)
     where
@@ -64,43 +65,47 @@ module _ (p : Metadata) (t : Taxonomy) (held : AreHeld p t) {word : List ℕ} {n
           ap₂ (λ r o. are_weaker (test_by r) (test_by o)) to (same_word_there p held.sound one x differ)
           ∙ tests_ordered p t held x y edge (subst (λ o. is_some (test_by o) ≡ true) to tested)
 
-  pub ordered_between : (u : Taxonomy) → LinksWeaker d bits number t u → TestsAreOrdered d u
-  ordered_between u links = where_ordered (λ x y. x == number) d bits t u (record { props = links.props; edges = links.edges }) ordered_after
-
-  pub none_between : (u : Taxonomy) → LinksWeaker d bits number t u → (x : ℕ) → has_edge u x number ≡ false
-  none_between u links x =
-      links.edges x number
-      ∙ neither (x == number) (link x number) (has_edge t x number) (λ same. ap (λ n. link n number) (eqb-true x number same) ∙ not_itself d bits number) (none_to p t held number come.free x)
-
   -- ---- the change
-  module _ (mid u : Taxonomy) (weaker : LinksWeaker d bits number t mid) (stronger : LinksStronger d bits number mid u) (marks : List Bool)
-      (marked : marks ≡ set p.marks (block_of p.limits Properties number) true) where
+  module _ (u : Taxonomy) (inserts : InsertsTest d bits number t u) (marks : List Bool) (marked : marks ≡ set p.marks (block_of p.limits Properties number) true) where
     abbrev q : Metadata
     q = after p held.sound (one_word marks marked)
-
-    edges : (x y : ℕ) → has_edge u x y ≡ (((y == number) && link x y) || (((x == number) && link x y) || has_edge t x y))
-    edges x y = stronger.edges x y ∙ ap (λ b. ((y == number) && link x y) || b) (weaker.edges x y)
-
-    -- its links are to and from tests alone
-    tests_alone : (x y : ℕ) → (x ≡ number) ⊎ (y ≡ number) → has_edge t x y ≡ false → is_head_by (word_of d x) (word_of d y) ≡ false → has_edge u x y ≡ is_linked q x y
-    tests_alone x y which none head =
-        edges x y ∙ (ap (λ b. ((y == number) && link x y) || (((x == number) && link x y) || b)) none
-        ∙ (either (y == number) (x == number) (link x y) (by which) ∙ sym (linked_now p held.sound (one_word marks marked) x y which ∙ ap (λ b. b || link x y) head)))
-      where
-        by : (x ≡ number) ⊎ (y ≡ number) → ((y == number) ≡ true) ⊎ ((x == number) ≡ true)
-        by (inl same) = inr (eq-eqb x number same)
-        by (inr same) = inl (eq-eqb y number same)
 
     none_behind : (o : Option (List ℕ)) → is_head_by (Some word) o ≡ false
     none_behind None = refl
     none_behind (Some v) = ap (λ b. b && same_word (head_bytes word) v) (declarable_not_valued word form)
 
+    -- the word is no valued one, and no head of one
+    heads_same : (x y : ℕ) → (x ≡ number) ⊎ (x ≡ number → ⊥) → (y ≡ number) ⊎ (y ≡ number → ⊥) → is_head_by (word_of p.dict x) (word_of p.dict y) ≡ is_head_by (word_of d x) (word_of d y)
+    heads_same x y (inl same) other =
+        ap (λ o. is_head_by o (word_of p.dict y)) (ap (word_of p.dict) same ∙ come.free)
+        ∙ sym (ap (λ o. is_head_by o (word_of d y)) (ap (word_of d) same ∙ word_here p held.sound come) ∙ none_behind (word_of d y))
+    heads_same x y (inr differ) (inl same) =
+        ap (is_head_by (word_of p.dict x)) (ap (word_of p.dict) same ∙ come.free) ∙ (no_head_none (word_of p.dict x)
+        ∙ sym (ap₂ is_head_by (same_word_there p held.sound one x differ) (ap (word_of d) same ∙ word_here p held.sound come) ∙ no_head p held.sound come x))
+    heads_same x y (inr differ) (inr apart) = sym (heads_elsewhere p held.sound one x y differ apart)
+
+    tests_same : (n : ℕ) → (n ≡ number → ⊥) → declared_test d bits n ≡ declared_test p.dict p.declared n
+    tests_same = test_elsewhere p held.sound one
+
+    gone : declared_test p.dict p.declared number ≡ None
+    gone = no_test p.dict p.declared number come.free
+
+    edges_then : (x y : ℕ) → has_edge u x y ≡ is_edge q x y
+    edges_then x y =
+        inserts.edges x y
+        ∙ (ap (λ b. (is_at inserts.stronger x && (number == y)) || (((number == x) && is_at inserts.weaker y) || (not (is_at inserts.stronger x && is_at inserts.weaker y) && b))) (held.links.edges x y)
+        ∙ (placed (is_at inserts.stronger x && (number == y)) ((number == x) && is_at inserts.weaker y) (is_at inserts.stronger x && is_at inserts.weaker y) (is_head_by (word_of p.dict x) (word_of p.dict y))
+        (is_next_test p.dict p.declared x y) (has_pair p.axioms x y) alone
+        ∙ ap₂ (λ h n. (h || n) || has_pair p.axioms x y) (heads_same x y (cases_eq x number) (cases_eq y number))
+        (sym (inserted d one.dict bits p.dict held.sound.dict p.declared number tests_same gone inserts.stronger inserts.weaker inserts.neighbours x y))))
+      where
+        alone : (is_at inserts.stronger x && is_at inserts.weaker y) ≡ true → (is_head_by (word_of p.dict x) (word_of p.dict y) ≡ false) × (has_pair p.axioms x y ≡ false)
+        alone h =
+            beside_test p held.sound x y
+            (next_parts p.dict held.sound.dict p.declared x y (met d one.dict bits p.dict held.sound.dict p.declared number tests_same gone inserts.stronger inserts.weaker inserts.neighbours x y h)).0
+
     held_declared : AreHeld q u
-    held_declared =
-        held_then p held.sound (one_word marks marked) t u held.links (stronger.props ∙ weaker.props)
-        (λ y. tests_alone number y (inl refl) (none_from p t held number come.free y) (ap (λ o. is_head_by o (word_of d y)) (word_here p held.sound come) ∙ none_behind (word_of d y)))
-        (λ x differ. tests_alone x number (inr refl) (none_to p t held number come.free x) (ap₂ is_head_by (same_word_there p held.sound one x differ) (word_here p held.sound come) ∙ no_head p held.sound come x))
-        (λ x y differ apart. edges x y ∙ ap₂ (λ a b. (a && link x y) || ((b && link x y) || has_edge t x y)) (ne_eqb y number apart) (ne_eqb x number differ))
+    held_declared = record { sound = sound_then p held.sound (one_word marks marked); links = record { props = inserts.props ∙ held.links.props; edges = edges_then } }
 
     used_then : AreUsed p → AreUsed q
     used_then used n some = by (cases_eq n number)
@@ -164,16 +169,16 @@ module _ (p : Metadata) (t : Taxonomy) (held : AreHeld p t) {word : List ℕ} {n
       by true e = number_then p held.sound come (head_bytes word) ∙ ap (λ b. if b then Some number else number_of p.dict (head_bytes word))
           (false_from_ne_true (same_word word (head_bytes word)) (λ same. both_ways (is_valued word) (ap is_valued ((same_word_decides word (head_bytes word)).0 same) ∙ head_not_valued word) e))
 
-  linked_here : (x y : ℕ) → (x ≡ number) ⊎ (y ≡ number) → is_linked learnt x y ≡ is_head_by (word_of d x) (word_of d y)
-  linked_here = linked_undeclared learnt one_learnt.dict number one_learnt.unnamed.sides bit
+  edge_here : (x y : ℕ) → (x ≡ number) ⊎ (y ≡ number) → is_edge learnt x y ≡ is_head_by (word_of d x) (word_of d y)
+  edge_here = edge_undeclared learnt one_learnt.dict number one_learnt.unnamed.sides bit
 
   held_learnt : AreHeld learnt linked
   held_learnt =
-      held_then p held.sound one_learnt t linked held.links (same_props_with t number (head_number p.dict word))
+      held_then p held.sound one_learnt t linked held.links (same_props_with t number (head_number p.dict word)) bit bit
       (λ y. first_edge t number (head_number p.dict word) y (none_from p t held number come.free y) ∙ (ap (λ o. is_at o y) (sym head_is) ∙ (head_by_number d one_learnt.dict word y
-      ∙ sym (linked_here number y (inl refl) ∙ ap (λ o. is_head_by o (word_of d y)) (word_here p held.sound come)))))
+      ∙ sym (edge_here number y (inl refl) ∙ ap (λ o. is_head_by o (word_of d y)) (word_here p held.sound come)))))
       (λ x differ. other_edges_with t number (head_number p.dict word) x number differ ∙ (none_to p t held number come.free x
-      ∙ sym (linked_here x number (inr refl) ∙ (ap₂ is_head_by (same_word_there p held.sound one_learnt x differ) (word_here p held.sound come) ∙ no_head p held.sound come x))))
+      ∙ sym (edge_here x number (inr refl) ∙ (ap₂ is_head_by (same_word_there p held.sound one_learnt x differ) (word_here p held.sound come) ∙ no_head p held.sound come x))))
       (λ x y differ apart. other_edges_with t number (head_number p.dict word) x y differ)
 
   only_then : (n : ℕ) (v : List ℕ) → word_of d n ≡ Some v → (word_of p.dict n ≡ Some v) ⊎ ((n ≡ number) × (v ≡ word))
@@ -228,19 +233,19 @@ module _ (p : Metadata) (t : Taxonomy) (held : AreHeld p t) {word : List ℕ} {n
   unnamed : IsUnnamed p number
   unnamed = record { sides = record { left = not_left p number may.lefts; right = may.rights }; tags = may.tags; had = may.had }
 
-  linked_before : (x y : ℕ) → (x ≡ number) ⊎ (y ≡ number) → is_linked p x y ≡ is_head_by (word_of p.dict x) (word_of p.dict y)
-  linked_before = linked_undeclared p held.sound.dict number unnamed.sides may.flagged
+  edge_before : (x y : ℕ) → (x ≡ number) ⊎ (y ≡ number) → is_edge p x y ≡ is_head_by (word_of p.dict x) (word_of p.dict y)
+  edge_before = edge_undeclared p held.sound.dict number unnamed.sides may.flagged
 
   -- its only edge is the one to its head
   edge_is : (y : ℕ) → has_edge t number y ≡ is_at (head_number p.dict word) y
-  edge_is y = search (rules, linked_before, head_by_number)
+  edge_is y = search (rules, edge_before, head_by_number)
 
   pub edge_to_head : (o : Option ℕ) → o ≡ head_number p.dict word → IfSome o (λ h. has_edge t number h ≡ true)
   edge_to_head None is = search rules
   edge_to_head (Some h) is = edge_is h ∙ (ap (λ o. is_at o h) (sym is) ∙ eq-eqb h h refl)
 
   none_before : (x : ℕ) → has_edge t x number ≡ false
-  none_before x = held.links.edges x number ∙ (linked_before x number (inr refl) ∙ may.heads x)
+  none_before x = held.links.edges x number ∙ (edge_before x number (inr refl) ∙ may.heads x)
 
   -- over what memory kept
   pub forgets : (k : Metadata) (u : Taxonomy) (dict : Dict) (marks : List Bool) → p ≡ k → dict ≡ without_word p.dict word → u ≡ without_edge_to t number (head_number p.dict word)
@@ -248,9 +253,9 @@ module _ (p : Metadata) (t : Taxonomy) (held : AreHeld p t) {word : List ℕ} {n
       → AreHeld (record p { dict = dict; marks = marks }) u × ForgetsWhere (λ n. number == n) 1 k (record p { dict = dict; marks = marks })
   forgets k u dict marks is dict_is unlinked_is marked = (
     subst (AreHeld q) (sym unlinked_is) (
-        held_then p held.sound one t (without_edge_to t number head) held.links (same_props_without t number head)
-        (λ y. last_edge t number head y (edge_is y) ∙ sym (unnamed_from q (sound_then p held.sound one) number none y))
-        (λ x differ. other_edges_without t number head x number differ ∙ (none_before x ∙ sym (unnamed_to q (sound_then p held.sound one) number none x)))
+        held_then p held.sound one t (without_edge_to t number head) held.links (same_props_without t number head) may.flagged may.flagged
+        (λ y. last_edge t number head y (edge_is y) ∙ sym (no_edge q one.dict number y (unnamed_from q (sound_then p held.sound one) number none y)))
+        (λ x differ. other_edges_without t number head x number differ ∙ (none_before x ∙ sym (no_edge q one.dict x number (unnamed_to q (sound_then p held.sound one) number none x))))
         (λ x y differ apart. other_edges_without t number head x y differ)),
     subst (λ (x : Metadata). ForgetsWhere (λ n. number == n) 1 x q) is (record {
       metadata = refl;

@@ -21,4 +21,4 @@ pub use metadata::Metadata;
 pub use places::{
     axioms_start, bitmap_start, data_start, files_start, image_capacity, image_layout, rows_start,
 };
-pub use test_edges::{link_nearest, link_weaker};
+pub use test_edges::link_next;

@@ -1,16 +1,31 @@
-//! The edges between tests: one leads from each declared test to each that is weaker.
+//! The edges between tests: one leads from each declared test to the next weaker one.
 
-ghost use Rattle.std.specs.Prelude.{◌≡◌, ◌≤◌, ◌<◌, ℕ, true, false, Some, length, IsTrue, IfSome};
+ghost use Rattle.std.specs.Prelude.{◌≡◌, ◌≤◌, ◌<◌, true, false, Some, length, MatchOption, IfSome};
+ghost use Rattle.std.specs.Option.{option_map};
 ghost use Rattle.lis_dict.specs.Dict.{IsDict};
-ghost use Rattle.lis_model.specs.Tests.{is_weaker, are_weaker};
-ghost use Rattle.lis_taxonomy.specs.Taxonomy.{has_edge};
-ghost use Rattle.lis_kept.specs.TestEdges.{declared_test, TestsAreOrdered, LinksSome, LinksWeaker, LinksStronger, UnlinksAll};
+ghost use Rattle.lis_model.specs.Tests.{is_weaker};
+ghost use Rattle.lis_kept.specs.declared.test_edges.Found.{Found};
+ghost use Rattle.lis_kept.specs.TestEdges.{declared_test, is_past, IsNeighbour, AreInOrder, TestsAreOrdered, LinksPair, UnlinksPair, LinksNext, InsertsTest, RemovesTest};
 
 use lis_bits::Flags;
 use lis_dict::Dict;
 use lis_limits::{MAX_PROPS, NUMBERS};
 use lis_taxonomy::Taxonomy;
 use lis_words::{Test, test_of};
+
+/// On which side of a test another one is.
+#[derive(Clone, Copy)]
+pub(crate) enum Side {
+    Weaker,
+    Stronger,
+}
+
+// A declared test, and its number.
+#[derive(Clone, Copy)]
+struct Found {
+    number: u32,
+    test: Test,
+}
 
 fn is_weaker(q: Test, p: Test) -> bool
     ensures { result ≡ is_weaker q p }
@@ -19,6 +34,16 @@ fn is_weaker(q: Test, p: Test) -> bool
         return p.at_least && q.bytes < p.bytes;
     }
     !p.at_least && p.bytes < q.bytes
+}
+
+// Whether the first test is on that side of the second one.
+fn is_past(side: Side, q: Test, p: Test) -> bool
+    ensures { result ≡ is_past side (Some q) (Some p) }
+{
+    match side {
+        Side::Weaker => is_weaker(q, p),
+        Side::Stronger => is_weaker(p, q),
+    }
 }
 
 // The test that the word of a number is, where this is declared.
@@ -34,93 +59,116 @@ fn declared_test(dict: &Dict, declared: &Flags, number: u32) -> Option<Test>
     test_of(&word)
 }
 
-// Whether a number has a declared test that is weaker than this one.
-fn has_weaker(dict: &Dict, declared: &Flags, number: u32, test: Test) -> bool
+// The declared test of a number, where it is on that side of a test.
+fn test_past(dict: &Dict, declared: &Flags, number: u32, test: Test, side: Side) -> Option<Test>
     requires long { number < length declared.now }
     requires small { number < NUMBERS }
-    ensures { result ≡ are_weaker (declared_test dict.now declared.now number) (Some test) }
+    ensures there { IfSome result (λ found. declared_test dict.now declared.now number ≡ Some found) }
+    ensures past { MatchOption result (is_past side (declared_test dict.now declared.now number) (Some test) ≡ false) (λ found. is_past side (Some found) (Some test) ≡ true) }
 {
-    match declared_test(dict, declared, number) {
-        None => false,
-        Some(other) => is_weaker(other, test),
-    }
-}
-
-// Whether a number has a declared test that is stronger than this one.
-fn has_stronger(dict: &Dict, declared: &Flags, number: u32, test: Test) -> bool
-    requires long { number < length declared.now }
-    requires small { number < NUMBERS }
-    ensures { result ≡ are_weaker (Some test) (declared_test dict.now declared.now number) }
-{
-    match declared_test(dict, declared, number) {
-        None => false,
-        Some(other) => is_weaker(test, other),
-    }
-}
-
-// The test of a number that has a declared test which is weaker than this one.
-fn weaker_test(dict: &Dict, declared: &Flags, number: u32, test: Test) -> Option<Test>
-    requires long { number < length declared.now }
-    requires small { number < NUMBERS }
-    ensures { IfSome result (λ _. are_weaker (declared_test dict.now declared.now number) (Some test) ≡ true) }
-{
-    let other = declared_test(dict, declared, number)?;
-    if !is_weaker(other, test) {
+    let found = declared_test(dict, declared, number)?;
+    if !is_past(side, found, test) {
         return None;
     }
-    Some(other)
+    Some(found)
 }
 
-// Whether a test is nearer than the nearest one so far, of tests that are all weaker than another one.
-fn is_nearer(nearest: Option<Test>, test: Test) -> bool {
+// Whether a test is nearer than the nearest one so far, of tests that are all on that side of another one.
+fn is_nearer(nearest: Option<Found>, test: Test, side: Side) -> bool
+    ensures { MatchOption nearest (result ≡ true) (λ found. result ≡ is_past side (Some found.test) (Some test)) }
+{
     match nearest {
         None => true,
-        Some(nearest) => is_weaker(nearest, test),
+        Some(nearest) => is_past(side, nearest.test, test),
     }
 }
 
-// A number that has a declared test which is weaker than this one, and it is the nearest.
-fn nearest_weaker(dict: &Dict, declared: &Flags, props: u32, test: Test) -> Option<u32>
+// The number of a test that was found.
+fn number_of(found: Option<Found>) -> Option<u32>
+    ensures { result ≡ option_map (λ (f : Found). f.number) found }
+{
+    match found {
+        None => None,
+        Some(found) => Some(found.number),
+    }
+}
+
+// The number of the nearest declared test on that side of a test.
+fn nearest(dict: &Dict, declared: &Flags, props: u32, test: Test, side: Side) -> Option<u32>
     requires few { props ≤ MAX_PROPS }
     requires bits { length declared.now ≡ props }
     ensures below { IfSome result (λ number. number < props) }
-    ensures weaker { IfSome result (λ number. are_weaker (declared_test dict.now declared.now number) (Some test) ≡ true) }
+    ensures neighbour { IsNeighbour side dict.now declared.now (Some test) result }
 {
     let mut nearest = None;
-    let mut number = None;
-    for other in 0..props {
-        if let Some(found) = weaker_test(dict, declared, other, test) {
-            if is_nearer(nearest, found) {
-                nearest = Some(found);
-                number = Some(other);
+    for number in 0..props {
+        if let Some(found) = test_past(dict, declared, number, test, side) {
+            if is_nearer(nearest, found, side) {
+                nearest = Some(Found {
+                    number,
+                    test: found,
+                });
             }
         }
     }
-    number
+    number_of(nearest)
 }
 
-/// Adds the edge from a number to that of the nearest weaker test, where its word is a declared test and the edge is not there. Once this
-/// is done for all numbers, each test entails all that are weaker, and their edges come fast.
-pub fn link_nearest(dict: &Dict, declared: &Flags, taxonomy: &mut Taxonomy, props: u32, number: u32)
-    requires props { props ≡ taxonomy.old.props }
+// The number of the nearest declared test on that side of a number's, where this has one.
+fn neighbour(dict: &Dict, declared: &Flags, props: u32, number: u32, side: Side) -> Option<u32>
     requires few { props ≤ MAX_PROPS }
     requires number { number < props }
     requires bits { length declared.now ≡ props }
-    ensures { LinksSome dict.now declared.now taxonomy.old taxonomy.new }
+    ensures below { IfSome result (λ found. found < props) }
+    ensures neighbour { IsNeighbour side dict.now declared.now (declared_test dict.now declared.now number) result }
 {
-    let Some(test) = declared_test(dict, declared, number) else {
-        return;
-    };
-    let Some(nearest) = nearest_weaker(dict, declared, props, test) else {
-        return;
-    };
-    // Where it is there already, nothing changes.
-    let _ = taxonomy.add(number, nearest);
+    let test = declared_test(dict, declared, number)?;
+    nearest(dict, declared, props, test, side)
 }
 
-/// Adds the edges from a number to those of weaker tests, where its word is a declared test. The number of a word that is none keeps
-/// its edges.
-pub fn link_weaker(dict: &Dict, declared: &Flags, taxonomy: &mut Taxonomy, props: u32, number: u32)
+// Adds the edge from a test to a weaker one, where there are both. It may be there.
+fn link_pair(
+    dict: &Dict,
+    declared: &Flags,
+    taxonomy: &mut Taxonomy,
+    from: Option<u32>,
+    to: Option<u32>,
+)
+    requires from { IfSome from (λ p. p < taxonomy.old.props) }
+    requires to { IfSome to (λ q. q < taxonomy.old.props) }
+    requires weaker { AreInOrder dict.now declared.now from to }
+    requires ordered { TestsAreOrdered dict.now taxonomy.old }
+    ensures linked { LinksPair from to taxonomy.old taxonomy.new }
+    ensures ordered { TestsAreOrdered dict.now taxonomy.new }
+{
+    let Some(from) = from else {
+        return;
+    };
+    let Some(to) = to else {
+        return;
+    };
+    let _ = taxonomy.add(from, to);
+}
+
+// Takes the edge from a number to another away, where there are both. It may be missing.
+fn unlink_pair(dict: &Dict, taxonomy: &mut Taxonomy, from: Option<u32>, to: Option<u32>)
+    requires from { IfSome from (λ p. p < taxonomy.old.props) }
+    requires to { IfSome to (λ q. q < taxonomy.old.props) }
+    requires ordered { TestsAreOrdered dict.now taxonomy.old }
+    ensures unlinked { UnlinksPair from to taxonomy.old taxonomy.new }
+    ensures ordered { TestsAreOrdered dict.now taxonomy.new }
+{
+    let Some(from) = from else {
+        return;
+    };
+    let Some(to) = to else {
+        return;
+    };
+    let _ = taxonomy.remove(from, to);
+}
+
+/// Adds the edge from a number to that of the next weaker test, where its word is a declared test and there is a weaker one.
+pub fn link_next(dict: &Dict, declared: &Flags, taxonomy: &mut Taxonomy, props: u32, number: u32)
     requires props { props ≡ taxonomy.old.props }
     requires few { props ≤ MAX_PROPS }
     requires number { number < props }
@@ -128,21 +176,15 @@ pub fn link_weaker(dict: &Dict, declared: &Flags, taxonomy: &mut Taxonomy, props
     requires names { dict.now.props ≡ props }
     requires bits { length declared.now ≡ props }
     requires ordered { TestsAreOrdered dict.now taxonomy.old }
-    ensures { LinksWeaker dict.now declared.now number taxonomy.old taxonomy.new }
+    ensures linked { LinksNext dict.now declared.now number taxonomy.old taxonomy.new }
+    ensures ordered { TestsAreOrdered dict.now taxonomy.new }
 {
-    let Some(test) = declared_test(dict, declared, number) else {
-        return;
-    };
-    for other in 0..props {
-        if has_weaker(dict, declared, other, test) {
-            // Some are there already.
-            let _ = taxonomy.add(number, other);
-        }
-    }
+    let weaker = neighbour(dict, declared, props, number, Side::Weaker);
+    link_pair(dict, declared, taxonomy, Some(number), weaker);
 }
 
-/// Adds the edges to a number without edges from those of stronger tests, where its word is a declared test.
-pub(crate) fn link_stronger(
+/// Puts a number between those of the next tests on both sides, where its word is a declared test.
+pub(crate) fn insert_test(
     dict: &Dict,
     declared: &Flags,
     taxonomy: &mut Taxonomy,
@@ -152,35 +194,35 @@ pub(crate) fn link_stronger(
     requires props { props ≡ taxonomy.old.props }
     requires few { props ≤ MAX_PROPS }
     requires number { number < props }
-    requires dict { IsDict dict.now }
-    requires names { dict.now.props ≡ props }
     requires bits { length declared.now ≡ props }
     requires ordered { TestsAreOrdered dict.now taxonomy.old }
-    requires new { (p : ℕ) → has_edge taxonomy.old p number ≡ false }
-    ensures { LinksStronger dict.now declared.now number taxonomy.old taxonomy.new }
+    ensures { InsertsTest dict.now declared.now number taxonomy.old taxonomy.new }
 {
-    let Some(test) = declared_test(dict, declared, number) else {
-        return;
-    };
-    for other in 0..props {
-        if has_stronger(dict, declared, other, test) {
-            let Ok(()) = taxonomy.add(other, number) else {
-                unreachable!()
-            };
-        }
-    }
+    let weaker = neighbour(dict, declared, props, number, Side::Weaker);
+    let stronger = neighbour(dict, declared, props, number, Side::Stronger);
+    unlink_pair(dict, taxonomy, stronger, weaker);
+    link_pair(dict, declared, taxonomy, Some(number), weaker);
+    link_pair(dict, declared, taxonomy, stronger, Some(number));
 }
 
-/// Takes all edges from and to a number away.
-pub(crate) fn unlink_all(taxonomy: &mut Taxonomy, props: u32, number: u32)
+/// Takes a number out from between those of the next tests on both sides, where its word is a declared test.
+pub(crate) fn remove_test(
+    dict: &Dict,
+    declared: &Flags,
+    taxonomy: &mut Taxonomy,
+    props: u32,
+    number: u32,
+)
     requires props { props ≡ taxonomy.old.props }
+    requires few { props ≤ MAX_PROPS }
     requires number { number < props }
-    requires within { (p q : ℕ) → IsTrue (has_edge taxonomy.old p q) → (p < props) × (q < props) }
-    ensures { UnlinksAll number taxonomy.old taxonomy.new }
+    requires bits { length declared.now ≡ props }
+    requires ordered { TestsAreOrdered dict.now taxonomy.old }
+    ensures { RemovesTest dict.now declared.now number taxonomy.old taxonomy.new }
 {
-    for other in 0..props {
-        // Most are not there.
-        let _ = taxonomy.remove(number, other);
-        let _ = taxonomy.remove(other, number);
-    }
+    let weaker = neighbour(dict, declared, props, number, Side::Weaker);
+    let stronger = neighbour(dict, declared, props, number, Side::Stronger);
+    unlink_pair(dict, taxonomy, Some(number), weaker);
+    unlink_pair(dict, taxonomy, stronger, Some(number));
+    link_pair(dict, declared, taxonomy, stronger, weaker);
 }

@@ -23,7 +23,7 @@ mod undeclaring;
 mod without;
 
 use crate::metadata::Metadata;
-use crate::test_edges::{link_stronger, link_weaker};
+use crate::test_edges::insert_test;
 use crate::words::without::is_had_without;
 use lis_bits::Flags;
 use lis_dict::Dict;
@@ -183,8 +183,7 @@ impl Metadata {
         let props = self.limits.props;
         let at = u32::from(number);
         self.declared.put(at, true);
-        link_weaker(&self.dict, &self.declared, &mut self.taxonomy, props, at);
-        link_stronger(&self.dict, &self.declared, &mut self.taxonomy, props, at);
+        insert_test(&self.dict, &self.declared, &mut self.taxonomy, props, at);
         mark_property(&mut self.marks, &self.limits, number);
         number
     }

@@ -9,14 +9,15 @@ use Rattle.lis_kept.proofs.Used.{is_at, head_by_number}
 use Rattle.lis_open.specs.declared.words.Words.{Words}
 use Rattle.lis_open.specs.ReadWords.{head_by, LinksHeads, declared_words, kept_words, AreWords, AreFirstWords, LinksTests, WordsAreSpelled, is_left, is_right, are_sides, TakesPair, TakesAxiom, IsGoodPair, AreFirstAxioms, AxiomsAreSpelled, is_left_by, is_right_by, RefusesPair, RefusesAxiom}
 use Rattle.lis_laws.proofs.Chains.{head_no_test, acyclic_within, acyclic_cons, acyclic_decides}
-use Rattle.lis_kept.specs.TestEdges.{test_by, is_test_link, TestsAreOrdered, LinksWhere, LinksSome, LinksWeaker}
-use Rattle.lis_kept.proofs.TestChains.{where_ordered, where_same, link_below}
+use Rattle.lis_kept.specs.TestEdges.{test_by, is_next_test, TestsAreOrdered, LinksNext}
+use Rattle.lis_kept.proofs.EdgesTell.{tells_links}
+use Rattle.lis_kept.proofs.NextTests.{linked_below, next_parts}
 use Rattle.std.proofs.Math.Bool.{or_comm}
 use Rattle.lis_model.specs.State.{Entails, Acyclic}
-use Rattle.lis_kept.specs.Links.{is_pair, is_own_link, is_linked}
+use Rattle.lis_kept.specs.Links.{is_pair, is_edge, TellsLinks}
 use Rattle.lis_catalog.proofs.Slots.{swapped as or_swapped}
 use Rattle.lis_kept.proofs.AxiomSlots.{set_cases, any_set, pair_is, same_sides}
-use Rattle.lis_kept.proofs.TestLinks.{linked_by}
+use Rattle.lis_kept.proofs.TestLinks.{no_own_edge}
 use Rattle.lis_open.specs.declared.blocks.LastBlock.{LastBlock}
 use Rattle.lis_open.specs.declared.axioms.Axioms.{Axioms}
 use Rattle.lis_open.specs.Checks.{AreAxioms, AxiomFails, IsAxiom, AreFirstAxiomSlots, declared_by, axioms_by, AxiomFault, HasAxiomFault, AreProperties}
@@ -24,7 +25,7 @@ use Rattle.lis_ports.specs.Calls.{OnlyReads}
 use Rattle.lis_open.specs.Reading.{Recalls, IsReadAs}
 use Rattle.lis_open.proofs.BlocksRead.{StillRecalls}
 use Rattle.lis_open.proofs.WordsRead.{nothing_at, told_properties, number_within, word_at_told, declared_told, told_word, word_told, axioms_told, are_told}
-use Rattle.lis_open.proofs.Descriptions.{Sides, sides, left_word, right_word, bare_numbered, one_number, among_pair, pair_among, chain_numbered, chain_named}
+use Rattle.lis_open.proofs.Descriptions.{Sides, sides, left_word, right_word, bare_numbered, one_number, among_pair, pair_among, leads_numbered, chain_named}
 use Rattle.std.proofs.Math.Path.{fun_ext}
 use Rattle.lis_laws.proofs.Locals.{same_tests}
 use Rattle.lis_kept.proofs.OwnLinks.{own_to_plain}
@@ -106,44 +107,13 @@ pub test_word : (o : Option (List ℕ)) → is_some (test_by o) ≡ true → IsT
 test_word None some = absurd (both_ways false refl some)
 test_word (Some w) some = record { word = w; is = refl; test = some }
 
--- ---- links that come one after another
-joined : (a b link edge : Bool) → ((a && link) || ((b && link) || edge)) ≡ (((a || b) && link) || edge)
-joined a b link edge = search (rules)
-
-where_then : (a b : ℕ → ℕ → Bool) (dict : Dict) (declared : List Bool) (t u v : Taxonomy) → LinksWhere a dict declared t u → LinksWhere b dict declared u v → LinksWhere (λ p q. b p q || a p q) dict declared t v
-where_then a b dict declared t u v first second = search (rules, joined)
-
-pub some_then : (dict : Dict) (declared : List Bool) (t u v : Taxonomy) → LinksSome dict declared t u → LinksSome dict declared u v → LinksSome dict declared t v
-some_then dict declared t u v first second = (λ p q. second.0 p q || first.0 p q, where_then first.0 second.0 dict declared t u v first.1 second.1)
-
--- some links, among them all from the numbers below the end
-pub record LinksBelow (dict : Dict) (declared : List Bool) (end : ℕ) (t u : Taxonomy) : Type 0 where
-  pub some : LinksSome dict declared t u
-  pub all : (p q : ℕ) → p < end → some.0 p q ≡ true
-
-pub all_more : (dict : Dict) (declared : List Bool) (end : ℕ) (t u v : Taxonomy) → LinksBelow dict declared end t u → LinksWeaker dict declared end u v → LinksBelow dict declared (end + 1) t v
-all_more dict declared end t u v linked more = record {
-  some = (λ p q. (p == end) || linked.some.0 p q, where_then linked.some.0 (λ p q. p == end) dict declared t u v linked.some.1 (record { props = more.props; edges = more.edges }));
-  all = λ p q lt.
-      ⊎_elim (λ same. or_left (p == end) (linked.some.0 p q) (eq-eqb p end same))
-      (λ (differ : p ≡ end → ⊥). or_right (p == end) (linked.some.0 p q) (linked.all p q (omega (arith, lt, differ)))) (cases_eq p end);
-}
-
--- a number past the last one has no links
-pub all_linked : (dict : Dict) (declared : List Bool) (end : ℕ) (t u : Taxonomy) → IsDict dict → dict.props ≡ end → LinksBelow dict declared end t u → LinksWhere (λ p q. true) dict declared t u
-all_linked dict declared end t u kept same linked =
-    where_same linked.some.0 (λ p q. true) dict declared t u (λ p q link. linked.all p q (let below = link_below dict declared p q kept link in omega (arith, below.0, same))) linked.some.1
-
 -- ---- behind the links to heads
 module _ (words : Words) (kept : IsDict words.dict) (end : ℕ) (t : Taxonomy) (heads : LinksHeads words end t) where
   -- no test is a head
-  heads_ordered : TestsAreOrdered words.dict t
+  pub heads_ordered : TestsAreOrdered words.dict t
   heads_ordered p q edge some =
       let found = headed (word_of words.dict p) (word_of words.dict q) (and_parts (nat_lt p end) (is_head_by (word_of words.dict p) (word_of words.dict q)) (sym (heads.edges p q) ∙ edge)).1 in
       absurd (head_no_test found.word (subst (λ o. is_some (test_by o) ≡ true) found.head some))
-
-  pub still_ordered : (u : Taxonomy) → LinksSome words.dict words.declared t u → TestsAreOrdered words.dict u
-  still_ordered u some = where_ordered some.0 words.dict words.declared t u some.1 heads_ordered
 
   pub head_edges : words.dict.props ≡ end → (p q : ℕ) → has_edge t p q ≡ is_head_by (word_of words.dict p) (word_of words.dict q)
   head_edges same p q = heads.edges p q ∙ by (word_of words.dict p) refl
@@ -153,6 +123,43 @@ module _ (words : Words) (kept : IsDict words.dict) (end : ℕ) (t : Taxonomy) (
       by (Some w) is =
           ap (λ b. b && is_head_by (Some w) (word_of words.dict q))
           (lt-ltb p end (let below = number_below words.dict kept w p (number_from_word words.dict kept w p is) in omega (arith, below, same)))
+
+-- ---- the edges of declared tests to the next weaker ones, one number after another
+pub record LinksBelow (words : Words) (end : ℕ) (t u : Taxonomy) : Type 0 where
+  pub props : u.props ≡ t.props
+  pub edges : (p q : ℕ) → has_edge u p q ≡ ((nat_lt p end && is_next_test words.dict words.declared p q) || has_edge t p q)
+  pub ordered : TestsAreOrdered words.dict u
+
+pub below_none : (words : Words) → IsDict words.dict → (props : ℕ) (t : Taxonomy) → LinksHeads words props t → LinksBelow words 0 t t
+below_none words kept props t heads = record {
+  props = refl;
+  edges = λ p q. sym (ap (λ b. (b && is_next_test words.dict words.declared p q) || has_edge t p q) (false_from_ne_true (nat_lt p 0) (λ h. let lt = ltb-true p 0 h in omega (arith, lt))));
+  ordered = heads_ordered words kept props t heads;
+}
+
+one_more : (p end : ℕ) (b h : Bool) → (((p == end) && b) || ((nat_lt p end && b) || h)) ≡ ((nat_lt p (end + 1) && b) || h)
+one_more p end b h = grind (arith, nat_tests)
+
+pub below_one_more : (words : Words) (end : ℕ) (t u v : Taxonomy) → LinksBelow words end t u → LinksNext words.dict words.declared end u v → TestsAreOrdered words.dict v → LinksBelow words (end + 1) t v
+below_one_more words end t u v linked next ordered = record {
+  props = next.props ∙ linked.props;
+  edges = λ p q.
+      next.edges p q ∙ (ap (λ b. ((p == end) && is_next_test words.dict words.declared p q) || b) (linked.edges p q) ∙ one_more p end (is_next_test words.dict words.declared p q) (has_edge t p q));
+  ordered = ordered;
+}
+
+-- a number past the last one has no test
+pub all_linked : (words : Words) → IsDict words.dict → (end : ℕ) (t u : Taxonomy) → words.dict.props ≡ end → LinksBelow words end t u → LinksTests words t u
+all_linked words kept end t u same linked = record {
+  props = linked.props;
+  edges = λ p q. linked.edges p q ∙ ap (λ b. b || has_edge t p q) (by p q (is_next_test words.dict words.declared p q) refl);
+}
+  where
+    by : (p q : ℕ) (b : Bool) → is_next_test words.dict words.declared p q ≡ b → (nat_lt p end && b) ≡ b
+    by p q true next =
+        ap (λ b. b && true)
+        (lt-ltb p end (let below = linked_below words.dict kept words.declared p q (next_parts words.dict kept words.declared p q next).0 in omega (arith, below.0, same)))
+    by p q false next = and-false (nat_lt p end)
 
 -- ---- the axioms of axiom slots, read one after another
 -- ---- the sides of an axiom
@@ -203,6 +210,9 @@ module _ (limits : Limits) (words : Words) (first : AreFirstWords limits words l
   old_sides : (n left right : ℕ) → slice_get slots n ≡ Some (Pair left right) → Sides words left right
   old_sides n left right is = sides limits words old dict k are n left right is
 
+  old_tells : TellsLinks (kept_words limits words slots) old.taxonomy
+  old_tells = tells_links (kept_words limits words slots) dict old.taxonomy are.links
+
   module _ (left right : ℕ) (next : Axioms) (taken : TakesPair limits words k left right old next) (below : k < (axiom_slots limits).count) where
     both : Sides words left right
     both = sides_of words left right taken.sides
@@ -229,7 +239,7 @@ module _ (limits : Limits) (words : Words) (first : AreFirstWords limits words l
     clash : (n a b : ℕ) → Pair left right ≡ Pair a b → slice_get slots n ≡ Some (Pair a b) → ⊥
     clash n a b here there =
         both_ways (has_edge old.taxonomy left right) taken.absent
-        (are.links.edges left right ∙ or_right (is_own_link (declared_words words) (word_of words.dict left) (word_of words.dict right)) (has_pair slots left right)
+        (are.links.edges left right ∙ or_right (is_head_by (word_of words.dict left) (word_of words.dict right) || is_next_test words.dict words.declared left right) (has_pair slots left right)
         (pair_has left right slots (among_place slots n (Pair left right) (there ∙ ap Some (sym here)))))
 
     apart_then : (n m a b : ℕ) → slice_get next.slots.items n ≡ Some (Pair a b) → slice_get next.slots.items m ≡ Some (Pair a b) → n ≡ m
@@ -241,9 +251,9 @@ module _ (limits : Limits) (words : Words) (first : AreFirstWords limits words l
         by (inr here) (inl there) = absurd (clash n a b there.1 here.1)
         by (inr here) (inr there) = are.apart n m a b here.1 there.1
 
-    edges_then : (p q : ℕ) → has_edge next.taxonomy p q ≡ is_linked (kept_words limits words next.slots.items) p q
+    edges_then : (p q : ℕ) → has_edge next.taxonomy p q ≡ is_edge (kept_words limits words next.slots.items) p q
     edges_then p q =
-        let own = is_own_link (declared_words words) (word_of words.dict p) (word_of words.dict q) in
+        let own = is_head_by (word_of words.dict p) (word_of words.dict q) || is_next_test words.dict words.declared p q in
         ap (λ (t : Taxonomy). has_edge t p q) taken.taxonomy
         ∙ (has_edge-with_edge old.taxonomy left right p q
         ∙ (ap₂ (λ a b. a || b) (ap₂ (λ a b. a && b) (swapped p left) (swapped q right)) (are.links.edges p q)
@@ -252,9 +262,9 @@ module _ (limits : Limits) (words : Words) (first : AreFirstWords limits words l
 
     no_circle : Entails (declared_words words) (axioms_of (kept_words limits words slots)) both.to.word both.from.word → ⊥
     no_circle chain =
-        let found = chain_numbered limits words dict slots old_sides old.taxonomy are.links chain.0 right both.to.word both.from.word (bare_numbered words right both.to.word both.to.is (plain_not_valued both.to.word both.to.plain)) chain.1 in
+        let found = leads_numbered limits words dict slots old_sides old.taxonomy old_tells chain.0 right both.to.word both.from.word (bare_numbered words right both.to.word both.to.is (plain_not_valued both.to.word both.to.plain)) chain.1 in
         let same = one_number limits words dict slots old_sides found.0 left both.from.word found.1.named both.from.is in
-        taken.open_end (chain.0, subst (λ j. Chain no_links (finite.items old.taxonomy.edges) chain.0 right j) same found.2)
+        taken.open_end (subst (λ j. Leads old.taxonomy right j) same found.2)
 
     in_front : (e : List ℕ × List ℕ) → Among (axioms_of (kept_words limits words next.slots.items)) e → Among ((both.from.word, both.to.word) ∷ axioms_of (kept_words limits words slots)) e
     in_front e m =
@@ -309,15 +319,13 @@ module _ (limits : Limits) (words : Words) (first : AreFirstWords limits words l
   no_axiom : (n left right : ℕ) → slice_get no_slots n ≡ Some (Pair left right) → ⊥
   no_axiom n left right is = let both = sym (get_or_from_slice_get no_slots n (Pair left right) FreeAxiom is) ∙ all_free n (omega arith) in cc
 
-  own_edges : (p q : ℕ) → has_edge axioms.taxonomy p q ≡ is_linked (kept_words limits words no_slots) p q
+  own_edges : (p q : ℕ) → has_edge axioms.taxonomy p q ≡ is_edge (kept_words limits words no_slots) p q
   own_edges p q =
       let head = is_head_by (word_of words.dict p) (word_of words.dict q) in
-      let test = is_test_link words.dict words.declared p q in
+      let next = is_next_test words.dict words.declared p q in
       linked.edges p q
-      ∙ (ap (λ b. test || b) (head_edges words first.are.dict limits.props heads headed first.props p q)
-      ∙ (or_comm test head
-      ∙ (sym (or-false (head || test))
-      ∙ (ap (λ b. (head || test) || b) (has_pair_front p q 0 no_slots all_free) ∙ sym (linked_by (kept_words limits words no_slots) first.are.dict p q)))))
+      ∙ (ap (λ b. next || b) (head_edges words first.are.dict limits.props heads headed first.props p q)
+      ∙ (or_comm next head ∙ (sym (or-false (head || next)) ∙ ap (λ b. (head || next) || b) (has_pair_front p q 0 no_slots all_free))))
 
   pub no_axioms_yet : AreFirstAxioms limits words axioms 0
   no_axioms_yet = record {
@@ -426,6 +434,9 @@ module _ (limits : Limits) (at : ℕ → List ℕ) (words : Words) (first : AreF
   abbrev all_sides : (n left right : ℕ) → slice_get items n ≡ Some (Pair left right) → Sides words left right
   all_sides n left right is = sides limits words axioms is_dict end are n left right is
 
+  tells : TellsLinks (kept_words limits words items) axioms.taxonomy
+  tells = tells_links (kept_words limits words items) is_dict axioms.taxonomy are.links
+
   named : (n : ℕ) → word_at properties n ≡ word_of words.dict n
   named n = word_at_told limits words first.are first.props n
 
@@ -489,14 +500,15 @@ module _ (limits : Limits) (at : ℕ → List ℕ) (words : Words) (first : AreF
     edge_is : Sides words left right → has_edge axioms.taxonomy left right ≡ has_pair (take end items) left right
     edge_is both =
         are.links.edges left right
-        ∙ (ap (λ b. b || has_pair items left right) (own_to_plain (declared_words words) (word_of words.dict left) (word_of words.dict right) (λ w is.
-        subst (λ v. is_plain_word v ≡ true) (same_Some both.to.word w (sym both.to.is ∙ is)) both.to.plain))
+        ∙ (ap (λ b. b || has_pair items left right) (no_own_edge (kept_words limits words items) is_dict left right
+        (own_to_plain (declared_words words) (word_of words.dict left) (word_of words.dict right) (λ w is.
+        subst (λ v. is_plain_word v ≡ true) (same_Some both.to.word w (sym both.to.is ∙ is)) both.to.plain)))
         ∙ sym (has_pair_front left right end items are.rest))
 
     -- a chain of edges back is one of words
     chain_there : Sides words left right → Leads axioms.taxonomy right left → Fault
     chain_there both leads =
-        let found = chain_named limits words is_dict items all_sides axioms.taxonomy are.links leads.0 right left both.to.word both.to.is leads.1 in
+        let found = chain_named limits words is_dict items all_sides axioms.taxonomy tells leads.0 right left both.to.word both.to.is leads.1 in
         let chain : Entails (declared_words words) (axioms_of (kept_words limits words items)) both.to.word both.from.word =
         subst (λ w. Entails (declared_words words) (axioms_of (kept_words limits words items)) both.to.word w) (same_Some found.0 both.from.word (sym found.1 ∙ both.from.is)) (leads.0, found.2) in
         Circle both.from.word both.to.word (named left ∙ both.from.is) (named right ∙ both.to.is)
@@ -508,8 +520,8 @@ module _ (limits : Limits) (at : ℕ → List ℕ) (words : Words) (first : AreF
         let chain = subst (λ es. Entails (declared_words words) es q p) axioms_are (subst (λ ds. Entails ds (axioms_by properties (take end items)) q p) declared_are told_chain) in
         let is = sym (named right) ∙ is_q in
         let numbered = bare_numbered words right q is (subst (λ w. is_valued w ≡ false) (same_Some both.to.word q (sym both.to.is ∙ is)) (plain_not_valued both.to.word both.to.plain)) in
-        let found = chain_numbered limits words is_dict items all_sides axioms.taxonomy are.links chain.0 right q p numbered chain.1 in
-        (chain.0, subst (λ j. Chain no_links (finite.items axioms.taxonomy.edges) chain.0 right j) (one_number limits words is_dict items all_sides found.0 left p found.1.named (sym (named left) ∙ is_p)) found.2)
+        let found = leads_numbered limits words is_dict items all_sides axioms.taxonomy tells chain.0 right q p numbered chain.1 in
+        subst (λ j. Leads axioms.taxonomy right j) (one_number limits words is_dict items all_sides found.0 left p found.1.named (sym (named left) ∙ is_p)) found.2
 
     -- a pair is refused exactly where something is wrong with it
     pair_fault : Refused → Fault

@@ -16,7 +16,8 @@ use Rattle.lis_model.specs.Derived.{derived_words}
 use Rattle.lis_graph.proofs.Graph.{chain_append}
 use Rattle.lis_taxonomy.specs.Taxonomy.{Entails}
 use Rattle.lis_kept.proofs.OwnLinks.{pair_slot}
-use Rattle.lis_kept.proofs.Entailed.{edge_among, edge_of}
+use Rattle.lis_kept.proofs.Entailed.{edge_of, leads_joined}
+use Rattle.lis_kept.proofs.EdgesTell.{tells_links}
 use Rattle.lis_graph.specs.Graph.{Linked}
 use Rattle.lis_laws.proofs.Apart.{test_not_valued}
 use Rattle.lis_laws.proofs.Chains.{OwnLink, own_link, weaker_tests_are, up_from_entails, entails_from_up}
@@ -188,10 +189,6 @@ module _ (limits : Limits) (words : Words) (dict : IsDict words.dict) where
   tag_owned rec bytes n m = among_left rec.tags (numbers_of words.dict (found_words words rec.name bytes)) n m
 
 -- ---- the numbers that the words of a file lead to are those of the words of its description
-pub leads_on : (t : Taxonomy) (p q r : ℕ) → Entails t p q → has_edge t q r ≡ true → Entails t p r
-leads_on t p q r leads edge =
-    (leads.0 + 1, chain_append no_links (set.items t.edges) leads.0 1 p q r leads.1 (r, inr (contains_from_among (set.items t.edges) (q, r) (edge_among t q r edge)), refl))
-
 -- ---- chains of links between words that have numbers are chains of edges between their numbers. A head without a number ends a chain of words, and so each word here has a number, and its head too
 module _ (limits : Limits) (words : Words) (dict : IsDict words.dict) (axioms : List AxiomSlot)
     (sides : (slot left right : ℕ) → slice_get axioms slot ≡ Some (Pair left right) → Sides words left right) where
@@ -294,20 +291,19 @@ module _ (limits : Limits) (words : Words) (dict : IsDict words.dict) (axioms : 
 
   -- ---- chains
   module _ (t : Taxonomy) (tells : TellsLinks (kept_words limits words axioms) t) where
-    pub chain_numbered : (len n : ℕ) (p q : List ℕ) → IsNumbered words n p → Chain (links (declared_words words)) (axioms_of (kept_words limits words axioms)) len p q
-        → (m : ℕ) × IsNumbered words m q × Chain no_links (set.items t.edges) len n m
-    chain_numbered zero n p q is same = (n, subst (λ w. IsNumbered words n w) same is, refl)
-    chain_numbered (suc len) n p q is c =
+    pub leads_numbered : (len n : ℕ) (p q : List ℕ) → IsNumbered words n p → Chain (links (declared_words words)) (axioms_of (kept_words limits words axioms)) len p q
+        → (m : ℕ) × IsNumbered words m q × Leads t n m
+    leads_numbered zero n p q is same = (n, subst (λ w. IsNumbered words n w) same is, (zero, refl))
+    leads_numbered (suc len) n p q is c =
         let link = link_numbered n p c.0 is c.1 in
-        let rest = chain_numbered len link.number c.0 q link.is c.2 in
-        let edge = edge_among t n link.number (tells.edges n link.number ∙ link.linked) in
-        (rest.0, rest.1, (link.number, inr (contains_from_among (set.items t.edges) (n, link.number) edge), rest.2))
+        let rest = leads_numbered len link.number c.0 q link.is c.2 in
+        (rest.0, rest.1, leads_joined t n link.number rest.0 (tells.leads n link.number link.linked) rest.2)
 
     pub chain_named : (len n m : ℕ) (p : List ℕ) → word_of words.dict n ≡ Some p → Chain no_links (set.items t.edges) len n m
         → (q : List ℕ) × (word_of words.dict m ≡ Some q) × Chain (links (declared_words words)) (axioms_of (kept_words limits words axioms)) len p q
     chain_named zero n m p is same = (p, ap (word_of words.dict) (sym same) ∙ is, refl)
     chain_named (suc len) n m p is c =
-        let link = link_named n c.0 p is (sym (tells.edges n c.0) ∙ edge_of t n c.0 c.1) in
+        let link = link_named n c.0 p is (tells.linked n c.0 (edge_of t n c.0 c.1)) in
         let rest = chain_named len c.0 m link.0 link.1 c.2 in
         (rest.0, rest.1, (link.0, link.2, rest.2))
 
@@ -316,8 +312,7 @@ module _ (limits : Limits) (words : Words) (dict : IsDict words.dict) (axioms : 
         → (m : ℕ) × IsNumbered words m q × Leads t n m
     up_numbered n p q is h =
         let chain = entails_from_up (declared_words words) (axioms_of k) p q h in
-        let found = chain_numbered chain.0 n p q is chain.1 in
-        (found.0, found.1, (chain.0, found.2))
+        leads_numbered chain.0 n p q is chain.1
 
     -- and what a number leads to has a word, which its word entails
     pub up_named : (n m : ℕ) (p : List ℕ) → word_of words.dict n ≡ Some p → Leads t n m
@@ -383,6 +378,9 @@ module _ (limits : Limits) (words : Words) (axioms : Axioms) (end : ℕ) (are : 
   abbrev all_sides : (slot left right : ℕ) → slice_get axioms.slots.items slot ≡ Some (Pair left right) → Sides words left right
   all_sides = sides limits words axioms dict end first
 
+  tells : TellsLinks kept t
+  tells = tells_links kept dict t first.links
+
   -- all that these words entail
   abbrev pub entailed : List (List ℕ) → List (List ℕ)
   entailed named = flat_map (up (declared_words words) (axioms_of (kept_words limits words axioms.slots.items))) named
@@ -393,8 +391,8 @@ module _ (limits : Limits) (words : Words) (axioms : Axioms) (end : ℕ) (are : 
   -- a number to which one leads has a word too, which that one's entails
   lead : (own n : ℕ) (p : List ℕ) → IsNumbered words own p → Leads axioms.taxonomy own n → (w : List ℕ) × Among (up (declared_words words) (axioms_of kept) p) w × IsNumbered words n w
   lead own n p is leads =
-      let named = up_named limits words dict axioms.slots.items all_sides t first.links own n p is.named leads in
-      let found = up_numbered limits words dict axioms.slots.items all_sides t first.links own p named.0 is named.2 in
+      let named = up_named limits words dict axioms.slots.items all_sides t tells own n p is.named leads in
+      let found = up_numbered limits words dict axioms.slots.items all_sides t tells own p named.0 is named.2 in
       let same = one_number limits words dict axioms.slots.items all_sides found.0 n named.0 found.1.named named.1 in
       (named.0, named.2, subst (λ m. IsNumbered words m named.0) same found.1)
 
@@ -406,11 +404,12 @@ module _ (limits : Limits) (words : Words) (axioms : Axioms) (end : ℕ) (are : 
   leads_there own m n here leads below = where_among t.props (is_described t own) n below (any_from_among (λ j. entails t j n) own m here ((entails_decides t m n).1 leads))
 
   -- it has all numbers to which one of its numbers is linked
-  pub described_on : (own : List ℕ) (p q : ℕ) (w : List ℕ) → Among (described axioms.taxonomy own) p → has_edge axioms.taxonomy p q ≡ true → IsNumbered words p w → Among (described axioms.taxonomy own) q
-  described_on own p q w m edge is =
+  pub described_on : (own : List ℕ) (p q : ℕ) (w : List ℕ) → Among (described axioms.taxonomy own) p → is_linked kept p q ≡ true → IsNumbered words p w → Among (described axioms.taxonomy own) q
+  described_on own p q w m linked is =
       let from = led_to own p m in
-      let to = lead p q w is (leads_on t p p q (zero, refl) edge) in
-      leads_there own from.0 q from.1 (leads_on t from.0 p q from.2 edge) (word_below q to.0 to.2.named)
+      let next = tells.leads p q linked in
+      let to = lead p q w is next in
+      leads_there own from.0 q from.1 (leads_joined t from.0 p q from.2 next) (word_below q to.0 to.2.named)
 
   described_are : (own : List ℕ) (named : List (List ℕ)) → AreOf words own named → AreOf words (described axioms.taxonomy own) (entailed named)
   described_are own named of = record {
@@ -422,7 +421,7 @@ module _ (limits : Limits) (words : Words) (axioms : Axioms) (end : ℕ) (are : 
     number = λ w m.
         let p = among_flat_map (up (declared_words words) (axioms_of kept)) named w m in
         let from = of.number p.0 p.1 in
-        let found = up_numbered limits words dict axioms.slots.items all_sides t first.links from.0 p.0 w from.2 p.2 in
+        let found = up_numbered limits words dict axioms.slots.items all_sides t tells from.0 p.0 w from.2 p.2 in
         (found.0, leads_there own from.0 found.0 from.1 found.2 (word_below found.0 w found.1.named), found.1);
   }
 

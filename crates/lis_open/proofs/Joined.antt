@@ -4,7 +4,7 @@ use Rattle.lis_bits.proofs.Subset.{implied}
 use Rattle.lis_laws.proofs.Apart.{declarable_not_valued}
 use Rattle.lis_laws.proofs.Counts.{all_from, rising_from_sorted}
 use Rattle.lis_kept.specs.Sound.{IsSoundAxiom, FreeSlotsAreEmpty}
-use Rattle.lis_kept.specs.Links.{AreHeld}
+use Rattle.lis_kept.specs.Links.{AreHeld, is_linked}
 use Rattle.lis_kept.specs.Telling.{AreUsed}
 use Rattle.lis_kept.specs.Forgetting.{KeepsInUse}
 use Rattle.lis_store.specs.Drafts.{draft_of}
@@ -13,7 +13,7 @@ use Rattle.lis_store.specs.Stored.{AreClosed, TestsAreMet}
 use Rattle.lis_open.specs.declared.words.Words.{Words}
 use Rattle.lis_open.specs.declared.axioms.Axioms.{Axioms}
 use Rattle.lis_open.specs.declared.files.Files.{Files}
-use Rattle.lis_open.specs.ReadWords.{declared_words}
+use Rattle.lis_open.specs.ReadWords.{declared_words, kept_words}
 use Rattle.lis_open.specs.ReadFiles.{described, found_words, own_numbers, HasSomeNumbers, AreNumbers, is_assignable_number, AreFirstFiles}
 use Rattle.lis_open.specs.ReadAll.{AreNoMarks, metadata_in, AreRead, AreSpelled, StoreTells}
 use Rattle.lis_open.proofs.Descriptions.{Sides, sides, assignable_word, some_from, declared_flagged, IsNumbered, AreOf, file_with, tag_owned, left_numbered, entailed, word_below, leads_there, described_on, file_are, told_among, among_told, told_are}
@@ -93,11 +93,11 @@ module _ (limits : Limits) (words : Words) (axioms : Axioms) (files : Files) (ma
         let w = given_word limits words axioms files limits.files read.files_are slot n rec there m in
         described_has n (leads_there limits words axioms _ read.words_are read.axioms_are own n n (tag_owned limits words dict rec of.bytes n m) (zero, refl) (word_below limits words axioms _ read.words_are read.axioms_are n w.0 w.1))
 
-    had_on : (p q : ℕ) → has files.ext p slot ≡ true → has_edge axioms.taxonomy p q ≡ true → has files.ext q slot ≡ true
-    had_on p q h edge =
+    had_on : (p q : ℕ) → has files.ext p slot ≡ true → is_linked (kept_words limits words axioms.slots.items) p q ≡ true → has files.ext q slot ≡ true
+    had_on p q h linked =
         let m = among_from_number (numbers_at files.ext slot) p h in
         let w = slot_are.word p m in
-        described_has q (described_on limits words axioms _ read.words_are read.axioms_are own p q w.0 (subst (λ ns. Among ns p) of.has.are m) edge w.2)
+        described_has q (described_on limits words axioms _ read.words_are read.axioms_are own p q w.0 (subst (λ ns. Among ns p) of.has.are m) linked w.2)
 
   -- a number of a description has a file, and a word
   had_by : (n slot : ℕ) → has files.ext n slot ≡ true → (rec : FileRecord) × (rec_at files.catalog slot ≡ Some rec)
@@ -157,7 +157,7 @@ module _ (limits : Limits) (words : Words) (axioms : Axioms) (files : Files) (ma
     metadata_free slot none n = slots_without limits words axioms files limits.files read.files_are slot none n
 
     pub metadata_closed : AreClosed k
-    metadata_closed slot p q h linked = let of = had_by p slot h in had_on slot of.0 of.1 p q h (read.axioms_are.links.edges p q ∙ linked)
+    metadata_closed slot p q h linked = let of = had_by p slot h in had_on slot of.0 of.1 p q h linked
 
     pub metadata_in_use : KeepsInUse k
     metadata_in_use = record {

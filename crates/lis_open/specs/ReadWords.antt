@@ -18,8 +18,8 @@ use Rattle.lis_kept.specs.Metadata.{Metadata, metadata_of, property_at, axiom_at
 use Rattle.lis_kept.specs.Areas.{property_slots, axiom_slots}
 use Rattle.lis_kept.specs.Edges.{head_number}
 use Rattle.lis_kept.specs.Telling.{bit_of, axioms_of, is_head_by}
-use Rattle.lis_kept.specs.Links.{TellsLinks}
-use Rattle.lis_kept.specs.TestEdges.{LinksWhere, LinksSome}
+use Rattle.lis_kept.specs.Links.{HasEdges}
+use Rattle.lis_kept.specs.TestEdges.{is_next_test}
 use Rattle.lis_open.specs.declared.words.Words.{Words}
 use Rattle.lis_open.specs.declared.axioms.Axioms.{Axioms}
 
@@ -94,13 +94,10 @@ pub record LinksHeads (words : Words) (end : ℕ) (t : Taxonomy) : Type 0 where
   pub props : t.props ≡ words.dict.props
   pub edges : (p q : ℕ) → has_edge t p q ≡ (nat_lt p end && is_head_by (word_of words.dict p) (word_of words.dict q))
 
--- with edges from all declared tests to weaker ones
-abbrev pub LinksTests : Words → Taxonomy → Taxonomy → Type 0
-LinksTests words t u = LinksWhere (λ p q. true) words.dict words.declared t u
-
--- with some of them
-abbrev pub LinksSomeTests : Words → Taxonomy → Taxonomy → Type 0
-LinksSomeTests words t u = LinksSome words.dict words.declared t u
+-- with the edges from declared tests to the next weaker ones
+pub record LinksTests (words : Words) (t u : Taxonomy) : Type 0 where
+  pub props : u.props ≡ t.props
+  pub edges : (p q : ℕ) → has_edge u p q ≡ (is_next_test words.dict words.declared p q || has_edge t p q)
 
 -- ---- axioms
 -- Axiom slots that are free, and no links yet.
@@ -157,13 +154,13 @@ pub record IsGoodPair (limits : Limits) (words : Words) (k left right : ℕ) : T
   pub below : k < limits.props
   pub sides : IsTrue (are_sides words left right)
 
--- Those of the slots below the end, no two of them the same, with all links between words.
+-- Those of the slots below the end, no two of them the same, with all edges between words.
 pub record AreFirstAxioms (limits : Limits) (words : Words) (axioms : Axioms) (end : ℕ) : Type 0 where
   pub count : length axioms.slots.items ≡ (axiom_slots limits).count
   pub rest : (n : ℕ) → end ≤ n → axiom_at axioms.slots.items n ≡ FreeAxiom
   pub good : (k left right : ℕ) → slice_get axioms.slots.items k ≡ Some (Pair left right) → IsGoodPair limits words k left right
   pub apart : (k other left right : ℕ) → slice_get axioms.slots.items k ≡ Some (Pair left right) → slice_get axioms.slots.items other ≡ Some (Pair left right) → k ≡ other
-  pub links : TellsLinks (kept_words limits words axioms.slots.items) axioms.taxonomy
+  pub links : HasEdges (kept_words limits words axioms.slots.items) axioms.taxonomy
   pub acyclic : Acyclic (declared_words words) (axioms_of (kept_words limits words axioms.slots.items))
 
 -- the slots below the end are spelled by them

@@ -11,7 +11,7 @@ ghost use Rattle.lis_model.specs.Ranges.{are_in_range};
 ghost use Rattle.lis_kept.specs.Areas.{axiom_slots};
 ghost use Rattle.lis_kept.specs.Edges.{with_edge_to};
 ghost use Rattle.lis_open.specs.Reading.{Recalls, IsReadAs, Ends, ReadsPart, IsReadable};
-ghost use Rattle.lis_open.specs.ReadWords.{AreNoAxioms, AreWords, AreFirstWords, WordsAreSpelled, head_by, LinksHeads, LinksTests, LinksSomeTests, are_sides, TakesPair, TakesAxiom, RefusesPair, RefusesAxiom, AreFirstAxioms, AxiomsAreSpelled};
+ghost use Rattle.lis_open.specs.ReadWords.{AreNoAxioms, AreWords, AreFirstWords, WordsAreSpelled, head_by, LinksHeads, LinksTests, are_sides, TakesPair, TakesAxiom, RefusesPair, RefusesAxiom, AreFirstAxioms, AxiomsAreSpelled};
 
 use crate::blocks::LastBlock;
 use crate::mounting::OpenFault;
@@ -19,7 +19,7 @@ use crate::naming::{is_left, is_right};
 use crate::words::Words;
 use lis_fields::{AxiomSlot, read_axiom};
 use lis_journal::Journal;
-use lis_kept::{axioms_start, link_nearest, link_weaker};
+use lis_kept::{axioms_start, link_next};
 use lis_limits::{AXIOM_LEN, AXIOMS_PER_BLOCK};
 use lis_model::limits::Limits;
 use lis_model::spot::Spot;
@@ -100,28 +100,15 @@ fn link_heads(limits: &Limits, words: &Words, taxonomy: &mut Taxonomy)
     }
 }
 
-// Links each declared test to the nearest of those that are weaker.
-fn link_nearest_tests(limits: &Limits, words: &Words, taxonomy: &mut Taxonomy)
-    requires range { IsTrue (are_in_range limits.now) }
-    requires words { AreFirstWords limits.now words.now limits.now.props }
-    requires heads { LinksHeads words.now limits.now.props taxonomy.old }
-    ensures { LinksSomeTests words.now taxonomy.old taxonomy.new }
-{
-    for number in 0..limits.props {
-        link_nearest(&words.dict, &words.declared, taxonomy, limits.props, number);
-    }
-}
-
-// Links each declared test to those that are weaker. Where all are linked to the nearest ones, they entail the others.
+// Links each declared test to the next weaker one.
 fn link_tests(limits: &Limits, words: &Words, taxonomy: &mut Taxonomy)
     requires range { IsTrue (are_in_range limits.now) }
     requires words { AreFirstWords limits.now words.now limits.now.props }
     requires heads { LinksHeads words.now limits.now.props taxonomy.old }
     ensures { LinksTests words.now taxonomy.old taxonomy.new }
 {
-    link_nearest_tests(limits, words, taxonomy);
     for number in 0..limits.props {
-        link_weaker(&words.dict, &words.declared, taxonomy, limits.props, number);
+        link_next(&words.dict, &words.declared, taxonomy, limits.props, number);
     }
 }
 

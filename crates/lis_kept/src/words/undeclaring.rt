@@ -9,7 +9,7 @@ ghost use Rattle.lis_kept.specs.TestEdges.{test_by};
 ghost use Rattle.lis_kept.specs.Undeclaring.{is_right_of, is_named_by, is_needed, MayUndeclare, Undeclares};
 
 use crate::metadata::Metadata;
-use crate::test_edges::unlink_all;
+use crate::test_edges::remove_test;
 use crate::words::{is_had, is_on_left, mark_property};
 use lis_dict::Dict;
 use lis_fields::AxiomSlot;
@@ -72,10 +72,11 @@ impl Metadata {
         let Some(word) = self.dict.word_of(number) else {
             unreachable!()
         };
-        self.dict.remove(&word);
+        let props = self.limits.props;
         let at = u32::from(number);
+        remove_test(&self.dict, &self.declared, &mut self.taxonomy, props, at);
+        self.dict.remove(&word);
         self.declared.put(at, false);
-        unlink_all(&mut self.taxonomy, self.limits.props, at);
         mark_property(&mut self.marks, &self.limits, number);
     }
 }

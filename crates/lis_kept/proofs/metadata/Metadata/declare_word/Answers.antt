@@ -5,7 +5,7 @@ use Rattle.lis_kept.specs.Sound.{AreSound}
 use Rattle.lis_kept.specs.Changes.{Declares}
 use Rattle.lis_kept.proofs.InArea.{few_properties}
 use Rattle.lis_kept.proofs.OneWord.{Comes, added, number_then}
-use Rattle.lis_kept.proofs.WordsChanged.{dict_after, ordered_after, ordered_between, none_between, declares}
+use Rattle.lis_kept.proofs.WordsChanged.{ordered_after, declares}
 use Rattle.lis_kept.specs.contracts.metadata.Metadata.{the_view}
 use Rattle.lis_kept.proofs.metadata.Metadata.declare_word.Goals.{After-put}
 use Rattle.lis_kept.proofs.metadata.Metadata.declare_word.Goals as goal
@@ -16,47 +16,22 @@ come c = search (rules, added)
 bits : (c : After-put) → c.put.new.self ≡ set c.self.inside.declared c.in-Ok.number true
 bits c = c.put.ensures ∙ ap (λ n. set c.self.inside.declared n true) c.from-at.ensures
 
-pub link_weaker-requires-clause-few : goal.link_weaker-requires-clause-few
-link_weaker-requires-clause-few c = few_properties c.self.inside.limits c.self.invariant.sound.range
+pub insert_test-requires-clause-few : goal.insert_test-requires-clause-few
+insert_test-requires-clause-few c = few_properties c.self.inside.limits c.self.invariant.sound.range
 
-pub link_weaker-requires-clause-dict : goal.link_weaker-requires-clause-dict
-link_weaker-requires-clause-dict c =
-    let there = (goal.at.link_weaker-requires-clause-dict c).After-put in
-    dict_after (the_view c.self.inside) c.self.inside.taxonomy c.self.invariant c.requires.form (come there) (bits there)
-
-pub link_weaker-requires-clause-ordered : goal.link_weaker-requires-clause-ordered
-link_weaker-requires-clause-ordered c =
-    let there = (goal.at.link_weaker-requires-clause-ordered c).After-put in
+pub insert_test-requires-clause-ordered : goal.insert_test-requires-clause-ordered
+insert_test-requires-clause-ordered c =
+    let there = (goal.at.insert_test-requires-clause-ordered c).After-put in
     ordered_after (the_view c.self.inside) c.self.inside.taxonomy c.self.invariant c.requires.form (come there) (bits there)
-
-pub link_stronger-requires-clause-few : goal.link_stronger-requires-clause-few
-link_stronger-requires-clause-few c = few_properties c.self.inside.limits c.self.invariant.sound.range
-
-pub link_stronger-requires-clause-dict : goal.link_stronger-requires-clause-dict
-link_stronger-requires-clause-dict c =
-    let there = (goal.at.link_stronger-requires-clause-dict c).After-put in
-    dict_after (the_view c.self.inside) c.self.inside.taxonomy c.self.invariant c.requires.form (come there) (bits there)
-
-pub link_stronger-requires-clause-ordered : goal.link_stronger-requires-clause-ordered
-link_stronger-requires-clause-ordered c =
-    let there = (goal.at.link_stronger-requires-clause-ordered c).After-put in
-    ordered_between (the_view c.self.inside) c.self.inside.taxonomy c.self.invariant c.requires.form (come there) (bits there)
-    c.link_weaker.new.taxonomy (rw c.from-at.ensures at c.link_weaker.ensures)
-
-pub link_stronger-requires-clause-new : goal.link_stronger-requires-clause-new
-link_stronger-requires-clause-new c =
-    let there = (goal.at.link_stronger-requires-clause-new c).After-put in
-    rw c.from-at.ensures (none_between (the_view c.self.inside) c.self.inside.taxonomy c.self.invariant c.requires.form (come there) (bits there)
-    c.link_weaker.new.taxonomy (rw c.from-at.ensures at c.link_weaker.ensures))
 
 abbrev now : goal.After-mark_property → Metadata
 now c = record (the_view c.self.inside) { dict = c.add.new.self; declared = c.put.new.self; marks = c.mark_property.new.marks }
 
-made : (c : goal.After-mark_property) → AreHeld (now c) c.link_stronger.new.taxonomy × Declares c.args.word.now c.args.self.now (now c)
+made : (c : goal.After-mark_property) → AreHeld (now c) c.insert_test.new.taxonomy × Declares c.args.word.now c.args.self.now (now c)
 made c =
     let there = (goal.at.returns c).After-put in
     declares (the_view c.self.inside) c.self.inside.taxonomy c.self.invariant c.requires.form (come there) (bits there)
-    c.link_weaker.new.taxonomy c.link_stronger.new.taxonomy (rw c.from-at.ensures at c.link_weaker.ensures) (rw c.from-at.ensures at c.link_stronger.ensures)
+    c.insert_test.new.taxonomy (rw c.from-at.ensures at c.insert_test.ensures)
     c.mark_property.new.marks c.mark_property.ensures c.args.self.now c.self.view_is
 
 pub invariant_of-self : goal.invariant_of-self

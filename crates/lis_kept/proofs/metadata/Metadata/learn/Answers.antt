@@ -5,7 +5,7 @@ use Rattle.lis_kept.specs.Sound.{AreSound}
 use Rattle.lis_kept.specs.Links.{AreHeld}
 use Rattle.lis_kept.specs.Changes.{Learns}
 use Rattle.lis_kept.proofs.OneWord.{Comes, added}
-use Rattle.lis_kept.proofs.OwnLinks.{none_to, none_from}
+use Rattle.lis_kept.proofs.TestLinks.{none_to, none_from}
 use Rattle.lis_kept.proofs.WordsChanged.{head_below, head_apart, learns_new, learns_there}
 use Rattle.lis_kept.specs.contracts.metadata.Metadata.{the_view}
 use Rattle.lis_kept.proofs.metadata.Metadata.learn.Goals.{In-Ok}

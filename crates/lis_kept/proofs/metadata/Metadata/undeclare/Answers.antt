@@ -4,30 +4,35 @@ use Rattle.lis_kept.specs.Metadata.{Metadata}
 use Rattle.lis_kept.specs.Links.{AreHeld}
 use Rattle.lis_kept.specs.Undeclaring.{MayUndeclare, Undeclares}
 use Rattle.lis_kept.proofs.Formed.{named_below}
-use Rattle.lis_kept.proofs.WordLess.{edges_within, undeclares}
+use Rattle.lis_kept.proofs.InArea.{few_properties}
+use Rattle.lis_kept.proofs.TestLinks.{tests_ordered}
+use Rattle.lis_kept.proofs.WordLess.{undeclares}
 use Rattle.lis_kept.specs.contracts.metadata.Metadata.{the_view}
 use Rattle.lis_kept.proofs.metadata.Metadata.undeclare.Goals as goal
 
 pub put-requires : goal.put-requires
 put-requires c = omega (arith, named_below (the_view c.self.inside) c.self.invariant.sound c.args.number (ap is_some (sym c.word_of.ensures ∙ c.in-Some.is)), c.from-at.ensures, c.self.invariant.sound.bits)
 
-pub unlink_all-requires-clause-number : goal.unlink_all-requires-clause-number
-unlink_all-requires-clause-number c = omega (arith, named_below (the_view c.self.inside) c.self.invariant.sound c.args.number (ap is_some (sym c.word_of.ensures ∙ c.in-Some.is)), c.from-at.ensures)
+pub remove_test-requires-clause-number : goal.remove_test-requires-clause-number
+remove_test-requires-clause-number c = omega (arith, named_below (the_view c.self.inside) c.self.invariant.sound c.args.number (ap is_some (sym c.word_of.ensures ∙ c.in-Some.is)), c.from-at.ensures)
+
+pub remove_test-requires-clause-few : goal.remove_test-requires-clause-few
+remove_test-requires-clause-few c = few_properties c.self.inside.limits c.self.invariant.sound.range
+
+pub remove_test-requires-clause-ordered : goal.remove_test-requires-clause-ordered
+remove_test-requires-clause-ordered c = tests_ordered (the_view c.self.inside) c.self.inside.taxonomy c.self.invariant
 
 pub mark_property-requires-clause-number : goal.mark_property-requires-clause-number
 mark_property-requires-clause-number c = named_below (the_view c.self.inside) c.self.invariant.sound c.args.number (ap is_some (sym c.word_of.ensures ∙ c.in-Some.is))
 
-pub unlink_all-requires-clause-within : goal.unlink_all-requires-clause-within
-unlink_all-requires-clause-within c = edges_within (the_view c.self.inside) c.self.inside.taxonomy c.self.invariant
-
 abbrev now : goal.After-mark_property → Metadata
 now c = record (the_view c.self.inside) { dict = c.remove.new.self; declared = c.put.new.self; marks = c.mark_property.new.marks }
 
-made : (c : goal.After-mark_property) → AreHeld (now c) c.unlink_all.new.taxonomy × Undeclares c.args.number c.args.self.now (now c)
+made : (c : goal.After-mark_property) → AreHeld (now c) c.remove_test.new.taxonomy × Undeclares c.args.number c.args.self.now (now c)
 made c =
-    undeclares c.args.self.now (the_view c.self.inside) c.self.inside.taxonomy c.unlink_all.new.taxonomy c.self.view_is c.self.invariant (subst (MayUndeclare c.args.number) (sym c.self.view_is) c.requires)
+    undeclares c.args.self.now (the_view c.self.inside) c.self.inside.taxonomy c.remove_test.new.taxonomy c.self.view_is c.self.invariant (subst (MayUndeclare c.args.number) (sym c.self.view_is) c.requires)
     (sym c.word_of.ensures ∙ c.in-Some.is) c.remove.new.self c.put.new.self c.mark_property.new.marks c.remove.ensures.gone
-    (c.put.ensures ∙ ap (λ n. set c.self.inside.declared n false) c.from-at.ensures) (rw c.from-at.ensures at c.unlink_all.ensures) c.mark_property.ensures
+    (c.put.ensures ∙ ap (λ n. set c.self.inside.declared n false) c.from-at.ensures) (rw c.from-at.ensures at c.remove_test.ensures) c.mark_property.ensures
 
 pub invariant_of-self : goal.invariant_of-self
 invariant_of-self c = (made c).0
