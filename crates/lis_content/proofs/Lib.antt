@@ -5,4 +5,5 @@ mod Taking
 mod Rows
 pub mod Laying
 pub mod Reading
+pub mod Places
 pub mod Buffers

@@ -1,9 +1,10 @@
 //! The bytes of a file, in memory that is taken once.
 
-ghost use Rattle.std.specs.Prelude.{◌≡◌, ◌≤◌, ℕ, List, [], length, take, IsTrue, IfOk, OnOk};
+ghost use Rattle.std.specs.Prelude.{◌≡◌, ◌+◌, ◌-◌, ◌*◌, ◌<◌, ◌≤◌, ℕ, List, [], length, take, IsTrue, IfOk, OnOk};
 ghost use Rattle.lis_ports.specs.Calls.{ReadsDisk};
-ghost use Rattle.lis_journal.specs.Images.{Fits, JournalIsUsable};
+ghost use Rattle.lis_journal.specs.Images.{Fits, look, JournalIsUsable};
 ghost use Rattle.lis_journal.specs.Phases.{looked};
+ghost use Rattle.lis_ports.specs.Bytes.{Torn, part};
 ghost use Rattle.lis_content.specs.Content.{are_within};
 ghost use Rattle.lis_content.specs.Large.{slot_count, content_blocks, file_content};
 ghost use Rattle.lis_content.specs.Inside.{kept_bytes, IsKept};
@@ -11,7 +12,7 @@ ghost use Rattle.lis_journal.specs.Record.{homes_start};
 
 use crate::large::read_content;
 use lis_journal::Journal;
-use lis_limits::MAX_LARGE_FILE;
+use lis_limits::{BLOCK_LEN, MAX_LARGE_FILE};
 use lis_ports::{Disk, Failed};
 use lis_region::{Frame, Region};
 use std::alloc::{AllocError, Global};
@@ -95,6 +96,55 @@ fn read_frame<D: Disk>(
     read_front(items, journal, disk, base, blocks, size)
 }
 
+// Reads a block into this place of the memory.
+fn read_place<D: Disk>(
+    items: &mut [u8],
+    journal: &Journal,
+    disk: &mut D,
+    home: u32,
+    at: usize,
+) -> Result<(), Failed>
+    requires room { at + BLOCK_LEN ≤ length items.old }
+    requires home { homes_start journal.now.layout ≤ home }
+    requires within { home < journal.now.layout.blocks }
+    requires usable { JournalIsUsable journal.now (D.meaning disk.old) }
+    ensures place { Torn at BLOCK_LEN items.old items.new }
+    ensures read { OnOk result ((kept : ℕ → List ℕ) → Fits journal.now (D.meaning disk.old) kept
+        → part at BLOCK_LEN items.new ≡ look journal.now.staged home (kept home)) }
+    ensures disk { ReadsDisk (D.meaning disk.old) (D.meaning disk.new) result }
+    ensures fits { (kept : ℕ → List ℕ) → Fits journal.now (D.meaning disk.old) kept
+        → Fits journal.now (D.meaning disk.new) kept }
+{
+    journal.read(disk, home, &mut items[at..at + BLOCK_LEN])
+}
+
+// Reads a block into this place of a frame.
+fn read_in_frame<D: Disk>(
+    region: &mut Region<u8>,
+    frame: &Frame,
+    journal: &Journal,
+    disk: &mut D,
+    home: u32,
+    size: u32,
+    n: u32,
+) -> Result<(), Failed>
+    requires kept { IsKept region.old frame.now size }
+    requires inside { BLOCK_LEN * n < size }
+    requires home { homes_start journal.now.layout ≤ home }
+    requires within { home < journal.now.layout.blocks }
+    requires usable { JournalIsUsable journal.now (D.meaning disk.old) }
+    ensures kept { IsKept region.new frame.now size }
+    ensures place { Torn (BLOCK_LEN * n) BLOCK_LEN (kept_bytes region.old frame.now size) (kept_bytes region.new frame.now size) }
+    ensures read { OnOk result ((kept : ℕ → List ℕ) → Fits journal.now (D.meaning disk.old) kept
+        → part (BLOCK_LEN * n) BLOCK_LEN (kept_bytes region.new frame.now size) ≡ take (size - BLOCK_LEN * n) (look journal.now.staged home (kept home))) }
+    ensures disk { ReadsDisk (D.meaning disk.old) (D.meaning disk.new) result }
+    ensures fits { (kept : ℕ → List ℕ) → Fits journal.now (D.meaning disk.old) kept
+        → Fits journal.now (D.meaning disk.new) kept }
+{
+    let items = region.items_mut(frame);
+    read_place(items, journal, disk, home, BLOCK_LEN * n as usize)
+}
+
 impl Buffer {
     /// A buffer with no bytes yet. All memory that it will use is taken here.
     pub fn new(alloc: Global) -> Result<Buffer, AllocError>
@@ -150,6 +200,44 @@ impl Buffer {
             base,
             blocks,
             size,
+        )
+    }
+
+    /// Has so many bytes from now on, whichever they are.
+    pub fn resize(&mut self, size: u32)
+        requires { size ≤ MAX_LARGE_FILE }
+        ensures { length self.new ≡ size }
+    {
+        self.size = size;
+    }
+
+    /// Reads a block of the journal as the n-th block of the bytes, as far as they go. All others stay.
+    pub fn read_block<D: Disk>(
+        &mut self,
+        journal: &Journal,
+        disk: &mut D,
+        home: u32,
+        n: u32,
+    ) -> Result<(), Failed>
+        requires inside { BLOCK_LEN * n < length self.old }
+        requires home { homes_start journal.now.layout ≤ home }
+        requires within { home < journal.now.layout.blocks }
+        requires usable { JournalIsUsable journal.now (D.meaning disk.old) }
+        ensures place { Torn (BLOCK_LEN * n) BLOCK_LEN self.old self.new }
+        ensures read { OnOk result ((kept : ℕ → List ℕ) → Fits journal.now (D.meaning disk.old) kept
+            → part (BLOCK_LEN * n) BLOCK_LEN self.new ≡ take (length self.old - BLOCK_LEN * n) (look journal.now.staged home (kept home))) }
+        ensures disk { ReadsDisk (D.meaning disk.old) (D.meaning disk.new) result }
+        ensures fits { (kept : ℕ → List ℕ) → Fits journal.now (D.meaning disk.old) kept
+            → Fits journal.now (D.meaning disk.new) kept }
+    {
+        read_in_frame(
+            &mut self.region,
+            &self.frame,
+            journal,
+            disk,
+            home,
+            self.size,
+            n,
         )
     }
 }

@@ -1,1 +1,2 @@
-pub mod Stops
+mod Stops
+pub mod FrontLemmas

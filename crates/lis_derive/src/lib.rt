@@ -3,7 +3,10 @@
 
 mod content;
 mod derive;
+mod fronts;
+pub mod laws;
 mod size;
 mod suffix;
 
 pub use derive::derive_words;
+pub use fronts::gives_all;

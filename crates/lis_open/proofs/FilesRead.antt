@@ -19,6 +19,7 @@ use Rattle.lis_open.specs.Reading.{Recalls, IsReadAs, IsFirst}
 use Rattle.lis_open.specs.ReadWords.{AreWords, AreFirstWords, AreFirstAxioms, WordsAreSpelled, AxiomsAreSpelled, declared_words, kept_words}
 use Rattle.lis_open.specs.ReadFiles.{no_files, described, found_words, is_numbered, own_numbers, HasNumbers, AreNumbers, is_assignable_by, is_assignable_number, may_file, AreTold, TakesNumbers, TakesRecord, TakesFile, AreFirstFiles, FilesAreSpelled, FilesAreNumbered, FilesHaveBlocks, may_describe, HasBlocks, RecordFault, HasSlotFault}
 use Rattle.lis_open.proofs.BlocksRead.{StillRecalls, one_file}
+use Rattle.lis_open.proofs.ContentRead.{same_words}
 use Rattle.lis_open.proofs.Descriptions.{valued_headed, assignable_word, found_own, among_told, described_words, description_long}
 use Rattle.lis_open.proofs.AxiomsRead.{are_axioms, headless, second_false}
 use Rattle.lis_open.proofs.WordsRead.{new_from, nothing_at, old_from, told_properties, word_at_told, declared_told, told_word, word_told, axioms_told, file_is_told, are_told}
@@ -186,7 +187,7 @@ module _ (limits : Limits) (MayBeKept : (ℕ → List ℕ) → Type 0) (words : 
     numbered_more =
         each (λ n o ns. (r : FileRecord) → o ≡ Some r → HasNumbers words axioms.taxonomy r (found_words words r.name (bytes_told limits at r)) ns)
         (λ r is. subst (λ (x : FileRecord). HasNumbers words axioms.taxonomy x (found_words words x.name (bytes_told limits at x)) numbers) (same_Some rec r is)
-        (subst (λ bs. HasNumbers words axioms.taxonomy rec (found_words words rec.name bs) numbers) told.bytes_are has_new))
+        (subst (λ ws. HasNumbers words axioms.taxonomy rec ws numbers) (same_words words told.has_words) has_new))
         (λ n differ. so_far.numbered n)
 
     blocks_more : FilesHaveBlocks limits at next

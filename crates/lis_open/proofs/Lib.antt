@@ -10,6 +10,7 @@ mod Once
 mod Joined
 mod AxiomsRead
 mod Descriptions
+mod ContentRead
 mod Damage
 mod Lefts
 mod AllRead

@@ -156,13 +156,18 @@ pub record TakesNumbers (slot : ℕ) (rec : FileRecord) (blocks numbers : List �
   pub sets : new.ext.sets ≡ slice_set old.ext.sets slot numbers
   pub settled : new.ext.marks ≡ []
 
--- the bytes and the blocks that were read of a record's file are those that are told of it
+-- These bytes have the words that are derived from the others, and are as many.
+pub record HaveWordsOf (name others bytes : List ℕ) : Type 0 where
+  pub sized : length bytes ≡ length others
+  pub words : derived_words name bytes ≡ derived_words name others
+
+-- The bytes that stand for those of a record's file have the words of those that are told of it, and its blocks are those that are told.
 pub record AreTold (limits : Limits) (at : ℕ → List ℕ) (rec : FileRecord) (bytes blocks : List ℕ) : Type 0 where
-  pub bytes_are : bytes ≡ bytes_told limits at rec
+  pub has_words : HaveWordsOf rec.name (bytes_told limits at rec) bytes
   pub indexed : HasIndex limits at rec
   pub blocks_are : blocks ≡ blocks_told limits at rec
 
--- The record's file may be taken and is, with these bytes and blocks. They are those that are told by whatever may be kept.
+-- The record's file may be taken and is, with these blocks and the words of these bytes. They are those that are told by whatever may be kept.
 pub record TakesRecord (limits : Limits) (MayBeKept : (ℕ → List ℕ) → Type 0) (words : Words) (t : Taxonomy) (slot : ℕ) (rec : FileRecord) (old new : Files) : Type 0 where
   pub bytes : List ℕ
   pub blocks : List ℕ

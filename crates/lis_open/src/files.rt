@@ -17,8 +17,7 @@ ghost use Rattle.lis_words.specs.Words.{test_of};
 ghost use Rattle.lis_model.specs.Tests.{is_met, met_tests};
 ghost use Rattle.lis_model.specs.Ranges.{are_in_range};
 ghost use Rattle.lis_kept.specs.Areas.{file_slots, axiom_slots};
-ghost use Rattle.lis_kept.specs.Telling.{bit_of, bytes_told};
-ghost use Rattle.lis_store.specs.Contents.{AreContentsWithin};
+ghost use Rattle.lis_kept.specs.Telling.{bit_of};
 ghost use Rattle.lis_open.specs.Reading.{Recalls, IsReadAs, Ends, ReadsPart, IsReadable};
 ghost use Rattle.lis_open.specs.ReadWords.{AreWords, declared_words, AreFirstWords, AreFirstAxioms, WordsAreSpelled, AxiomsAreSpelled};
 ghost use Rattle.lis_open.specs.ReadFiles.{no_files, Gathered, AreListed, found_words, numbers_of, is_numbered, AreDescribed, may_file, TakesNumbers, TakesRecord, TakesFile, RecordFault, HasSlotFault, AreFirstFiles, FilesAreTold, IsFreeSlot};
@@ -26,6 +25,7 @@ ghost use Rattle.lis_model.specs.Sets.{are_distinct};
 
 use crate::axioms::Axioms;
 use crate::blocks::LastBlock;
+use crate::contents::read_content;
 use crate::indexes::free_blocks;
 use crate::mounting::OpenFault;
 use crate::naming::{are_assignable, numbered};
@@ -39,7 +39,7 @@ use lis_derive::derive_words;
 use lis_ext::Ext;
 use lis_fields::{FileRec, FileSlot, read_file};
 use lis_journal::Journal;
-use lis_kept::{data_start, files_start};
+use lis_kept::files_start;
 use lis_limits::{FILE_LEN, MAX_DESCRIPTION, MAX_PROPS};
 use lis_model::derived::Derived;
 use lis_model::limits::Limits;
@@ -250,33 +250,8 @@ pub struct Known<'a> {
     pub axioms: &'a Axioms,
 }
 
-// Reads the bytes of a record's file.
-fn read_bytes<D: Disk>(
-    disk: &mut D,
-    journal: &Journal,
-    limits: &Limits,
-    rec: &FileRec,
-    bytes: &mut Buffer,
-) -> Result<(), Failed>
-    requires readable { IsReadable limits.now journal.now (D.meaning disk.old) }
-    requires form { IsTrue (is_record limits.now.version rec.now) }
-    requires below { IsTrue (list_all (λ n. nat_lt n limits.now.blocks) rec.now.blocks) }
-    ensures disk { ReadsDisk (D.meaning disk.old) (D.meaning disk.new) result }
-    ensures size { OnOk result (length bytes.new ≡ rec.now.size) }
-    ensures read { OnOk result ((kept : ℕ → List ℕ) → Fits journal.now (D.meaning disk.old) kept
-        → AreContentsWithin limits.now kept rec.now → bytes.new ≡ bytes_told limits.now kept rec.now) }
-{
-    bytes.read(
-        journal,
-        disk,
-        data_start(limits),
-        rec.blocks.as_slice(),
-        rec.size,
-    )
-}
-
-// Takes the file of a record where it may be taken, and answers whether it is so. Its bytes are read where nothing else speaks
-// against it.
+// Takes the file of a record where it may be taken, and answers whether it is so. Its content is read where nothing else speaks
+// against it, as far as words are derived from it.
 fn take_record<D: Disk>(
     disk: &mut D,
     known: Known,
@@ -308,7 +283,8 @@ fn take_record<D: Disk>(
     let Some(blocks) = free_blocks(disk, known.journal, known.limits, &files.map, &rec)? else {
         return Ok(false);
     };
-    read_bytes(disk, known.journal, known.limits, &rec, bytes)?;
+    let all_blocks = blocks.as_slice();
+    read_content(disk, known.journal, known.limits, &rec, all_blocks, bytes)?;
     match describe(
         known.words,
         &known.axioms.taxonomy,
@@ -318,7 +294,7 @@ fn take_record<D: Disk>(
     ) {
         None => Ok(false),
         Some(numbers) => {
-            file(files, slot, rec, &blocks, numbers.as_slice());
+            file(files, slot, rec, all_blocks, numbers.as_slice());
             Ok(true)
         }
     }

@@ -108,6 +108,7 @@ fn all_blocks<D: Disk>(
     requires count { length slot.now ≡ slot_count size }
     requires within { IsTrue (are_within (data_start limits.now) (image_blocks limits.now) slot.now) }
     ensures disk { ReadsDisk (D.meaning disk.old) (D.meaning disk.new) result }
+    ensures count { IfOk result (λ found. IfSome found (λ blocks. blocks_needed size ≤ length blocks.items)) }
     ensures found { IfOk result (λ found. (kept : ℕ → List ℕ) → Fits journal.now (D.meaning disk.old) kept
         → AreReadBlocks (data_start limits.now) slot.now size kept (option_map (λ blocks. blocks.items) found)) }
 {
@@ -121,7 +122,7 @@ fn all_blocks<D: Disk>(
     Ok(Some(joined(numbers.as_slice(), slot)))
 }
 
-/// All blocks of a file. None comes where its index block is out of form, where there is no block of one of the numbers, where a file before
+/// All blocks of a file, those of its content first. None comes where its index block is out of form, where there is no block of one of the numbers, where a file before
 /// uses one, or where one stands twice.
 pub fn free_blocks<D: Disk>(
     disk: &mut D,
@@ -134,6 +135,7 @@ pub fn free_blocks<D: Disk>(
     requires form { IsTrue (is_record limits.now.version rec.now) }
     requires map { length map.now ≡ limits.now.blocks }
     ensures disk { ReadsDisk (D.meaning disk.old) (D.meaning disk.new) result }
+    ensures count { IfOk result (λ found. IfSome found (λ blocks. blocks_needed rec.now.size ≤ length blocks.items)) }
     ensures usable { IfOk result (λ found. IfSome found (λ blocks. AreUsable map.now rec.now.blocks blocks.items)) }
     ensures found { IfOk result (λ found. (kept : ℕ → List ℕ) → Fits journal.now (D.meaning disk.old) kept
         → AreItsBlocks limits.now kept map.now rec.now (option_map (λ blocks. blocks.items) found)) }

@@ -5,6 +5,7 @@ mod axioms;
 mod blocks;
 mod checks;
 mod clearing;
+mod contents;
 mod files;
 mod indexes;
 pub mod laws;

@@ -28,7 +28,7 @@ is_some-map v o = search (rules)
 pub numbered : (d : Dict) (word : List ℕ) → has_word (words d) word ≡ is_some (number_of d word)
 numbered d word = grind (arith, common_steps, any_map, any_is_found, is_some-map)
 
-length-whole : (at : ℕ → List ℕ) (ns : List ℕ) → ((n : ℕ) → Among ns n → length (at n) ≡ 4096) → length (flat_map at ns) ≡ 4096 * length ns
+pub length-whole : (at : ℕ → List ℕ) (ns : List ℕ) → ((n : ℕ) → Among ns n → length (at n) ≡ 4096) → length (flat_map at ns) ≡ 4096 * length ns
 length-whole at [] whole = refl
 length-whole at (n ∷ ns) whole =
     let rest = length-whole at ns (λ k m. whole k (inr m)) in

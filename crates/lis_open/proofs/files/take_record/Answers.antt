@@ -1,13 +1,19 @@
-use Rattle.lis_open.proofs.Common.{rules, ◌≡◌, refl, sym, ap, subst, ◌∙◌, length, false, are_free, are_distinct, are_below}
-use Rattle.lis_open.specs.ReadFiles.{found_words, own_numbers, may_describe, TakesNumbers}
+use Rattle.lis_open.proofs.Common.{rules, ◌≡◌, refl, sym, ap, subst, ◌∙◌, arith, length, false, are_free, are_distinct, are_below, bytes_told}
+use Rattle.lis_open.specs.ReadFiles.{found_words, own_numbers, may_describe, HaveWordsOf, TakesNumbers}
 use Rattle.lis_open.specs.ReadFiles.RecordFault.{NoBlocks, NotDescribed}
 use Rattle.lis_open.proofs.FilesRead.{tags_below, free_below}
 use Rattle.lis_open.proofs.Gathering.{described_rise, described_in}
 use Rattle.lis_open.proofs.BlocksRead.{fits_after}
+use Rattle.lis_open.proofs.ContentRead.{same_words}
 use Rattle.lis_open.proofs.files.take_record.Goals as goal
 
-pub read_bytes-requires-clause-below : goal.read_bytes-requires-clause-below
-read_bytes-requires-clause-below g c = free_below c.args.known.limits.now c.args.files.now.map _ c.requires.map (rw c.in-Some.is at c.in_ok-blocks.ensures.usable).own
+pub read_content-requires-clause-below : goal.read_content-requires-clause-below
+read_content-requires-clause-below g c =
+    let limits = c.args.known.limits.now in
+    ap (are_below limits.blocks) c.as_slice-all_blocks.ensures.value ∙ free_below limits c.args.files.now.map _ c.requires.map (rw c.in-Some.is at c.in_ok-blocks.ensures.usable).free
+
+pub read_content-requires-clause-count : goal.read_content-requires-clause-count
+read_content-requires-clause-count g c = omega (arith, ap length c.as_slice-all_blocks.ensures.value, rw c.in-Some.is at c.in_ok-blocks.ensures.count)
 
 pub describe-requires-clause-below : goal.describe-requires-clause-below
 describe-requires-clause-below g c =
@@ -30,14 +36,15 @@ pub returns-in-None-clause-refused : goal.returns-in-None-clause-refused
 returns-in-None-clause-refused g c =
     let limits = c.args.known.limits.now in
     let words = c.args.known.words.now in
-    let rec = c.args.rec in
-    let usable = rw c.in-Some.is at c.in_ok-blocks.ensures.usable in (
+    let rec = c.args.rec in (
       refl,
       λ kept fits.
           let found = rw c.in-Some.is at (c.in_ok-blocks.ensures.found kept fits) in
-          let within = ap (are_below limits.blocks) (sym found.1) ∙ free_below limits c.args.files.now.map _ c.requires.map usable.free in
-          let told = c.in_ok-read_bytes.ensures.read kept (fits_after c.args.known.journal.now kept c.in_ok-blocks.ensures.disk.reads fits) within in
-          NotDescribed (subst (λ bytes. may_describe words c.args.known.axioms.now.taxonomy rec (found_words words rec.name bytes) ≡ false) (c.bytes.ensures.bytes ∙ told) c.in-None.ensures.described),
+          let told = c.as_slice-all_blocks.ensures.value ∙ found.1 in
+          let has = c.in_ok-read_content.ensures.words kept (fits_after c.args.known.journal.now kept c.in_ok-blocks.ensures.disk.reads fits) told in
+          NotDescribed
+          (subst (λ ws. may_describe words c.args.known.axioms.now.taxonomy rec ws ≡ false) (ap (found_words words rec.name) c.bytes.ensures.bytes ∙ same_words words has)
+          c.in-None.ensures.described),
     )
 
 pub returns-in-Some-describe-clause-taken : goal.returns-in-Some-describe-clause-taken
@@ -45,23 +52,23 @@ returns-in-Some-describe-clause-taken g c =
     let limits = c.args.known.limits.now in
     let rec = c.args.rec in
     let files = c.args.files.now in
-    let blocks = c.deref.result.now in
-    let same = c.deref.ensures.0 in
+    let blocks = c.as_slice-all_blocks.result.now in
+    let same = c.as_slice-all_blocks.ensures.value in
     let usable = rw c.in-Some.is at c.in_ok-blocks.ensures.usable in
     let numbers = c.as_slice.ensures.value ∙ c.in-Some-describe.ensures.described.1 in
     record {
       bytes = c.bytes.result.now;
       blocks = blocks;
-      sized = ap length c.bytes.ensures.bytes ∙ c.in_ok-read_bytes.ensures.size;
+      sized = ap length c.bytes.ensures.bytes ∙ c.in_ok-read_content.ensures.size;
       filed = sym c.if-not-may_file.ensures;
       describes = c.in-Some-describe.ensures.described.0;
       usable = record { own = usable.own; free = ap (are_free files.map) same ∙ usable.free; distinct = ap are_distinct same ∙ usable.distinct };
       takes = subst (λ ns. TakesNumbers c.args.slot rec blocks ns files c.file.new.files) numbers c.file.ensures;
       told = λ kept fits.
           let found = rw c.in-Some.is at (c.in_ok-blocks.ensures.found kept fits) in
-          let within = ap (are_below limits.blocks) (sym found.1) ∙ free_below limits files.map _ c.requires.map usable.free in
+          let has = c.in_ok-read_content.ensures.words kept (fits_after c.args.known.journal.now kept c.in_ok-blocks.ensures.disk.reads fits) (same ∙ found.1) in
           record {
-            bytes_are = c.bytes.ensures.bytes ∙ c.in_ok-read_bytes.ensures.read kept (fits_after c.args.known.journal.now kept c.in_ok-blocks.ensures.disk.reads fits) within;
+            has_words = subst (λ bs. HaveWordsOf rec.name (bytes_told limits kept rec) bs) (sym c.bytes.ensures.bytes) has;
             indexed = found.0;
             blocks_are = same ∙ found.1;
           };
