@@ -14,8 +14,9 @@ import argparse
 import os
 import sys
 
-from lisfs.client import Ended, Locked, NotAReply, missing
+from lisfs.client import Ended, NotAReply, missing
 from lisfs.dumps import NotADump, opened
+from lisfs.endings import cause_of
 from lisfs.image import limits_of
 from lisfs.mount.attach import NotMounted, answered, mounted, stops
 from lisfs.mount.image import Image
@@ -61,14 +62,6 @@ def main():
     words = parser.parse_args()
     try:
         return run(words.image, words.folder, words.derived, words.allow_other)
-    except Locked:
-        tell(f"{words.image}: in use by another lisfs")
-    except Ended as end:
-        tell(": ".join(end.text.splitlines()) or str(end))
-    except (NotMounted, NotADump, NotAReply) as error:
-        tell(error)
-    except OSError as error:
-        tell(f"{error.filename or words.image}: {error.strerror}")
-    except KeyboardInterrupt:
-        tell("stopped before it began")
+    except (Ended, NotMounted, NotADump, NotAReply, OSError, KeyboardInterrupt) as error:
+        tell(cause_of(error, words.image))
     return 1
