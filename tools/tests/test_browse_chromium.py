@@ -11,7 +11,7 @@ import pytest
 
 from support import chromium
 from support.visitors import Browsed
-from support.web import EVIL, MIXED, make
+from support.web import EVIL, MIXED, in_memory, make
 
 
 @pytest.fixture(scope="module")
@@ -22,15 +22,15 @@ def browser():
         yield page
 
 
-@pytest.fixture
-def browsed(web_folder):
-    """Pages that may change an image of files of all kinds."""
-    with Browsed(make("image", MIXED), "--write") as tool:
+@pytest.fixture(scope="module")
+def browsed(web_program, browser):
+    """Pages that may change an image of files of all kinds. Each test changes files that no other one looks at."""
+    with in_memory() as folder, Browsed(make(os.path.join(folder, "image"), MIXED), "--write") as tool:
         yield tool
 
 
 @pytest.fixture
-def page(browser, browsed):
+def page(browser, browsed, web_folder):
     """A browser that shows the first page. At the end it has nothing to complain of, and has asked for nothing elsewhere."""
     start(browser, browsed)
     yield browser
@@ -77,22 +77,22 @@ def size_of(path):
     return width, height, len(set(zlib.decompress(pieces)))
 
 
-@pytest.mark.parametrize("is_dark", (False, True), ids=("light", "dark"))
-@pytest.mark.parametrize("width, height", ((1600, 1000), (390, 844)))
 @pytest.mark.parametrize("name, place, clicks", (
     ("root", None, ()), ("place", "music/year:/year:2001", ((".path a", "Take out year:"),)),
     ("file", "music", (("main h1 + p a", None), (".files a", "evil.txt")))))
-def test_picture(page, name, place, clicks, width, height, is_dark):
+def test_picture(page, name, place, clicks):
     if place:
         at(page, place)
     for chooser, text in clicks:
         page.click(chooser, text)
-    page.look(width, height, is_dark, width < 800)
-    path = os.path.join(os.environ.get("PICTURES") or os.getcwd(), f"{name}-{width}{'-dark' if is_dark else ''}.png")
-    page.picture(path)
-    got = size_of(path)
-    assert got[:2] == (width, height) and got[2] > 20
-    assert page.value("document.documentElement.scrollWidth <= innerWidth"), page.value("document.documentElement.scrollWidth")
+    for width, height, is_dark in ((1600, 1000, False), (390, 844, False), (1600, 1000, True), (390, 844, True)):
+        page.look(width, height, is_dark, width < 800)
+        path = os.path.join(os.environ.get("PICTURES") or os.getcwd(), f"{name}-{width}{'-dark' if is_dark else ''}.png")
+        page.picture(path)
+        got = size_of(path)
+        assert got[:2] == (width, height) and got[2] > 20
+        assert page.value("document.documentElement.scrollWidth <= innerWidth"), page.value("document.documentElement.scrollWidth")
+    # A label for each field, a name for each link and button, and one first heading.
     assert page.value("[...document.querySelectorAll('input:not([type=hidden])')].every((one) => one.labels.length)")
     assert page.value("[...document.querySelectorAll('a, button')].every((one) => one.innerText.trim())")
     assert page.value("document.querySelectorAll('h1').length") == 1
@@ -142,15 +142,15 @@ def test_filter(page):
     assert page.value("document.querySelectorAll('.card a').length") == 1
 
 
-def show_evil(page):
-    """The page of a file that was made to do harm, by clicks."""
+def show(page, name="evil.txt"):
+    """The page of a file, by clicks, from the first page: one that was made to do harm, or another one of music."""
     page.click(".card a", "music")
     page.click("main h1 + p a")
-    page.click(".files a", "evil.txt")
+    page.click(".files a", name)
 
 
 def test_the_text_of_a_file_is_text(page):
-    show_evil(page)
+    show(page)
     assert "<script>alert('1')</script>" in page.value("document.querySelector('pre').textContent")
 
 
@@ -159,7 +159,7 @@ GIVEN = "[...document.querySelectorAll('.tags .given a')].map((a) => a.textConte
 
 def test_a_word_given_and_taken(page):
     """By keyboard alone, and by mouse."""
-    show_evil(page)
+    show(page)
     assert page.value(GIVEN) == "music"
     page.value("document.querySelector('.changes input[name=word]').closest('form').previousElementSibling.setAttribute('tabindex', '-1')")
     page.value("document.querySelector('.changes h2').focus()")
@@ -173,7 +173,7 @@ def test_a_word_given_and_taken(page):
 
 
 def test_a_file_removed(page):
-    show_evil(page)
+    show(page, "song39")
     page.click("main a", "Remove this file")
     page.click("main a", "Keep it")
     page.click("main a", "Remove this file")
@@ -200,7 +200,7 @@ def test_a_large_file_is_told_before(page):
 # A page of another port can neither read these pages nor send their forms, nor show them in a frame.
 
 @pytest.fixture
-def elsewhere(browser, browsed):
+def elsewhere(browser, browsed, web_folder):
     """The browser, at a page of another port, whose links and forms lead to the pages."""
     start(browser, browsed)
     top = browser.value("location.pathname").rpartition("/")[0] + "/"
@@ -252,8 +252,8 @@ def test_without_a_script(page, browsed):
         page.open(browsed.address)
         page.click(".card a", "music")
         page.click("#q", leads=False)
-        page.type("2002")
+        page.type("live")
         page.press("Enter", leads=True)
-        assert page.value("document.querySelectorAll('.card a').length") == 1
+        assert page.value("document.querySelectorAll('.card a').length") == 1 and "q=live" in page.value("location.search")
     finally:
         page.ask("Emulation.setScriptExecutionDisabled", value=False)

@@ -24,6 +24,14 @@ BROWSERS, DRIVERS = ("chromium", "chromium-browser", "google-chrome"), ("chromed
 # No sandbox, since tests may run as root, and nothing of its own from elsewhere.
 WORDS = ("--headless=new", "--no-sandbox", "--disable-gpu", "--disable-dev-shm-usage", "--no-first-run", "--disable-background-networking",
          "--disable-component-update", "--disable-sync", "--disable-extensions", "--hide-scrollbars")
+# The first element that a chooser finds, and that has this text, or this label, once the page is there whole and it can be seen.
+SPOT = """
+    const found = [...document.querySelectorAll(arguments[0])].find((one) => arguments[1] === null || one.textContent.trim() === arguments[1]
+        || one.getAttribute("aria-label") === arguments[1]);
+    if (!found || document.readyState !== "complete") return null;
+    const box = found.getBoundingClientRect();
+    return box.width && box.height ? found : null;
+"""
 # What the browser says of a page whose script or policy it complains of.
 COMPLAINTS = ("Log.entryAdded", "Runtime.exceptionThrown", "Runtime.consoleAPICalled", "Page.javascriptDialogOpening")
 
@@ -105,21 +113,15 @@ class Chromium:
 
     def element(self, chooser: str, text: str | None = None) -> "WebElement":
         """The first element that a chooser finds, and that has this text, or this label, once it is there and can be seen."""
-        def one() -> "WebElement | None":
-            for element in self.driver.find_elements(By.CSS_SELECTOR, chooser):
-                if text is None or text in (element.get_attribute("textContent").strip(), element.get_attribute("aria-label")):
-                    return element if element.is_displayed() else None
-            return None
-
-        return self._wait(one, f"{chooser} {text}")
+        return self._wait(lambda: self.driver.execute_script(SPOT, chooser, text), f"{chooser} {text}")
 
     def _lead(self, act: Callable[[], None], leads: bool) -> None:
         """Does what leads to the next page, and waits for that."""
-        before = self.driver.find_element(By.TAG_NAME, "html")
+        if leads:
+            self.value("window.isOld = true")
         act()
         if leads:
-            self._wait(lambda: self.driver.find_element(By.TAG_NAME, "html") != before, "the next page")
-            self.wait_for("document.readyState == 'complete'")
+            self.wait_for("!window.isOld && document.readyState == 'complete'")
 
     def click(self, chooser: str, text: str | None = None, leads: bool = True) -> None:
         """Clicks there with the mouse, and waits for the next page where it leads to one."""
