@@ -1,6 +1,6 @@
 """What is new, changed or gone in a folder, and what was changed in the image, beside what earlier runs brought in.
 
-The files of an image that are a folder's own have its marker, a word `sync:NAME`. Words of the heads in `HEADS` are the folder's too, on
+The files of an image that are a folder's own have its marker, a word `sync:NAME`. Values of the heads in `HEADS` are the folder's too, on
 these files: all others that they have somebody gave them, and they stay. The records of `memory` say what was brought in: what changed in
 the folder alone is brought in, what changed in the image alone stays, and what changed on both sides is a conflict, which is left.
 """
@@ -13,10 +13,10 @@ from lisfs.constants import MAX_ASSIGNED, MAX_DERIVED, MAX_WORD
 from lisfs.folder import mails, music, walk
 from lisfs.folder.forms import folder_value
 from lisfs.folder.memory import REMOVAL, Record, settled
-from lisfs.words import stem_of
+from lisfs.words import head_of, stem_of
 
 MARKER, FOLDER = b"sync", b"in"
-HEADS = frozenset((FOLDER, *mails.HEADS, *music.HEADS))
+HEADS = frozenset(head + b":" for head in (FOLDER, *mails.HEADS, *music.HEADS))
 # The digest of no bytes, and what is no digest.
 NO_BYTES, NOTHING = hashlib.sha256().hexdigest(), ""
 
@@ -214,7 +214,7 @@ class Changes:
     def _change(self, key, entry, name, has_other_bytes=False, is_same=False):
         """Notes what a file gets that the image has: bytes, words, and a name where it moved in the folder and nobody gave it one."""
         words = self.dump.files[name.encode()][1]
-        theirs = {word for word in words if word != self.marker and (stem_of(word) not in HEADS or stem_of(word) in entry.unread)}
+        theirs = {word for word in words if word != self.marker and (head_of(word) not in HEADS or head_of(word) in entry.unread)}
         wanted = self._fitting(entry, MAX_ASSIGNED - 1 - len(theirs))
         loses = tuple(sorted(words - theirs - set(wanted) - {self.marker}))
         gains = tuple(word for word in wanted if word not in words)

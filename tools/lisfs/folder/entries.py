@@ -111,7 +111,7 @@ class Entries:
         record = None if self.is_deaf else self._read_music(entry.found)
         if record is None or record[1] is None:
             self.tagless += 1
-            entry.unread = music.HEADS if self.is_deaf else ()
+            entry.unread = tuple(head + b":" for head in music.HEADS) if self.is_deaf else ()
         if record is None:
             return []
         entry.digest = bytes.fromhex(record[0])
