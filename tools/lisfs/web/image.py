@@ -55,8 +55,8 @@ class Image(image.Image):
 
     def file(self, name):
         """A file of the index, the words of a route to it and its bytes."""
-        way, content = self.told((b"way", name), (b"cat", name))
-        return self.index.files[name], [text for _, text in way], content
+        way, content = self.asked((b"way", name), (b"cat", name))
+        return self.index.files[name], [text for _, text in way.body], content.body
 
     # Changes. Each is one command. If it is refused, nothing was changed.
 
