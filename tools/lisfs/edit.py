@@ -16,6 +16,8 @@ removed, also where the editor has returned at once and still shows it: nothing 
 SIGTERM and SIGHUP end it with 1, and an editor that still runs goes on. But where the writing has begun it comes to its end first, and the
 status is that of the writing.
 """
+from __future__ import annotations
+
 import os
 import shlex
 import shutil
