@@ -319,6 +319,20 @@ def reply_of(whole: bytes) -> Reply:
     return Lines(LINES, [(line[:1], line[2:]) for line in whole.split(b"\n")[:-2]])
 
 
+def as_lines(reply: Reply) -> Lines:
+    """A reply to a command whose reply has lines."""
+    if reply.kind is not LINES:
+        raise NotAReply("a content in place of lines")
+    return reply
+
+
+def as_content(reply: Reply) -> Content:
+    """A reply to `cat`."""
+    if reply.kind is not CONTENT:
+        raise NotAReply("lines in place of a content")
+    return reply
+
+
 def counts_in(body: list[BodyLine]) -> dict[str, int]:
     """The counts that `stat` shows, by their names."""
     return {name.decode(): int(count) for name, count in (text.split() for _, text in body)}
@@ -333,10 +347,7 @@ class Commands:
 
     def lines(self, *words: bytes, payload: bytes | None = None) -> Lines:
         """The same of a command whose reply has lines."""
-        reply = self.ask(*words, payload=payload)
-        if reply.kind is not LINES:
-            raise NotAReply(f"a content in reply to `{words[0].decode()}`")
-        return reply
+        return as_lines(self.ask(*words, payload=payload))
 
     def mkdir(self, word: bytes) -> Lines: return self.lines(b"mkdir", word)
     def rmdir(self, word: bytes) -> Lines: return self.lines(b"rmdir", word)
@@ -346,10 +357,7 @@ class Commands:
     def add(self, name: bytes, content: bytes, *words: bytes) -> Lines: return self.lines(b"add", name, b"%d" % len(content), *words, payload=content)
     def write(self, name: bytes, content: bytes) -> Lines: return self.lines(b"write", name, b"%d" % len(content), payload=content)
     def cat(self, name: bytes) -> Content:
-        reply = self.ask(b"cat", name)
-        if reply.kind is not CONTENT:
-            raise NotAReply("lines in reply to `cat`")
-        return reply
+        return as_content(self.ask(b"cat", name))
 
     def mv(self, name: bytes, formula: bytes) -> Lines: return self.lines(b"mv", name, formula)
     def rename(self, name: bytes, other: bytes) -> Lines: return self.lines(b"rename", name, other)
@@ -422,6 +430,10 @@ class Program(Commands):
     def receive(self) -> Reply:
         """Waits for the next reply. Raises `Refused` where it is a refusal."""
         return reply_of(self.receive_bytes())
+
+    def received_lines(self) -> Lines:
+        """The same where the reply has lines."""
+        return as_lines(self.receive())
 
     def send_bytes(self, line: bytes, payload: bytes = b"", room: int | None = None, wait: bool = True) -> None:
         """Sends bytes as they are: one command that has one reply, with its line feeds, behind the tag of a room where one is given. Also

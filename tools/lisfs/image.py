@@ -9,7 +9,7 @@ import struct
 from collections.abc import Iterable, Iterator, Sequence
 from typing import Generic, NamedTuple, TypeAlias, cast, overload
 
-from lisfs.client import LINES, BodyLine, NotAReply, Program, Refused, Reply, counts_in, item
+from lisfs.client import BodyLine, Program, Refused, Reply, as_lines, counts_in, item
 from lisfs.constants import MAX_FILE, MAX_LARGE_FILE
 from lisfs.dumps import Dump
 from lisfs.index import F, File, Index, Kind
@@ -57,10 +57,7 @@ class Image(Generic[F]):
 
     def told(self, *commands: Words) -> list[list[BodyLine]]:
         """The same of commands whose replies have lines: these lines."""
-        bodies = [reply.body for reply in self.asked(*commands) if reply.kind is LINES]
-        if len(bodies) != len(commands):
-            raise NotAReply("a content in place of lines")
-        return bodies
+        return [as_lines(reply).body for reply in self.asked(*commands)]
 
     def asked(self, *commands: Words) -> list[Reply]:
         """The replies to commands that change no place, or go to one and back, sent ahead of each other. Raises the first refusal."""
