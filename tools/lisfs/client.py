@@ -356,6 +356,7 @@ class Commands:
     def create(self, name: bytes, *words: bytes) -> Lines: return self.lines(b"create", name, *words)
     def add(self, name: bytes, content: bytes, *words: bytes) -> Lines: return self.lines(b"add", name, b"%d" % len(content), *words, payload=content)
     def write(self, name: bytes, content: bytes) -> Lines: return self.lines(b"write", name, b"%d" % len(content), payload=content)
+
     def cat(self, name: bytes) -> Content:
         return as_content(self.ask(b"cat", name))
 

@@ -109,7 +109,8 @@ class Changes:
     `renamed` are those that have another name in the image. `unseen` counts files that are not removed, since not all of the folder was seen.
     `records` say what is so before any change, and what was done after it."""
 
-    def __init__(self, entries: Iterable[Entry], dump: Dump, marker: bytes, is_lean: bool = False, records: Records | None = None, wishes: Wishes = Wishes(), is_blind: bool = False) -> None:
+    def __init__(self, entries: Iterable[Entry], dump: Dump, marker: bytes, is_lean: bool = False, records: Records | None = None,
+                 wishes: Wishes = Wishes(), is_blind: bool = False) -> None:
         self.marker, self.dump, self.is_lean, self.wishes, self.is_blind = marker, dump, is_lean, wishes, is_blind
         self.changes: list[Change] = []
         self.gone: list[bytes] = []

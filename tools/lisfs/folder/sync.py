@@ -46,7 +46,7 @@ on a terminal the progress. Where none of its files is in the folder any more, a
 
 The status is 0 where all was taken, 1 where something was not, and 2 for wrong use. It may be stopped at any moment: the next run goes on.
 Nothing of it is proved. It uses the word `load` of the program, where that has it, and else `run`.
-"""
+"""  # noqa: E501, as the line of the usage is printed
 from __future__ import annotations
 
 import argparse

@@ -44,7 +44,8 @@ class Command(NamedTuple):
     refusals: tuple[int, ...]
 
 
-def command(form: str, does: str, *parts: Part, needed: int | None = None, repeats: bool = False, refusals: tuple[int, ...] = (), more: str = "") -> Command:
+def command(form: str, does: str, *parts: Part, needed: int | None = None, repeats: bool = False, refusals: tuple[int, ...] = (),
+            more: str = "") -> Command:
     return Command(form, does, more, parts, len(parts) if needed is None else needed, repeats, refusals)
 
 
