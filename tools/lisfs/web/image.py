@@ -8,8 +8,8 @@ from collections.abc import Iterable
 from typing import NamedTuple
 
 from lisfs import image
-from lisfs.client import Program, Refused, item
-from lisfs.dumps import Dump
+from lisfs.client import Program, Refused, as_content, as_lines, item
+from lisfs.dumps import Axiom, Dump
 from lisfs.index import File
 from lisfs.web.places import Place
 from lisfs.words import head_of, is_test, is_word
@@ -32,7 +32,7 @@ class WrongWord(ValueError):
     """What was typed can't be one word of a command, or no word that a file is given."""
 
 
-class Image(image.Image):
+class Image(image.Image[File]):
     def __init__(self, program: Program, dump: Dump, limits: image.Limits) -> None:
         super().__init__(program, dump, limits)
         self.axioms = set(dump.axioms)
@@ -64,8 +64,8 @@ class Image(image.Image):
 
     def file(self, name: bytes) -> tuple[File, list[bytes], bytes]:
         """A file of the index, the words of a route to it and its bytes."""
-        way, content = self.told((b"way", name), (b"cat", name))
-        return self.index.files[name], [text for _, text in way], content
+        way, content = self.asked((b"way", name), (b"cat", name))
+        return self.index.files[name], [text for _, text in as_lines(way).body], as_content(content).body
 
     # Changes. Each is one command. If it is refused, nothing was changed.
 
@@ -124,7 +124,7 @@ class Image(image.Image):
         """Declares a word under those of a place."""
         self._change(b"mkdir", word, at=place.text)
         self.declared.add(word)
-        self.axioms |= {(word, right) for right in place.words or ()}
+        self.axioms |= {Axiom(word, right) for right in place.words or ()}
         if is_test(word):
             self.describe(self.index.files.values())
 
@@ -137,13 +137,13 @@ class Image(image.Image):
 
     def axiom(self, left: bytes, right: bytes) -> None:
         self._change(b"axiom", left, right)
-        self.axioms.add((left, right))
+        self.axioms.add(Axiom(left, right))
         self.describe(self.index.of(self.index.having(left)))
 
     def unaxiom(self, left: bytes, right: bytes) -> None:
         files = self.index.of(self.index.having(left))
         self._change(b"unaxiom", left, right)
-        self.axioms.discard((left, right))
+        self.axioms.discard(Axiom(left, right))
         self.describe(files)
 
 

@@ -141,7 +141,7 @@ def turns(at: int, size: int, length: int, page: str, /, **given: bytes | None) 
 
 def described(file: File) -> list[tuple[str, list[Word]]]:
     """All words of a file, those that it was given first."""
-    heads = {head_of(word) for word in file.words} - {None}
+    heads = {head for word in file.words if (head := head_of(word)) is not None}
     others = sorted(word for word in file.words - file.given if word not in heads)
     bare = sorted(head for head in heads if head in file.words
                   and not any(word != head and head_of(word) == head for word in file.words))

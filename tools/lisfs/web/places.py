@@ -4,7 +4,7 @@ It is made of the text by which the program prints a place (`pwd`), so that a st
 the program makes of the texts that are made here is for it to say.
 """
 from lisfs.formulas import formula
-from lisfs.index import Index
+from lisfs.index import File, Index
 from lisfs.words import WORD
 
 
@@ -73,7 +73,7 @@ class Place:
         parts = self.steps[step]
         return text_of(self.steps[:step] + [parts[:part + 1], parts[part + 1:]] + self.steps[step + 1:])
 
-    def files(self, index: Index) -> int:
+    def files(self, index: Index[File]) -> int:
         """The files of the place, as a row of bits. Raises `NotAFormula` if the text is none that the program prints."""
         found = index.everything
         for step in self.steps:

@@ -11,7 +11,6 @@ from collections.abc import Iterable, Iterator
 import pytest
 
 from lisfs.client import PROGRAM, Program, Refused, shown_by
-from lisfs.constants import MAX_PAYLOAD
 from support import visitors
 from support.visitors import Browsed, Seen
 from support.waiting import LONG, with_an_end
