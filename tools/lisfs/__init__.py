@@ -8,6 +8,7 @@ What all tools share, each module using those above it:
 - `formulas`: the one reader of formulas.
 - `showing`: text that does nothing to a terminal.
 - `client`: one run of the program.
+- `endings`: what one line says of an error that has ended a tool.
 - `dumps`: what an image holds at the start.
 - `index`: which file has which word.
 - `image`: an open image, and the index in step with it.

@@ -31,8 +31,11 @@ tag, is of no room: it is refused, has no payload, and the line `@-` stands behi
 - What speaks for somebody else, as a server does, cuts what it was given into commands (`Items`), and hands on bytes.
 - `view` and `put` run the words of these names, and hand out, or write, a whole view.
 """
+from __future__ import annotations
+
 import collections
 import contextlib
+import enum
 import fcntl
 import os
 import re
@@ -41,6 +44,8 @@ import signal
 import subprocess
 import tempfile
 import threading
+from collections.abc import Collection, Iterator, Sequence
+from typing import IO, Literal, NamedTuple, TypeAlias, overload
 
 from lisfs.constants import MAX_DIGITS, MAX_LINE, MAX_PAYLOAD, ROOMS
 
@@ -56,7 +61,6 @@ FULL = b"full: eight clients are here\n"
 SHOWN = 2_048
 # How long a program that has closed its output may take to end, in seconds.
 PATIENCE = 60
-LINES, CONTENT = "lines", "content"
 COUNT = re.compile(rb"[0-9]{1,%d}" % MAX_DIGITS)
 WORD = re.compile(rb"[^ \t]+")
 NO_WORD = re.compile(rb"[ \t\r\n]")
@@ -69,11 +73,62 @@ TAG_LINE = re.compile(rb"(@([0-7-]\n?)?)?")
 TAG_SIZE = len(b"@0\n")
 
 
-# Where `kind` is CONTENT, `body` is the bytes of a file. Where it is LINES, it is a list of pairs, the letter and the text of each body line.
-Reply = collections.namedtuple("Reply", "kind body")
+# A word of a command of the system: a path, or what a program is given.
+Word: TypeAlias = str | bytes
+# The letter and the text of a body line. It is a plain pair, since there are thousands of them.
+BodyLine: TypeAlias = tuple[bytes, bytes]
 
 
-def missing():
+class Kind(enum.Enum):
+    """What the body of a reply is."""
+
+    LINES = "lines"
+    CONTENT = "content"
+
+
+LINES: Literal[Kind.LINES] = Kind.LINES
+CONTENT: Literal[Kind.CONTENT] = Kind.CONTENT
+
+
+class Lines(NamedTuple):
+    """A reply of body lines, or of none."""
+
+    kind: Literal[Kind.LINES]
+    body: list[BodyLine]
+
+
+class Content(NamedTuple):
+    """A reply with the bytes of a file."""
+
+    kind: Literal[Kind.CONTENT]
+    body: bytes
+
+
+Reply: TypeAlias = Lines | Content
+
+
+class Item(NamedTuple):
+    """The bytes of a command: its line, and its payload, each with its line feed. Without a payload there are no bytes of it."""
+
+    line: bytes
+    payload: bytes
+
+
+class Tagged(NamedTuple):
+    """The bytes of a whole reply, and the tag behind it, if the program has tags."""
+
+    whole: bytes
+    tag: bytes | None
+
+
+class End(NamedTuple):
+    """How a program has ended: its status, and what it said on standard error."""
+
+    status: int
+    text: str
+
+
+def missing() -> str | None:
     """What to do if the program is not there, else None."""
     if os.path.exists(PROGRAM):
         return None
@@ -85,15 +140,16 @@ def missing():
 class Refused(Exception):
     """The program refused a command, and changed nothing."""
 
-    def __init__(self, number, words):
+    def __init__(self, number: int, words: str) -> None:
         super().__init__(f"no {number:02} {words}")
-        self.number, self.words = number, words
+        # `command` is noted if several were sent ahead of their replies.
+        self.number, self.words, self.command = number, words, ""
 
 
 class Ended(Exception):
     """The program has ended: with this status, or by a signal, whose number is then negative, and with this text on standard error."""
 
-    def __init__(self, status, text):
+    def __init__(self, status: int, text: str) -> None:
         super().__init__(": ".join([f"the program ended with {status}"] + text.splitlines()))
         self.status, self.text = status, text
 
@@ -102,7 +158,7 @@ class Locked(Ended):
     """The program has ended, or a lock was not had, since another program has the lock of the image."""
 
 
-def ended(status, text):
+def ended(status: int, text: str) -> Ended:
     """The error of a program that has ended."""
     return (Locked if status == 3 and text.endswith(": in use by another lisfs\n") else Ended)(status, text)
 
@@ -115,17 +171,17 @@ class NotAReply(Exception):
     """What was shown is no reply, so this is no program of that kind. No later reply can be told."""
 
 
-def words_of(line):
+def words_of(line: bytes) -> list[bytes]:
     """The words of a line, which is given without its line feed. One CR at its end is no part of them."""
     return WORD.findall(line.removesuffix(b"\r"))
 
 
-def count_of(words):
+def count_of(words: Sequence[bytes]) -> bytes | None:
     """The word of a line that counts the bytes of the payload behind it, or None where none follows."""
     return words[2] if len(words) > 2 and words[0] in (b"add", b"write") and COUNT.fullmatch(words[2]) else None
 
 
-def item(words, payload=None, longest=MAX_LINE):
+def item(words: Sequence[bytes], payload: bytes | None = None, longest: int = MAX_LINE) -> Item:
     """The bytes of a command: its line, and its payload, each with its line feed."""
     for word in words:
         if not word or NO_WORD.search(word):
@@ -135,12 +191,12 @@ def item(words, payload=None, longest=MAX_LINE):
         raise NotSent(f"a line has 1 to {longest} bytes, and this one {len(line)}")
     size = count_of(words)
     if payload is None and size is None:
-        return line + b"\n", b""
+        return Item(line + b"\n", b"")
     if payload is None or size is None:
         raise NotSent(f"`{line.decode(errors='backslashreplace')}` {'takes no' if size is None else 'needs a'} payload")
     if int(size) != len(payload) or len(payload) > MAX_PAYLOAD:
         raise NotSent(f"the line says {int(size)} bytes, and the payload has {len(payload)}; it has at most {MAX_PAYLOAD}")
-    return line + b"\n", payload + b"\n"
+    return Item(line + b"\n", payload + b"\n")
 
 
 class Items:
@@ -149,16 +205,17 @@ class Items:
     What is kept of a command has the same reply as all of it: of a line that is too long its first bytes, in place of a payload that is too
     large the smallest such one, and of what stands behind a payload in place of a line feed one byte."""
 
-    def __init__(self, longest=MAX_LINE):
+    def __init__(self, longest: int = MAX_LINE) -> None:
         # What was not taken, without the line that a payload follows, which stands by itself.
-        self._longest, self._given, self._line = longest, bytearray(), None
+        self._longest, self._given = longest, bytearray()
+        self._line: bytes | None = None
         # Of this payload so many bytes are kept, and so many still to be dropped, with these in their place.
         self._kept, self._dropped, self._in_place = 0, 0, b""
 
-    def feed(self, data):
+    def feed(self, data: bytes) -> None:
         self._given += data
 
-    def take(self):
+    def take(self) -> Item | None:
         """The line and the payload of the first command, each with its line feed, or None where it isn't there whole."""
         while self._line is None:
             if (end := self._given.find(b"\n")) < 0:
@@ -168,30 +225,30 @@ class Items:
             line = bytes(self._given[:min(end, self._longest + 1)])
             del self._given[:end + 1]
             if len(line) > self._longest:
-                return line + b"\n", b""
+                return Item(line + b"\n", b"")
             words = words_of(line)
             if count := count_of(words):
                 self._await_payload(line, int(count))
             elif words:
-                return line + b"\n", b""
-        return self._with_payload()
+                return Item(line + b"\n", b"")
+        return self._with_payload(self._line)
 
-    def is_cut(self):
+    def is_cut(self) -> bool:
         """Where no command can be taken: whether the input, if it ends here, ends within a payload."""
         return self._line is not None and (self._dropped > 0 or len(self._given) < self._kept)
 
-    def lacks_feed(self):
+    def lacks_feed(self) -> bool:
         """Where no command can be taken: whether the input, if it ends here, lacks a line feed and nothing else."""
         return bool(self._given) if self._line is None else not self.is_cut()
 
-    def _await_payload(self, line, count):
+    def _await_payload(self, line: bytes, count: int) -> None:
         self._line, self._kept, self._dropped, self._in_place = line, count, 0, b""
         if count > MAX_PAYLOAD:
             begin, end = [word.span() for word in WORD.finditer(line.removesuffix(b"\r"))][2]
             self._line = line[:begin] + b"%d" % (MAX_PAYLOAD + 1) + line[end:]
             self._kept, self._dropped, self._in_place = 0, count, bytes(MAX_PAYLOAD + 1)
 
-    def _with_payload(self):
+    def _with_payload(self, line: bytes) -> Item | None:
         dropped = min(self._dropped, len(self._given))
         del self._given[:dropped]
         self._dropped -= dropped
@@ -203,19 +260,19 @@ class Items:
             return None
         payload = self._in_place + self._given[:min(end, self._kept + 1)]
         del self._given[:end + 1]
-        line, self._line = self._line, None
-        return line + b"\n", payload + b"\n"
+        self._line = None
+        return Item(line + b"\n", payload + b"\n")
 
 
 class Replies:
     """Cuts what a program shows into replies. Where it has tags, the line of one stands behind each."""
 
-    def __init__(self, has_tags=False):
+    def __init__(self, has_tags: bool = False) -> None:
         # What was not taken, and how many of its bytes are whole lines of the first reply.
         self.shown, self.at, self._has_tags = bytearray(), 0, has_tags
 
-    def take(self):
-        """The bytes of the first reply, and its tag or None, or None in place of both where they aren't there whole."""
+    def take(self) -> Tagged | None:
+        """The first reply and its tag, or None where they aren't there whole."""
         while (end := self.shown.find(b"\n", self.at)) >= 0:
             line, end = bytes(self.shown[self.at:end]), end + 1
             if line == b"ok" or self.at == 0 and REFUSAL_LINE.fullmatch(line):
@@ -229,7 +286,7 @@ class Replies:
             raise NotAReply(f"a line without an end: {bytes(self.shown[self.at:self.at + 80])!r}")
         return None
 
-    def _content(self, begin, size):
+    def _content(self, begin: int, size: int) -> Tagged | None:
         end = begin + size + len(b"\nok\n")
         if size > MAX_PAYLOAD:
             raise NotAReply(f"a content of {size} bytes")
@@ -239,7 +296,7 @@ class Replies:
             raise NotAReply(f"{bytes(self.shown[begin + size:end])!r} behind a content")
         return self._cut(end)
 
-    def _cut(self, end):
+    def _cut(self, end: int) -> Tagged | None:
         tag = bytes(self.shown[end:end + TAG_SIZE]) if self._has_tags else b""
         if not TAG_LINE.fullmatch(tag):
             raise NotAReply(f"{tag!r} is no tag behind a reply")
@@ -248,43 +305,70 @@ class Replies:
         whole = bytes(self.shown[:end])
         del self.shown[:end + len(tag)]
         self.at = 0
-        return whole, tag[:-1] or None
+        return Tagged(whole, tag[:-1] or None)
 
 
-def reply_of(whole):
+def reply_of(whole: bytes) -> Reply:
     """What the bytes of a whole reply say. Raises `Refused` for a refusal."""
     first, _, rest = whole.partition(b"\n")
     if refusal := REFUSAL_LINE.fullmatch(first):
         raise Refused(int(refusal[1]), refusal[2].decode(errors="backslashreplace"))
     if CONTENT_LINE.fullmatch(first):
-        return Reply(CONTENT, rest[:-len(b"\nok\n")])
-    return Reply(LINES, [BODY_LINE.fullmatch(line).groups() for line in whole.split(b"\n")[:-2]])
+        return Content(CONTENT, rest[:-len(b"\nok\n")])
+    # `Replies` has judged the form of the lines.
+    return Lines(LINES, [(line[:1], line[2:]) for line in whole.split(b"\n")[:-2]])
+
+
+def as_lines(reply: Reply) -> Lines:
+    """A reply to a command whose reply has lines."""
+    if reply.kind is not LINES:
+        raise NotAReply("a content in place of lines")
+    return reply
+
+
+def as_content(reply: Reply) -> Content:
+    """A reply to `cat`."""
+    if reply.kind is not CONTENT:
+        raise NotAReply("lines in place of a content")
+    return reply
+
+
+def counts_in(body: list[BodyLine]) -> dict[str, int]:
+    """The counts that `stat` shows, by their names."""
+    return {name.decode(): int(count) for name, count in (text.split() for _, text in body)}
 
 
 class Commands:
     """Something that can be asked commands: a call for each. The words are bytes, and so is a content."""
 
-    def ask(self, *words, payload=None):
+    def ask(self, *words: bytes, payload: bytes | None = None) -> Reply:
         """Sends a command and receives its reply."""
         raise NotImplementedError
 
-    def mkdir(self, word): return self.ask(b"mkdir", word)
-    def rmdir(self, word): return self.ask(b"rmdir", word)
-    def axiom(self, left, right): return self.ask(b"axiom", left, right)
-    def unaxiom(self, left, right): return self.ask(b"unaxiom", left, right)
-    def create(self, name, *words): return self.ask(b"create", name, *words)
-    def add(self, name, content, *words): return self.ask(b"add", name, b"%d" % len(content), *words, payload=content)
-    def write(self, name, content): return self.ask(b"write", name, b"%d" % len(content), payload=content)
-    def cat(self, name): return self.ask(b"cat", name)
-    def mv(self, name, formula): return self.ask(b"mv", name, formula)
-    def rename(self, name, other): return self.ask(b"rename", name, other)
-    def rm(self, name): return self.ask(b"rm", name)
-    def cd(self, formula): return self.ask(b"cd", formula)
-    def pwd(self): return self.ask(b"pwd")
-    def ls(self): return self.ask(b"ls")
-    def props(self, name): return self.ask(b"props", name)
-    def way(self, name): return self.ask(b"way", name)
-    def stat(self): return self.ask(b"stat")
+    def lines(self, *words: bytes, payload: bytes | None = None) -> Lines:
+        """The same of a command whose reply has lines."""
+        return as_lines(self.ask(*words, payload=payload))
+
+    def mkdir(self, word: bytes) -> Lines: return self.lines(b"mkdir", word)
+    def rmdir(self, word: bytes) -> Lines: return self.lines(b"rmdir", word)
+    def axiom(self, left: bytes, right: bytes) -> Lines: return self.lines(b"axiom", left, right)
+    def unaxiom(self, left: bytes, right: bytes) -> Lines: return self.lines(b"unaxiom", left, right)
+    def create(self, name: bytes, *words: bytes) -> Lines: return self.lines(b"create", name, *words)
+    def add(self, name: bytes, content: bytes, *words: bytes) -> Lines: return self.lines(b"add", name, b"%d" % len(content), *words, payload=content)
+    def write(self, name: bytes, content: bytes) -> Lines: return self.lines(b"write", name, b"%d" % len(content), payload=content)
+
+    def cat(self, name: bytes) -> Content:
+        return as_content(self.ask(b"cat", name))
+
+    def mv(self, name: bytes, formula: bytes) -> Lines: return self.lines(b"mv", name, formula)
+    def rename(self, name: bytes, other: bytes) -> Lines: return self.lines(b"rename", name, other)
+    def rm(self, name: bytes) -> Lines: return self.lines(b"rm", name)
+    def cd(self, formula: bytes) -> Lines: return self.lines(b"cd", formula)
+    def pwd(self) -> Lines: return self.lines(b"pwd")
+    def ls(self) -> Lines: return self.lines(b"ls")
+    def props(self, name: bytes) -> Lines: return self.lines(b"props", name)
+    def way(self, name: bytes) -> Lines: return self.lines(b"way", name)
+    def stat(self) -> Lines: return self.lines(b"stat")
 
 
 class Program(Commands):
@@ -294,13 +378,13 @@ class Program(Commands):
     At the end of a `with` block it is closed. One that is no session, as `lisfs make`, is run by `Program(command).close()`.
     """
 
-    def __init__(self, command, rooms=False, unheard=()):
+    def __init__(self, command: Sequence[Word], rooms: bool = False, unheard: Collection[signal.Signals] = ()) -> None:
         # What it says is kept in a file, which never fills up as a pipe would.
         self._said = tempfile.TemporaryFile()
         # They are held back while it begins, so that none that is ours is lost, as where they were ignored here meanwhile.
         before = signal.pthread_sigmask(signal.SIG_BLOCK, unheard)
 
-        def begin():
+        def begin() -> None:
             for number in unheard:
                 signal.signal(number, signal.SIG_IGN)
             signal.pthread_sigmask(signal.SIG_SETMASK, before)
@@ -310,41 +394,49 @@ class Program(Commands):
                                            preexec_fn=begin if unheard else None)
         finally:
             signal.pthread_sigmask(signal.SIG_SETMASK, before)
-        os.set_blocking(self._child.stdin.fileno(), False)
-        self._has_rooms, self._replies, self._is_cut, self._end = rooms, Replies(rooms), False, None
+        assert self._child.stdin and self._child.stdout
+        self._input, self._output = self._child.stdin, self._child.stdout
+        os.set_blocking(self._input.fileno(), False)
+        self._has_rooms, self._replies, self._is_cut = rooms, Replies(rooms), False
+        self._end: End | None = None
         # The parts that were not written yet, and the tag that is to stand behind each reply that was not received.
-        self._unsent, self._awaited = collections.deque(), collections.deque()
+        self._unsent: collections.deque[bytes | memoryview] = collections.deque()
+        self._awaited: collections.deque[bytes | None] = collections.deque()
 
-    def __enter__(self):
+    def __enter__(self) -> Program:
         return self
 
-    def __exit__(self, kind, *_):
+    def __exit__(self, kind: type[BaseException] | None, *_: object) -> None:
         # An error of the block is not hidden by the end of the program.
         with contextlib.suppress(Ended) if kind else contextlib.nullcontext():
             self.close()
 
-    def room(self, number):
+    def room(self, number: int) -> Room:
         """The room of this number, which can be asked commands."""
         return Room(self, number)
 
-    def ask(self, *words, payload=None, room=None):
+    def ask(self, *words: bytes, payload: bytes | None = None, room: int | None = None) -> Reply:
         """Sends a command and receives its reply. The words are bytes, and so is the payload."""
         if self._awaited and not self._end:
             raise RuntimeError("the replies of earlier commands come first: receive them")
         self.send(*words, payload=payload, room=room)
         return self.receive()
 
-    def send(self, *words, payload=None, room=None):
+    def send(self, *words: bytes, payload: bytes | None = None, room: int | None = None) -> None:
         """Sends a command ahead. Its reply is received later, behind those of the commands before it, of whatever rooms."""
         if self._has_rooms and room is None:
             raise NotSent("a command of no room")
         self.send_bytes(*item(words, payload, ROOM_LINE if self._has_rooms else MAX_LINE), room)
 
-    def receive(self):
+    def receive(self) -> Reply:
         """Waits for the next reply. Raises `Refused` where it is a refusal."""
         return reply_of(self.receive_bytes())
 
-    def send_bytes(self, line, payload=b"", room=None, wait=True):
+    def received_lines(self) -> Lines:
+        """The same where the reply has lines."""
+        return as_lines(self.receive())
+
+    def send_bytes(self, line: bytes, payload: bytes = b"", room: int | None = None, wait: bool = True) -> None:
         """Sends bytes as they are: one command that has one reply, with its line feeds, behind the tag of a room where one is given. Also
         where this raises `Ended`, earlier replies can still be received. Without `wait`, what the program doesn't take now is kept in
         memory, and `push` sends it."""
@@ -364,13 +456,13 @@ class Program(Commands):
         self._awaited.append(tag if self._has_rooms else None)
         self._is_cut = False
 
-    def push(self):
+    def push(self) -> bool:
         """Sends what the program takes now of what was kept. Whether something is left."""
         if self._end:
             raise self._ending()
         while self._unsent:
             try:
-                taken = os.write(self._child.stdin.fileno(), self._unsent[0])
+                taken = os.write(self._input.fileno(), self._unsent[0])
             except BlockingIOError:
                 return True
             except BrokenPipeError:
@@ -381,7 +473,13 @@ class Program(Commands):
                 self._unsent.popleft()
         return False
 
-    def receive_bytes(self, wait=True):
+    @overload
+    def receive_bytes(self) -> bytes: ...
+
+    @overload
+    def receive_bytes(self, wait: bool) -> bytes | None: ...
+
+    def receive_bytes(self, wait: bool = True) -> bytes | None:
         """The bytes of the next reply, also of a refusal, without its tag. Without `wait`, None where it isn't there whole now."""
         while (taken := self._replies.take()) is None:
             if not self._end and not self._awaited and wait:
@@ -397,15 +495,15 @@ class Program(Commands):
             raise NotAReply(f"{tag!r} behind the reply to a command of {awaited!r}")
         return whole
 
-    def fileno(self):
+    def fileno(self) -> int:
         """Where replies come from, to wait for one by `select`. A reply may have been read before: `receive_bytes(wait=False)` tells."""
-        return self._child.stdout.fileno()
+        return self._output.fileno()
 
-    def input_fileno(self):
+    def input_fileno(self) -> int:
         """Where commands go, to wait by `select` until `push` can send more."""
-        return self._child.stdin.fileno()
+        return self._input.fileno()
 
-    def close(self):
+    def close(self) -> None:
         """Ends the input, and waits until the program has carried out all that was sent. Raises `Ended` where its status is not 0.
         Replies that were not received still can be."""
         while not self._end and not self._is_cut and self.push():
@@ -414,40 +512,40 @@ class Program(Commands):
         if end.status:
             raise end
 
-    def kill(self):
+    def kill(self) -> None:
         """Ends the program at once, in the middle of anything. What it has replied to is kept."""
         self._child.kill()
         self._ending()
 
-    def kill_after(self, seconds):
+    def kill_after(self, seconds: float) -> None:
         """From now on the program has so long to end, whatever is waited for meanwhile, and is killed then. What it has replied to is kept."""
         timer = threading.Timer(seconds, self._child.kill)
         timer.daemon = True
         timer.start()
 
-    def _make_way(self):
+    def _make_way(self) -> None:
         """Waits until the program takes more. It may do so only when somebody reads what it shows."""
         if self._is_readable(None, or_writable=True) and not self._read():
             raise self._ending()
 
-    def _is_readable(self, seconds, or_writable=False):
+    def _is_readable(self, seconds: float | None, or_writable: bool = False) -> bool:
         """Whether there is something to read, or the end. Waits so long for it, or until something can be written."""
         poll = select.poll()
-        poll.register(self._child.stdout, select.POLLIN)
+        poll.register(self._output, select.POLLIN)
         if or_writable:
-            poll.register(self._child.stdin, select.POLLOUT)
-        return self._child.stdout.fileno() in dict(poll.poll(None if seconds is None else seconds * 1_000))
+            poll.register(self._input, select.POLLOUT)
+        return self._output.fileno() in dict(poll.poll(None if seconds is None else seconds * 1_000))
 
-    def _read(self):
+    def _read(self) -> bool:
         """Takes in what is shown, after waiting for it. Whether there was more than the end."""
-        data = os.read(self._child.stdout.fileno(), 65_536)
+        data = os.read(self._output.fileno(), 65_536)
         self._replies.shown += data
         return bool(data)
 
-    def _ending(self):
+    def _ending(self) -> Ended:
         """The error that tells the end of the program, which is waited for where it has not come."""
         if not self._end:
-            self._child.stdin.close()
+            self._input.close()
             while self._read():
                 pass
             try:
@@ -455,8 +553,8 @@ class Program(Commands):
             except subprocess.TimeoutExpired:
                 self._child.kill()
             self._said.seek(0)
-            self._end = self._child.wait(), self._said.read().decode(errors="backslashreplace")
-            self._child.stdout.close()
+            self._end = End(self._child.wait(), self._said.read().decode(errors="backslashreplace"))
+            self._output.close()
             self._said.close()
         return ended(*self._end)
 
@@ -464,17 +562,17 @@ class Program(Commands):
 class Room(Commands):
     """A room of a program that serves rooms. The replies to what is sent ahead in all rooms are received from the program, in order."""
 
-    def __init__(self, program, number):
+    def __init__(self, program: Program, number: int) -> None:
         self._program, self.number = program, number
 
-    def ask(self, *words, payload=None):
+    def ask(self, *words: bytes, payload: bytes | None = None) -> Reply:
         return self._program.ask(*words, payload=payload, room=self.number)
 
-    def send(self, *words, payload=None):
+    def send(self, *words: bytes, payload: bytes | None = None) -> None:
         self._program.send(*words, payload=payload, room=self.number)
 
 
-def shown_by(command, data=b""):
+def shown_by(command: Sequence[Word], data: bytes = b"") -> bytes:
     """What a program shows that reads this input and ends. Raises `Ended` where its status is not 0."""
     with tempfile.TemporaryFile() as given:
         # Where this process is killed, a pipe would end early, and the program take a part for the whole.
@@ -486,7 +584,7 @@ def shown_by(command, data=b""):
     return ran.stdout
 
 
-def view(image, name, formula):
+def view(image: Word, name: Word, formula: Word) -> bytes:
     """The view of a file's lines that satisfy a formula, as `lisfs view` shows it. Raises `Refused` where it is a refusal."""
     shown = shown_by([PROGRAM, "view", image, name, formula])
     if not VIEW.fullmatch(shown):
@@ -495,12 +593,12 @@ def view(image, name, formula):
     return shown
 
 
-def put(image, name, formula, edited):
+def put(image: Word, name: Word, formula: Word, edited: bytes) -> None:
     """Writes a file by an edited view of it, as `lisfs put` does. Raises `Refused` where it is a refusal."""
     only_reply(shown_by([PROGRAM, "put", image, name, formula], edited))
 
 
-def only_reply(shown):
+def only_reply(shown: bytes) -> Reply:
     """The one reply that some bytes are."""
     replies = Replies()
     replies.shown += shown
@@ -510,7 +608,7 @@ def only_reply(shown):
 
 
 @contextlib.contextmanager
-def held(image):
+def held(image: str) -> Iterator[None]:
     """Holds the lock of an image while the block runs, so that no program writes it in the meantime. Raises `Locked` where one has it."""
     with open(image, "rb") as file:
         try:
@@ -521,10 +619,11 @@ def held(image):
 
 
 @contextlib.contextmanager
-def shown(command):
+def shown(command: Sequence[Word]) -> Iterator[IO[bytes]]:
     """What a program shows that takes no commands, as `lisfs dump IMAGE`: a binary stream, to be read in the block. Raises `Ended` where its
     status is not 0, also in the place of an error of the block, since what was shown is then cut off."""
     with tempfile.TemporaryFile() as said, subprocess.Popen(command, stdin=subprocess.DEVNULL, stdout=subprocess.PIPE, stderr=said) as child:
+        assert child.stdout
         try:
             yield child.stdout
         finally:

@@ -3,7 +3,11 @@
 The program keeps no word beyond these, and does not say that there were more. This reads a file once more to tell how many it would have, so that
 a person can be told which search may miss it. What a file has is the program's to say: nothing here is asked for that.
 """
+from __future__ import annotations
+
 import re
+from collections.abc import Iterable, Iterator, Sequence
+from typing import Literal, TypeAlias
 
 from lisfs.constants import BUILT_IN_HEADS, MAX_DERIVED, MAX_WORD, MEDIUM_FILE, SMALL_FILE
 from lisfs.words import PLAIN_BYTES, PLAIN_RUN, head_of, is_head
@@ -21,9 +25,16 @@ KEYWORDS = frozenset((b"if", b"for", b"while", b"switch", b"return", b"sizeof"))
 PIECE = re.compile(rb"(?P<blank>[ \t]+)|(?P<feed>\n)|(?P<white>[\v\f\r]+)|(?P<identifier>[A-Za-z_][A-Za-z0-9_]*)|(?P<number>[0-9][A-Za-z0-9_.]*)"
                    rb"|(?P<comment>/\*.*?(?:\*/|\Z)|//[^\n]*)|(?P<literal>\"(?:[^\"\\\n]|\\[^\n])*\\?\"?|'(?:[^'\\\n]|\\[^\n])*\\?'?)|(?P<mark>.)", re.S)
 PATH = re.compile(rb"<([^>\n]*)>|\"([^\"\n]*)\"")
+# What a piece of a source is: the path of an include, or what a group of `PIECE` names. And where it stands: at the beginning of a line, behind
+# the `#` of a directive, behind its `include`, in another directive, or elsewhere. There is one for each token, and an enum would take twice
+# the time.
+Kind: TypeAlias = str
+Context: TypeAlias = Literal["start", "hash", "include", "directive", "code"]
+# The path of an include, or a token outside directives.
+Entry: TypeAlias = tuple[Kind, bytes]
 
 
-def derived_words(name, content):
+def derived_words(name: bytes, content: bytes) -> list[bytes]:
     """The words that a file of this name and these bytes would have by itself, each once, in the order in which the program takes them. Of a
     long file those of its beginning."""
     suffix, size = suffix_of(name), len(content)
@@ -39,23 +50,23 @@ def derived_words(name, content):
     return list(dict.fromkeys(word for word in found if len(word) <= MAX_WORD))
 
 
-def has_many(name):
+def has_many(name: bytes) -> bool:
     """Whether a file of this name may have more words than the program keeps."""
     return suffix_of(name) in (b"eml", b"c", b"h")
 
 
-def is_full(words):
+def is_full(words: Iterable[bytes]) -> bool:
     """Whether a file with these words may have so many by itself that others were cut."""
     return sum(head_of(word) in HEADS and not is_head(word) for word in words) >= MAX_DERIVED - 3
 
 
-def told_of_cut(name, content):
+def told_of_cut(name: bytes, content: bytes) -> str | None:
     """How many of its words a file has, where some are cut, or None."""
     count = len(derived_words(name, content)) if has_many(name) else 0
     return f"{MAX_DERIVED} of at least {count:,} words that it has by itself: a search for one of the others misses it" if count > MAX_DERIVED else None
 
 
-def told_of_misses(words, described):
+def told_of_misses(words: Iterable[bytes], described: Iterable[tuple[bytes, Iterable[bytes]]]) -> str | None:
     """What is to be told of a search by some words, where it can miss a file: the files are pairs of a name and all words. Else None."""
     missing = [word for word in words if head_of(word) in HEADS]
     count = sum(has_many(name) and is_full(had) for name, had in described) if missing else 0
@@ -65,15 +76,16 @@ def told_of_misses(words, described):
     return f"{files} the most words that a file has by itself, {MAX_DERIVED}, and may say more: a search by {missing[0].decode()} can miss such a file"
 
 
-def suffix_of(name):
+def suffix_of(name: bytes) -> bytes | None:
     """What stands behind the last full stop of a name, or None."""
     found = SUFFIX.fullmatch(name)
     return found[1] if found else None
 
 
-def mail_words(content):
+def mail_words(content: bytes) -> list[bytes]:
     """The words of a mail's header, repeats included."""
-    found, kind = [], None
+    found: list[bytes] = []
+    kind: bytes | None = None
     for line in content.split(b"\n"):
         line = line.removesuffix(b"\r")
         if not line:
@@ -83,16 +95,17 @@ def mail_words(content):
         else:
             field = FIELD.match(line)
             kind, body = (field[1].lower(), line[field.end():]) if field else (None, b"")
-        if kind in (b"from", b"to", b"subject"):
+        if kind is not None and kind in (b"from", b"to", b"subject"):
             # A token may go on in a folded line only where no blank begins that, which one does.
             found += [kind + b":" + token.lower() for token in PLAIN_RUN.findall(body) if kind == b"subject" or b"@" in token]
     return found
 
 
-def source_words(content):
+def source_words(content: bytes) -> list[bytes]:
     """The words of a C source, repeats included."""
     entries = list(entries_of(JOINT.sub(b"", content)))
-    found, braces, parens = [], 0, 0
+    found: list[bytes] = []
+    braces, parens = 0, 0
     for at, (kind, text) in enumerate(entries):
         if kind == "path":
             path = text.rpartition(b"/")[2]
@@ -105,11 +118,11 @@ def source_words(content):
     return found
 
 
-def depth_after(depth, text, opening, closing):
+def depth_after(depth: int, text: bytes, opening: bytes, closing: bytes) -> int:
     return depth + 1 if text == opening else max(0, depth - 1) if text == closing else depth
 
 
-def is_defined(entries, at):
+def is_defined(entries: Sequence[Entry], at: int) -> bool:
     """Whether what stands behind an identifier makes it a definition: a parenthesis, and a brace behind the one that closes it. No identifier
     between these two is judged, so that each entry is passed over once."""
     depth, is_closed = 0, False
@@ -127,9 +140,10 @@ def is_defined(entries, at):
     return False
 
 
-def entries_of(source):
-    """The paths of includes, and the tokens outside directives: pairs of a kind and a text."""
-    context, at = "start", 0
+def entries_of(source: bytes) -> Iterator[Entry]:
+    """The paths of includes, and the tokens outside directives."""
+    context: Context = "start"
+    at = 0
     while at < len(source):
         path = PATH.match(source, at) if context == "include" else None
         if path:
@@ -137,13 +151,15 @@ def entries_of(source):
             yield "path", path[1] if path[1] is not None else path[2]
             continue
         piece = PIECE.match(source, at)
+        # The last group takes any byte.
+        assert piece and piece.lastgroup
         at, kind, text = piece.end(), piece.lastgroup, piece[0]
         if context in ("start", "code") and kind not in ("blank", "feed", "white", "comment") and not (context == "start" and text == b"#"):
             yield kind, text
         context = context_after(context, kind, text)
 
 
-def context_after(context, kind, text):
+def context_after(context: Context, kind: Kind, text: bytes) -> Context:
     if kind == "feed":
         return "start"
     if kind in ("blank", "comment"):

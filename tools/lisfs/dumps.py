@@ -1,10 +1,13 @@
 """What an image holds, read out of the session that makes it again, as `lisfs dump IMAGE` shows it."""
+from __future__ import annotations
+
 import hashlib
 import os
 import signal
 import time
+from typing import IO, NamedTuple, Protocol
 
-from lisfs.client import PROGRAM, Program, shown
+from lisfs.client import PROGRAM, Program, counts_in, shown
 
 # The clock by which changes are noted goes on in steps of so many nanoseconds at most, and of two seconds where it knows whole ones alone.
 STEP, WHOLE = 20_000_000, 2 * 10**9
@@ -14,15 +17,45 @@ class NotADump(ValueError):
     """The session has a line that no dump has."""
 
 
+class Axiom(NamedTuple):
+    """Each file with the word `left` has the word `right` too."""
+
+    left: bytes
+    right: bytes
+
+
+class Stored(NamedTuple):
+    """What a dump says of a file: its size, and the words that it was given."""
+
+    size: int
+    words: frozenset[bytes]
+
+
+class Times(NamedTuple):
+    """When an image was changed, in nanoseconds, and which file it is."""
+
+    changed: int
+    modified: int
+    inode: int
+
+
+class Digest(Protocol):
+    """What takes the bytes of a file, as those of `hashlib` do."""
+
+    def update(self, data: bytes, /) -> None: ...
+
+
 class Dump:
-    """The declared words, the axioms as pairs, and of each file by its name the size and the words that it was given; and of each its
-    digest, SHA-256, where that was asked for."""
+    """The declared words, the axioms, and each file by its name; and of each its digest, SHA-256, where that was asked for."""
 
-    def __init__(self):
-        self.declared, self.axioms, self.files, self.digests = set(), set(), {}, {}
+    def __init__(self) -> None:
+        self.declared: set[bytes] = set()
+        self.axioms: set[Axiom] = set()
+        self.files: dict[bytes, Stored] = {}
+        self.digests: dict[bytes, bytes] = {}
 
 
-def read_dump(stream, with_digests=False):
+def read_dump(stream: IO[bytes], with_digests: bool = False) -> Dump:
     """Reads a dump out of a binary stream: `mkdir`, `add`, `mv` and `axiom` lines.
 
     The bytes of files are passed over, so that a large image takes little memory. A `mv` is read as a dump has it: from the root, and to a
@@ -37,22 +70,22 @@ def read_dump(stream, with_digests=False):
         if command == b"mkdir" and len(given) == 1:
             dump.declared.add(given[0])
         elif command == b"axiom" and len(given) == 2:
-            dump.axioms.add(tuple(given))
+            dump.axioms.add(Axiom(*given))
         elif command == b"add" and len(given) >= 2 and given[1].isdigit():
-            dump.files[given[0]] = int(given[1]), frozenset(given[2:])
+            dump.files[given[0]] = Stored(int(given[1]), frozenset(given[2:]))
             digest = hashlib.sha256() if with_digests else None
             pass_over(stream, int(given[1]), digest)
-            if with_digests:
+            if digest:
                 dump.digests[given[0]] = digest.digest()
         elif command == b"mv" and len(given) == 2 and given[0] in dump.files:
             size, had = dump.files[given[0]]
-            dump.files[given[0]] = size, had | frozenset(given[1].split(b"/"))
+            dump.files[given[0]] = Stored(size, had | frozenset(given[1].split(b"/")))
         else:
             raise NotADump(f"{line[:80]!r} is no line of a dump")
     return dump
 
 
-def pass_over(stream, size, digest=None):
+def pass_over(stream: IO[bytes], size: int, digest: Digest | None = None) -> None:
     """A payload, which is given to a digest where there is one, and its line feed."""
     while size:
         read = stream.read(min(size, 65_536))
@@ -65,32 +98,33 @@ def pass_over(stream, size, digest=None):
         raise NotADump("another byte than a line feed behind the bytes of a file")
 
 
-def dumped(image, with_digests=False):
+def dumped(image: str, with_digests: bool = False) -> Dump:
     """What an image holds."""
     with shown([PROGRAM, "dump", image]) as stream:
         return read_dump(stream, with_digests)
 
 
-def times_of(image):
+def times_of(image: str) -> Times | None:
     """When it was changed, and which file it is; None where there is none, as the program then tells."""
     try:
         found = os.stat(image)
     except OSError:
         return None
-    return found.st_ctime_ns, found.st_mtime_ns, found.st_ino
+    return Times(found.st_ctime_ns, found.st_mtime_ns, found.st_ino)
 
 
-def settled(image):
+def settled(image: str) -> Times | None:
     """The image's times of change, when each later change will have others."""
+    times = None
     for _ in range(100):
         now, times = time.time_ns(), times_of(image)
-        if times is None or not times[0] <= now < times[0] + (STEP if times[0] % 10**9 else WHOLE):
+        if times is None or not times.changed <= now < times.changed + (STEP if times.changed % 10**9 else WHOLE):
             break
         time.sleep(STEP / 10**9)
     return times
 
 
-def opened(image, tries=8, word="run", with_digests=False):
+def opened(image: str, tries: int = 8, word: str = "run", with_digests: bool = False) -> tuple[Program, Dump]:
     """A session that runs over an image, by this word of the program, and what the image holds.
 
     Nobody has the lock between the end of the dump and the session's first reply. So the image's time of change tells whether anybody
@@ -98,13 +132,12 @@ def opened(image, tries=8, word="run", with_digests=False):
     """
     for _ in range(tries):
         before, dump, program = settled(image), dumped(image, with_digests), started(image, word)
-        counts = dict(text.split() for _, text in program.stat().body)
-        if before == times_of(image) and int(counts[b"files"]) == len(dump.files):
+        if before == times_of(image) and counts_in(program.stat().body)["files"] == len(dump.files):
             return program, dump
         program.close()
     raise NotADump(f"{image} changes all the time")
 
 
-def started(image, word="run"):
+def started(image: str, word: str = "run") -> Program:
     """A stop of all that was started together is for the tool, which then lets the program come to its end."""
     return Program([PROGRAM, word, image], unheard=(signal.SIGINT, signal.SIGTERM, signal.SIGHUP))

@@ -16,6 +16,8 @@ removed, also where the editor has returned at once and still shows it: nothing 
 SIGTERM and SIGHUP end it with 1, and an editor that still runs goes on. But where the writing has begun it comes to its end first, and the
 status is that of the writing.
 """
+from __future__ import annotations
+
 import os
 import shlex
 import shutil
@@ -24,6 +26,9 @@ import stat
 import subprocess
 import sys
 import tempfile
+from collections.abc import Callable
+from types import FrameType
+from typing import TypeVar
 
 from lisfs.client import Ended, Locked, NotAReply, Refused, missing, put, view
 from lisfs.constants import MAX_VIEW
@@ -32,6 +37,8 @@ from lisfs.showing import harmless
 # How the program ends where it has certainly written nothing, beside being locked out: wrong words, no image, a fault of the input, no memory,
 # and a view that is too long.
 WRITES_NOTHING = (1, 2, 4, 6, 7)
+
+T = TypeVar("T")
 
 
 class Failed(Exception):
@@ -46,24 +53,25 @@ class Stops:
     """Signals by which this program is to end. They are noted, and told where somebody asks; or at once, the first of them, while `heed` runs.
     So none comes between something that was done and the line that tells it."""
 
-    def __init__(self):
-        self.number, self.is_heeded = None, False
+    def __init__(self) -> None:
+        self.number: int | None = None
+        self.is_heeded = False
         for number in (signal.SIGTERM, signal.SIGHUP):
             # What is ignored, as by `nohup`, stays so.
             if signal.getsignal(number) == signal.SIG_DFL:
                 signal.signal(number, self._come)
 
-    def _come(self, number, _):
+    def _come(self, number: int, _: FrameType | None) -> None:
         self.number = self.number or number
         if self.is_heeded:
             self.ask()
 
-    def ask(self):
+    def ask(self) -> None:
         if self.number:
             self.is_heeded = False
             raise Stopped(f"ended by signal {self.number}")
 
-    def heed(self, call):
+    def heed(self, call: Callable[[], T]) -> T:
         """What a call answers that may take long."""
         self.is_heeded = True
         try:
@@ -73,11 +81,11 @@ class Stops:
             self.is_heeded = False
 
 
-def tell(line):
+def tell(line: str) -> None:
     print(f"edit: {harmless(line)}", file=sys.stderr)
 
 
-def wrong_word(*words):
+def wrong_word(*words: str) -> str:
     """Which of its words the program takes for wrong, where their number is right."""
     for what, word in zip(("IMAGE", "NAME", "F"), map(os.fsencode, words)):
         try:
@@ -87,7 +95,7 @@ def wrong_word(*words):
     return f"{words[1]}: no file name"
 
 
-def cause_of(error, image, name, formula):
+def cause_of(error: Exception, image: str, name: str, formula: str) -> str:
     """What an error of the program says, in one line."""
     if isinstance(error, Refused):
         return f"{name}: {error}"
@@ -102,17 +110,18 @@ def cause_of(error, image, name, formula):
     return str(error)
 
 
-def editor():
+def editor() -> list[str]:
     """The command that is the editor."""
-    for text in (os.environ.get("VISUAL", ""), os.environ.get("EDITOR", ""), "vi"):
+    for text in (os.environ.get("VISUAL", ""), os.environ.get("EDITOR", "")):
         try:
             if command := shlex.split(text):
                 return command
         except ValueError as error:
             raise Failed(f"the editor {text}: {error}") from None
+    return ["vi"]
 
 
-def draft_of(name, shown):
+def draft_of(name: str, shown: bytes) -> str:
     """A file with this view, in a folder of its own: for what an editor puts beside it, and so that no name says anything to an editor or to
     another user. Its end is that of the name, by which editors know what they show."""
     folder = None
@@ -128,7 +137,7 @@ def draft_of(name, shown):
     return path
 
 
-def started(command, path):
+def started(command: list[str], path: str) -> subprocess.Popen[bytes]:
     """The editor."""
     try:
         return subprocess.Popen([*command, path])
@@ -136,7 +145,7 @@ def started(command, path):
         raise Failed(f"the editor {command[0]}: {error.strerror}") from None
 
 
-def edited(stops, editing, path):
+def edited(stops: Stops, editing: subprocess.Popen[bytes], path: str) -> bytes:
     """What the editor leaves."""
     if status := stops.heed(editing.wait):
         raise Failed(f"the editor ended with {status}" if status > 0 else f"the editor was killed by signal {-status}")
@@ -146,7 +155,7 @@ def edited(stops, editing, path):
         raise Failed(f"what the editor left: {error.strerror}") from None
 
 
-def content_of(path):
+def content_of(path: str) -> bytes:
     """The bytes of a plain file, and of more than an edited view may have one too many. A pipe might give none for ever, and a link any file's."""
     if not stat.S_ISREG(os.lstat(path).st_mode):
         raise Failed("what the editor left: no plain file")
@@ -154,14 +163,14 @@ def content_of(path):
         return file.read(MAX_VIEW + 1)
 
 
-def what_is_left(path):
+def what_is_left(path: str) -> str:
     """What stands where the editor's file was."""
     if os.path.isfile(path) and not os.path.islink(path):
         return f"the edited text is in {path}"
     return f"what the editor left is at {path}" if os.path.lexists(path) else "the edited text is gone"
 
 
-def written(stops, image, name, formula, shown, text):
+def written(stops: Stops, image: str, name: str, formula: str, shown: bytes, text: bytes) -> None:
     """Writes the edited text, where the view is still the one that was shown."""
     try:
         if stops.heed(lambda: view(image, name, formula)) != shown:
@@ -172,14 +181,14 @@ def written(stops, image, name, formula, shown, text):
     put(image, name, formula, text)
 
 
-def was_maybe_written(error):
+def was_maybe_written(error: Exception) -> bool:
     """Whether it isn't known of an error if the file was written."""
     if isinstance(error, Ended):
         return not isinstance(error, Locked) and error.status not in WRITES_NOTHING
     return isinstance(error, NotAReply)
 
 
-def edit(stops, image, name, formula):
+def edit(stops: Stops, image: str, name: str, formula: str) -> None:
     command, shown = editor(), stops.heed(lambda: view(image, name, formula))
     for number in (signal.SIGINT, signal.SIGQUIT):
         # From now on what is typed to stop something is for the editor alone. A program that is started doesn't take over a handler, as it
@@ -208,7 +217,7 @@ def edit(stops, image, name, formula):
     shutil.rmtree(os.path.dirname(path), ignore_errors=True)
 
 
-def main():
+def main() -> int:
     if len(sys.argv) != 4:
         sys.exit(__doc__)
     if what := missing():

@@ -3,8 +3,12 @@
 The grammar is that of docs/MODEL.md. A formula is read here only to find files by it. The program says which words a listing shows, and what a
 change does.
 """
+from __future__ import annotations
+
 import functools
 import re
+from collections.abc import Callable, Iterable, Set
+from typing import Protocol
 
 from lisfs.constants import MAX_FORMULA, MAX_NODES, MAX_WORD
 from lisfs.words import TEST, WORD, is_test
@@ -15,7 +19,7 @@ PART_LIMIT = 255
 SIGNS = re.compile(rb"[/|!()]")
 
 
-def words_in(formula):
+def words_in(formula: bytes) -> list[bytes]:
     """The words of a formula's text, without its tests."""
     return [word for word in dict.fromkeys(SIGNS.split(formula)) if word and not is_test(word)]
 
@@ -28,96 +32,125 @@ class TooLarge(ValueError):
     """The place would have more nodes or bytes than a place has."""
 
 
-# What a formula is made of. Each says whether it holds of a file, of which files of an index it holds, as a row of bits, and which words it has.
+class Described(Protocol):
+    """A file, as a formula looks at it."""
+
+    @property
+    def words(self) -> Set[bytes]: ...
+
+    @property
+    def size(self) -> int: ...
+
+
+class Rows(Protocol):
+    """Files as rows of bits, as `index.Index` has them."""
+
+    @property
+    def everything(self) -> int: ...
+
+    def having(self, word: bytes) -> int: ...
+
+    def where(self, is_so: Callable[[Described], bool]) -> int: ...
+
+
+class Formula(Protocol):
+    """It says whether it holds of a file, of which files of an index it holds, as a row of bits, and which words it has."""
+
+    nodes: int
+    words: tuple[bytes, ...]
+
+    def meets(self, file: Described) -> bool: ...
+
+    def row(self, index: Rows) -> int: ...
+
+
 class Word:
-    nodes = 1
+    def __init__(self, word: bytes) -> None:
+        self.word, self.nodes = word, 1
+        self.words: tuple[bytes, ...] = (word,)
 
-    def __init__(self, word):
-        self.word, self.words = word, (word,)
-
-    def meets(self, file):
+    def meets(self, file: Described) -> bool:
         return self.word in file.words
 
-    def row(self, index):
+    def row(self, index: Rows) -> int:
         return index.having(self.word)
 
 
 class Test:
-    nodes, words = 1, ()
+    def __init__(self, sign: bytes, size: int) -> None:
+        self.is_least, self.size, self.nodes = sign == b">=", size, 1
+        self.words: tuple[bytes, ...] = ()
 
-    def __init__(self, sign, size):
-        self.is_least, self.size = sign == b">=", size
-
-    def meets(self, file):
+    def meets(self, file: Described) -> bool:
         return (file.size >= self.size) == self.is_least
 
-    def row(self, index):
+    def row(self, index: Rows) -> int:
         return index.where(self.meets)
 
 
 class Not:
-    def __init__(self, part):
+    def __init__(self, part: Formula) -> None:
         self.part, self.words, self.nodes = part, part.words, part.nodes + 1
 
-    def meets(self, file):
+    def meets(self, file: Described) -> bool:
         return not self.part.meets(file)
 
-    def row(self, index):
+    def row(self, index: Rows) -> int:
         return index.everything & ~self.part.row(index)
 
 
 class Pair:
-    def __init__(self, left, right):
+    def __init__(self, left: Formula, right: Formula) -> None:
         self.left, self.right = left, right
         self.words, self.nodes = left.words + right.words, left.nodes + right.nodes + 1
 
 
 class Or(Pair):
-    def meets(self, file):
+    def meets(self, file: Described) -> bool:
         return self.left.meets(file) or self.right.meets(file)
 
-    def row(self, index):
+    def row(self, index: Rows) -> int:
         return self.left.row(index) | self.right.row(index)
 
 
 class And(Pair):
-    def meets(self, file):
+    def meets(self, file: Described) -> bool:
         return self.left.meets(file) and self.right.meets(file)
 
-    def row(self, index):
+    def row(self, index: Rows) -> int:
         return self.left.row(index) & self.right.row(index)
 
 
 class Reader:
     """Reads a text from its beginning. `/` and `|` group to the left."""
 
-    def __init__(self, text):
+    def __init__(self, text: bytes) -> None:
         self.text, self.at = text, 0
 
-    def whole(self):
+    def whole(self) -> Formula:
         read = self._path()
         if self.at != len(self.text):
             raise NotAFormula(self.text)
         return read
 
-    def _takes(self, byte):
+    def _takes(self, byte: bytes) -> bool:
         is_there = self.text[self.at:self.at + 1] == byte
         self.at += is_there
         return is_there
 
-    def _path(self):
-        left = self._either()
+    def _path(self) -> Formula:
+        left: Formula = self._either()
         while self._takes(b"/"):
             left = And(left, self._either())
         return left
 
-    def _either(self):
-        left = self._one()
+    def _either(self) -> Formula:
+        left: Formula = self._one()
         while self._takes(b"|"):
             left = Or(left, self._one())
         return left
 
-    def _one(self):
+    def _one(self) -> Formula:
         if self._takes(b"!"):
             return Not(self._one())
         if self._takes(b"("):
@@ -129,16 +162,18 @@ class Reader:
         if not found or found.re is WORD and len(found[0]) > MAX_WORD:
             raise NotAFormula(self.text)
         self.at = found.end()
-        return Word(found[0]) if found.re is WORD else Test(found[1], int(found[2]))
+        if found.re is WORD:
+            return Word(found[0])
+        return Test(found[1], int(found[2]))
 
 
-def formula(text):
+def formula(text: bytes) -> Formula:
     """What a text says. It is no deeper than a place has nodes. Raises `NotAFormula`."""
     return Reader(text).whole()
 
 
 @functools.lru_cache(4_096)
-def part(name):
+def part(name: bytes) -> Formula:
     """What a name of a path says. A slash is in none. Raises `NotAFormula`."""
     if len(name) > PART_LIMIT:
         raise TooLarge(name)
@@ -150,23 +185,23 @@ def part(name):
 class Place:
     """The steps of a path, the root without any. `words` are those of the place if it has only words, and else None."""
 
-    def __init__(self, names=()):
+    def __init__(self, names: Iterable[bytes] = ()) -> None:
         self.names = tuple(names)
         self.text = b"/" + b"/".join(self.names)
         self.steps = [part(name) for name in self.names]
         # The slashes between steps are nodes too.
         if len(self.text) > MAX_FORMULA or sum(step.nodes + 1 for step in self.steps) > MAX_NODES + 1:
             raise TooLarge(self.text)
-        has_only_words = all(isinstance(step, Word) for step in self.steps)
-        self.words = tuple(dict.fromkeys(step.word for step in self.steps)) if has_only_words else None
+        words = [step.word for step in self.steps if isinstance(step, Word)]
+        self.words = tuple(dict.fromkeys(words)) if len(words) == len(self.steps) else None
 
-    def step(self, name):
+    def step(self, name: bytes) -> Place:
         return Place(self.names + (name,))
 
-    def meets(self, file):
+    def meets(self, file: Described) -> bool:
         return all(step.meets(file) for step in self.steps)
 
-    def row(self, index):
+    def row(self, index: Rows) -> int:
         row = index.everything
         for step in self.steps:
             row &= step.row(index)

@@ -1,29 +1,53 @@
 """Which file has which word: of each word a row of bits, a Python integer, in which each file has a bit. So how many files of a place have
 a word is one `&` and a count of bits, and thousands of words are counted in milliseconds.
 """
+from __future__ import annotations
+
 import itertools
+from collections.abc import Callable, Iterable, KeysView
+from typing import Generic, TypeVar, cast, overload
 
 # The digits of a row as what `compress` takes.
 DIGITS = bytes.maketrans(b"01", b"\0\1")
 
 
+NO_WORDS: frozenset[bytes] = frozenset()
+
+
 class File:
     """`words` are all that it has, and `given` those that it was given. `bit` is the one that stands for it in each row."""
 
-    def __init__(self, name, size, given, bit):
-        self.name, self.size, self.given, self.bit, self.words = name, size, frozenset(given), bit, frozenset()
+    def __init__(self, name: bytes, size: int, given: Iterable[bytes], bit: int) -> None:
+        self.name, self.size, self.given, self.bit, self.words = name, size, frozenset(given), bit, NO_WORDS
 
 
-class Index:
-    """Files of a kind, which is `File` or a class made of it."""
+# What the files of an index are: `File`, or a class made of it.
+F = TypeVar("F", bound=File)
+# What makes one, of its name, its size, the words that it was given and its bit.
+Kind = Callable[[bytes, int, Iterable[bytes], int], F]
 
-    def __init__(self, kind=File):
+
+class Index(Generic[F]):
+    """Files of a kind."""
+
+    @overload
+    def __init__(self: Index[File]) -> None: ...
+
+    @overload
+    def __init__(self, kind: Kind[F]) -> None: ...
+
+    def __init__(self, kind: Kind[File] = File) -> None:
+        # Without a kind F is `File`.
+        self.kind = cast(Kind[F], kind)
         # By their names. In each row there are the bits of these files alone.
-        self.kind, self.files, self.everything, self._rows = kind, {}, 0, {}
+        self.files: dict[bytes, F] = {}
+        self.everything = 0
+        self._rows: dict[bytes, int] = {}
         # The file of each bit, or None, and which of them are of files that are gone, for the next ones.
-        self._of_bits, self._free = [], []
+        self._of_bits: list[F | None] = []
+        self._free: list[int] = []
 
-    def add(self, name, size, given):
+    def add(self, name: bytes, size: int, given: Iterable[bytes]) -> F:
         if not self._free:
             self._free.append(len(self._of_bits))
             self._of_bits.append(None)
@@ -32,9 +56,9 @@ class Index:
         self.everything |= file.bit
         return file
 
-    def drop(self, file):
+    def drop(self, file: F) -> set[bytes]:
         """Removes a file. The words that no file has any more."""
-        lost = self.describe(file, frozenset())
+        lost = self.describe(file, NO_WORDS)
         self.everything &= ~file.bit
         at = file.bit.bit_length() - 1
         self._of_bits[at] = None
@@ -42,12 +66,12 @@ class Index:
         del self.files[file.name]
         return lost
 
-    def rename(self, file, name):
+    def rename(self, file: F, name: bytes) -> None:
         del self.files[file.name]
         file.name = name
         self.files[name] = file
 
-    def describe(self, file, words):
+    def describe(self, file: F, words: frozenset[bytes]) -> set[bytes]:
         """From now on the file has these words. The words that no file has any more."""
         lost = set()
         for word in file.words - words:
@@ -61,19 +85,20 @@ class Index:
         file.words = words
         return lost
 
-    def words(self):
+    def words(self) -> KeysView[bytes]:
         """All words that files have."""
         return self._rows.keys()
 
-    def having(self, word):
+    def having(self, word: bytes) -> int:
         """The files that have a word, as a row."""
         return self._rows.get(word, 0)
 
-    def where(self, is_so):
+    def where(self, is_so: Callable[[F], bool]) -> int:
         """The files of which something is so, as a row."""
         return int("".join("1" if file and is_so(file) else "0" for file in reversed(self._of_bits)) or "0", 2)
 
-    def of(self, row):
+    def of(self, row: int) -> list[F]:
         """The files of a row, in the order of their names."""
         digits = bin(row)[:1:-1].encode().translate(DIGITS)
-        return sorted(itertools.compress(self._of_bits, digits), key=lambda file: file.name)
+        found = [file for file in itertools.compress(self._of_bits, digits) if file]
+        return sorted(found, key=lambda file: file.name)

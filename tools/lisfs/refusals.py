@@ -4,8 +4,10 @@
 - `sentence` is a whole sentence, for a page, and `error` the error of a file system. Those of `put` alone have none, since no session meets them.
 - `cause` is a short cause, for a report of many files.
 """
-import collections
+from __future__ import annotations
+
 import errno
+from typing import NamedTuple, Protocol
 
 from lisfs.constants import (
     ALREADY_DECLARED, AXIOM_THERE, BAD_FORMULA, BAD_LINE, BUILT_IN, BUILT_IN_HEADS, CUT_PAYLOAD, CYCLE, IN_USE, LARGE_DESCRIPTION, LARGE_FILE,
@@ -14,7 +16,28 @@ from lisfs.constants import (
     PAYLOAD_END, TOO_MANY_ASSIGNED, UNKNOWN_PROPERTY)
 from lisfs.words import NAME_FORM
 
-Refusal = collections.namedtuple("Refusal", "means sentence error cause", defaults=(None, None, None))
+
+class Refusal(NamedTuple):
+    """What a refusal means. None is what no tool has a use for."""
+
+    means: str
+    sentence: str | None = None
+    error: int | None = None
+    cause: str | None = None
+
+
+class Numbered(Protocol):
+    """A refusal of the program, as `client.Refused` is."""
+
+    number: int
+
+
+class OfCommand(NamedTuple):
+    """What it means of one command. None is that of all."""
+
+    means: str | None
+    sentence: str | None = None
+
 
 *HEADS, LAST_HEAD = (head.decode() for head in BUILT_IN_HEADS)
 NO_WORDS = "has `|`, `!` or a test in it, and so no words of its own"
@@ -76,48 +99,53 @@ REFUSALS = {
     NOT_IN_FORM: Refusal("what was edited is no view of a file"),
     OTHER_MARKS: Refusal("the marks of hidden lines are not those of the view"),
 }
-# Where more can be said of a command: what it means, and a sentence. None is that of the row.
-OF_COMMANDS = {
-    ("mkdir", NOT_A_PLACE): (
+# Where more can be said of a command.
+OF_COMMANDS: dict[tuple[str, int], OfCommand] = {
+    ("mkdir", NOT_A_PLACE): OfCommand(
         "the place is neither the root nor made of plain words alone", "A word is declared at the root, or at a place of plain words alone."),
-    ("mkdir", UNKNOWN_PROPERTY): (
+    ("mkdir", UNKNOWN_PROPERTY): OfCommand(
         "a word of the place is not declared any more", "A word of this place is not declared, so nothing can be declared under it."),
-    ("mkdir", NOT_ASSIGNABLE): (
+    ("mkdir", NOT_ASSIGNABLE): OfCommand(
         "WORD has a value: only heads are declared, as `mkdir year:`",
         "A word with a value is not declared: declare its head, as year: for year:2003."),
-    ("rmdir", NOT_ASSIGNABLE): (
+    ("rmdir", NOT_ASSIGNABLE): OfCommand(
         "WORD has a value, which goes with the last file that has it", "A word with a value is not declared, and so it can't be taken back."),
-    ("axiom", NOT_ASSIGNABLE): (
+    ("axiom", NOT_ASSIGNABLE): OfCommand(
         "RIGHT is not plain: nothing entails a head, a value or a test", "The right side of an axiom is a plain word, as music."),
-    ("axiom", UNKNOWN_PROPERTY): (
+    ("axiom", UNKNOWN_PROPERTY): OfCommand(
         "RIGHT is not declared, or LEFT neither declared nor a value of a head", "The right word is not declared, or the left one is not known."),
-    ("add", UNKNOWN_PROPERTY): (None, "A word is not declared: declare it first, or for year:2003 its head year:."),
-    ("mv", UNKNOWN_PROPERTY): (None, "The word is not declared: declare it first, or for year:2003 its head year:."),
-    ("mv", NOT_A_PLACE): (f"this place or the other one {NO_WORDS}", None),
-    ("mv", NOT_ASSIGNABLE): ("FORMULA has a head: a file is given a value of it, as `year:2003`", None),
-    ("rename", NAME_TAKEN): ("a file has the name OTHER already", None),
-    **{(name, NOT_ASSIGNABLE): ("a WORD is a head, of which a file is given a value, or a test, which is not given", None)
+    ("add", UNKNOWN_PROPERTY): OfCommand(None, "A word is not declared: declare it first, or for year:2003 its head year:."),
+    ("mv", UNKNOWN_PROPERTY): OfCommand(None, "The word is not declared: declare it first, or for year:2003 its head year:."),
+    ("mv", NOT_A_PLACE): OfCommand(f"this place or the other one {NO_WORDS}"),
+    ("mv", NOT_ASSIGNABLE): OfCommand("FORMULA has a head: a file is given a value of it, as `year:2003`"),
+    ("rename", NAME_TAKEN): OfCommand("a file has the name OTHER already"),
+    **{(name, NOT_ASSIGNABLE): OfCommand("a WORD is a head, of which a file is given a value, or a test, which is not given")
        for name in ("create", "add", "put")},
 }
+OF_ALL = OfCommand(None)
 
 
-def meaning(number, command=None):
+def of_command(number: int, command: str | None) -> OfCommand:
+    return OF_COMMANDS.get((command, number), OF_ALL) if command else OF_ALL
+
+
+def meaning(number: int, command: str | None = None) -> str:
     """What a refusal of a command means, as a clause."""
-    return OF_COMMANDS.get((command, number), (None, None))[0] or REFUSALS[number].means
+    return of_command(number, command).means or REFUSALS[number].means
 
 
-def sentence(number, command=None):
+def sentence(number: int, command: str | None = None) -> str:
     """The same as a sentence. One that is not known here is one of a later program."""
-    return (OF_COMMANDS.get((command, number), (None, None))[1] or number in REFUSALS and REFUSALS[number].sentence
+    return (of_command(number, command).sentence or number in REFUSALS and REFUSALS[number].sentence
             or f"The program refuses it, by number {number}.")
 
 
-def error_of(number):
+def error_of(number: int) -> int:
     """The error of a file system that a refusal is."""
     return number in REFUSALS and REFUSALS[number].error or errno.EIO
 
 
-def cause_of(refusal):
+def cause_of(refusal: Numbered) -> str:
     """The cause in some words, or else the refusal as it is shown."""
     row = REFUSALS.get(refusal.number)
     return row and row.cause or str(refusal)

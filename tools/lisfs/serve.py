@@ -21,6 +21,8 @@ It waits at most 5 seconds, or as many as `$LISFS_PATIENCE` says: at its beginni
 that begins at the same socket; behind a signal for the program, which is killed where it has not ended by then (the status is 137, and what was
 replied to is kept); and at its end for clients that don't read. The lock file is there while a server begins, and no longer.
 """
+from __future__ import annotations
+
 import collections
 import contextlib
 import fcntl
@@ -33,6 +35,8 @@ import socket
 import stat
 import sys
 import time
+from collections.abc import Callable, Iterator
+from typing import NamedTuple, NoReturn, Protocol, TypeAlias
 
 from lisfs.client import FULL, PROGRAM, ROOM_LINE, Ended, Items, NotAReply, Program, item, missing
 from lisfs.constants import CUT_PAYLOAD, REFUSAL_WORDS, ROOMS
@@ -49,12 +53,12 @@ PIECE = 65_536
 PATH = 107
 
 
-def fail(cause):
+def fail(cause: object) -> NoReturn:
     """Ends the server with 1, and says why."""
     sys.exit(harmless(f"serve: {cause}"))
 
 
-def patience(text):
+def patience(text: str) -> float:
     """How long, in seconds, the beginning waits for another server that begins there, and the end for the program and for clients."""
     with contextlib.suppress(ValueError):
         if 0 <= (seconds := float(text)) <= 1_000_000:
@@ -68,8 +72,9 @@ PATIENCE = patience(os.environ.get("LISFS_PATIENCE") or "5")
 class Signals:
     """The signals that end the server, whatever it waits for: a byte can be read when one has come, and the program has so long to end."""
 
-    def __init__(self):
-        self.has_come, self._program = False, None
+    def __init__(self) -> None:
+        self.has_come = False
+        self._program: Program | None = None
         # What is ignored, as by `nohup`, stays so.
         self.numbers = [number for number in ENDING if signal.getsignal(number) != signal.SIG_IGN]
         self._come, sent = os.pipe()
@@ -78,21 +83,21 @@ class Signals:
         for number in self.numbers:
             signal.signal(number, self._hear)
 
-    def fileno(self):
+    def fileno(self) -> int:
         return self._come
 
-    def _hear(self, *_):
+    def _hear(self, *_: object) -> None:
         if self._program and not self.has_come:
             self._program.kill_after(PATIENCE)
         self.has_come = True
 
-    def end(self, program):
+    def end(self, program: Program) -> None:
         """From now on they end this program too."""
         self._program = program
         if self.has_come:
             program.kill_after(PATIENCE)
 
-    def wait(self, seconds):
+    def wait(self, seconds: float) -> None:
         """Waits so long for one, and ends the server where one has come."""
         if select.select([self], [], [], seconds)[0]:
             sys.exit(0)
@@ -101,10 +106,10 @@ class Signals:
 class Client:
     """A connection, with what came and was not carried out, and what is to be sent."""
 
-    def __init__(self, connection):
+    def __init__(self, connection: socket.socket) -> None:
         self.connection, self.items, self.unsent, self.has_ended = connection, Items(ROOM_LINE), memoryview(b""), False
 
-    def send(self):
+    def send(self) -> bool:
         """Sends what the client takes now. Whether it is still there."""
         try:
             self.unsent = self.unsent[self.connection.send(self.unsent):]
@@ -114,7 +119,7 @@ class Client:
             return False
         return True
 
-    def is_gone(self):
+    def is_gone(self) -> bool:
         """Whether it has closed its connection, also for reading."""
         poll = select.poll()
         poll.register(self.connection, 0)
@@ -124,21 +129,37 @@ class Client:
 class Room:
     """A room of the program. It is fresh where its place is still that of a new client, and awaits a reply to one command at most."""
 
-    def __init__(self, number):
-        self.number, self.client, self.is_fresh, self.is_awaiting = number, None, True, False
+    def __init__(self, number: int) -> None:
+        self.number, self.is_fresh, self.is_awaiting = number, True, False
+        self.client: Client | None = None
+
+
+class Awaited(NamedTuple):
+    """The room of a command that was sent and not replied to, and its client, or None where the reply goes to nobody."""
+
+    room: Room
+    client: Client | None
+
+
+class HasFileno(Protocol):
+    def fileno(self) -> int: ...
+
+
+# What is watched: its descriptor, or what has one.
+Watched: TypeAlias = int | HasFileno
 
 
 class Server:
-    def __init__(self, program, listener):
+    def __init__(self, program: Program, listener: socket.socket) -> None:
         self.program, self.listener, self.is_ending, self.has_more = program, listener, False, False
         self.rooms = [Room(number) for number in range(ROOMS)]
-        # The room and the client of each command that was sent and not replied to, in order.
-        self.awaited = collections.deque()
+        # In the order of the commands.
+        self.awaited: collections.deque[Awaited] = collections.deque()
         self.selector = selectors.DefaultSelector()
         self.watch(program, READ, self.take_replies)
         self.watch(listener, READ, self.take_client)
 
-    def watch(self, file, events, call):
+    def watch(self, file: Watched, events: int, call: Callable[[], None] | None) -> None:
         """From now on these events of a file lead to this call, or none do."""
         if file not in self.selector.get_map():
             if events:
@@ -148,7 +169,7 @@ class Server:
         else:
             self.selector.unregister(file)
 
-    def serve(self):
+    def serve(self) -> None:
         """Goes on until `end` was called and all that was under way is replied to. Raises `Ended` where the program ends before."""
         while not self.is_ending or self.awaited:
             for key, _ in self.selector.select(0 if self.has_more else None):
@@ -156,7 +177,7 @@ class Server:
             if self.has_more:
                 self.take_replies()
 
-    def end(self, signals):
+    def end(self, signals: Signals) -> None:
         """Takes no more commands, since a signal has come."""
         os.read(signals.fileno(), PIECE)
         self.is_ending = True
@@ -164,9 +185,9 @@ class Server:
         for room in self.rooms:
             self.go_on(room)
 
-    def take_client(self):
+    def take_client(self) -> None:
         free = [room for room in self.rooms if not room.client]
-        if not free and any(room.client.is_gone() for room in self.rooms):
+        if not free and any(room.client and room.client.is_gone() for room in self.rooms):
             # It leaves its room soon, when something is read from it or sent. Until then who comes waits.
             self.watch(self.listener, 0, None)
             return
@@ -185,22 +206,22 @@ class Server:
                 connection.send(FULL)
             connection.close()
 
-    def leave(self, room):
+    def leave(self, room: Room, client: Client) -> None:
         """Closes the connection of a room. The reply that it may await goes to nobody."""
-        self.watch(room.client.connection, 0, None)
-        room.client.connection.close()
+        self.watch(client.connection, 0, None)
+        client.connection.close()
         room.client = None
         if not self.is_ending:
             self.watch(self.listener, READ, self.take_client)
 
-    def read(self, room, client):
+    def read(self, room: Room, client: Client) -> None:
         """Takes in what a client sends."""
         try:
             data = client.connection.recv(PIECE)
         except BlockingIOError:
             return
         except OSError:
-            self.leave(room)
+            self.leave(room, client)
             return
         client.items.feed(data)
         if not data:
@@ -208,12 +229,12 @@ class Server:
             client.unsent = memoryview(CUT if client.items.is_cut() else b"")
         self.go_on(room)
 
-    def take_replies(self):
+    def take_replies(self) -> None:
         """Hands on some replies that are there: no more than so many, so that everything else has its turn before the next ones."""
         for _ in range(ROOMS):
             reply = self.program.receive_bytes(wait=False)
             self.has_more = reply is not None
-            if not self.has_more:
+            if reply is None:
                 return
             room, client = self.awaited.popleft()
             room.is_awaiting = False
@@ -221,18 +242,20 @@ class Server:
                 client.unsent = memoryview(reply)
             self.go_on(room)
 
-    def go_on(self, room):
+    def go_on(self, room: Room) -> None:
         """Does what can be done in a room: sends what is unsent, then the next command, and closes it behind the last one."""
         client = room.client
-        if client and client.unsent and not client.send():
-            self.leave(room)
-        elif client and not client.unsent and not room.is_awaiting and not self.is_ending:
+        if client is None:
+            return
+        if client.unsent and not client.send():
+            self.leave(room, client)
+        elif not client.unsent and not room.is_awaiting and not self.is_ending:
             self.begin_next(room, client)
         if room.client:
             wanted = WRITE if client.unsent else READ if not (room.is_awaiting or self.is_ending) else 0
             self.watch(client.connection, wanted, functools.partial(self.on_client, room, client))
 
-    def on_client(self, room, client):
+    def on_client(self, room: Room, client: Client) -> None:
         # A call before may have closed it.
         if room.client is client:
             if client.unsent:
@@ -240,26 +263,26 @@ class Server:
             else:
                 self.read(room, client)
 
-    def begin_next(self, room, client):
+    def begin_next(self, room: Room, client: Client) -> None:
         if not room.is_fresh:
             room.is_fresh = True
             self.ask(room, None, *ROOT)
         elif taken := client.items.take():
             self.ask(room, client, *taken)
         elif client.has_ended:
-            self.leave(room)
+            self.leave(room, client)
 
-    def ask(self, room, client, line, payload):
+    def ask(self, room: Room, client: Client | None, line: bytes, payload: bytes) -> None:
         self.program.send_bytes(line, payload, room.number, wait=False)
         room.is_awaiting = True
-        self.awaited.append((room, client))
+        self.awaited.append(Awaited(room, client))
         self.push()
 
-    def push(self):
+    def push(self) -> None:
         """Sends the program what it takes, and goes on when it takes more."""
         self.watch(self.program.input_fileno(), WRITE if self.program.push() else 0, self.push)
 
-    def close(self):
+    def close(self) -> None:
         """Hands out what was replied to, to clients that take it soon, and closes all connections."""
         self.is_ending = True
         # Of a program that has ended whole replies may be left.
@@ -276,11 +299,11 @@ class Server:
                         selector.unregister(key.fileobj)
         for room in self.rooms:
             if room.client:
-                self.leave(room)
+                self.leave(room, room.client)
 
 
 @contextlib.contextmanager
-def lock_held(path, signals):
+def lock_held(path: str, signals: Signals) -> Iterator[None]:
     """Holds the lock of a socket's own lock file while the block runs, so that of two servers that begin at once one finds the other. No other
     program has a reason to lock this file, as it has to lock a folder. Its name is gone when the lock is: who has waited for a file without
     a name tries again."""
@@ -297,7 +320,7 @@ def lock_held(path, signals):
         os.close(lock)
 
 
-def tried_lock(at):
+def tried_lock(at: str) -> int | None:
     """The lock file, which is there and locked, or None where another server has it. Ends where something else is there."""
     lock = os.open(at, os.O_RDWR | os.O_CREAT | os.O_NOFOLLOW | os.O_NONBLOCK | os.O_CLOEXEC, 0o600)
     found = os.fstat(lock)
@@ -311,13 +334,13 @@ def tried_lock(at):
     return None
 
 
-def has_name(lock, at):
+def has_name(lock: int, at: str) -> bool:
     with contextlib.suppress(FileNotFoundError):
         return os.path.samestat(os.fstat(lock), os.lstat(at))
     return False
 
 
-def is_served(path):
+def is_served(path: str) -> bool:
     """Whether somebody listens at a socket."""
     with socket.socket(socket.AF_UNIX) as probe:
         probe.setblocking(False)
@@ -331,7 +354,7 @@ def is_served(path):
     return True
 
 
-def clear(path):
+def clear(path: str) -> None:
     """Removes the socket of a server that is gone. Ends where something else is there."""
     try:
         kind = os.lstat(path).st_mode
@@ -344,7 +367,7 @@ def clear(path):
     os.unlink(path)
 
 
-def bound(listener, path):
+def bound(listener: socket.socket, path: str) -> None:
     """Makes the socket, which nobody but its owner may ever use. It is made aside, so that where it is there it is listened at."""
     aside = f"{path}.{os.getpid()}"
     if len(os.fsencode(aside)) > PATH:
@@ -365,7 +388,7 @@ def bound(listener, path):
             give_name(aside, path)
 
 
-def give_name(aside, path):
+def give_name(aside: str, path: str) -> None:
     """Lets the socket stand at its path too. What somebody made there meanwhile stays, but for the socket of a server that is gone."""
     while True:
         try:
@@ -376,7 +399,7 @@ def give_name(aside, path):
 
 
 @contextlib.contextmanager
-def listening(path, signals):
+def listening(path: str, signals: Signals) -> Iterator[socket.socket]:
     """Listens at a socket, which is there while the block runs."""
     listener = socket.socket(socket.AF_UNIX)
     with lock_held(path, signals):
@@ -392,7 +415,7 @@ def listening(path, signals):
         listener.close()
 
 
-def serve(image, path, signals):
+def serve(image: str, path: str, signals: Signals) -> None:
     # The program gets none of the signals, also where a terminal sends them to all: it ends with its input.
     with Program([PROGRAM, "rooms", image], rooms=True, unheard=signals.numbers) as program:
         signals.end(program)
@@ -412,14 +435,14 @@ def serve(image, path, signals):
                 server.close()
 
 
-def cause_of(end, image, signals):
+def cause_of(end: Ended, image: str, signals: Signals) -> str:
     """Why the program has ended."""
     if signals.has_come and end.status == -signal.SIGKILL:
         return f"serve: {image}: the program had not ended {PATIENCE:g} seconds behind a signal, and was killed; what was replied to is kept\n"
     return end.text or f"serve: {end}\n"
 
 
-def main():
+def main() -> int:
     if len(sys.argv) != 3 or sys.argv[1].startswith("-"):
         sys.exit(__doc__)
     if what := missing():

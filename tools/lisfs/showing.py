@@ -1,5 +1,6 @@
 """Shows names, words and contents so that they do nothing to a terminal. Whatever did not come from a tool itself is shown by this."""
 import re
+from typing import TextIO
 
 # The characters that every terminal shows as they are.
 PLAIN = re.compile(r"[^ -~]")
@@ -7,11 +8,11 @@ PLAIN = re.compile(r"[^ -~]")
 BYTES = 0xdc00
 
 
-def harmless(data, kept=""):
+def harmless(data: bytes | str, kept: str = "") -> str:
     """Bytes, or a text, as characters that do nothing to a terminal. A control is shown as `^X` or `\\xNN`, a byte that is no UTF-8 as `\\xNN`,
     and any other character without a look of its own, as one that turns the direction of writing, as `\\xNN`, `\\uNNNN` or `\\UNNNNNNNN`. The
     characters `kept` stay as they are: a line feed and a tab, where a content is shown, and none of them where a line is to stay one line."""
-    def shown(found):
+    def shown(found: re.Match[str]) -> str:
         character = found[0]
         if character in kept or character.isprintable():
             return character
@@ -25,7 +26,7 @@ def harmless(data, kept=""):
     return PLAIN.sub(shown, data if isinstance(data, str) else data.decode("utf-8", "surrogateescape"))
 
 
-def write_line(stream, data, kept=""):
+def write_line(stream: TextIO, data: bytes | str, kept: str = "") -> None:
     """Writes bytes, or a text, as a line of a text stream. Characters that the stream's encoding lacks are shown as escapes too."""
     encoding = stream.encoding or "utf-8"
     stream.write(harmless(data, kept).encode(encoding, "backslashreplace").decode(encoding) + "\n")

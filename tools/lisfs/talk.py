@@ -11,6 +11,7 @@ import select
 import signal
 import socket
 import sys
+from typing import NoReturn
 
 from lisfs.client import FULL, ROOM_LINE, Items, NotAReply, Replies
 from lisfs.showing import harmless
@@ -18,17 +19,17 @@ from lisfs.showing import harmless
 INPUT, OUTPUT, PIECE = 0, 1, 65_536
 
 
-def fail(path, cause):
+def fail(path: str, cause: object) -> NoReturn:
     sys.exit(harmless(f"talk: {path}: {cause}"))
 
 
 class Talk:
-    def __init__(self, connection):
+    def __init__(self, connection: socket.socket) -> None:
         self.is_terminal = os.isatty(OUTPUT)
         self.connection, self.items, self.replies = connection, Items(ROOM_LINE), Replies()
         self.unsent, self.has_ended, self.asked, self.answered = memoryview(b""), False, 0, 0
 
-    def run(self):
+    def run(self) -> bool:
         """Goes on until the server closes the connection. Whether all was replied to."""
         while True:
             reading = [self.connection] + ([] if self.has_ended or self.unsent else [INPUT])
@@ -40,7 +41,7 @@ class Talk:
             if INPUT in readable:
                 self.read()
 
-    def read(self):
+    def read(self) -> None:
         """Takes in a piece of the input. At its end the last line is ended."""
         data = os.read(INPUT, PIECE)
         if data:
@@ -53,13 +54,13 @@ class Talk:
             self.asked += self.items.is_cut()
         self.send()
 
-    def take(self, data):
+    def take(self, data: bytes) -> None:
         self.unsent = memoryview(bytes(self.unsent) + data)
         self.items.feed(data)
         while self.items.take():
             self.asked += 1
 
-    def send(self):
+    def send(self) -> None:
         """Sends what the server takes now, and behind the last of it the end."""
         try:
             if self.unsent:
@@ -72,7 +73,7 @@ class Talk:
             # The server takes no more. What it has replied to is there, and then its end.
             self.unsent = memoryview(b"")
 
-    def show(self):
+    def show(self) -> bool:
         """Shows the replies that came whole. Whether more can come."""
         try:
             data = self.connection.recv(PIECE)
@@ -88,12 +89,12 @@ class Talk:
                 left = left[os.write(OUTPUT, left):]
         return bool(data)
 
-    def shown(self, reply):
+    def shown(self, reply: bytes) -> bytes:
         """The bytes of a reply as they are shown: on a terminal harmlessly, since a file may have any bytes."""
         return harmless(reply, "\n\t").encode(sys.stdout.encoding, "backslashreplace") if self.is_terminal else reply
 
 
-def talk(path):
+def talk(path: str) -> None:
     connection = socket.socket(socket.AF_UNIX)
     try:
         connection.connect(path)
@@ -108,7 +109,7 @@ def talk(path):
         fail(path, FULL.decode().rstrip() if talking.replies.shown == FULL else error)
 
 
-def main():
+def main() -> int:
     if len(sys.argv) != 2 or sys.argv[1].startswith("-"):
         sys.exit(__doc__)
     signal.signal(signal.SIGINT, signal.SIG_DFL)

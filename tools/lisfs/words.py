@@ -16,49 +16,49 @@ WORD = re.compile(rb"(?!\.)[%b]+(:[%b]*)?" % (PLAIN, PLAIN))
 TEST = re.compile(rb"size(>=|<)([0-9]{1,12})(?![0-9])")
 
 
-def is_file_name(name):
+def is_file_name(name: bytes) -> bool:
     return len(name) <= MAX_WORD and FILE_NAME.fullmatch(name) is not None and name not in (b".", b"..")
 
 
-def is_word(text):
+def is_word(text: bytes) -> bool:
     """Whether it is a plain word, a head or a value."""
     return len(text) <= MAX_WORD and WORD.fullmatch(text) is not None
 
 
-def is_test(word):
+def is_test(word: bytes) -> bool:
     return TEST.fullmatch(word) is not None
 
 
-def is_plain(word):
+def is_plain(word: bytes) -> bool:
     """Whether a word, or a test, is plain."""
     return b":" not in word and b"<" not in word and b">" not in word
 
 
-def is_head(word):
+def is_head(word: bytes) -> bool:
     return word.endswith(b":")
 
 
-def stem_of(word):
+def stem_of(word: bytes) -> bytes:
     """What is before the first colon of a word: all of it if it has none."""
     return word.partition(b":")[0]
 
 
-def head_of(word):
+def head_of(word: bytes) -> bytes | None:
     """The head of a value, and of a head itself, with its colon; None of any other."""
     head, colon, _ = word.partition(b":")
     return head + colon if colon else None
 
 
-def is_built_in(word):
+def is_built_in(word: bytes) -> bool:
     """Whether files have it on their own, so that nobody gives or declares it."""
     return head_of(word) in BUILT_IN_HEADS
 
 
-def is_assignable(text):
+def is_assignable(text: bytes) -> bool:
     """Whether a file can be given these bytes as a word, once that or its head is declared."""
     return is_word(text) and not is_head(text) and not is_built_in(text)
 
 
-def mapped(name):
+def mapped(name: bytes) -> bytes:
     """A name in which each byte that is not plain is `_`."""
     return NOT_PLAIN.sub(b"_", name)

@@ -1,6 +1,8 @@
 """The people that a field of a mail names, each as a name and an address, read in one pass: however the field is made, each of its letters is
 looked at a few times at most. Python's own reader of such fields takes seconds for some of a few thousand letters.
 """
+from __future__ import annotations
+
 import binascii
 import encodings
 import encodings.aliases
@@ -8,6 +10,8 @@ import itertools
 import pkgutil
 import quopri
 import re
+from collections.abc import Iterator
+from typing import NamedTuple
 
 # So many people of a field are told, and so many letters of the name and of the address of each. So many tokens of a field are looked at.
 MOST, NAME, ADDRESS, TOKENS = 32, 100, 320, 1_024
@@ -24,16 +28,28 @@ NO_NAME = re.compile(r"[@\[\]>\\]")
 CHARSETS = frozenset((*encodings.aliases.aliases, *(module.name for module in pkgutil.iter_modules(encodings.__path__))))
 
 
-def people(field):
+class Person(NamedTuple):
+    """Somebody whom a field names. What the field does not say is empty."""
+
+    name: str
+    address: str
+
+
+def people(field: str) -> list[Person]:
     """The name and the address of each of the first people of a field, where one of them is none it is empty."""
     return list(itertools.islice(found(re.sub(r"[\r\n]+", "", field)), MOST))
 
 
-def found(field):
-    at, said, plain, angle, tokens = 0, [], [], None, 0
+def found(field: str) -> Iterator[Person]:
+    at, tokens = 0, 0
+    said: list[str] = []
+    plain: list[str] = []
+    angle: str | None = None
     while at < len(field) and tokens < TOKENS:
         tokens += 1
         token = TOKEN.match(field, at)
+        # The last group of it takes any letter.
+        assert token
         at, more = token.end(), token["text"] or token["word"] or ""
         if token["comment"]:
             at, more = behind_comment(field, at), " "
@@ -52,7 +68,7 @@ def found(field):
     yield from person("".join(said), "".join(plain), angle)
 
 
-def behind_comment(field, at):
+def behind_comment(field: str, at: int) -> int:
     """Where a comment ends that begins before here. Comments may stand in one another."""
     depth = 1
     for mark in IN_COMMENT.finditer(field, at):
@@ -62,23 +78,23 @@ def behind_comment(field, at):
     return len(field)
 
 
-def person(said, plain, angle):
+def person(said: str, plain: str, angle: str | None) -> Iterator[Person]:
     """One person, or none. In front of `< >` a name has such a sign in quotes alone: what has one without is an address."""
     sign = NO_NAME.search(plain)
     if angle is not None and not sign:
-        yield decoded(said[:4 * ADDRESS])[:NAME], angle[:ADDRESS].strip()
+        yield Person(decoded(said[:4 * ADDRESS])[:NAME], angle[:ADDRESS].strip())
     else:
         text = plain[:sign.start()] if sign and sign[0] != "@" else plain if angle is not None else said
         if text.strip():
-            yield "", decoded(text[:ADDRESS]).strip()
+            yield Person("", decoded(text[:ADDRESS]).strip())
 
 
-def decoded(text):
+def decoded(text: str) -> str:
     """A text with its encoded words as they are meant."""
     return ENCODED_WORD.sub(lambda word: decoded_word(word["charset"], word["code"], word["coded"]), text)
 
 
-def decoded_word(charset, code, coded):
+def decoded_word(charset: str, code: str, coded: str) -> str:
     data = coded.encode("utf-8", "surrogateescape")
     if code in "qQ":
         data = quopri.decodestring(data, header=True)

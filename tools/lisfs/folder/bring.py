@@ -22,15 +22,19 @@ derives. No bytes of files are kept: each is read when its turn comes.
 
 No symbolic link below FOLDER is followed. To bring the same folder in again and again, use `tools/sync`.
 """
+from __future__ import annotations
+
 import argparse
 import os
 import sys
 import tempfile
+from collections.abc import Callable, Iterator, Sequence
+from typing import BinaryIO, NamedTuple
 
-from lisfs.client import PROGRAM, Ended, NotAReply, Program
+from lisfs.client import PROGRAM, Ended, NotAReply, Program, counts_in
 from lisfs.constants import BLOCK_LEN, MAX_ASSIGNED, MAX_BLOCKS, MAX_FILES, MAX_PROPS, MAX_WORD, SLOT_BLOCKS
 from lisfs.folder import walk
-from lisfs.folder.carrying import ROOT, Sender, fitting, session_word
+from lisfs.folder.carrying import ROOT, Job, Sender, Step, Words, fitting, session_word
 from lisfs.folder.entries import Entries
 from lisfs.folder.forms import folder_value
 from lisfs.folder.report import Telling, counted, left_out
@@ -39,18 +43,49 @@ from lisfs.showing import harmless
 from lisfs.words import head_of, is_assignable, mapped
 
 
+class Options(argparse.Namespace):
+    """The words of the command line."""
+
+    word: list[str]
+    by_folder: bool
+    without: list[str]
+    v2: bool
+    verbose: bool
+    folder: str
+
+
+class Taken(NamedTuple):
+    """A file that is taken, its name and its words."""
+
+    found: walk.Found
+    name: bytes
+    words: list[bytes]
+
+
+class Command(NamedTuple):
+    """A command of the session, and its bytes, if there are some."""
+
+    words: Words
+    payload: bytes | None = None
+
+
 class Import:
-    def __init__(self, words, by_folder, version, telling):
+    def __init__(self, words: Words, by_folder: bool, version: int, telling: Telling) -> None:
         self.words, self.by_folder, self.version, self.largest, self.telling = words, by_folder, version, FILE_BYTES[version], telling
-        self.files, self.names, self.declared = [], set(), {}
+        self.files: list[Taken] = []
+        self.names: set[str] = set()
+        self.declared: dict[bytes, None] = {}
         self.taken = self.blocks = self.renamed = self.beyond = self.beyond_files = self.looked = 0
         # The folders whose word is another than their name, or none, and the words that stand for two folders.
-        self.odd_folders, self.double_words, self.told_words, self.entries = set(), set(), {}, None
+        self.odd_folders: set[str] = set()
+        self.double_words: set[bytes] = set()
+        self.told_words: dict[bytes, str] = {}
+        self.entries: Entries | None = None
 
-    def tell(self, line):
+    def tell(self, line: str) -> None:
         self.telling.tell(line)
 
-    def name_for(self, wanted, path):
+    def name_for(self, wanted: str, path: str) -> bytes:
         """A name of its own for a file, and the cause where it is another than the file's."""
         name = mapped(os.fsencode(wanted))[-MAX_WORD:].decode()
         if name in (".", ".."):
@@ -68,7 +103,7 @@ class Import:
             self.telling.tell_file(f"named otherwise: {harmless(path)}: {free} ({cause})")
         return free.encode()
 
-    def word_for(self, folder):
+    def word_for(self, folder: str) -> bytes:
         """The word of a folder. Where it is another than the folder's name, or none, that is told once."""
         whole = folder_value(folder)
         word = whole[:MAX_WORD]
@@ -79,7 +114,7 @@ class Import:
                                    f"no word for a folder: {harmless(folder)}")
         return word
 
-    def words_of(self, folders):
+    def words_of(self, folders: Sequence[str]) -> list[bytes]:
         """The words that all are given, and one for each folder."""
         words = list(self.words)
         for folder in folders if self.by_folder else []:
@@ -93,32 +128,32 @@ class Import:
             words.append(word)
         return words
 
-    def look(self):
+    def look(self) -> None:
         self.looked += 1
         self.telling.progress(lambda: f"{counted(self.looked, 'file')} looked at")
 
-    def read(self, folder, without):
+    def read(self, folder: str, without: Sequence[str]) -> None:
         """What there is to take, and the words that it needs."""
-        self.entries = Entries(folder, self.largest, self.words_of, self.telling.leave, self.look, without)
-        self.entries.read()
-        for entry in self.entries.all:
+        self.entries = entries = Entries(folder, self.largest, self.words_of, self.telling.leave, self.look, without)
+        entries.read()
+        for entry in entries.all:
             found = entry.found
             if found.problem:
                 self.telling.leave(found.path, found.problem)
                 continue
-            words = entry.words[:MAX_ASSIGNED]
+            words = list(entry.words[:MAX_ASSIGNED])
             if len(entry.words) > MAX_ASSIGNED:
                 self.beyond += len(entry.words) - MAX_ASSIGNED
                 self.beyond_files += 1
                 self.telling.tell_file(f"left out: {harmless(found.path)}: {b' '.join(entry.words[MAX_ASSIGNED:]).decode()}")
             name = self.name_for(os.path.basename(found.path) if found.base is None else found.base[-56:] + ".eml", found.path)
             self.declared.update(dict.fromkeys(head_of(word) or word for word in words))
-            self.files.append((found, name, words))
+            self.files.append(Taken(found, name, words))
 
-    def commands(self):
-        """Each command of the session with its payload or None. A file that can't be read by now is left out."""
+    def commands(self) -> Iterator[Command]:
+        """Each command of the session. A file that can't be read by now is left out."""
         for word in self.declared:
-            yield (b"mkdir", word), None
+            yield Command((b"mkdir", word))
         for found, name, words in self.files:
             try:
                 content = walk.content(found, self.largest)
@@ -131,12 +166,12 @@ class Import:
             self.taken += 1
             self.blocks += blocks_of(len(content))
             line, rest = fitting(name, words)
-            yield (b"add", name, b"%d" % len(content), *line[1:]), content
+            yield Command((b"add", name, b"%d" % len(content), *line[1:]), content)
             if rest:
-                yield (b"mv", name, b"/".join(rest)), None
+                yield Command((b"mv", name, b"/".join(rest)))
             self.telling.progress(lambda: f"{self.taken} of {counted(len(self.files), 'file')}")
 
-    def carry(self, out, largest):
+    def carry(self, out: BinaryIO, largest: Largest) -> None:
         """Writes the session, and lets the largest image take it too."""
         for words, payload in self.commands():
             out.write(b" ".join(words) + b"\n")
@@ -146,7 +181,7 @@ class Import:
             largest.take(words, payload)
         out.flush()
 
-    def report(self, largest):
+    def report(self, largest: Largest) -> None:
         files = max(64, 1 << (max(1, self.taken) - 1).bit_length())
         self.tell(f"{self.taken} files taken, {self.telling.not_taken.total()} not taken, {self.renamed} named otherwise")
         if self.telling.not_taken:
@@ -156,63 +191,78 @@ class Import:
         if self.double_words:
             self.tell(f"{counted(len(self.double_words), 'word')} for more folders than one")
         left_out(self.tell, self.beyond, self.beyond_files, f"a file is given {MAX_ASSIGNED} at most")
-        self.entries.tell_tags(self.tell)
+        if self.entries:
+            self.entries.tell_tags(self.tell)
         if files > MAX_FILES or self.blocks > MAX_BLOCKS:
-            return self.tell(f"no image holds all of it: it takes {self.taken} of {MAX_FILES} files and {self.blocks} of {MAX_BLOCKS} blocks")
-        if largest.why:
-            return self.tell(f"the words that are derived from files are not counted, since {largest.why}")
-        if largest.refused:
-            return self.tell(f"no image holds all of it: the largest one refuses {counted(largest.refused, 'line')}")
-        limits = [str(files), str(max(64, -(-largest.known // 64) * 64)), str(max(1, self.blocks))] + largest.version
-        self.tell(f"an empty image has room for it from these limits on: {' '.join(limits)}")
+            self.tell(f"no image holds all of it: it takes {self.taken} of {MAX_FILES} files and {self.blocks} of {MAX_BLOCKS} blocks")
+        elif largest.why:
+            self.tell(f"the words that are derived from files are not counted, since {largest.why}")
+        elif largest.refused:
+            self.tell(f"no image holds all of it: the largest one refuses {counted(largest.refused, 'line')}")
+        else:
+            limits = [str(files), str(max(64, -(-largest.known // 64) * 64)), str(max(1, self.blocks))] + largest.version
+            self.tell(f"an empty image has room for it from these limits on: {' '.join(limits)}")
+
+
+class Session(NamedTuple):
+    """A session that runs, and what sends it commands."""
+
+    program: Program
+    sender: Sender
 
 
 class Largest:
     """The largest image there is, where the program is built: `known` is how many words it knows at the end, those derived from files among
     them, and `refused` how many lines it refused. `why` says why it can't tell."""
 
-    def __init__(self, folder, version):
-        self.version, self.known, self.refused, self.why = ["v2"] if version == 2 else [], 0, 0, None
-        self._image, self._program, self._sender = os.path.join(folder, "image"), None, None
+    def __init__(self, folder: str, version: int) -> None:
+        self.version, self.known, self.refused = ["v2"] if version == 2 else [], 0, 0
+        self.why: str | None = None
+        self._image = os.path.join(folder, "image")
+        self._session: Session | None = None
         if os.path.exists(PROGRAM):
             self._try(self._begin)
         else:
             self.why = "the program is not built"
 
-    def take(self, words, payload):
-        self._try(lambda: self._sender.start(self._job(words, payload)))
+    def take(self, words: Words, payload: bytes | None) -> None:
+        if self._session:
+            sender = self._session.sender
+            self._try(lambda: sender.start(self._job(words, payload)))
 
-    def end(self):
-        self._try(self._sum_up)
+    def end(self) -> None:
+        if self._session:
+            session = self._session
+            self._try(lambda: self._sum_up(session))
 
-    def _try(self, call):
+    def _try(self, call: Callable[[], None]) -> None:
         try:
             if not self.why:
                 call()
         except (Ended, NotAReply, OSError) as error:
             self.why = str(error)
 
-    def _begin(self):
+    def _begin(self) -> None:
         Program([PROGRAM, "make", self._image, *map(str, (MAX_FILES, MAX_PROPS, MAX_BLOCKS)), *self.version]).close()
-        self._program = Program([PROGRAM, session_word(), self._image])
-        self._sender = Sender(self._program)
+        program = Program([PROGRAM, session_word(), self._image])
+        self._session = Session(program, Sender(program))
 
-    def _job(self, words, payload):
-        refusal = yield ROOT, words, payload
+    def _job(self, words: Words, payload: bytes | None) -> Job:
+        refusal = yield Step(ROOT, words, payload)
         self.refused += refusal is not None
 
-    def _sum_up(self):
-        self._sender.finish()
-        self.known = int(dict(text.split() for _, text in self._program.stat().body)[b"known"])
-        self._program.close()
+    def _sum_up(self, session: Session) -> None:
+        session.sender.finish()
+        self.known = counts_in(session.program.stat().body)["known"]
+        session.program.close()
 
 
-def blocks_of(size):
+def blocks_of(size: int) -> int:
     needed = -(-size // BLOCK_LEN)
     return needed + 1 if needed > SLOT_BLOCKS else needed
 
 
-def main():
+def main() -> int:
     parser = argparse.ArgumentParser(usage=__doc__.split("usage: ", 1)[1])
     parser.add_argument("--word", action="append", default=[])
     parser.add_argument("--by-folder", action="store_true")
@@ -220,7 +270,7 @@ def main():
     parser.add_argument("--v2", action="store_true")
     parser.add_argument("--verbose", action="store_true")
     parser.add_argument("folder")
-    words = parser.parse_args()
+    words = parser.parse_args(namespace=Options())
     given = list(dict.fromkeys(map(os.fsencode, words.word)))
     for word in given:
         if not is_assignable(word):

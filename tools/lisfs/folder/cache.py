@@ -5,6 +5,8 @@ these times were old enough then that each later change has other ones. All of i
 or of another version of what reads files is not believed, and is made again. It lies in `$XDG_CACHE_HOME/lisfs`, or else in
 `~/.cache/lisfs`, may be removed at any time, and has what its owner alone may read.
 """
+from __future__ import annotations
+
 import contextlib
 import functools
 import hashlib
@@ -15,6 +17,8 @@ import sys
 import tempfile
 import time
 import unicodedata
+from collections.abc import Callable, Sequence
+from typing import NamedTuple, Protocol, TypeAlias, TypeVar
 
 from lisfs import constants, derived, words
 from lisfs.dumps import STEP, WHOLE
@@ -25,31 +29,55 @@ FORM = 2
 LARGEST = 1 << 28
 
 
+# What tells a file from a changed one.
+Times: TypeAlias = list[int]
+# What a file gave: parts that `json` can write.
+Record: TypeAlias = Sequence[object]
+R = TypeVar("R")
+
+
+class Kept(NamedTuple):
+    """The record of a file that had these times, and by what it was made."""
+
+    times: Times
+    rules: str
+    record: Record
+
+
+class Cache(Protocol):
+    def record(self, found: walk.Found, rules: str, kind: Callable[..., R]) -> R | None: ...
+
+    def keep(self, found: walk.Found, times: Times | None, rules: str, record: Record) -> None: ...
+
+    def save(self) -> None: ...
+
+
 class Remembered:
     """What the files below a folder gave. A record is what `json` can write, and `rules` says by what it was made."""
 
-    def __init__(self, folder):
+    def __init__(self, folder: str) -> None:
         self.folder = os.path.realpath(folder)
         name = hashlib.sha256(os.fsencode(self.folder)).hexdigest()[:32]
         self.path = os.path.join(cache_folder(), f"sync-{name}.json")
         self._was = self._read()
-        self._now, self._is_other = {}, False
+        self._now: dict[str, Kept] = {}
+        self._is_other = False
 
-    def record(self, found, rules):
-        """What a file gave, or None where that is not known."""
+    def record(self, found: walk.Found, rules: str, kind: Callable[..., R]) -> R | None:
+        """What a file gave, as a record of this kind, or None where that is not known."""
         had = self._was.get(os.path.join(*found.parts))
-        if not had or found.kind is None or had[:2] != [times_of(found.kind), rules]:
+        if not had or found.kind is None or (had.times, had.rules) != (times_of(found.kind), rules):
             return None
         self._now[os.path.join(*found.parts)] = had
-        return had[2]
+        return kind(*had.record)
 
-    def keep(self, found, times, rules, record):
+    def keep(self, found: walk.Found, times: Times | None, rules: str, record: Record) -> None:
         """Keeps what a file gave that had these times, None being times that don't tell it from a later one."""
         if times:
-            self._now[os.path.join(*found.parts)] = [times, rules, record]
+            self._now[os.path.join(*found.parts)] = Kept(times, rules, record)
             self._is_other = True
 
-    def save(self):
+    def save(self) -> None:
         """Writes all that is known now, whole or not at all. Where it can't be written the next run reads the files."""
         if not self._is_other and len(self._now) == len(self._was):
             return
@@ -57,7 +85,7 @@ class Remembered:
         with contextlib.suppress(OSError):
             write_whole(self.path, hashlib.sha256(body).hexdigest().encode() + b"\n" + body)
 
-    def _read(self):
+    def _read(self) -> dict[str, Kept]:
         try:
             descriptor = os.open(self.path, os.O_RDONLY | os.O_NOFOLLOW | os.O_NONBLOCK | os.O_CLOEXEC)
             with open(descriptor, "rb") as file:
@@ -70,7 +98,7 @@ class Remembered:
                 return {}
             given = json.loads(body)
             is_ours = (given["form"], given["version"], given["folder"]) == (FORM, version(), self.folder)
-            return dict(given["files"]) if is_ours else {}
+            return {path: Kept(*kept) for path, kept in given["files"].items()} if is_ours else {}
         except (OSError, ValueError, LookupError, TypeError, RecursionError):
             return {}
 
@@ -78,27 +106,27 @@ class Remembered:
 class Nothing:
     """Remembers nothing."""
 
-    def record(self, found, rules):
+    def record(self, found: walk.Found, rules: str, kind: Callable[..., R]) -> R | None:
         return None
 
-    def keep(self, found, times, rules, record):
+    def keep(self, found: walk.Found, times: Times | None, rules: str, record: Record) -> None:
         pass
 
-    def save(self):
+    def save(self) -> None:
         pass
 
 
-def cache_folder():
+def cache_folder() -> str:
     return folder_of("XDG_CACHE_HOME", "~/.cache")
 
 
-def folder_of(variable, usual):
+def folder_of(variable: str, usual: str) -> str:
     """The folder of this program's own files, where a variable of the environment says, or else at the usual place."""
     top = os.environ.get(variable, "")
     return os.path.join(top if os.path.isabs(top) else os.path.expanduser(usual), "lisfs")
 
 
-def write_whole(path, data, is_kept=False):
+def write_whole(path: str, data: bytes, is_kept: bool = False) -> None:
     """Writes a file whole or not at all, for its owner alone; and on the medium before this returns, where it is to be kept."""
     os.makedirs(os.path.dirname(path), 0o700, exist_ok=True)
     handle, temporary = tempfile.mkstemp(dir=os.path.dirname(path), prefix=".sync-")
@@ -121,21 +149,20 @@ def write_whole(path, data, is_kept=False):
 
 
 @functools.cache
-def version():
+def version() -> str:
     """Another one wherever a file may give something else: the sources that read it, and Python."""
     digest = hashlib.sha256(f"{sys.version} {unicodedata.unidata_version}".encode())
     for module in (addresses, constants, derived, forms, mails, music, words):
-        with open(module.__file__, "rb") as file:
+        with open(str(module.__file__), "rb") as file:
             digest.update(file.read())
     return digest.hexdigest()
 
 
-def times_of(kind):
-    """What tells a file from a changed one."""
+def times_of(kind: os.stat_result) -> Times:
     return [kind.st_size, kind.st_ino, kind.st_mtime_ns, kind.st_ctime_ns]
 
 
-def settled(before, after, now):
+def settled(before: os.stat_result, after: os.stat_result, now: int) -> Times | None:
     """The times of a file that was looked at before and after it was read, the reading having begun now; or None where a change of
     it may have the same ones."""
     newest = max(before.st_mtime_ns, before.st_ctime_ns)
@@ -143,7 +170,7 @@ def settled(before, after, now):
     return times_of(before) if is_old and times_of(before) == times_of(after) else None
 
 
-def read(found, most):
+def read(found: walk.Found, most: int) -> tuple[bytes, Times | None]:
     """The bytes of a file, as `walk.content` gives them, and its times, or None in place of these."""
     with walk.opened(found) as file:
         before, now = os.fstat(file.fileno()), time.time_ns()

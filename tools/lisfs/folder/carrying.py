@@ -3,15 +3,21 @@
 A file that is a folder's own is removed, written and given other words at the place of the folder's marker alone: what hasn't this word is
 not there, so the program itself keeps all other files out of it.
 """
+from __future__ import annotations
+
 import collections
 import contextlib
 import fcntl
 import re
 import subprocess
+from collections.abc import Generator, Iterator, Sequence
+from typing import NamedTuple, Protocol, TypeAlias
 
-from lisfs.client import PROGRAM, Refused
+from lisfs.client import PROGRAM, Program, Refused
 from lisfs.constants import LARGE_DESCRIPTION, MAX_LINE, MAX_PAYLOAD, NO_FILE_ROOM, NO_PROPERTY_ROOM
-from lisfs.folder import changes, memory, names, walk
+from lisfs.folder import memory, names, walk
+from lisfs.folder.changes import MARKER, Change, Changes, Done
+from lisfs.folder.entries import Entry
 from lisfs.refusals import REFUSALS, cause_of
 from lisfs.words import stem_of
 
@@ -22,57 +28,93 @@ PIPE = 1_048_576
 # So many words stand in one place at most.
 PLACED = 8
 ROOT = b"/"
+NO_MORE_FILES = REFUSALS[NO_FILE_ROOM].cause or ""
 FEWER_WORDS_HELP = (NO_PROPERTY_ROOM, LARGE_DESCRIPTION)
 
 
-def session_word():
+# The words of a command.
+Words: TypeAlias = Sequence[bytes]
+
+
+class Step(NamedTuple):
+    """A command at a place, and its bytes."""
+
+    place: bytes
+    words: Words
+    payload: bytes | None = None
+
+
+# It yields its steps, and is given of each the refusal, or None.
+Job: TypeAlias = Generator[Step, Refused | None, None]
+
+
+class Pending(NamedTuple):
+    """A command that was sent, and how many bytes with it. The job is None if the command leads to the place of the next one."""
+
+    job: Job | None
+    command: bytes
+    size: int
+
+
+class Completed(NamedTuple):
+    """The words that a file got, and how many would be too many for it."""
+
+    given: list[bytes]
+    large: int
+
+
+class Told(Protocol):
+    def __call__(self, what: Done, name: bytes, more: str = "") -> None: ...
+
+
+def session_word() -> str:
     """The word of the program by which changes go: `load`, which keeps many at a time, where its usage names it, and else `run`."""
     usage = subprocess.run([PROGRAM], stdin=subprocess.DEVNULL, capture_output=True, check=False).stderr
     return "load" if re.search(rb"^\S+ load IMAGE\b", usage, re.M) else "run"
 
 
 class Sender:
-    """Carries out jobs. A job is a generator: it yields a place, a command there and its bytes or None, and is given the refusal, or None.
-    The place is where the program is by then, so that `cd` stands between only where another one is needed."""
+    """Carries out jobs. The place of a step is where the program is by then, so that `cd` stands between only where another one is needed."""
 
-    def __init__(self, program):
-        self._program, self._place, self._waiting, self._bytes = program, ROOT, collections.deque(), 0
+    def __init__(self, program: Program) -> None:
+        self._program, self._place, self._bytes = program, ROOT, 0
+        self._waiting: collections.deque[Pending] = collections.deque()
         # A system may allow less.
         with contextlib.suppress(OSError):
             fcntl.fcntl(program.input_fileno(), fcntl.F_SETPIPE_SZ, PIPE)
 
-    def start(self, job):
+    def start(self, job: Job) -> None:
         self._go_on(job, None)
         while len(self._waiting) > AHEAD or self._bytes > AHEAD_BYTES:
             self._take()
 
-    def finish(self):
+    def finish(self) -> None:
         """Until each job has come to its end."""
         while self._waiting:
             self._take()
 
-    def _go_on(self, job, refusal):
+    def _go_on(self, job: Job, refusal: Refused | None) -> None:
         try:
-            place, words, payload = job.send(refusal)
+            step = job.send(refusal)
         except StopIteration:
             return
-        if place != self._place:
-            self._send(None, (b"cd", place), None)
-            self._place = place
-        self._send(job, words, payload)
+        if step.place != self._place:
+            self._send(None, (b"cd", step.place), None)
+            self._place = step.place
+        self._send(job, step.words, step.payload)
 
-    def _send(self, job, words, payload):
+    def _send(self, job: Job | None, words: Words, payload: bytes | None) -> None:
         self._program.send(*words, payload=payload)
         size = len(payload or b"")
         self._bytes += size
-        self._waiting.append((job, words[0], size))
+        self._waiting.append(Pending(job, words[0], size))
 
-    def _take(self):
+    def _take(self) -> None:
         job, command, size = self._waiting.popleft()
         self._bytes -= size
+        refusal: Refused | None = None
         try:
             self._program.receive()
-            refusal = None
         except Refused as error:
             refusal = error
         if job is not None:
@@ -87,11 +129,10 @@ class NoRoom(Exception):
 
 
 class Carrying:
-    """Carries changes into an image. `told` is called for each that was made, with a word, a name and more, the word being `same` where
-    nothing was made since there was no room for further words; `failed` is called with a path and why. First come `declare` and `remember`,
-    then `run`, and at the end `remember` again."""
+    """Carries changes into an image. `told` is called for each that was made, with what was done, a name and more; `failed` is
+    called with a path and why. First come `declare` and `remember`, then `run`, and at the end `remember` again."""
 
-    def __init__(self, sender, plan, largest, told, failed):
+    def __init__(self, sender: Sender, plan: Changes, largest: int, told: Told, failed: walk.Leave) -> None:
         self.sender, self.plan, self.largest, self.told, self.failed = sender, plan, largest, told, failed
         self.place = ROOT + plan.marker
         # Words of which a file can be given more without a further one becoming known.
@@ -104,57 +145,57 @@ class Carrying:
         # The words of the image that name what was brought in, and whether there was no room for one.
         self.memories, self.is_forgetful = set(memory.words_of_memories(plan.marker, plan.dump.declared)), False
 
-    def declare(self):
+    def declare(self) -> None:
         for head in self.plan.heads():
             self.sender.start(self._declare(head))
         self.sender.finish()
-        if not self.plan.is_nothing() and changes.MARKER + b":" not in self.known:
+        if not self.plan.is_nothing() and MARKER + b":" not in self.known:
             raise NoRoom("the image has no room for a further word, and a folder's files need one of their own")
 
-    def remember(self, word):
+    def remember(self, word: bytes | None) -> None:
         """From now on the image names the memory of this word, or none."""
         self.sender.start(self._remember(word))
         self.sender.finish()
 
-    def _remember(self, word):
+    def _remember(self, word: bytes | None) -> Job:
         olds = self.memories - {word}
         if word is not None and word not in self.memories:
-            refusal = yield ROOT, (b"mkdir", word), None
+            refusal = yield Step(ROOT, (b"mkdir", word))
             if refusal is not None and olds:
                 # One of before makes room for it.
-                yield ROOT, (b"rmdir", olds.pop()), None
-                refusal = yield ROOT, (b"mkdir", word), None
+                yield Step(ROOT, (b"rmdir", olds.pop()))
+                refusal = yield Step(ROOT, (b"mkdir", word))
             self.is_forgetful = refusal is not None
         for old in olds:
-            yield ROOT, (b"rmdir", old), None
+            yield Step(ROOT, (b"rmdir", old))
         self.memories = set() if word is None or self.is_forgetful else {word}
 
-    def run(self):
+    def run(self) -> None:
         for name in self.plan.gone:
             self.sender.start(self._remove(name))
         for change in self.plan.changes:
             if change.is_new and self.has_no_file_room:
-                self.failed(change.entry.found.path, REFUSALS[NO_FILE_ROOM].cause)
+                self.failed(change.entry.found.path, NO_MORE_FILES)
             else:
                 self.sender.start(self._add(change) if change.is_new else self._update(change))
         self.sender.finish()
 
-    def _declare(self, head):
-        refusal = yield ROOT, (b"mkdir", head + b":"), None
+    def _declare(self, head: bytes) -> Job:
+        refusal = yield Step(ROOT, (b"mkdir", head + b":"))
         if refusal is None:
             self.known.add(head + b":")
 
-    def _remove(self, name):
-        refusal = yield self.place, (b"rm", name), None
+    def _remove(self, name: bytes) -> Job:
+        refusal = yield Step(self.place, (b"rm", name))
         if refusal is None:
             self.plan.removed(name)
-            self.told("gone", name)
+            self.told(Done.GONE, name)
         else:
             self.failed(name.decode(), cause_of(refusal))
 
     # A file that is new.
 
-    def _add(self, change):
+    def _add(self, change: Change) -> Job:
         entry, gains, refusal = change.entry, self._declared(change.gains), None
         all_names = [change.name]
         if entry.is_mail and change.name.endswith(names.EML):
@@ -164,31 +205,36 @@ class Carrying:
             for given in self._tries(gains, name == all_names[-1]):
                 line, rest = fitting(name, [self.plan.marker, *given])
                 try:
-                    refusal = yield ROOT, *self._added(entry, line)
+                    refusal = yield Step(ROOT, *self._added(entry, line))
                 except OSError as error:
-                    return self.failed(entry.found.path, error.strerror or str(error))
+                    self.failed(entry.found.path, error.strerror or str(error))
+                    return
                 if refusal is None:
                     given, large = yield from self._complete(ROOT, name, gains, [word for word in given if word not in rest])
                     self._lacking(len(change.gains) - len(given), large)
                     self.lean += name != change.name
                     self.plan.done(change, name)
-                    return self.told("new", name, entry.found.path)
+                    self.told(Done.NEW, name, entry.found.path)
+                    return
                 if refusal.number not in FEWER_WORDS_HELP:
-                    return self._refused_file(entry, refusal)
-        return self._refused_file(entry, refusal)
+                    self._refused_file(entry, refusal)
+                    return
+        # One was tried at least.
+        assert refusal
+        self._refused_file(entry, refusal)
 
-    def _refused_file(self, entry, refusal):
+    def _refused_file(self, entry: Entry, refusal: Refused) -> None:
         if refusal.number == NO_FILE_ROOM:
             self.has_no_file_room = True
         self.failed(entry.found.path, cause_of(refusal))
 
-    def _added(self, entry, line):
+    def _added(self, entry: Entry, line: Sequence[bytes]) -> tuple[Words, bytes]:
         """The line that makes a file, and its bytes as they are now."""
         content = self._content(entry)
         name, *words = line
         return (b"add", name, b"%d" % len(content), *words), content
 
-    def _content(self, entry):
+    def _content(self, entry: Entry) -> bytes:
         content = walk.content(entry.found, self.largest)
         if len(content) > self.largest:
             raise OSError(0, f"more than {self.largest} bytes; a file has no more")
@@ -198,45 +244,46 @@ class Carrying:
 
     # A file that is there.
 
-    def _update(self, change):
+    def _update(self, change: Change) -> Job:
         entry, name, refusal, done = change.entry, change.name, None, []
-        if change.was is not None and (yield self.place, (b"rename", change.was, name), None) is not None:
+        if change.was is not None and (yield Step(self.place, (b"rename", change.was, name))) is not None:
             # It keeps its name.
             name = change.was
         for begin in range(0, len(change.loses), PLACED):
             part = change.loses[begin:begin + PLACED]
-            refusal = refusal or (yield self.place + b"/" + b"/".join(part), (b"mv", name, self.place), None)
+            refusal = refusal or (yield Step(self.place + b"/" + b"/".join(part), (b"mv", name, self.place)))
         done += ["-" + word.decode() for word in change.loses] if refusal is None else []
         if change.has_other_bytes and refusal is None:
             try:
-                refusal = yield self.place, *self._written(entry, name)
+                refusal = yield Step(self.place, *self._written(entry, name))
             except OSError as error:
-                return self.failed(entry.found.path, error.strerror or str(error))
+                self.failed(entry.found.path, error.strerror or str(error))
+                return
         if refusal is not None:
-            return self.failed(entry.found.path, cause_of(refusal))
+            self.failed(entry.found.path, cause_of(refusal))
+            return
         given, large = yield from self._complete(self.place, name, self._declared(change.gains), [])
         self._lacking(len(change.gains) - len(given), large)
         done += ["+" + word.decode() for word in given]
         self.plan.done(change, name)
         if change.is_moved:
-            self.told("moved", name, entry.found.path)
+            self.told(Done.MOVED, name, entry.found.path)
         elif change.has_other_bytes:
-            self.told("changed", name, entry.found.path)
+            self.told(Done.CHANGED, name, entry.found.path)
         else:
-            self.told("words" if done else "same", name, " ".join(done))
-        return None
+            self.told(Done.WORDS if done else Done.SAME, name, " ".join(done))
 
-    def _written(self, entry, name):
+    def _written(self, entry: Entry, name: bytes) -> tuple[Words, bytes]:
         content = self._content(entry)
         return (b"write", name, b"%d" % len(content)), content
 
     # Words that there may be no room for.
 
-    def _declared(self, words):
+    def _declared(self, words: Sequence[bytes]) -> list[bytes]:
         """Those of some words whose heads are declared: for a head too there may be no room."""
         return [word for word in words if stem_of(word) + b":" in self.known]
 
-    def _tries(self, gains, to_the_end):
+    def _tries(self, gains: Sequence[bytes], to_the_end: bool) -> Iterator[Sequence[bytes]]:
         """Lists of words to make a file with, each tried where the one before was refused: with all words, with those that are known
         already; and at the end, where one is wanted, without any."""
         known = [word for word in gains if word in self.known]
@@ -245,7 +292,7 @@ class Carrying:
             if number == 0 or words != tries[number - 1]:
                 yield words
 
-    def _complete(self, place, name, gains, given):
+    def _complete(self, place: bytes, name: bytes, gains: Sequence[bytes], given: list[bytes]) -> Generator[Step, Refused | None, Completed]:
         """Gives a file the words that it has not, as far as there is room: in few commands, or where these are refused one by one. Returns
         all that it has then, and how many would be too many for it."""
         self.known.update(given)
@@ -256,7 +303,7 @@ class Carrying:
             part = [word for word in parts.pop(0) if not self.is_full or word in self.known]
             if not part:
                 continue
-            refusal = yield place, (b"mv", name, b"/".join(part)), None
+            refusal = yield Step(place, (b"mv", name, b"/".join(part)))
             if refusal is None:
                 given = given + part
                 self.known.update(part)
@@ -268,9 +315,9 @@ class Carrying:
                 # Not even one word can become known, and so no other one.
                 self.is_full = True
                 self.known.difference_update(part)
-        return given, large
+        return Completed(given, large)
 
-    def _lacking(self, count, large):
+    def _lacking(self, count: int, large: int) -> None:
         if large:
             self.too_many += large
             self.too_many_files += 1
@@ -279,7 +326,7 @@ class Carrying:
             self.without_files += 1
 
 
-def fitting(name, words):
+def fitting(name: bytes, words: Sequence[bytes]) -> tuple[list[bytes], Sequence[bytes]]:
     """A name and as many words as fit the line that makes a file, and the words that don't."""
     room, line = MAX_LINE - len(b"add  %d" % MAX_PAYLOAD) - len(name), [name]
     for number, word in enumerate(words):
@@ -290,7 +337,7 @@ def fitting(name, words):
     return line, []
 
 
-def known_words(plan):
+def known_words(plan: Changes) -> set[bytes]:
     """The words that somebody has given, or declared, and that stay."""
     gone, losing = set(plan.gone), {change.was or change.name: set(change.loses) for change in plan.changes if change.loses}
     known = set(plan.dump.declared)

@@ -1,48 +1,101 @@
 """What is new, changed or gone in a folder, and what was changed in the image, beside what earlier runs brought in.
 
-The files of an image that are a folder's own have its marker, a word `sync:NAME`. Words of the heads in `HEADS` are the folder's too, on
+The files of an image that are a folder's own have its marker, a word `sync:NAME`. Values of the heads in `HEADS` are the folder's too, on
 these files: all others that they have somebody gave them, and they stay. The records of `memory` say what was brought in: what changed in
 the folder alone is brought in, what changed in the image alone stays, and what changed on both sides is a conflict, which is left.
 """
-import collections
+from __future__ import annotations
+
+import enum
 import hashlib
 import os
+from collections.abc import Iterable, Sequence, Set
+from typing import NamedTuple, TypeAlias
 
 from lisfs import derived
 from lisfs.constants import MAX_ASSIGNED, MAX_DERIVED, MAX_WORD
+from lisfs.dumps import Dump
 from lisfs.folder import mails, music, walk
+from lisfs.folder.entries import Entry
 from lisfs.folder.forms import folder_value
-from lisfs.folder.memory import REMOVAL, Record, settled
-from lisfs.words import stem_of
+from lisfs.folder.memory import REMOVAL, Record, Records, settled
+from lisfs.words import head_of, stem_of
 
 MARKER, FOLDER = b"sync", b"in"
-HEADS = frozenset((FOLDER, *mails.HEADS, *music.HEADS))
+HEADS = frozenset(head + b":" for head in (FOLDER, *mails.HEADS, *music.HEADS))
 # The digest of no bytes, and what is no digest.
 NO_BYTES, NOTHING = hashlib.sha256().hexdigest(), ""
 
-# A file as it is to be: the key of its record, its name, the name that the image has for it where that is another one, its entry, the words
-# that it loses and gains, whether it is new, whether it gets the folder's bytes, and whether it was found again elsewhere in the folder.
-Change = collections.namedtuple("Change", "key name was entry loses gains is_new has_other_bytes is_moved")
-# What to do with a conflict, where it is not to be left: keep what the image has, or take what the folder has. And whether files that were
-# removed from the image come again.
-Wishes = collections.namedtuple("Wishes", "ours theirs restore", defaults=(False, False, False))
 # Why a conflict is one.
 BOTH, GONE = "changed in the folder and in the image", "gone from the folder, and changed in the image"
 UNKNOWN, UNKNOWN_GONE = "not the same in the folder and in the image", "not in the folder"
 
 
-def folder_words(folders):
+class Done(enum.Enum):
+    """What was done with a file. It is the same if nothing was, since there was no room for further words."""
+
+    NEW = "new"
+    CHANGED = "changed"
+    MOVED = "moved"
+    WORDS = "words"
+    GONE = "gone"
+    SAME = "same"
+
+
+class Change(NamedTuple):
+    """A file as it is to be: the key of its record, its name, the name that the image has for it where that is another one, its entry, the words
+    that it loses and gains, whether it is new, whether it gets the folder's bytes, and whether it was found again elsewhere in the folder."""
+
+    key: str
+    name: bytes
+    was: bytes | None
+    entry: Entry
+    loses: tuple[bytes, ...]
+    gains: tuple[bytes, ...]
+    is_new: bool
+    has_other_bytes: bool
+    is_moved: bool
+
+
+class Wishes(NamedTuple):
+    """What to do with a conflict, where it is not to be left: keep what the image has, or take what the folder has. And whether files that were
+    removed from the image come again."""
+
+    ours: bool = False
+    theirs: bool = False
+    restore: bool = False
+
+
+class Conflict(NamedTuple):
+    """What is in conflict, and why it is."""
+
+    text: str
+    why: str
+
+
+class Renamed(NamedTuple):
+    """A file that somebody gave another name in the image."""
+
+    was: str
+    name: str
+
+
+# The files of a folder, each with the key of its record.
+Keyed: TypeAlias = list[tuple[str, Entry]]
+
+
+def folder_words(folders: Sequence[str]) -> list[bytes]:
     """The words for the folders that a file lies in."""
     values = [folder_value(name)[:MAX_WORD - len(FOLDER) - 1] for name in folders]
     return [FOLDER + b":" + value for value in values if value]
 
 
-def key_of(entry, marker):
+def key_of(entry: Entry, marker: bytes) -> str:
     """What the record of a file is known by."""
     return "mail:" + entry.names(marker, False)[0].decode() if entry.is_mail else "file:" + entry.found.key
 
 
-def base_of(key):
+def base_of(key: str) -> str:
     """The name that a key ends with."""
     return os.path.basename(key.partition(":")[2])
 
@@ -52,23 +105,32 @@ class Changes:
     Entries that can't be taken are `refused`: what the image holds of them stays. `beyond` counts the words that are too many for a file,
     and `beyond_files` the files that they belong to.
 
-    `conflicts` are pairs of a text and why, `edited` the names of files that stay as the image has them, `away` the paths of those that stay
-    away from it, and `renamed` pairs of names, the second of which somebody gave a file in the image. `unseen` counts files that are not
-    removed, since not all of the folder was seen. `records` say what is so before any change, and what was done after it."""
+    `conflicts` are left, `edited` are the names of files that stay as the image has them, `away` the paths of those that stay away from it, and
+    `renamed` are those that have another name in the image. `unseen` counts files that are not removed, since not all of the folder was seen.
+    `records` say what is so before any change, and what was done after it."""
 
-    def __init__(self, entries, dump, marker, is_lean=False, records=None, wishes=Wishes(), is_blind=False):
+    def __init__(self, entries: Iterable[Entry], dump: Dump, marker: bytes, is_lean: bool = False, records: Records | None = None,
+                 wishes: Wishes = Wishes(), is_blind: bool = False) -> None:
         self.marker, self.dump, self.is_lean, self.wishes, self.is_blind = marker, dump, is_lean, wishes, is_blind
-        self.changes, self.gone, self.refused = [], [], []
-        self.conflicts, self.edited, self.away, self.renamed = [], [], [], []
+        self.changes: list[Change] = []
+        self.gone: list[bytes] = []
+        self.refused: list[Entry] = []
+        self.conflicts: list[Conflict] = []
+        self.edited: list[str] = []
+        self.away: list[str] = []
+        self.renamed: list[Renamed] = []
         self.same = self.beyond = self.beyond_files = self.unseen = 0
         self.own_names = {name for name, (_, words) in dump.files.items() if marker in words}
         self.own = len(self.own_names)
         # Names in the image that a file of the folder has, and those that no new one can have.
-        self.kept, self.taken, self.gone_keys = set(), set(dump.files), {}
+        self.kept: set[bytes] = set()
+        self.taken = set(dump.files)
+        # The key of the record of each that is gone, or None.
+        self.gone_keys: dict[bytes, str | None] = {}
         self.records = settled(records or {}, self._digest)
         self._find_renamed()
         self.keyed = keyed = [(key_of(entry, marker), entry) for entry in entries]
-        self.waiting = set()
+        self.waiting: set[str] = set()
         self.moved = self._find_moved(keyed)
         self._tell_mails_apart(keyed)
         # Those of files that were only seen have served.
@@ -81,34 +143,37 @@ class Changes:
         self.gone.sort()
         self.changes.sort(key=lambda change: (change.is_new, change.name))
 
-    def _digest(self, name):
+    def _digest(self, name: str) -> str | None:
         """The digest of one of the folder's files in the image, or None where it is not there."""
         return self.dump.digests[name.encode()].hex() if name.encode() in self.own_names else None
 
     # Files with another name than before.
 
-    def _find_renamed(self):
+    def _find_renamed(self) -> None:
         """Files that somebody renamed in the image are found again by their bytes."""
-        free = {}
+        free: dict[str | None, list[str]] = {}
         for name in sorted(self.own_names - {record.name.encode() for record in self.records.values()}):
             free.setdefault(self._digest(name.decode()), []).append(name.decode())
         for key, record in sorted(self.records.items()):
             if self._digest(record.name) is None and (names := free.get(record.image)):
                 self.records[key] = record._replace(name=names.pop(0))
-                self.renamed.append((record.name, self.records[key].name))
+                self.renamed.append(Renamed(record.name, self.records[key].name))
 
-    def _find_moved(self, keyed):
+    def _find_moved(self, keyed: Keyed) -> dict[str, str]:
         """Files that were renamed or moved in the folder are found again by their bytes: first those whose own name is the same, and then all
         others that are not empty. Returns their keys now."""
-        present, lost = {key for key, _ in keyed}, {}
+        present = {key for key, _ in keyed}
+        lost: dict[str, list[str]] = {}
         for key, record in sorted(self.records.items()):
             if key not in present and record.folder is not None:
                 lost.setdefault(record.folder, []).append(key)
         new = [(key, entry) for key, entry in keyed if key not in self.records and not entry.found.problem] if lost else []
-        found = {}
+        found: dict[str, str] = {}
         for is_same_name in (True, False):
             for key, entry in sorted(new, key=lambda pair: pair[0]):
                 digest = self._folder_digest(entry)
+                if digest is None:
+                    continue
                 fits = [old for old in lost.get(digest, ()) if base_of(old) == base_of(key) or not is_same_name and digest != NO_BYTES]
                 if fits and key not in found:
                     found[key] = fits[0]
@@ -130,10 +195,11 @@ class Changes:
             self.records[key] = record
         return found
 
-    def _tell_mails_apart(self, keyed):
+    def _tell_mails_apart(self, keyed: Keyed) -> None:
         """Of mails with one Message-ID, one more or one less gives others another key: each whose bytes are those of another's record gets that."""
         digests = {key: entry.digest.hex() for key, entry in keyed if entry.is_mail and entry.digest is not None}
-        lost, found = {}, {}
+        lost: dict[str, list[str]] = {}
+        found: dict[str, str] = {}
         for key, record in sorted(self.records.items()):
             if key.startswith("mail:") and record.folder and digests.get(key) != record.folder:
                 lost.setdefault(record.folder, []).append(key)
@@ -150,7 +216,7 @@ class Changes:
 
     # Files of the folder.
 
-    def _held(self, key, entry):
+    def _held(self, key: str, entry: Entry) -> bool:
         """Judges a file that was brought in, or that the image has without a record. Whether it is one."""
         record, name = self.records.get(key), self._name_in_image(key, entry)
         if name is not None:
@@ -166,14 +232,14 @@ class Changes:
             self._judge(key, entry, name, folder)
         return True
 
-    def _name_in_image(self, key, entry):
+    def _name_in_image(self, key: str, entry: Entry) -> str | None:
         """The name of a file in the image, by its record, or else the first of those that it may have."""
         if record := self.records.get(key):
             return record.name if self._digest(record.name) else None
         names = [name.decode() for name in entry.names(self.marker, self.is_lean)]
         return next((name for name in names if self._digest(name) and name.encode() not in self.kept and name not in self.claimed), None)
 
-    def _folder_digest(self, entry):
+    def _folder_digest(self, entry: Entry) -> str | None:
         """The digest of a file of the folder, or None where it can't be read, which is then its problem."""
         try:
             return digest_of(entry).hex()
@@ -181,7 +247,7 @@ class Changes:
             entry.found.problem = error.strerror or str(error)
             return None
 
-    def _stays_away(self, key, entry, folder):
+    def _stays_away(self, key: str, entry: Entry, folder: str) -> bool:
         """Whether a file that somebody removed from the image stays away: until it changes, or is wanted again."""
         if self.records[key].folder != folder or self.wishes.restore:
             del self.records[key]
@@ -189,7 +255,7 @@ class Changes:
         self.away.append(entry.found.path)
         return True
 
-    def _judge(self, key, entry, name, folder):
+    def _judge(self, key: str, entry: Entry, name: str, folder: str) -> None:
         record, image = self.records.get(key), self._digest(name)
         made = record.made if record else name
         if record is None:
@@ -208,13 +274,13 @@ class Changes:
                 self.records[key] = Record(name, made, folder, NOTHING)
                 self.edited.append(name)
             else:
-                self.conflicts.append((f"{name}: {entry.found.path}", BOTH if record else UNKNOWN))
+                self.conflicts.append(Conflict(f"{name}: {entry.found.path}", BOTH if record else UNKNOWN))
             self._change(key, entry, name)
 
-    def _change(self, key, entry, name, has_other_bytes=False, is_same=False):
+    def _change(self, key: str, entry: Entry, name: str, has_other_bytes: bool = False, is_same: bool = False) -> None:
         """Notes what a file gets that the image has: bytes, words, and a name where it moved in the folder and nobody gave it one."""
         words = self.dump.files[name.encode()][1]
-        theirs = {word for word in words if word != self.marker and (stem_of(word) not in HEADS or stem_of(word) in entry.unread)}
+        theirs = {word for word in words if word != self.marker and (head_of(word) not in HEADS or head_of(word) in entry.unread)}
         wanted = self._fitting(entry, MAX_ASSIGNED - 1 - len(theirs))
         loses = tuple(sorted(words - theirs - set(wanted) - {self.marker}))
         gains = tuple(word for word in wanted if word not in words)
@@ -225,19 +291,20 @@ class Changes:
         else:
             self.same += is_same
 
-    def _name_after_move(self, key, entry):
+    def _name_after_move(self, key: str, entry: Entry) -> bytes | None:
         """The name that a file gets which moved in the folder, or None where it keeps its own."""
         record = self.records.get(key)
-        if key not in self.moved or record.name != record.made:
+        if record is None or key not in self.moved or record.name != record.made:
             return None
         names = entry.names(self.marker, self.is_lean)
         if record.made.encode() in names:
             return None
         other = next((name for name in names[:2] if name not in self.taken), None)
-        self.taken.add(other)
+        if other is not None:
+            self.taken.add(other)
         return other
 
-    def _fresh(self, key, entry):
+    def _fresh(self, key: str, entry: Entry) -> None:
         if entry.found.problem:
             self.refused.append(entry)
             return
@@ -255,7 +322,7 @@ class Changes:
         self.taken.add(name)
         self.changes.append(Change(key, name, None, entry, (), self._fitting(entry, MAX_ASSIGNED - 1), True, True, False))
 
-    def _fitting(self, entry, most):
+    def _fitting(self, entry: Entry, most: int) -> tuple[bytes, ...]:
         """The words that a file is given, so many at most."""
         most = max(most, 0)
         if len(entry.words) > most:
@@ -265,7 +332,7 @@ class Changes:
 
     # Files that the folder has no more.
 
-    def _left(self, present):
+    def _left(self, present: Set[str]) -> None:
         if self.is_blind:
             # They may be where nothing was seen, and so their records stay.
             self.unseen = len(self.own_names - self.kept)
@@ -276,8 +343,8 @@ class Changes:
         for key in [key for key, record in self.records.items() if key not in present and self._digest(record.name) is None]:
             del self.records[key]
 
-    def _judge_left(self, key, name):
-        record = self.records.get(key)
+    def _judge_left(self, key: str | None, name: str) -> None:
+        record = self.records.get(key) if key else None
         if record and record.folder is None:
             self.edited.append(name)
         elif record and record.image == self._digest(name) or self.wishes.theirs:
@@ -288,9 +355,9 @@ class Changes:
             self.records[key or "image:" + name] = Record(name, name, None, record.image if record else NOTHING)
             self.edited.append(name)
         else:
-            self.conflicts.append((name, GONE if record else UNKNOWN_GONE))
+            self.conflicts.append(Conflict(name, GONE if record else UNKNOWN_GONE))
 
-    def cut(self):
+    def cut(self) -> list[tuple[str, int]]:
         """The files that have the folder's bytes and would have more derived words than the program keeps: the name of each, and how many words
         it would have."""
         found = [(self.records[key], entry.derived) for key, entry in self.keyed if key in self.records and entry.derived > MAX_DERIVED]
@@ -299,10 +366,10 @@ class Changes:
 
     # What is done.
 
-    def is_nothing(self):
+    def is_nothing(self) -> bool:
         return not self.changes and not self.gone
 
-    def coming(self):
+    def coming(self) -> Records:
         """The records before the changes, with what is coming to each file."""
         found = self.seen()
         # One that moved is known by its old place until it has its new name and words.
@@ -315,11 +382,12 @@ class Changes:
                 name = (change.was or change.name).decode()
                 before = self.records.get(change.key, Record(name, name, None, None))
                 found[change.key] = before._replace(coming=change.entry.digest.hex())
-        for name, key in self.gone_keys.items():
-            found[key or "image:" + name.decode()] = found.get(key, Record(name.decode(), name.decode(), None, None))._replace(coming=REMOVAL)
+        for gone, gone_key in self.gone_keys.items():
+            known = found.get(gone_key) if gone_key else None
+            found[gone_key or "image:" + gone.decode()] = (known or Record(gone.decode(), gone.decode(), None, None))._replace(coming=REMOVAL)
         return found
 
-    def seen(self):
+    def seen(self) -> Records:
         """The records, and those of files that are in the folder and not in the image. Such a file is none that moved, when there is room."""
         found = dict(self.records)
         for key, entry in self.keyed:
@@ -330,28 +398,30 @@ class Changes:
             found.setdefault(key, Record(name, name, None, None))
         return found
 
-    def done(self, change, name):
+    def done(self, change: Change, name: bytes) -> None:
         """A change was made, and the file has this name now."""
-        before, digest = self.records.get(change.key), change.entry.digest.hex() if change.has_other_bytes else None
-        if before is None and digest is None:
-            # Only words of a file in conflict, of which nothing is known.
-            return
-        is_made = before is None or before.name == before.made or name in change.entry.names(self.marker, self.is_lean)
-        made = name.decode() if is_made else before.made
-        self.records[change.key] = Record(name.decode(), made, digest or before.folder, digest or before.image)
+        before, read = self.records.get(change.key), change.entry.digest if change.has_other_bytes else None
+        digest = None if read is None else read.hex()
+        if before is not None:
+            is_made = before.name == before.made or name in change.entry.names(self.marker, self.is_lean)
+            made = name.decode() if is_made else before.made
+            self.records[change.key] = Record(name.decode(), made, digest or before.folder, digest or before.image)
+        elif digest is not None:
+            self.records[change.key] = Record(name.decode(), name.decode(), digest, digest)
+        # Else only words changed of a file in conflict, of which nothing is known.
 
-    def removed(self, name):
-        self.records.pop(self.gone_keys[name], None)
+    def removed(self, name: bytes) -> None:
+        if key := self.gone_keys[name]:
+            self.records.pop(key, None)
 
-    def heads(self):
+    def heads(self) -> list[bytes]:
         """The heads that have to be declared, in the order of their importance."""
         wanted = dict.fromkeys(stem_of(word) for change in self.changes for word in change.gains)
         return [head for head in [MARKER, *wanted] if head + b":" not in self.dump.declared] if self.changes else []
 
 
-def digest_of(entry):
+def digest_of(entry: Entry) -> bytes:
     """The digest of a file's bytes as they are now, where they were not looked at."""
-    if entry.digest is None:
-        size = entry.found.size
-        entry.read_from(walk.content(entry.found, size))
-    return entry.digest
+    if entry.digest is not None:
+        return entry.digest
+    return entry.read_from(walk.content(entry.found, entry.found.size or 0))

@@ -1,6 +1,11 @@
 """The files of a folder as an image is to have them: each with its names, its size and its words. No bytes of files are kept."""
+from __future__ import annotations
+
+import dataclasses
 import hashlib
 import os
+from collections.abc import Callable, Sequence
+from typing import NamedTuple
 
 from lisfs import derived
 from lisfs.folder import cache, mails, music, names, walk
@@ -10,29 +15,51 @@ from lisfs.folder.report import counted
 MAIL, MUSIC = "mail", "music"
 
 
+class MailRecord(NamedTuple):
+    """What a mail gives: the digest of its bytes, or None if they are too many, its Message-ID or None, its subject, its words, and how many
+    words the program would derive of it."""
+
+    digest: str | None
+    message_id: str | None
+    subject: str
+    words: list[str]
+    derived: int
+
+
+class MusicRecord(NamedTuple):
+    """What a piece of music gives: the digest of its bytes, and its words, or None if its tags can't be read."""
+
+    digest: str
+    words: list[str] | None
+
+
+@dataclasses.dataclass(slots=True, eq=False)
 class Entry:
     """A file of a folder. `words` are those that its folders, its header or its tags give, the most important first; words of the heads in
     `unread` may be missing. `digest` is that of its bytes, or None where they were not looked at. `ident` is what its name is made of."""
 
-    __slots__ = ("found", "subject", "ident", "digest", "words", "unread", "derived")
+    found: walk.Found
+    subject: str = ""
+    ident: tuple[bytes, ...] = ()
+    digest: bytes | None = None
+    words: tuple[bytes, ...] = ()
+    unread: tuple[bytes, ...] = ()
+    # How many words the program would derive of its bytes, where they were looked at and it derives some.
+    derived: int = 0
 
-    def __init__(self, found):
-        self.found, self.subject, self.ident, self.digest, self.words, self.unread = found, None, None, None, (), ()
-        # How many words the program would derive of its bytes, where they were looked at and it derives some.
-        self.derived = 0
-
-    def read_from(self, content):
-        """Notes what its bytes give."""
-        self.digest = hashlib.sha256(content).digest()
+    def read_from(self, content: bytes) -> bytes:
+        """Notes what its bytes give. Their digest."""
+        self.digest = digest = hashlib.sha256(content).digest()
         name = b"x.eml" if self.is_mail else os.fsencode(self.found.parts[-1])
         self.derived = len(derived.derived_words(name, content)) if derived.has_many(name) else 0
+        return digest
 
     @property
-    def is_mail(self):
+    def is_mail(self) -> bool:
         """Whether it is a mail of a maildir, so that its name is not that of a file."""
         return self.found.base is not None
 
-    def names(self, marker, is_lean):
+    def names(self, marker: bytes, is_lean: bool) -> list[bytes]:
         """The names that it may have in an image, the first of them where that is free."""
         if not self.is_mail:
             return [names.of_path(self.found.key), names.digested(self.found.key, names.digest_of(marker, *self.ident))]
@@ -47,18 +74,22 @@ class Entries:
     counts the pieces of music whose tags could not be read, and `is_deaf` says that there is nothing to read tags. What mails and music gave
     is asked of `remembered` first."""
 
-    def __init__(self, top, largest, folder_words, leave, look, without=(), passed=None, remembered=None):
+    def __init__(self, top: str, largest: int, folder_words: Callable[[walk.Parts], list[bytes]], leave: walk.Leave, look: Callable[[], None],
+                 without: Sequence[str] = (), passed: os.stat_result | None = None, remembered: cache.Cache | None = None) -> None:
         self.walk, self.largest, self.folder_words, self.look = walk.Walk(top, leave, without, passed), largest, folder_words, look
-        self.all, self.tagless, self.is_deaf = [], 0, False
-        self._reader, self._words, self._remembered = None, {}, remembered or cache.Nothing()
+        self.all: list[Entry] = []
+        self.tagless, self.is_deaf = 0, False
+        self._reader: music.Mutagen | None = None
+        self._words: dict[bytes, bytes] = {}
+        self._remembered: cache.Cache = remembered or cache.Nothing()
 
-    def read(self):
+    def read(self) -> None:
         for found in self.walk.files():
             self.all.append(self.entry(found))
             self.look()
         self._tell_apart()
 
-    def entry(self, found):
+    def entry(self, found: walk.Found) -> Entry:
         entry = Entry(found)
         if found.size is not None and found.size > self.largest:
             found.problem = f"{found.size} bytes; a file has at most {self.largest}"
@@ -70,26 +101,27 @@ class Entries:
         entry.words = tuple(self._words.setdefault(word, word) for word in dict.fromkeys(given))
         return entry
 
-    def _mail(self, entry):
+    def _mail(self, entry: Entry) -> list[bytes]:
         """The words of a mail, also of one that is too large, since it keeps its name."""
         found = entry.found
-        record = self._remembered.record(found, MAIL)
-        if record is None or record[0] is None and not found.problem:
+        record = self._remembered.record(found, MAIL, MailRecord)
+        if record is None or record.digest is None and not found.problem:
             record = self._read_mail(found)
         if record is None:
             # It may be here all the same, under a name that is not known.
             self.walk.is_blind = self.walk.is_blind or entry.is_mail
             return []
-        digest, message_id, subject, words, entry.derived = record
-        entry.subject = subject if entry.is_mail else None
-        if entry.is_mail and message_id:
-            entry.ident = b"mail", message_id.encode(errors="surrogateescape")
-        if digest and not found.problem:
-            entry.digest = bytes.fromhex(digest)
-        return [word.encode() for word in words]
+        entry.derived = record.derived
+        if entry.is_mail:
+            entry.subject = record.subject
+        if entry.is_mail and record.message_id:
+            entry.ident = b"mail", record.message_id.encode(errors="surrogateescape")
+        if record.digest and not found.problem:
+            entry.digest = bytes.fromhex(record.digest)
+        return [word.encode() for word in record.words]
 
-    def _read_mail(self, found):
-        """What a mail gives: the digest of its bytes, or None where they are too many, its Message-ID or None, its subject and its words."""
+    def _read_mail(self, found: walk.Found) -> MailRecord | None:
+        """What a mail gives, or None if it can't be read."""
         try:
             content, times = cache.read(found, mails.HEADER if found.problem else self.largest)
         except OSError as error:
@@ -100,58 +132,56 @@ class Entries:
         mail, digest, count = mails.Mail(content), None, 0
         if not found.problem:
             found.size, digest, count = len(content), hashlib.sha256(content).hexdigest(), len(derived.derived_words(b"x.eml", content))
-        record = [digest, mail.message_id, mail.subject, [word.decode() for word in mail.words()], count]
+        record = MailRecord(digest, mail.message_id, mail.subject, [word.decode() for word in mail.words()], count)
         self._remembered.keep(found, times, MAIL, record)
         return record
 
-    def _music(self, entry):
+    def _music(self, entry: Entry) -> list[bytes]:
         if self._reader is None and not self.is_deaf:
             self._reader = music.reader()
             self.is_deaf = self._reader is None
-        record = None if self.is_deaf else self._read_music(entry.found)
-        if record is None or record[1] is None:
+        record = self._read_music(self._reader, entry.found) if self._reader else None
+        if record is None or record.words is None:
             self.tagless += 1
-            entry.unread = music.HEADS if self.is_deaf else ()
+            entry.unread = tuple(head + b":" for head in music.HEADS) if self.is_deaf else ()
         if record is None:
             return []
-        entry.digest = bytes.fromhex(record[0])
-        return [word.encode() for word in record[1] or ()]
+        entry.digest = bytes.fromhex(record.digest)
+        return [word.encode() for word in record.words or ()]
 
-    def _read_music(self, found):
-        """What a piece of music gives: the digest of its bytes, and its words or None. None where it can't be read."""
-        rules = f"{MUSIC} {self._reader.version_string}"
-        if record := self._remembered.record(found, rules):
+    def _read_music(self, reader: music.Mutagen, found: walk.Found) -> MusicRecord | None:
+        """What a piece of music gives, or None if it can't be read."""
+        rules = f"{MUSIC} {reader.version_string}"
+        if record := self._remembered.record(found, rules, MusicRecord):
             return record
         try:
             content, times = cache.read(found, self.largest)
         except OSError:
             return None
-        given = music.words(self._reader, found.path, content)
-        record = [hashlib.sha256(content).hexdigest(), None if given is None else [word.decode() for word in given]]
+        given = music.words(reader, found.path, content)
+        record = MusicRecord(hashlib.sha256(content).hexdigest(), None if given is None else [word.decode() for word in given])
         self._remembered.keep(found, times, rules, record)
         return record
 
-    def tell_tags(self, tell):
+    def tell_tags(self, tell: Callable[[str], None]) -> None:
         """What is amiss with the tags of music, in a line."""
         if self.tagless:
             pieces = counted(self.tagless, "piece")
             tell(f"{pieces} of music without the words of tags: python3-mutagen is not there" if self.is_deaf else
                  f"{pieces} of music whose tags can't be read")
 
-    def _tell_apart(self):
+    def _tell_apart(self) -> None:
         """What the name of each is made of. Of several mails with one Message-ID all but one are known by their bytes too, and those with
         the same bytes by their number; so this doesn't depend on where they were found first."""
-        same = {}
+        same: dict[tuple[bytes, ...], list[Entry]] = {}
         for entry in self.all:
             if entry.ident:
                 same.setdefault(entry.ident, []).append(entry)
             else:
                 entry.ident = b"path", os.fsencode(entry.found.key)
-            if entry.is_mail and entry.subject is None:
-                entry.subject = ""
         for ident, entries in same.items():
             entries.sort(key=lambda entry: (entry.digest or b"", entry.found.key))
-            seen = {}
+            seen: dict[bytes | None, int] = {}
             for entry in entries:
                 seen[entry.digest] = number = seen.get(entry.digest, -1) + 1
                 if entry is not entries[0]:

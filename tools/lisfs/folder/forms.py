@@ -1,4 +1,6 @@
 """Texts as words and names of an image: ASCII, and in the forms that the program takes."""
+from __future__ import annotations
+
 import os
 import re
 import unicodedata
@@ -15,10 +17,10 @@ LETTERS = str.maketrans({
 RUN = re.compile(r"[A-Za-z0-9]+")
 
 
-class WithoutMarks(dict):
+class WithoutMarks(dict[int, int | str | None]):
     """What becomes of a letter when its marks stand apart: of a mark nothing, and of a letter that is no ASCII a blank."""
 
-    def __missing__(self, code):
+    def __missing__(self, code: int) -> int | str | None:
         found = self[code] = None if unicodedata.combining(chr(code)) else code if code < 128 else " "
         return found
 
@@ -26,7 +28,7 @@ class WithoutMarks(dict):
 WITHOUT_MARKS = WithoutMarks()
 
 
-def folded(text):
+def folded(text: str) -> str:
     """A text in ASCII, with its case: umlauts as two letters, other letters without their marks. What can't be written so is a blank."""
     if text.isascii():
         return text.replace("'", "")
@@ -35,12 +37,12 @@ def folded(text):
     return unicodedata.normalize("NFKD", text).translate(WITHOUT_MARKS)
 
 
-def runs(text):
+def runs(text: str) -> list[str]:
     """The longest runs of letters and digits of a text in ASCII and small letters."""
     return RUN.findall(folded(text).lower())
 
 
-def joined(text, longest):
+def joined(text: str, longest: int) -> bytes:
     """The runs of a text with `-` between, so many whole ones as there is room for, and of the first one at least a part."""
     found = ""
     for run in runs(text):
@@ -51,19 +53,19 @@ def joined(text, longest):
     return found.encode()
 
 
-def valued(head, text):
+def valued(head: bytes, text: str) -> list[bytes]:
     """The word of this head with a text as its value, or none."""
     value = joined(text, MAX_WORD - len(head) - 1)
     return [b"%s:%s" % (head, value)] if value else []
 
 
-def plain(name):
+def plain(name: str) -> bytes:
     """The plain bytes of a name of the system, of any length. Letters that are no ASCII are folded; what can't be written so is a `_`."""
     text = unicodedata.normalize("NFC", os.fsencode(name).decode(errors="surrogateescape"))
     text = "".join(letter if letter.isascii() else folded(letter).strip() or "_" for letter in text)
     return mapped(text.encode())
 
 
-def folder_value(name):
+def folder_value(name: str) -> bytes:
     """What stands for a folder in a word, of any length; nothing where its name has only full stops."""
     return plain(name).lstrip(b".")

@@ -47,7 +47,7 @@ NOT_IN_A_WORD = re.compile(r"[^a-z0-9_.+@-]")
 class Mail:
     """What the header of a mail says: `message_id` as text or None, `subject` as text, and `words`, the most important first."""
 
-    def __init__(self, content):
+    def __init__(self, content: bytes) -> None:
         header = content[:HEADER]
         if end := END.search(header):
             header = header[:end.end()]
@@ -61,34 +61,35 @@ class Mail:
         self.message_id = found[1] if found else raw.strip() or None
         self.subject = subject_of(self._raw("Subject"))
 
-    def _raw(self, name):
+    def _raw(self, name: str) -> str:
         """A field's text as it stands, or none."""
         return self._fields.get(name.lower(), "")
 
-    def words(self):
+    def words(self) -> list[bytes]:
         found = [self._date(), self._list(), people(self._raw("From")), self._about(), people(self._raw("To")),
                  people(self._raw("Cc"))]
         return list(dict.fromkeys(word for words in found for word in words))
 
-    def _date(self):
+    def _date(self) -> list[bytes]:
         try:
             date = email.utils.parsedate_tz(self._raw("Date")[:SHORT])
         except Exception:
             date = None
         return [b"date:%04d-%02d" % date[:2]] if date and 1970 <= date[0] <= 2099 and 1 <= date[1] <= 12 else []
 
-    def _list(self):
+    def _list(self) -> list[bytes]:
         found = LIST_ID.search(self._raw("List-Id"))
         return of_address(b"list", found[1]) if found else []
 
-    def _about(self):
+    def _about(self) -> list[bytes]:
         said = [run for run in runs(self.subject) if len(run) >= 3 and not run.isdigit() and run not in SAYS_NOTHING]
         return [b"about:" + run[:MAX_WORD - len("about:")].encode() for run in said]
 
 
-def fields_of(header):
+def fields_of(header: str) -> dict[str, str]:
     """The first field of each name in `FIELDS`, as it stands. A line that is none of a header ends it, as for the `email` package."""
-    found, lines = {}, None
+    found: dict[str, list[str]] = {}
+    lines: list[str] | None = None
     for line in itertools.islice(LINE.finditer(header), LINES):
         begin = BEGIN.match(line[0])
         if not begin:
@@ -103,26 +104,36 @@ def fields_of(header):
     return {name: "".join(of).rstrip("\r\n")[:FIELD] for name, of in found.items()}
 
 
-def subject_of(raw):
+def subject_of(raw: str) -> str:
     """A Subject as it is meant. A header may be anything, and the package has no list of what it raises then."""
     raw = re.sub(r"[\r\n]+", "", raw)
     if len(raw) > SUBJECT:
         raw = raw[:SUBJECT].rpartition(" ")[0] or raw[:SUBJECT]
-    for decode in (lambda: email.policy.default.header_factory("Subject", raw), lambda: email.header.make_header(email.header.decode_header(raw))):
+    for decode in (newer_header, older_header):
         try:
-            return str(decode())
+            return str(decode(raw))
         except Exception:
             pass
     return raw
 
 
-def people(raw):
+def newer_header(raw: str) -> object:
+    """A Subject as the package's newer classes read it."""
+    return email.policy.default.header_factory("Subject", raw)
+
+
+def older_header(raw: str) -> object:
+    """The same, as its older ones read it."""
+    return email.header.make_header(email.header.decode_header(raw))
+
+
+def people(raw: str) -> list[bytes]:
     """The words of those whom a field names."""
     return [word for shown, address in addresses.people(raw) for word in of_person(shown, address)]
 
 
 @functools.lru_cache(KEPT)
-def of_person(shown, address):
+def of_person(shown: str, address: str) -> list[bytes]:
     """The word of somebody's name, which is turned where it says `LAST, FIRST`; or else that of the address."""
     if ADDRESS.fullmatch(shown.strip()):
         shown, address = "", address if "@" in address else shown.strip()
@@ -131,7 +142,7 @@ def of_person(shown, address):
     return valued(b"who", text) if sum(map(str.isalpha, text)) > 1 else of_address(b"who", address)
 
 
-def of_address(head, address):
+def of_address(head: bytes, address: str) -> list[bytes]:
     """The word of an address, or of what looks like one."""
     value = NOT_IN_A_WORD.sub("_", address.strip().lower()).strip("_")[:MAX_WORD - len(head) - 1]
     return [head + b":" + value.encode()] if value.strip("_@") else []

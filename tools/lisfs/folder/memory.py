@@ -16,13 +16,16 @@
    recorded, and each difference is a conflict.
 10. A memory that can't be written, or for whose word the image has no room, is told; the next run then is one without a memory.
 """
-import collections
+from __future__ import annotations
+
 import contextlib
 import hashlib
 import json
 import os
 import re
 import stat
+from collections.abc import Callable, Set
+from typing import NamedTuple, TypeAlias
 
 from lisfs.constants import MAX_WORD
 from lisfs.folder.cache import LARGEST, folder_of, write_whole
@@ -34,10 +37,22 @@ NAMED = re.compile(r"synced-[0-9a-f]{64}\.json")
 # What is coming where a file is to be removed. No digest is empty.
 REMOVAL = ""
 
-Record = collections.namedtuple("Record", "name made folder image coming", defaults=(None,))
+
+class Record(NamedTuple):
+    """What is known of one file: see above."""
+
+    name: str
+    made: str
+    folder: str | None
+    image: str | None
+    coming: str | None = None
 
 
-def begin_of_word(marker):
+# By the keys of the files.
+Records: TypeAlias = dict[str, Record]
+
+
+def begin_of_word(marker: bytes) -> bytes:
     """What the word of a memory begins with, for the folder of this marker."""
     name, room = marker.partition(b":")[2], MAX_WORD - len(WORD) - 1 - DIGITS
     if len(name) > room:
@@ -45,7 +60,7 @@ def begin_of_word(marker):
     return WORD + name + b"-"
 
 
-def words_of_memories(marker, declared):
+def words_of_memories(marker: bytes, declared: Set[bytes]) -> list[bytes]:
     """The words of an image that name a memory of this folder. There is one, or two where a run was stopped between them."""
     begin = begin_of_word(marker)
     return sorted(word for word in declared if word.startswith(begin) and re.fullmatch(rb"[0-9a-f]{%d}" % DIGITS, word[len(begin):]))
@@ -54,16 +69,16 @@ def words_of_memories(marker, declared):
 class Memory:
     """The memories of one folder, by its marker."""
 
-    def __init__(self, marker):
+    def __init__(self, marker: bytes) -> None:
         self.marker, self.top = marker, folder_of("XDG_STATE_HOME", "~/.local/state")
 
-    def read(self, declared):
+    def read(self, declared: Set[bytes]) -> Records | None:
         """The records that belong to an image with these words, or None where they are not known."""
         found = [records for word in words_of_memories(self.marker, declared) if (records := self._read(word)) is not None]
         # Of two the one with nothing coming was written after all changes of its run.
-        return min(found, key=lambda records: any(record.coming is not None for record in records.values()), default=None)
+        return min(found, key=lambda records: any(record.coming is not None for record in records.values())) if found else None
 
-    def write(self, records):
+    def write(self, records: Records) -> bytes:
         """Keeps records, and returns the word by which an image names them. Raises `OSError`."""
         body = self._body(records)
         digest = hashlib.sha256(body).hexdigest()
@@ -72,19 +87,19 @@ class Memory:
         self._forget_old(os.path.basename(path))
         return begin_of_word(self.marker) + digest[:DIGITS].encode()
 
-    def forget(self, word):
+    def forget(self, word: bytes) -> None:
         """Removes the memory of this word, which no image names any more."""
         with contextlib.suppress(OSError):
             for name in os.listdir(self.top):
                 if NAMED.fullmatch(name) and name.startswith(f"synced-{word[-DIGITS:].decode()}"):
                     os.unlink(os.path.join(self.top, name))
 
-    def _body(self, records):
+    def _body(self, records: Records) -> bytes:
         files = {key: list(record[:4]) + ([] if record.coming is None else [record.coming]) for key, record in records.items()}
         # The same records give the same text, and so the same word.
         return json.dumps({"form": FORM, "marker": self.marker.decode(), "files": files}, sort_keys=True).encode()
 
-    def _read(self, word):
+    def _read(self, word: bytes) -> Records | None:
         digits = word[-DIGITS:].decode()
         with contextlib.suppress(OSError, ValueError, LookupError, TypeError, RecursionError):
             for name in sorted(os.listdir(self.top)):
@@ -92,7 +107,7 @@ class Memory:
                     return self._records(name)
         return None
 
-    def _records(self, name):
+    def _records(self, name: str) -> Records | None:
         path = os.path.join(self.top, name)
         descriptor = os.open(path, os.O_RDONLY | os.O_NOFOLLOW | os.O_NONBLOCK | os.O_CLOEXEC)
         with open(descriptor, "rb") as file:
@@ -108,7 +123,7 @@ class Memory:
             os.utime(path)
         return {key: Record(*record) for key, record in given["files"].items()}
 
-    def _forget_old(self, name):
+    def _forget_old(self, name: str) -> None:
         """Removes the memories that were used long ago, and never the one of this name."""
         with contextlib.suppress(OSError):
             others = [other for other in os.listdir(self.top) if NAMED.fullmatch(other) and other != name]
@@ -117,14 +132,7 @@ class Memory:
                 os.unlink(os.path.join(self.top, other))
 
 
-class NoMemory:
-    """Remembers nothing, as for a first look."""
-
-    def read(self, declared):
-        return None
-
-
-def settled(records, digest_in):
+def settled(records: Records, digest_in: Callable[[str], str | None]) -> Records:
     """Records without anything coming: what a run that was stopped has done is done. `digest_in` gives the digest of a file of the image by
     its name, or None."""
     found = {}

@@ -1,9 +1,13 @@
 """Words out of the tags of a piece of music, which `mutagen` reads (Debian's `python3-mutagen`): `artist:`, `album:`, `genre:`, `year:`."""
+from __future__ import annotations
+
 import importlib
 import io
 import os
 import re
 import sys
+from collections.abc import Sequence
+from typing import Protocol, cast
 
 from lisfs.folder.forms import valued
 
@@ -22,26 +26,44 @@ YEAR = re.compile(r"(?<![0-9])[0-9]{4}(?![0-9])")
 DEBIAN = "/usr/lib/python3/dist-packages"
 
 
-def is_music(path):
+class Tags(Protocol):
+    def __getitem__(self, name: str, /) -> object: ...
+
+
+class Piece(Protocol):
+    """A piece of music that was read, and its tags, if it has some."""
+
+    tags: Tags | None
+
+
+class Mutagen(Protocol):
+    """What of the module is used here."""
+
+    version_string: str
+
+    def File(self, file: io.BytesIO, /) -> Piece | None: ...
+
+
+def is_music(path: str) -> bool:
     return os.path.splitext(path)[1].lower() in SUFFIXES
 
 
-def reader():
+def reader() -> Mutagen | None:
     """The module, or None where it isn't there."""
     try:
-        return importlib.import_module("mutagen")
+        return cast(Mutagen, importlib.import_module("mutagen"))
     except ImportError:
         pass
     sys.path.append(DEBIAN)
     try:
-        return importlib.import_module("mutagen")
+        return cast(Mutagen, importlib.import_module("mutagen"))
     except ImportError:
         return None
     finally:
         sys.path.remove(DEBIAN)
 
 
-def words(mutagen, path, content):
+def words(mutagen: Mutagen, path: str, content: bytes) -> list[bytes] | None:
     """The words of a piece's tags, the most important first. A file that is no music, or a broken one, has none: then it is None."""
     file = io.BytesIO(content)
     # The package looks at the ending too.
@@ -54,7 +76,7 @@ def words(mutagen, path, content):
         return None
     if piece is None:
         return None
-    found = []
+    found: list[bytes] = []
     for head in HEADS:
         for text in texts(tags, TAGS[head]):
             if head == b"year":
@@ -65,9 +87,11 @@ def words(mutagen, path, content):
     return list(dict.fromkeys(found))
 
 
-def texts(tags, names):
+def texts(tags: Tags | None, names: Sequence[str]) -> list[str]:
     """The texts of the first of these tags that is there."""
-    for name in names if tags is not None else ():
+    if tags is None:
+        return []
+    for name in names:
         try:
             value = tags[name]
         except Exception:

@@ -20,12 +20,12 @@ SUFFIX = re.compile(rb"(?<=[^.+])\.[A-Za-z0-9_@-]{1,12}$")
 EML = b".eml"
 
 
-def digest_of(*parts):
+def digest_of(*parts: bytes) -> bytes:
     """Some digits that stand for these texts."""
     return hashlib.sha256(b"\0".join(parts)).hexdigest()[:DIGITS].encode()
 
 
-def of_path(key):
+def of_path(key: str) -> bytes:
     """The name of a file by its path below the folder."""
     path = os.fsencode(key)
     name = path.replace(b"/", b"+")
@@ -33,7 +33,7 @@ def of_path(key):
     return name if is_clear else digested(key, digest_of(b"path", path))
 
 
-def digested(key, digest):
+def digested(key: str, digest: bytes) -> bytes:
     """A name that shows the end of a path, and has a digest."""
     name = b"+".join(plain(part) for part in key.split(os.sep))
     found = SUFFIX.search(name)
@@ -42,11 +42,11 @@ def digested(key, digest):
     return name[:len(name) - len(suffix)][-room:] + b"-" + digest + suffix
 
 
-def of_mail(subject, digest):
+def of_mail(subject: str, digest: bytes) -> bytes:
     """The name of a mail by its subject, and by what it is known by."""
     return (joined(subject, MAX_WORD - len(b"-" + digest + EML)) or b"mail") + b"-" + digest + EML
 
 
-def lean(name):
+def lean(name: bytes) -> bytes:
     """The name of a mail of which the program derives no words, and which has none itself."""
     return name.removesuffix(EML)

@@ -46,7 +46,9 @@ on a terminal the progress. Where none of its files is in the folder any more, a
 
 The status is 0 where all was taken, 1 where something was not, and 2 for wrong use. It may be stopped at any moment: the next run goes on.
 Nothing of it is proved. It uses the word `load` of the program, where that has it, and else `run`.
-"""
+"""  # noqa: E501, as the line of the usage is printed
+from __future__ import annotations
+
 import argparse
 import contextlib
 import hashlib
@@ -54,22 +56,26 @@ import os
 import signal
 import struct
 import sys
+from collections.abc import Sequence
+from typing import NoReturn
 
 from lisfs.client import PROGRAM, Ended, Locked, NotAReply, Program, missing
 from lisfs.constants import MAX_ASSIGNED, MAX_DERIVED, MAX_DESCRIPTION, MAX_WORD
-from lisfs.dumps import NotADump, dumped, opened
-from lisfs.folder.cache import Nothing, Remembered
+from lisfs.dumps import Dump, NotADump, dumped, opened
+from lisfs.folder.cache import Cache, Nothing, Remembered
 from lisfs.folder.carrying import Carrying, NoRoom, Sender, session_word
-from lisfs.folder.changes import MARKER, Changes, Wishes, folder_words
+from lisfs.folder.changes import MARKER, Changes, Done, Wishes, folder_words
 from lisfs.folder.entries import Entries
 from lisfs.folder.forms import folder_value
-from lisfs.folder.memory import Memory
+from lisfs.folder.memory import Memory, Records
 from lisfs.folder.report import Telling, counted, left_out
 from lisfs.image import limits_of
 from lisfs.showing import harmless, write_line
 from lisfs.words import PLAIN_FORM, PLAIN_RUN
 
 STOPS = (signal.SIGTERM, signal.SIGHUP)
+# What is counted, and how that is told.
+COUNTED = {Done.NEW: "new", Done.CHANGED: "changed", Done.MOVED: "moved", Done.WORDS: "with other words", Done.GONE: "gone"}
 # So many conflicts are named in any case.
 NAMED = 10
 
@@ -82,46 +88,71 @@ class Stopped(BaseException):
     """A signal came by which this program is to end."""
 
 
-def default_name(folder):
+def default_name(folder: str) -> bytes:
     """The folder's name, and digits that stand for where it lies: two folders of one name have their own files each."""
     path = os.path.realpath(folder)
     name = folder_value(os.path.basename(path))[:40] or b"root"
     return name + b"-" + hashlib.sha256(os.fsencode(path)).hexdigest()[:4].encode()
 
 
+class Options(argparse.Namespace):
+    """The words of the command line."""
+
+    name: str | None
+    without: list[str]
+    flat: bool
+    lean: bool
+    dry_run: bool
+    verbose: bool
+    all_gone: bool
+    no_cache: bool
+    ours: bool
+    theirs: bool
+    restore: bool
+    image: str
+    folder: str
+
+
 class Sync:
-    def __init__(self, words, telling):
+    def __init__(self, words: Options, telling: Telling) -> None:
         self.image, self.folder, self.words, self.telling = words.image, words.folder, words, telling
         name = os.fsencode(words.name) if words.name is not None else default_name(words.folder)
         self.marker = MARKER + b":" + name
-        self.memory, self.unkept = Memory(self.marker), None
-        self.counts, self.done, self.plan, self.carrying, self.entries, self.known = dict.fromkeys(
-            ("new", "changed", "moved", "words", "gone"), 0), 0, None, None, None, None
+        self.memory = Memory(self.marker)
+        # Why what was brought in could not be kept, and what earlier runs brought in, if it is known.
+        self.unkept: str | None = None
+        self.known: Records | None = None
+        # So many of each were made, and of all.
+        self.counts, self.done = dict.fromkeys(COUNTED, 0), 0
+        # What is there so far, when it is told.
+        self.entries: Entries | None = None
+        self.plan: Changes | None = None
+        self.carrying: Carrying | None = None
 
-    def run(self):
+    def run(self) -> None:
         largest = self.look()
         looked = 0
 
-        def look():
+        def look() -> None:
             nonlocal looked
             looked += 1
             self.telling.progress(lambda: f"{counted(looked, 'file')} looked at")
 
-        words = (lambda _: []) if self.words.flat else folder_words
-        remembered = Nothing() if self.words.no_cache else Remembered(self.folder)
-        self.entries = Entries(self.folder, largest, words, self.telling.leave, look, self.words.without, os.stat(self.image), remembered)
-        self.entries.read()
+        words = no_words if self.words.flat else folder_words
+        remembered: Cache = Nothing()
+        if not self.words.no_cache:
+            remembered = Remembered(self.folder)
+        self.entries = entries = Entries(self.folder, largest, words, self.telling.leave, look, self.words.without, os.stat(self.image), remembered)
+        entries.read()
         if self.words.dry_run:
-            self.make_plan(dumped(self.image, with_digests=True))
-            self.would()
+            self.would(self.make_plan(entries, dumped(self.image, with_digests=True)))
         else:
             remembered.save()
             program, dump = opened(self.image, word=session_word(), with_digests=True)
             with program:
-                self.make_plan(dump)
-                self.carry(program, largest)
+                self.carry(program, self.make_plan(entries, dump), largest)
 
-    def look(self):
+    def look(self) -> int:
         """Whether the image can be opened, before anything takes long, and the most bytes that a file of it may have."""
         if what := missing():
             raise Failed(what)
@@ -131,88 +162,81 @@ class Sync:
         except (OSError, struct.error) as error:
             raise Failed(f"{self.image}: {error}") from None
 
-    def make_plan(self, dump):
+    def make_plan(self, entries: Entries, dump: Dump) -> Changes:
         wishes = Wishes(self.words.ours, self.words.theirs, self.words.restore)
         self.known = self.memory.read(dump.declared)
-        plan = Changes(self.entries.all, dump, self.marker, self.words.lean, self.known, wishes, self.entries.walk.is_blind)
+        plan = Changes(entries.all, dump, self.marker, self.words.lean, self.known, wishes, entries.walk.is_blind)
         if plan.own and not plan.kept and not plan.is_blind and not self.words.all_gone:
             raise Failed(f"nothing was done: none of the {counted(plan.own, 'file')} of {self.marker.decode()} is in {self.folder} any "
                          "more; --all-gone removes them all the same")
         self.plan = plan
         for entry in plan.refused:
-            self.telling.leave(entry.found.path, entry.found.problem)
+            self.telling.leave(entry.found.path, entry.found.problem or "")
+        return plan
 
-    def carry(self, program, largest):
-        self.carrying = Carrying(Sender(program), self.plan, largest, self.told, self.failed)
-        self.carrying.declare()
-        before, coming = set(self.carrying.memories), None
-        if not self.plan.is_nothing():
-            coming = self.remember(self.plan.coming())
-        self.carrying.run()
+    def carry(self, program: Program, plan: Changes, largest: int) -> None:
+        self.carrying = carrying = Carrying(Sender(program), plan, largest, self.told, self.failed)
+        carrying.declare()
+        before, coming = set(carrying.memories), None
+        if not plan.is_nothing():
+            coming = self.remember(carrying, plan.coming())
+        carrying.run()
         # Where nothing is known and nothing was brought in, another one's memory stays.
-        if self.plan.records or self.known is not None:
-            if self.remember(self.plan.seen()) != coming and coming is not None and coming not in before:
+        if plan.records or self.known is not None:
+            if self.remember(carrying, plan.seen()) != coming and coming is not None and coming not in before:
                 self.memory.forget(coming)
 
-    def remember(self, records):
+    def remember(self, carrying: Carrying, records: Records) -> bytes | None:
         """Keeps what was brought in, and has the image name it by a word, which it returns. Where that can't be, the image names nothing."""
+        word = None
         try:
-            word = self.memory.write(records) if records else None
+            if records:
+                word = self.memory.write(records)
         except OSError as error:
-            word, self.unkept = None, f"{error.filename or self.memory.top}: {error.strerror}"
-        self.carrying.remember(word)
+            self.unkept = f"{error.filename or self.memory.top}: {error.strerror}"
+        carrying.remember(word)
         return word
 
-    def would(self):
-        for name in self.plan.gone:
-            self.told("gone", name)
-        for change in self.plan.changes:
+    def would(self, plan: Changes) -> None:
+        for name in plan.gone:
+            self.told(Done.GONE, name)
+        for change in plan.changes:
             path = change.entry.found.path
             if change.is_new:
-                self.told("new", change.name, path)
+                self.told(Done.NEW, change.name, path)
             elif change.is_moved:
-                self.told("moved", change.name, path)
+                self.told(Done.MOVED, change.name, path)
             elif change.has_other_bytes:
-                self.told("changed", change.name, path)
+                self.told(Done.CHANGED, change.name, path)
             else:
                 given = ["-" + word.decode() for word in change.loses] + ["+" + word.decode() for word in change.gains]
-                self.told("words", change.name, " ".join(given))
+                self.told(Done.WORDS, change.name, " ".join(given))
 
-    def told(self, what, name, more=""):
+    def told(self, what: Done, name: bytes, more: str = "") -> None:
         self.count()
-        if what == "same":
+        if what is not Done.SAME:
+            self.counts[what] += 1
+            self.telling.tell_file(f"{what.value}: {name.decode()}" + (f": {harmless(more)}" if more else ""))
+        elif self.plan:
             self.plan.same += 1
-            return
-        self.counts[what] += 1
-        self.telling.tell_file(f"{what}: {name.decode()}" + (f": {harmless(more)}" if more else ""))
 
-    def failed(self, path, why):
+    def failed(self, path: str, why: str) -> None:
         self.count()
         self.telling.leave(path, why)
 
-    def count(self):
+    def count(self) -> None:
         self.done += 1
-        self.telling.progress(lambda: f"{self.done} of {len(self.plan.changes) + len(self.plan.gone)} changes")
+        if self.plan:
+            total = len(self.plan.changes) + len(self.plan.gone)
+            self.telling.progress(lambda: f"{self.done} of {total} changes")
 
-    def report(self):
+    def report(self) -> None:
         """The counts, as far as they are known."""
-        tell, marker = self.telling.tell, self.marker.decode()
+        tell = self.telling.tell
         if self.plan is not None:
-            names = {"new": "new", "changed": "changed", "moved": "moved", "words": "with other words", "gone": "gone"}
-            parts = [f"{self.counts[what]} {name}" for what, name in names.items() if self.counts[what]]
-            same = f"{self.plan.same} as they were"
-            if parts:
-                tell(f"{marker}: {'would be ' if self.words.dry_run else ''}{', '.join(parts)}, {same}")
-            else:
-                tell(f"{marker}: nothing changed, {same}")
-            self.report_image()
-            left_out(tell, self.plan.beyond, self.plan.beyond_files, f"a file is given {MAX_ASSIGNED} at most")
-            self.report_cut()
+            self.report_plan(self.plan)
         if self.carrying is not None:
-            left_out(tell, self.carrying.too_many, self.carrying.too_many_files, f"a file has {MAX_DESCRIPTION} at most, with those that it has by itself")
-            left_out(tell, self.carrying.without, self.carrying.without_files, "no room for more words")
-        if self.carrying is not None and self.carrying.lean:
-            tell(f"{counted(self.carrying.lean, 'mail')} named without .eml: no room for the words that the program derives")
+            self.report_carrying(self.carrying)
         if self.entries is not None:
             self.entries.tell_tags(tell)
         if self.telling.not_taken:
@@ -224,18 +248,37 @@ class Sync:
         elif self.carrying is not None and self.carrying.is_forgetful:
             tell("no room for the word that names what was brought in: the next run takes each difference for a conflict")
 
-    def report_cut(self):
+    def report_plan(self, plan: Changes) -> None:
+        """What was done, or would be, and what was left out."""
+        tell, marker, same = self.telling.tell, self.marker.decode(), f"{plan.same} as they were"
+        if parts := [f"{self.counts[what]} {name}" for what, name in COUNTED.items() if self.counts[what]]:
+            tell(f"{marker}: {'would be ' if self.words.dry_run else ''}{', '.join(parts)}, {same}")
+        else:
+            tell(f"{marker}: nothing changed, {same}")
+        self.report_image(plan)
+        left_out(tell, plan.beyond, plan.beyond_files, f"a file is given {MAX_ASSIGNED} at most")
+        self.report_cut(plan)
+
+    def report_carrying(self, carrying: Carrying) -> None:
+        """What there was no room for."""
+        tell = self.telling.tell
+        left_out(tell, carrying.too_many, carrying.too_many_files, f"a file has {MAX_DESCRIPTION} at most, with those that it has by itself")
+        left_out(tell, carrying.without, carrying.without_files, "no room for more words")
+        if carrying.lean:
+            tell(f"{counted(carrying.lean, 'mail')} named without .eml: no room for the words that the program derives")
+
+    def report_cut(self, plan: Changes) -> None:
         """What the program derives no words of, since there are too many."""
-        cut = self.plan.cut()
+        cut = plan.cut()
         for name, count in cut:
             self.telling.tell_file(f"cut: {name}: {MAX_DERIVED} of at least {count:,} words that it has by itself")
         if cut:
             self.telling.tell(f"at least {counted(sum(count - MAX_DERIVED for _, count in cut), 'word')} of {counted(len(cut), 'file')} cut: a file "
                               f"has {MAX_DERIVED} by itself at most, so a search by from:, to:, subject:, includes: or defines: can miss it")
 
-    def report_image(self):
+    def report_image(self, plan: Changes) -> None:
         """What was changed in the image, and stays."""
-        tell, plan = self.telling.tell, self.plan
+        tell = self.telling.tell
         for was, name in plan.renamed:
             self.telling.tell_file(f"renamed in the image: {name}: it was {was}")
         for name in plan.edited:
@@ -255,12 +298,18 @@ class Sync:
             more = f" ({len(plan.conflicts) - len(named)} not named: --verbose)" if len(named) < len(plan.conflicts) else ""
             tell(f"{counted(len(plan.conflicts), 'conflict')} left{more}: --ours keeps what the image has, --theirs takes what the folder has")
 
-    def is_whole(self):
-        return not (self.telling.not_taken or self.plan.unseen or self.plan.conflicts or self.unkept
-                    or self.carrying and (self.carrying.without or self.carrying.too_many or self.carrying.lean or self.carrying.is_forgetful))
+    def is_whole(self) -> bool:
+        plan, carrying = self.plan, self.carrying
+        if self.telling.not_taken or self.unkept or plan and (plan.unseen or plan.conflicts):
+            return False
+        return not (carrying and (carrying.without or carrying.too_many or carrying.lean or carrying.is_forgetful))
 
 
-def cause(error, image):
+def no_words(_: Sequence[str]) -> list[bytes]:
+    return []
+
+
+def cause(error: BaseException, image: str) -> str:
     """What is amiss, in one line."""
     if isinstance(error, Locked):
         return f"{image} is in use by another lisfs"
@@ -273,11 +322,12 @@ def cause(error, image):
     return str(error)
 
 
-def stop(*_):
+def stop(*_: object) -> NoReturn:
     raise Stopped
 
 
-def main():
+def options() -> Options:
+    """What the command line says. Ends where that is wrong use."""
     parser = argparse.ArgumentParser(usage=__doc__.split("usage: ", 1)[1])
     parser.add_argument("--as", dest="name")
     parser.add_argument("--without", action="append", default=[])
@@ -293,18 +343,24 @@ def main():
     parser.add_argument("--restore", action="store_true")
     parser.add_argument("image")
     parser.add_argument("folder")
-    words = parser.parse_args()
+    words = parser.parse_args(namespace=Options())
     longest = MAX_WORD - len(MARKER + b":")
     if words.name is not None and not (PLAIN_RUN.fullmatch(os.fsencode(words.name)) and len(words.name) <= longest):
         parser.error(f"{harmless(words.name)} is no name: it has 1 to {longest} {PLAIN_FORM}")
     if not os.path.isdir(words.folder):
         parser.error(f"{harmless(words.folder)} is no folder")
+    return words
+
+
+def main() -> int:
+    words = options()
     for number in STOPS:
         # What is ignored, as by `nohup`, stays so.
         if signal.getsignal(number) == signal.SIG_DFL:
             signal.signal(number, stop)
     telling = Telling("sync", sys.stdout, words.verbose or words.dry_run)
-    syncing, amiss = Sync(words, telling), None
+    syncing = Sync(words, telling)
+    amiss: str | None = None
     try:
         syncing.run()
     except (Ended, Failed, NoRoom, NotADump, NotAReply, OSError, RuntimeError, KeyboardInterrupt, Stopped) as error:

@@ -6,13 +6,18 @@ folders `.NAME.NAME`, whose names are decoded as mail programs write them.
 No symbolic link below the folder is followed: each part of a path is opened in the folder before it, so that this holds too where somebody
 puts a link in the place of a folder meanwhile.
 """
+from __future__ import annotations
+
 import base64
 import contextlib
+import dataclasses
 import errno
 import fnmatch
 import os
 import re
 import stat
+from collections.abc import Callable, Generator, Iterator, Sequence
+from typing import BinaryIO, NamedTuple, TypeAlias
 
 MARK = re.compile(r"&([A-Za-z0-9+,]*)-")
 NO_FILE, NO_PART = "no plain file", "no part of the maildir"
@@ -23,46 +28,67 @@ THROUGH = getattr(os, "O_PATH", os.O_RDONLY) | os.O_DIRECTORY | os.O_CLOEXEC
 READ = os.O_RDONLY | os.O_NOFOLLOW | os.O_CLOEXEC
 
 
+# The names that lead to a file from a folder.
+Parts: TypeAlias = tuple[str, ...]
+# What a name is, or why that can't be told; and the names in a folder, each with what it is.
+Kind: TypeAlias = os.stat_result | OSError
+Kinds: TypeAlias = dict[str, Kind]
+# Is told the path of what is not taken, and why.
+Leave: TypeAlias = Callable[[str, str], None]
+
+
+@dataclasses.dataclass(slots=True, eq=False)
 class Found:
     """A file. `parts` are the names that lead to it from the folder `top`, `folders` are the names of those that it lies in below, and `key`
     is what it is known by at every run: its path below the top, of a mail without what changes when it is looked at. Of a mail in a maildir
-    `base` is its name without flags, and else None. `size` is its size now, or None where `problem` says why it can't be taken."""
+    `base` is its name without flags, and else None. `kind` is what the system says of it, if it is a file that can be taken, and `size` its
+    size now, or None where `problem` says why it can't be taken."""
 
-    __slots__ = ("top", "parts", "folders", "key", "base", "kind", "size", "problem")
-
-    def __init__(self, top, parts, folders, key, base=None):
-        self.top, self.parts, self.folders, self.key, self.base = top, parts, folders, key, base
-        # What the system says of it, where it is a file that can be taken.
-        self.kind = self.size = self.problem = None
+    top: str
+    parts: Parts
+    folders: Parts
+    key: str
+    base: str | None = None
+    kind: os.stat_result | None = None
+    size: int | None = None
+    problem: str | None = None
 
     @property
-    def path(self):
+    def path(self) -> str:
         return os.path.join(self.top, *self.parts)
+
+
+class Waiting(NamedTuple):
+    """A folder that is still to be walked through, and what is in it, if that is known."""
+
+    parts: Parts
+    folders: Parts
+    kinds: Kinds | None
 
 
 class Walk:
     """Walks through a folder. What is no file to take is told by `leave(path, why)`. What has a name as one of `without`, patterns of a
     shell, is passed over, and so is the file that `passed` describes. `is_blind` says whether there may be files that were not seen."""
 
-    def __init__(self, top, leave, without=(), passed=None):
+    def __init__(self, top: str, leave: Leave, without: Sequence[str] = (), passed: os.stat_result | None = None) -> None:
         self.top, self.leave, self.without, self.passed, self.is_blind = top, leave, without, passed, False
 
-    def files(self):
+    def files(self) -> Iterator[Found]:
         """Each `Found`, in an order that the names alone give."""
-        left = [((), (), None)]
+        left = [Waiting((), (), None)]
         while left:
-            parts, folders, kinds = left.pop()
-            kinds = self._kinds(parts) if kinds is None else kinds
+            parts, folders, known = left.pop()
+            kinds = self._kinds(parts) if known is None else known
             if is_maildir(kinds, ("cur", "new", "tmp") if parts else ("cur", "new")):
                 others = yield from self._maildir(parts, folders, kinds)
             else:
-                others = [((*parts, name), (*folders, name), None) for name, kind in self._wanted(kinds) if is_folder(kind)]
+                others = [Waiting((*parts, name), (*folders, name), None) for name, kind in self._wanted(kinds) if is_folder(kind)]
                 for name, kind in self._wanted(kinds):
                     if not is_folder(kind):
                         yield from self._file(Found(self.top, (*parts, name), folders, os.path.join(*parts, name)), kind)
             left += reversed(others)
 
-    def _kinds(self, parts):
+    def _kinds(self, parts: Parts) -> Kinds:
         """The names in a folder, each with what it is. None are there where it can't be read, which is told."""
         try:
             return names_in(self.top, parts)
@@ -71,24 +97,25 @@ class Walk:
             self.leave(os.path.join(self.top, *parts), NO_FILE if is_no_folder(error) else error.strerror)
             return Unread()
 
-    def _wanted(self, kinds):
+    def _wanted(self, kinds: Kinds) -> list[tuple[str, Kind]]:
         """The names that are not passed over, in their order, each with what it is."""
         return [(name, kinds[name]) for name in sorted(kinds) if not any(fnmatch.fnmatchcase(name, pattern) for pattern in self.without)]
 
-    def _file(self, found, kind):
+    def _file(self, found: Found, kind: Kind) -> Iterator[Found]:
         """The file, where it is one."""
         if isinstance(kind, OSError):
             # It may be a folder.
             found.problem, self.is_blind = kind.strerror, True
         elif not stat.S_ISREG(kind.st_mode):
-            return self.leave(found.path, NO_FILE)
+            self.leave(found.path, NO_FILE)
+            return
         elif self.passed and os.path.samestat(kind, self.passed):
             return
         else:
             found.kind, found.size = kind, kind.st_size
         yield found
 
-    def _maildir(self, parts, folders, kinds):
+    def _maildir(self, parts: Parts, folders: Parts, kinds: Kinds) -> Generator[Found, None, list[Waiting]]:
         """The mails of a maildir: its own, and those of its folders `.NAME.NAME`. Returns the maildirs in it."""
         yield from self._box(parts, folders, kinds)
         beside = [(name, kind) for name, kind in self._wanted(kinds) if name not in BOX]
@@ -96,17 +123,17 @@ class Walk:
         boxes = {name for name, of in inner.items() if name.startswith(".") and is_maildir(of, ("cur",))}
         for name in sorted(boxes):
             yield from self._box((*parts, name), (*folders, *map(decoded, name[1:].split("."))), inner[name])
-        others = []
+        others: list[Waiting] = []
         for name, kind in beside:
             if name in boxes or isinstance(inner.get(name), Unread):
                 continue
             if is_maildir(inner.get(name, {})):
-                others.append(((*parts, name), (*folders, decoded(name)), inner[name]))
+                others.append(Waiting((*parts, name), (*folders, decoded(name)), inner[name]))
             else:
                 self.leave(os.path.join(self.top, *parts, name), NO_FILE if is_link(kind) else NO_PART)
         return others
 
-    def _box(self, box, folders, kinds):
+    def _box(self, box: Parts, folders: Parts, kinds: Kinds) -> Iterator[Found]:
         for part in BOX:
             at = *box, part
             if is_link(kinds.get(part)):
@@ -119,11 +146,11 @@ class Walk:
                     yield from self._file(Found(self.top, (*at, name), folders, os.path.join(*box, base), base), kind)
 
 
-class Unread(dict):
+class Unread(dict[str, Kind]):
     """What is in a folder that can't be read, as far as it can be told: nothing."""
 
 
-def names_in(top, parts):
+def names_in(top: str, parts: Parts) -> Kinds:
     """The names in the folder that these names lead to from another one, each with what it is, or the error where that can't be told."""
     with below(top, parts) as at:
         inner = os.open(".", READ | os.O_DIRECTORY, dir_fd=at)
@@ -134,7 +161,7 @@ def names_in(top, parts):
 
 
 @contextlib.contextmanager
-def below(top, parts):
+def below(top: str, parts: Parts) -> Iterator[int]:
     """The folder that these names lead to from another one, as a descriptor. Raises an error as `is_no_folder` tells where one is a link."""
     at = os.open(top, THROUGH)
     try:
@@ -147,35 +174,35 @@ def below(top, parts):
         os.close(at)
 
 
-def is_no_folder(error):
+def is_no_folder(error: OSError) -> bool:
     """Whether a link, or another file, is where a folder should be, or a link where a file should."""
     return error.errno in (errno.ENOTDIR, errno.ELOOP)
 
 
-def kind_in(at, name):
+def kind_in(at: int, name: str) -> Kind:
     try:
         return os.lstat(name, dir_fd=at)
     except OSError as error:
         return error
 
 
-def is_folder(kind):
+def is_folder(kind: Kind | None) -> bool:
     return isinstance(kind, os.stat_result) and stat.S_ISDIR(kind.st_mode)
 
 
-def is_link(kind):
+def is_link(kind: Kind | None) -> bool:
     return isinstance(kind, os.stat_result) and stat.S_ISLNK(kind.st_mode)
 
 
-def is_maildir(kinds, parts=BOX):
+def is_maildir(kinds: Kinds, parts: Sequence[str] = BOX) -> bool:
     """Whether what is in a folder makes it a maildir. One of whose parts some are links still is one, so that its other mails stay mails."""
     found = [kinds.get(part) for part in parts]
     return all(is_folder(kind) or is_link(kind) for kind in found) and (any(map(is_folder, found)) or len(parts) == 1)
 
 
-def decoded(name):
+def decoded(name: str) -> str:
     """A name of a mail folder, in which letters that are no ASCII may stand as `&..-` (RFC 3501, section 5.1.3)."""
-    def one(mark):
+    def one(mark: re.Match[str]) -> str:
         if not mark[1]:
             return "&"
         code = mark[1].replace(",", "/")
@@ -187,7 +214,7 @@ def decoded(name):
         return name
 
 
-def again(found):
+def again(found: Found) -> Parts | None:
     """The parts of the path of a mail whose flags, and so its name, have changed since it was found; else None."""
     if found.base is None:
         return None
@@ -200,7 +227,7 @@ def again(found):
     return None
 
 
-def opened(found):
+def opened(found: Found) -> BinaryIO:
     """A file, open to be read, whose `name` is its path. Raises `OSError`."""
     try:
         return _opened(found)
@@ -212,7 +239,7 @@ def opened(found):
         return _opened(found)
 
 
-def _opened(found):
+def _opened(found: Found) -> BinaryIO:
     try:
         with below(found.top, found.parts[:-1]) as at:
             # What has become a pipe or a link in the meantime is not waited for, nor followed.
@@ -228,7 +255,7 @@ def _opened(found):
     return file
 
 
-def content(found, most):
+def content(found: Found, most: int) -> bytes:
     """The bytes of a file, of which there may be no more than so many: else one more is given. Raises `OSError`."""
     with opened(found) as file:
         return file.read(most + 1)

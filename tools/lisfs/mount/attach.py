@@ -1,6 +1,8 @@
 """How a folder gets to show a file system, and to show it no more: by the system's own calls where that is allowed, as to root, and else
 by `fusermount3`, which may do it for its caller's own folders. Also the loop that answers until it is over.
 """
+from __future__ import annotations
+
 import array
 import contextlib
 import ctypes
@@ -13,8 +15,9 @@ import socket
 import subprocess
 import threading
 import time
+from collections.abc import Iterator
 
-from lisfs.mount.kernel import Unmounted
+from lisfs.mount.kernel import Connection, Unmounted
 
 DEVICE = "/dev/fuse"
 HELPER = "fusermount3"
@@ -28,7 +31,7 @@ class NotMounted(Exception):
     """The folder doesn't show it, and why."""
 
 
-def mounted(folder, source, others=False):
+def mounted(folder: str, source: str, others: bool = False) -> int:
     """Lets `folder` show what is answered at the device that is returned."""
     options = ["default_permissions"] + (["allow_other"] if others else [])
     if not os.path.exists(DEVICE):
@@ -43,7 +46,7 @@ def mounted(folder, source, others=False):
         raise NotMounted(f"{folder}: {error.strerror}") from None
 
 
-def _by_call(folder, source, options):
+def _by_call(folder: str, source: str, options: list[str]) -> int:
     device = os.open(DEVICE, os.O_RDWR)
     words = ",".join([f"fd={device}", "rootmode=40000", f"user_id={os.getuid()}", f"group_id={os.getgid()}"] + options)
     if LIBRARY.mount(os.fsencode(source), os.fsencode(folder), b"fuse.lisfs", NO_SETUID | NO_DEVICES, words.encode()):
@@ -53,7 +56,7 @@ def _by_call(folder, source, options):
     return device
 
 
-def _by_helper(folder, source, options):
+def _by_helper(folder: str, source: str, options: list[str]) -> int:
     """The helper mounts, and sends the device over a socket that it is told the number of."""
     ours, theirs = socket.socketpair()
     # A comma in the name of the source would end an option.
@@ -72,14 +75,14 @@ def _by_helper(folder, source, options):
     raise NotMounted(f"{HELPER} sent no device")
 
 
-def detach(folder):
+def detach(folder: str) -> None:
     """Takes the mount off the folder. What is still open goes on until it is closed."""
     if LIBRARY.umount2(os.fsencode(folder), DETACH) and ctypes.get_errno() == errno.EPERM and shutil.which(HELPER):
         subprocess.run([HELPER, "-u", "-z", "--", folder], stdin=subprocess.DEVNULL, capture_output=True, check=False)
 
 
 @contextlib.contextmanager
-def stops():
+def stops() -> Iterator[int]:
     """A descriptor that can be read from as soon as somebody wants an end: by a signal of the terminal, or of the system."""
     ours, theirs = os.pipe()
     for end in (ours, theirs):
@@ -96,7 +99,7 @@ def stops():
         os.close(theirs)
 
 
-def answered(connection, folder, stop, program):
+def answered(connection: Connection, folder: str, stop: int, program: int) -> bool:
     """Answers until the folder is unmounted, and closes the device. A stop, or the end of the program, unmounts it; whether it was not the
     latter."""
     # What can be read may be taken back before it is, as where the asker is killed, and then a read would wait, and no stop be seen.

@@ -14,8 +14,9 @@ import argparse
 import os
 import sys
 
-from lisfs.client import Ended, Locked, NotAReply, missing
+from lisfs.client import Ended, NotAReply, missing
 from lisfs.dumps import NotADump, opened
+from lisfs.endings import cause_of
 from lisfs.image import limits_of
 from lisfs.mount.attach import NotMounted, answered, mounted, stops
 from lisfs.mount.image import Image
@@ -24,11 +25,20 @@ from lisfs.mount.tree import Tree
 from lisfs.showing import write_line
 
 
-def tell(line):
+class Options(argparse.Namespace):
+    """The words of the command line."""
+
+    derived: bool
+    allow_other: bool
+    image: str
+    folder: str
+
+
+def tell(line: str) -> None:
     write_line(sys.stderr, f"mount: {line}")
 
 
-def run(image, folder, with_derived, others):
+def run(image: str, folder: str, with_derived: bool, others: bool) -> int:
     """The status."""
     if what := missing():
         raise NotMounted(what)
@@ -52,23 +62,15 @@ def run(image, folder, with_derived, others):
     return 0 if is_wanted and not tree.has_lost else 1
 
 
-def main():
+def main() -> int:
     parser = argparse.ArgumentParser(usage=__doc__.split("usage: ", 1)[1])
     parser.add_argument("--derived", action="store_true")
     parser.add_argument("--allow-other", action="store_true")
     parser.add_argument("image")
     parser.add_argument("folder")
-    words = parser.parse_args()
+    words = parser.parse_args(namespace=Options())
     try:
         return run(words.image, words.folder, words.derived, words.allow_other)
-    except Locked:
-        tell(f"{words.image}: in use by another lisfs")
-    except Ended as end:
-        tell(": ".join(end.text.splitlines()) or str(end))
-    except (NotMounted, NotADump, NotAReply) as error:
-        tell(error)
-    except OSError as error:
-        tell(f"{error.filename or words.image}: {error.strerror}")
-    except KeyboardInterrupt:
-        tell("stopped before it began")
+    except (Ended, NotMounted, NotADump, NotAReply, OSError, KeyboardInterrupt) as error:
+        tell(cause_of(error, words.image))
     return 1

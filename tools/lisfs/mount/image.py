@@ -6,50 +6,60 @@ when somebody needs them, those of many files in one go.
 A new file that somebody writes is known here before: it waits for its bytes, so that one `add` makes it whole, where `create` and `write`
 would be two changes. It waits only where nothing can keep the program from making it, and until anything else is to be changed or asked.
 """
+from __future__ import annotations
+
 import collections
 import errno
+from collections.abc import Iterable
+from typing import NamedTuple
 
-from lisfs import image, index
-from lisfs.client import NotSent, Refused
+from lisfs import image
+from lisfs.client import NotSent, Program, Refused
 from lisfs.constants import MAX_ASSIGNED, MAX_DESCRIPTION, MAX_LINE, MAX_WORD
+from lisfs.dumps import Dump
+from lisfs.formulas import Place
+from lisfs.image import Limits
+from lisfs.mount.nodes import File
 from lisfs.words import TEST, head_of, is_head, is_plain, is_word
 
 # So many bytes of files are kept in memory, those that were looked at last.
 KEPT = 32 * 1_048_576
 
 
-class File(index.File):
-    """A file of the image, of which `given` are the words that it surely was given. No other file ever has its `number`. `refusal` is what
-    kept a file that waited from being made, and None of all others."""
+class Listing(NamedTuple):
+    """The words, and the files, that a place shows."""
 
-    def __init__(self, name, size, given, bit):
-        super().__init__(name, size, given, bit)
-        self.number, self.is_gone, self.refusal = 0, False, None
+    words: list[bytes]
+    files: list[File]
 
 
-class Image(image.Image):
-    def __init__(self, program, dump, limits):
+class Image(image.Image[File]):
+    def __init__(self, program: Program, dump: Dump, limits: Limits) -> None:
         super().__init__(program, dump, limits, File)
         self.files, self.numbers = self.index.files, 0
         for file in self.files.values():
             self._number(file)
         # What entails what by axioms: of each left side the right ones.
-        self.axioms = {}
+        self.axioms: dict[bytes, set[bytes]] = {}
         for left, right in dump.axioms:
             self.axioms.setdefault(left, set()).add(right)
         # Those whose words are not known since they were changed.
         self.stale = set(self.files.values())
         # The declared words that lost their last file and were in no listing since.
-        self.unseen = set()
-        self.contents, self.content_bytes = collections.OrderedDict(), 0
-        # The file that waits, or None. How many words a new file at a place may bring, and how many more there surely is room for.
-        self.waiting, self.brought, self.spare = None, {}, 0
+        self.unseen: set[bytes] = set()
+        self.contents: collections.OrderedDict[File, bytes] = collections.OrderedDict()
+        self.content_bytes = 0
+        # The file that waits, or None. How many words a new file at a place may bring, by the words of the place and the ending of the name,
+        # and how many more there surely is room for.
+        self.waiting: File | None = None
+        self.brought: dict[tuple[tuple[bytes, ...] | None, bytes], int] = {}
+        self.spare = 0
 
-    def _number(self, file):
+    def _number(self, file: File) -> None:
         self.numbers += 1
         file.number = self.numbers
 
-    def _take(self, name, size, given):
+    def _take(self, name: bytes, size: int, given: Iterable[bytes]) -> File:
         file = self.index.add(name, size, given)
         self._number(file)
         self.stale.add(file)
@@ -57,21 +67,22 @@ class Image(image.Image):
 
     # What is known of words.
 
-    def is_derived(self, word):
+    def is_derived(self, word: bytes) -> bool:
         """Nobody gives a file such a word: it comes from the name, the size or the bytes. Its head can't be declared."""
         head = head_of(word)
         return head is not None and head not in self.declared
 
-    def is_known(self, word):
+    def is_known(self, word: bytes) -> bool:
         """Whether a formula may have it."""
         if is_plain(word) or word in self.declared:
             return word in self.declared
         self._refresh()
         return word in self.index.words() or word in self.axioms or any(head_of(left) == word for left in self.axioms)
 
-    def entailed(self, words):
+    def entailed(self, words: Iterable[bytes]) -> set[bytes]:
         """These words, and all that they entail."""
-        found, left = set(), list(words)
+        found: set[bytes] = set()
+        left = list(words)
         while left:
             word = left.pop()
             if word not in found:
@@ -80,7 +91,7 @@ class Image(image.Image):
                 left += self._by_itself(word)
         return found
 
-    def _by_itself(self, word):
+    def _by_itself(self, word: bytes) -> list[bytes]:
         """What a word entails without an axiom: a value its head, and a declared test the weaker ones."""
         test = TEST.fullmatch(word)
         if not test:
@@ -95,7 +106,7 @@ class Image(image.Image):
 
     # What is known of files.
 
-    def _refresh(self):
+    def _refresh(self) -> None:
         """Asks for the words of the files that were changed."""
         self.settle()
         if not self.stale:
@@ -103,18 +114,18 @@ class Image(image.Image):
         self.unseen |= self.describe(self.stale) & self.declared
         self.stale.clear()
 
-    def extension(self, place):
+    def extension(self, place: Place) -> int:
         """The files of a place, as a row."""
         self._refresh()
         return place.row(self.index)
 
-    def is_here(self, file, place):
+    def is_here(self, file: File, place: Place) -> bool:
         if place.words is not None and file.given.issuperset(place.words):
             return True
         self._refresh()
         return place.meets(file)
 
-    def listing(self, place, with_derived=False):
+    def listing(self, place: Place, with_derived: bool = False) -> Listing:
         """The words and the files that a place shows: the words of the program's listing, or those of them that files were given; the
         declared words that no file has, where they belong; and the files that none of the shown words covers."""
         here = self.extension(place)
@@ -127,9 +138,9 @@ class Image(image.Image):
         files = [file for file in self.index.of(here & ~covered) if file.name not in self.declared]
         unused = self._unused_at(place, found)
         self.unseen.difference_update(unused)
-        return sorted(words + unused), files
+        return Listing(sorted(words + unused), files)
 
-    def _increments(self, place, here):
+    def _increments(self, place: Place, here: int) -> list[bytes]:
         if not here:
             return []
         if not place.steps:
@@ -138,7 +149,7 @@ class Image(image.Image):
             listing = self.told((b"cd", place.text), (b"ls",), (b"cd", b"/"))[1]
         return [text for letter, text in listing if letter == b"d"]
 
-    def _unused_at(self, place, shown):
+    def _unused_at(self, place: Place, shown: Iterable[bytes]) -> list[bytes]:
         """The declared words that no file has and that belong to a place of words: they entail what it says, and no other word that is shown
         there. So a listing would show them if a file had each, and steps along listings lead to each."""
         if place.words is None:
@@ -149,11 +160,11 @@ class Image(image.Image):
         covers = found.union(shown)
         return [word for word in found if entailed[word].isdisjoint(covers - {word})]
 
-    def counts(self):
+    def counts(self) -> dict[str, int]:
         self.settle()
         return super().counts()
 
-    def content(self, file):
+    def content(self, file: File) -> bytes:
         if file is self.waiting:
             return b""
         content = self.contents.get(file)
@@ -164,30 +175,30 @@ class Image(image.Image):
             self.contents.move_to_end(file)
         return content
 
-    def _keep(self, file, content):
+    def _keep(self, file: File, content: bytes) -> None:
         self._drop(file)
         self.contents[file] = content
         self.content_bytes += len(content)
         while self.content_bytes > KEPT:
             self._drop(next(iter(self.contents)))
 
-    def _drop(self, file):
+    def _drop(self, file: File) -> None:
         self.content_bytes -= len(self.contents.pop(file, b""))
 
     # Changes.
 
-    def _begin_change(self):
+    def _begin_change(self) -> None:
         """What brings words brings no more than a file has."""
         self.settle()
         self.spare -= MAX_DESCRIPTION
 
-    def _words_given(self, place):
+    def _words_given(self, place: Place) -> list[bytes]:
         """The words that a file gets by being made here."""
         if place.words is None:
             raise OSError(errno.EPERM, "not a place of words")
         return [word for word in place.words if not is_head(word) and not self.is_derived(word)]
 
-    def begin(self, name, place):
+    def begin(self, name: bytes, place: Place) -> File:
         """A new file at a place, which is about to be written."""
         self.settle()
         given = self._words_given(place)
@@ -198,7 +209,7 @@ class Image(image.Image):
         self.waiting = self._take(name, 0, given)
         return self.waiting
 
-    def settle(self):
+    def settle(self) -> None:
         """Makes the file that waits, without bytes. Where the program has ended it still waits, so that no later call takes it for made."""
         if file := self.waiting:
             try:
@@ -209,9 +220,9 @@ class Image(image.Image):
                 raise
             self.waiting = None
 
-    def _is_sure(self, name, place, given):
+    def _is_sure(self, name: bytes, place: Place, given: list[bytes]) -> bool:
         """Whether the program would make an empty file with these words, by `create` or by `add`."""
-        if name in self.files or len(self.files) >= self.limits.files or not len(place.words) == len(given) <= MAX_ASSIGNED:
+        if name in self.files or len(self.files) >= self.limits.files or not len(place.words or ()) == len(given) <= MAX_ASSIGNED:
             return False
         if len(b" ".join((b"add", name, b"%d" % self.limits.file_bytes, *given))) > MAX_LINE:
             return False
@@ -220,7 +231,7 @@ class Image(image.Image):
             self.spare = self.limits.words - self.counts()["known"]
         return count <= min(MAX_DESCRIPTION, self.spare)
 
-    def _most_brought(self, place, given, name):
+    def _most_brought(self, place: Place, given: list[bytes], name: bytes) -> int:
         """No new file with these words and this name has more words, as long as nothing is declared."""
         ending = b"ext:" + name.rpartition(b".")[2]
         key = place.words, ending if ending in self.axioms else b"ext:?"
@@ -231,7 +242,7 @@ class Image(image.Image):
             self.brought[key] = len(self.entailed(words)) if is_declared else MAX_DESCRIPTION + 1
         return self.brought[key]
 
-    def create(self, name, place):
+    def create(self, name: bytes, place: Place) -> File:
         """Makes an empty file at a place."""
         self._begin_change()
         given = self._words_given(place)
@@ -243,12 +254,12 @@ class Image(image.Image):
                 self.program.create(name)
         file = self._take(name, 0, given)
         # A head, and a word that comes from the file itself, are not given: without them it would be elsewhere.
-        if len(given) < len(place.words) and not self.is_here(file, place):
+        if len(given) < len(place.words or ()) and not self.is_here(file, place):
             self.remove(file)
             raise OSError(errno.EPERM, "a file that is made here would not be here")
         return file
 
-    def write(self, file, content):
+    def write(self, file: File, content: bytes) -> None:
         is_new = file is self.waiting
         if is_new and content:
             self._add(file, content)
@@ -260,7 +271,7 @@ class Image(image.Image):
         self.stale.add(file)
         self._keep(file, content)
 
-    def _add(self, file, content):
+    def _add(self, file: File, content: bytes) -> None:
         self.spare -= MAX_DESCRIPTION
         try:
             self.program.add(file.name, content, *sorted(file.given))
@@ -270,24 +281,24 @@ class Image(image.Image):
             raise
         self.waiting = None
 
-    def remove(self, file):
+    def remove(self, file: File) -> None:
         self._begin_change()
         self.program.rm(file.name)
         self._forget(file)
 
-    def _forget(self, file):
+    def _forget(self, file: File) -> None:
         self.unseen |= self.index.drop(file) & self.declared
         self._drop(file)
         self.stale.discard(file)
         file.is_gone = True
 
-    def rename(self, file, name):
+    def rename(self, file: File, name: bytes) -> None:
         self._begin_change()
         self.program.rename(file.name, name)
         self.index.rename(file, name)
         self.stale.add(file)
 
-    def replace(self, file, content, other):
+    def replace(self, file: File, content: bytes, other: File) -> None:
         """`other` gets these bytes, and `file` its name; what was `other` is gone. A stop between leaves the new bytes, and the old name
         as well."""
         self._begin_change()
@@ -300,7 +311,7 @@ class Image(image.Image):
         self.stale.add(file)
         self._keep(file, content)
 
-    def move(self, file, source, target):
+    def move(self, file: File, source: Place, target: Place) -> None:
         """The file loses the words of one place, and gains those of the other."""
         self._begin_change()
         with self.at(source.text):
@@ -308,7 +319,7 @@ class Image(image.Image):
         file.given = frozenset()
         self.stale.add(file)
 
-    def declare(self, word, place):
+    def declare(self, word: bytes, place: Place) -> None:
         if len(word) > MAX_WORD:
             raise OSError(errno.ENAMETOOLONG, "a word is as long as a name")
         if not is_word(word):
@@ -326,7 +337,7 @@ class Image(image.Image):
         if place.words:
             self.axioms[word] = set(place.words)
 
-    def take_back(self, word, place):
+    def take_back(self, word: bytes, place: Place) -> None:
         """Declares a word no more that no file has, and that belongs to a place. Another one that nothing here has is left as it is.
 
         Words below it go with it where they lost their last file and were in no listing since: while all files of a folder had such a

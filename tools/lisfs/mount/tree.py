@@ -8,43 +8,49 @@ own target.
 
 It is for one thread. An `OSError` is the answer where something is not to be.
 """
+from __future__ import annotations
+
 import errno
 import functools
-import hashlib
 import os
 import stat
 import sys
 import time
+from collections.abc import Callable
+from typing import Concatenate, ParamSpec, TypeVar
 
 from lisfs.client import Ended, NotAReply, NotSent, Refused
 from lisfs.constants import BLOCK_LEN, MAX_WORD
-from lisfs.formulas import PART_LIMIT, ROOT, NotAFormula, TooLarge, Word, part
-from lisfs.mount.kernel import KEEP_CACHE, NO_FLUSH, Attributes, Entry, Space
+from lisfs.formulas import PART_LIMIT, ROOT, NotAFormula, Place, TooLarge, Word, part
+from lisfs.mount.image import Image
+from lisfs.mount.kernel import KEEP_CACHE, NO_FLUSH, Attributes, Caller, Changed, Changes, Created, Entry, Opened, Space
+from lisfs.mount.nodes import Draft, File, Folder, Handle, Leaf, Listed, Looks, Node, Shelf, Shows, inode_of, leaf_inode
 from lisfs.refusals import error_of
 from lisfs.showing import write_line
 from lisfs.words import FILE_NAME, head_of
 
 ALL, BY = b":all", b":by"
-# What a folder shows: words that files were given, these and derived ones, or no words and every file.
-GIVEN, DERIVED, FILES = b"", BY, ALL
+# What a folder of such a name shows.
+SHOWS = {BY: Shows.DERIVED, ALL: Shows.FILES}
 FOLDER_KIND, FILE_KIND = 4, 8
 # For so long the kernel may keep attributes, since it is told when they change.
 KEPT_SECONDS = 3_600
 NO_REPLACEMENT = 1
 LINKS, FOLDER_LINKS = 2, 1
-SPREAD, INODES = 0x9E3779B97F4A7C15, (1 << 63) - 1
+P = ParamSpec("P")
+R = TypeVar("R")
 
 
-def fault(number, why):
+def fault(number: int, why: str) -> OSError:
     return OSError(number, why)
 
 
-def answering(call):
+def answering(call: Callable[Concatenate[Tree, P], R]) -> Callable[Concatenate[Tree, P], R]:
     """What the program says, as an error of the system."""
     @functools.wraps(call)
-    def answer(*given):
+    def answer(tree: Tree, /, *given: P.args, **named: P.kwargs) -> R:
         try:
-            return call(*given)
+            return call(tree, *given, **named)
         except Refused as refused:
             raise fault(error_of(refused.number), str(refused)) from None
         except (TooLarge, NotSent) as error:
@@ -53,74 +59,14 @@ def answering(call):
             raise fault(errno.ENOENT, str(error)) from None
         except NotAReply as error:
             # No later reply can be told, so that nothing more is to be asked.
-            given[0].image.program.kill()
+            tree.image.program.kill()
             raise fault(errno.EIO, str(error)) from None
         except Ended as end:
             raise fault(errno.EIO, str(end)) from None
     return answer
 
 
-class Looks:
-    """What an image doesn't keep of a file or a folder: it lives for one mount."""
-
-    def __init__(self, mode, user, group, now):
-        self.mode, self.user, self.group = mode, user, group
-        self.accessed = self.modified = self.changed = now
-
-
-class Draft:
-    """What was written to a file and is not in the image yet."""
-
-    def __init__(self):
-        # The bytes, once somebody wrote. Whether they are other ones than those of the image; whether all that happened is that
-        # somebody emptied it by opening it; and whether they were refused since the last change.
-        self.content, self.is_dirty, self.is_emptied, self.is_refused = None, False, False, False
-        self.writers, self.modified = 0, None
-
-    def is_written(self, now):
-        self.is_dirty, self.is_emptied, self.is_refused, self.modified = True, False, False, now
-
-
-class Folder:
-    """A place under one path. `:by/music` and `music/:by` show the same, and are two: a folder stands in one other."""
-
-    def __init__(self, number, path, place, kind):
-        self.number, self.key, self.place, self.kind, self.lookups = number, path, place, kind, 0
-        self.inode = inode_of(path)
-
-
-class Leaf:
-    """A file as it stands in one folder."""
-
-    def __init__(self, number, folder, file):
-        self.number, self.key, self.file, self.lookups = number, (folder.key, file), file, 0
-        self.inode = leaf_inode(folder, file)
-        # How many have it open to write, and which bytes of the file the kernel may have kept.
-        self.writers, self.version = 0, -1
-
-
-class Handle:
-    def __init__(self, node, writes):
-        self.node, self.file, self.writes = node, node.file, writes
-
-
-class Shelf:
-    """An open folder: what it showed when it was read from its beginning."""
-
-    def __init__(self, folder):
-        self.folder, self.entries = folder, []
-
-
-def inode_of(path):
-    """The same each time, without a table of all paths that were ever looked at."""
-    return int.from_bytes(hashlib.blake2b(path, digest_size=8).digest(), "little") & INODES
-
-
-def leaf_inode(folder, file):
-    return (folder.inode + file.number * SPREAD) & INODES
-
-
-def is_open_in(process, inode):
+def is_open_in(process: int, inode: int) -> bool:
     """Whether a process has a file of this inode open to write. It is asked by the numbers alone: a look at the file would be a question to
     us."""
     folder = f"/proc/{process}/fdinfo"
@@ -135,85 +81,106 @@ def is_open_in(process, inode):
     return False
 
 
+def draft_to_write(file: File) -> Draft:
+    """The draft of a file that somebody has open to write."""
+    assert file.draft
+    return file.draft
+
+
 class Tree:
     """The modes with which folders and files begin are such that others than who mounts see nothing, where others may look at all."""
 
-    def __init__(self, image, with_derived=False, now=None, others=False):
+    def __init__(self, image: Image, with_derived: bool = False, now: int | None = None, others: bool = False) -> None:
         self.image, self.user, self.group = image, os.getuid(), os.getgid()
         self.folder_mode, self.file_mode = (0o700, 0o600) if others else (0o755, 0o644)
         self.touched = now or time.time_ns()
-        root = Folder(1, b"", ROOT, DERIVED if with_derived else GIVEN)
+        root = Folder(1, b"", ROOT, Shows.DERIVED if with_derived else Shows.GIVEN)
         root.lookups = 1
-        self.nodes, self.keys, self.looks, self.handles, self.numbers = {1: root}, {root.key: root}, {}, {}, 1
+        # By their numbers; and the folders by their paths, and the files by a path and the file.
+        self.nodes: dict[int, Node] = {1: root}
+        self.folders: dict[bytes, Folder] = {root.key: root}
+        self.leaves: dict[tuple[bytes, File], Leaf] = {}
+        # How folders look, by their paths.
+        self.looks: dict[bytes, Looks] = {}
+        self.handles: dict[int, Handle | Shelf] = {}
+        self.numbers = 1
         for file in image.files.values():
             self._begin(file, self.file_mode, self.user, self.group)
         # Is told the number of each node whose attributes are others than those that were handed out.
-        self.changed = lambda number: None
+        self.changed: Changed = lambda number: None
         # The thread that asks, where it is known, and of each folder whose attributes were handed out since the last change the thread
         # that has them. 0 is none that is known, or several.
-        self.asker, self.handed = 0, {}
+        self.asker = 0
+        self.handed: dict[int, int] = {}
         # Whether something that was written is not in the image, and nobody was told by an error.
         self.has_lost = False
 
-    def _begin(self, file, mode, user, group):
-        file.looks, file.draft, file.handles, file.nodes = Looks(mode, user, group, self.touched), None, 0, set()
-        # What it had when it was removed while it was open; and a count of its changes.
-        file.kept, file.version = None, 0
+    def _begin(self, file: File, mode: int, user: int, group: int) -> None:
+        file.looks = Looks(mode, user, group, self.touched)
 
     # Nodes.
 
-    def _folder(self, number):
+    def _folder(self, number: int) -> Folder:
         node = self.nodes[number]
         if not isinstance(node, Folder):
             raise fault(errno.ENOTDIR, "a file")
         return node
 
-    def _number(self):
+    def _node_of_file(self, number: int) -> Leaf:
+        node = self.nodes[number]
+        if not isinstance(node, Leaf):
+            raise fault(errno.EISDIR, "a folder")
+        return node
+
+    def _number(self) -> int:
         self.numbers += 1
         return self.numbers
 
-    def _enter(self, folder, name):
+    def _enter(self, folder: Folder, name: bytes) -> Folder:
         """The node of the folder `name` in a folder."""
         path = folder.key + b"/" + name
-        node = self.keys.get(path)
+        node = self.folders.get(path)
         if node is None:
-            kind, place = (name, folder.place) if name in (ALL, BY) else (folder.kind, folder.place.step(name))
-            node = Folder(self._number(), path, place, kind)
-            self.keys[node.key] = self.nodes[node.number] = node
+            if name in SHOWS:
+                node = Folder(self._number(), path, folder.place, SHOWS[name])
+            else:
+                node = Folder(self._number(), path, folder.place.step(name), folder.shows)
+            self.folders[node.key] = self.nodes[node.number] = node
         node.lookups += 1
         return node
 
-    def _leaf(self, folder, file):
-        node = self.keys.get((folder.key, file))
+    def _leaf(self, folder: Folder, file: File) -> Leaf:
+        node = self.leaves.get((folder.key, file))
         if node is None:
             node = Leaf(self._number(), folder, file)
-            self.keys[node.key] = self.nodes[node.number] = node
+            self.leaves[node.key] = self.nodes[node.number] = node
             file.nodes.add(node)
         node.lookups += 1
         return node
 
-    def forget(self, number, count):
+    def forget(self, number: int, count: int) -> None:
         node = self.nodes.get(number)
         if node is None:
             return
         node.lookups -= count
         if node.lookups <= 0 and number != 1:
             del self.nodes[number]
-            if self.keys.get(node.key) is node:
-                del self.keys[node.key]
             if isinstance(node, Leaf):
+                del self.leaves[node.key]
                 node.file.nodes.discard(node)
+            elif self.folders.get(node.key) is node:
+                del self.folders[node.key]
 
-    def _file_at(self, folder, name):
+    def _file_at(self, folder: Folder, name: bytes) -> File | None:
         """The file of this name in a folder, or None."""
-        if folder.kind != FILES and name in self.image.declared:
+        if folder.shows is not Shows.FILES and name in self.image.declared:
             return None
         file = self.image.files.get(name)
         return file if file and self.image.is_here(file, folder.place) else None
 
-    def _is_folder(self, folder, name):
+    def _is_folder(self, folder: Folder, name: bytes) -> bool:
         """Whether a folder opens under this name: a formula of words that are known, or a value of a declared head."""
-        if folder.kind == FILES:
+        if folder.shows is Shows.FILES:
             return False
         if name in (ALL, BY) or name in self.image.declared:
             return True
@@ -230,7 +197,7 @@ class Tree:
 
     # Attributes.
 
-    def _entry(self, node):
+    def _entry(self, node: Node) -> Entry:
         if isinstance(node, Folder):
             looks = self._looks_of(node)
             found = Attributes(node.inode, 0, 0, looks.accessed, looks.modified, looks.changed, stat.S_IFDIR | looks.mode, FOLDER_LINKS,
@@ -245,7 +212,7 @@ class Tree:
         # What writers at other paths do to a draft is not told write by write.
         return Entry(node.number, found, KEPT_SECONDS if draft is None or draft.writers == node.writers else 0)
 
-    def _looks_of(self, node):
+    def _looks_of(self, node: Node) -> Looks:
         """Of a file, or of a folder, whose time may be set, and is another one with the next change: any may be one of what it shows."""
         if isinstance(node, Leaf):
             return node.file.looks
@@ -254,12 +221,12 @@ class Tree:
             looks.modified = looks.changed = self.touched
         return looks
 
-    def _draft_of(self, node):
+    def _draft_of(self, node: Leaf) -> Draft | None:
         """The draft as far as it is seen at this path."""
         return node.file.draft if node.writers else None
 
     @answering
-    def lookup(self, number, name):
+    def lookup(self, number: int, name: bytes) -> Entry:
         folder = self._folder(number)
         if file := self._file_at(folder, name):
             return self._entry(self._leaf(folder, file))
@@ -270,19 +237,16 @@ class Tree:
         raise fault(errno.ENOENT, "no such name")
 
     @answering
-    def getattr(self, number):
+    def getattr(self, number: int) -> Entry:
         return self._entry(self.nodes[number])
 
     @answering
-    def setattr(self, number, changes, handle=None):
+    def setattr(self, number: int, changes: Changes, handle: int | None = None) -> Entry:
         node = self.nodes[number]
         if changes.size is not None:
             self._resize(node, changes.size, handle)
         looks = self._looks_of(node)
-        for name in ("mode", "user", "group", "accessed", "modified"):
-            if (value := getattr(changes, name)) is not None:
-                setattr(looks, name, value)
-        looks.changed = time.time_ns()
+        looks.take(changes, time.time_ns())
         if isinstance(node, Leaf):
             draft = self._draft_of(node)
             if changes.modified is not None and draft and draft.modified is not None:
@@ -293,16 +257,17 @@ class Tree:
             self.changed(number)
         return self._entry(node)
 
-    def _tell(self, file, but=None):
+    def _tell(self, file: File, but: Node | None = None) -> None:
         """The kernel knows itself what it did at one path, and is told of the others."""
         for node in file.nodes:
             if node is not but:
                 self.changed(node.number)
 
-    def _now_changed(self, folder=None):
+    def _now_changed(self, folder: Folder | None = None) -> None:
         """What folders show is something else, in any of them. Of the one in which a call makes or removes a name the kernel knows it by
         itself, from the answer on. An older answer that another thread has not taken in yet would then count as a newer one."""
-        self.touched, kept = time.time_ns(), {}
+        self.touched = time.time_ns()
+        kept: dict[int, int] = {}
         for number, asker in self.handed.items():
             if folder and number == folder.number and asker and asker == self.asker:
                 kept[number] = asker
@@ -311,47 +276,50 @@ class Tree:
         self.handed = kept
 
     @answering
-    def statfs(self):
+    def statfs(self) -> Space:
         counts, limits = self.image.counts(), self.image.limits
         return Space(limits.blocks, counts["free"], limits.files, limits.files - counts["files"], BLOCK_LEN, MAX_WORD)
 
     # Folders.
 
     @answering
-    def opendir(self, number):
+    def opendir(self, number: int) -> int:
         handle = self._number()
         self.handles[handle] = Shelf(self._folder(number))
         return handle
 
     @answering
-    def readdir(self, handle, offset):
+    def readdir(self, handle: int, offset: int) -> list[Listed]:
         """All entries. From the beginning they are made anew, and later ones are of that list, whatever is removed meanwhile."""
         shelf = self.handles[handle]
+        if not isinstance(shelf, Shelf):
+            raise fault(errno.ENOTDIR, "a file")
         if not offset or not shelf.entries:
             shelf.entries = self._entries(shelf.folder)
         return shelf.entries
 
-    def _entries(self, folder):
-        if folder.kind == FILES:
-            words, files = [], self.image.index.of(self.image.extension(folder.place))
+    def _entries(self, folder: Folder) -> list[Listed]:
+        if folder.shows is Shows.FILES:
+            words: list[bytes] = []
+            files = self.image.index.of(self.image.extension(folder.place))
         else:
-            words, files = self.image.listing(folder.place, folder.kind == DERIVED)
-        entries = [(folder.inode, FOLDER_KIND, b"."), (inode_of(folder.key.rpartition(b"/")[0]), FOLDER_KIND, b"..")]
+            words, files = self.image.listing(folder.place, folder.shows is Shows.DERIVED)
+        entries: list[Listed] = [(folder.inode, FOLDER_KIND, b"."), (inode_of(folder.key.rpartition(b"/")[0]), FOLDER_KIND, b"..")]
         entries += [(inode_of(folder.key + b"/" + word), FOLDER_KIND, word) for word in words]
         return entries + [(leaf_inode(folder, file), FILE_KIND, file.name) for file in files]
 
-    def releasedir(self, handle):
+    def releasedir(self, handle: int) -> None:
         del self.handles[handle]
 
     @answering
-    def fsyncdir(self):
+    def fsyncdir(self) -> None:
         """What a folder shows is in the image then, also a new file that somebody is about to write."""
         self.image.settle()
 
     @answering
-    def mkdir(self, number, name, mode, caller):
+    def mkdir(self, number: int, name: bytes, mode: int, caller: Caller) -> Entry:
         folder = self._folder(number)
-        if folder.kind == FILES:
+        if folder.shows is Shows.FILES:
             raise fault(errno.EPERM, "no words are here")
         if name in (ALL, BY):
             raise fault(errno.EEXIST, "it is here already")
@@ -362,7 +330,7 @@ class Tree:
         return self._entry(node)
 
     @answering
-    def rmdir(self, number, name):
+    def rmdir(self, number: int, name: bytes) -> None:
         folder = self._folder(number)
         if name in (ALL, BY):
             raise fault(errno.EPERM, "it is everywhere")
@@ -374,20 +342,20 @@ class Tree:
         path = folder.key + b"/" + name
         self.looks.pop(path, None)
         # To the kernel this node is dead, and a folder that opens at its path again is another one.
-        self.keys.pop(path, None)
+        self.folders.pop(path, None)
         self._now_changed()
 
     # Names of files.
 
-    def _new_name(self, folder, name):
+    def _new_name(self, folder: Folder, name: bytes) -> None:
         if name in (ALL, BY) or name in self.image.declared:
-            raise fault(errno.EEXIST if folder.kind == FILES else errno.EISDIR, "a folder has this name")
+            raise fault(errno.EEXIST if folder.shows is Shows.FILES else errno.EISDIR, "a folder has this name")
         if not FILE_NAME.fullmatch(name):
             raise fault(errno.EINVAL, "a name has letters, digits and _ - . + @")
         if len(name) > MAX_WORD:
             raise fault(errno.ENAMETOOLONG, f"a name has at most {MAX_WORD} bytes")
 
-    def _made(self, make, folder, name, mode, caller):
+    def _made(self, make: Callable[[bytes, Place], File], folder: Folder, name: bytes, mode: int, caller: Caller) -> Leaf:
         self._new_name(folder, name)
         file = make(name, folder.place)
         self._now_changed(folder)
@@ -395,13 +363,13 @@ class Tree:
         return self._leaf(folder, file)
 
     @answering
-    def mknod(self, number, name, mode, caller):
+    def mknod(self, number: int, name: bytes, mode: int, caller: Caller) -> Entry:
         if stat.S_IFMT(mode) not in (0, stat.S_IFREG):
             raise fault(errno.EPERM, "an image keeps files alone")
         return self._entry(self._made(self.image.create, self._folder(number), name, mode, caller))
 
     @answering
-    def create(self, number, name, flags, mode, caller):
+    def create(self, number: int, name: bytes, flags: int, mode: int, caller: Caller) -> Created:
         folder = self._folder(number)
         file = self._file_at(folder, name)
         if file and flags & os.O_EXCL:
@@ -409,34 +377,34 @@ class Tree:
         make = self.image.begin if flags & os.O_ACCMODE != os.O_RDONLY else self.image.create
         node = self._leaf(folder, file) if file else self._made(make, folder, name, mode, caller)
         handle = self._opened(node, flags)
-        return self._entry(node), handle
+        return Created(self._entry(node), handle)
 
     @answering
-    def unlink(self, number, name):
+    def unlink(self, number: int, name: bytes) -> None:
         folder = self._folder(number)
         file = self._found(folder, name)
         kept = self._kept(file)
         self.image.remove(file)
         self._is_gone(file, kept, folder)
 
-    def _found(self, folder, name):
+    def _found(self, folder: Folder, name: bytes) -> File:
         file = self._file_at(folder, name)
         if file is None:
             is_folder = self._is_folder(folder, name)
             raise fault(errno.EPERM if is_folder else errno.ENOENT, "a folder" if is_folder else "no such file")
         return file
 
-    def _kept(self, file):
+    def _kept(self, file: File) -> bytes:
         """What somebody who has the file open may still read of it when it is gone."""
         return self.image.content(file) if file.handles else b""
 
-    def _is_gone(self, file, kept, folder=None):
+    def _is_gone(self, file: File, kept: bytes, folder: Folder | None = None) -> None:
         file.kept = kept
         self._now_changed(folder)
         self._tell(file)
 
     @answering
-    def rename(self, number, old, target_number, new, flags):
+    def rename(self, number: int, old: bytes, target_number: int, new: bytes, flags: int) -> None:
         source, target = self._folder(number), self._folder(target_number)
         if flags & ~NO_REPLACEMENT:
             raise fault(errno.EINVAL, "not this kind of renaming")
@@ -450,7 +418,7 @@ class Tree:
         self._now_changed()
         self._tell(file)
 
-    def _replace(self, file, other):
+    def _replace(self, file: File, other: File) -> None:
         """The other file gets the bytes, as far as they were written, and keeps its words. Who has this one open goes on with them."""
         draft, kept = file.draft, self._kept(other)
         content = bytes(draft.content) if draft and draft.content is not None else self.image.content(file)
@@ -459,11 +427,12 @@ class Tree:
         if draft and draft.is_dirty:
             self._is_stored(file, None)
 
-    def _move(self, file, place, target, new):
+    def _move(self, file: File, place: Place, target: Folder, new: bytes) -> None:
         """A stop between the two commands that this may take leaves the file with its new name, where it was."""
-        old, words = file.name, [at.words and set(at.words) for at in (place, target.place)]
-        is_elsewhere = place.text != target.place.text and words[0] != words[1]
-        if is_elsewhere and None in words:
+        old, before, behind = file.name, place.words, target.place.words
+        has_words = before is not None and behind is not None
+        is_elsewhere = place.text != target.place.text and not (has_words and set(before or ()) == set(behind or ()))
+        if is_elsewhere and not has_words:
             raise fault(errno.EPERM, "not a place of words")
         if new != old:
             self._new_name(target, new)
@@ -477,9 +446,9 @@ class Tree:
                 raise
 
     @answering
-    def link(self, number, target_number, name):
+    def link(self, number: int, target_number: int, name: bytes) -> Entry:
         """A second folder of a file is more words."""
-        file, target = self.nodes[number].file, self._folder(target_number)
+        file, target = self._node_of_file(number).file, self._folder(target_number)
         if name != file.name:
             raise fault(errno.EPERM, "a file has one name")
         if self.image.is_here(file, target.place):
@@ -492,18 +461,24 @@ class Tree:
     # Bytes of files.
 
     @answering
-    def open(self, number, flags):
-        node = self.nodes[number]
+    def open(self, number: int, flags: int) -> Opened:
+        node = self._node_of_file(number)
         if node.file.is_gone:
             raise fault(errno.ENOENT, "it was removed")
         handle = self._opened(node, flags)
-        if self.handles[handle].writes:
-            return handle, 0
+        if self._open_file(handle).writes:
+            return Opened(handle, 0)
         is_kept = node.version == node.file.version and not node.writers
         node.version = node.file.version
-        return handle, NO_FLUSH | (KEEP_CACHE if is_kept else 0)
+        return Opened(handle, NO_FLUSH | (KEEP_CACHE if is_kept else 0))
 
-    def _opened(self, node, flags):
+    def _open_file(self, handle: int) -> Handle:
+        found = self.handles[handle]
+        if not isinstance(found, Handle):
+            raise fault(errno.EISDIR, "a folder")
+        return found
+
+    def _opened(self, node: Leaf, flags: int) -> int:
         handle = self._number()
         writes = bool(flags & os.O_ACCMODE != os.O_RDONLY or flags & os.O_TRUNC)
         file = node.file
@@ -520,8 +495,8 @@ class Tree:
                 self._empty(node)
         return handle
 
-    def _empty(self, node):
-        file, draft = node.file, node.file.draft
+    def _empty(self, node: Leaf) -> None:
+        file, draft = node.file, draft_to_write(node.file)
         was_dirty = draft.is_dirty
         if file.size if draft.content is None else draft.content:
             draft.content = bytearray()
@@ -533,20 +508,20 @@ class Tree:
             file.looks.modified = time.time_ns()
             self._tell(file)
 
-    def _is_written(self, node):
+    def _is_written(self, node: Leaf) -> None:
         node.file.version += 1
         for other in node.file.nodes:
             if other.writers and other is not node:
                 self.changed(other.number)
 
-    def _must_be_made(self, file):
+    def _must_be_made(self, file: File) -> None:
         """Raises what kept a new file from being made. Nothing of it is kept, so that no call may say so."""
         if file.refusal:
             if file.draft:
                 file.draft.is_refused = True
             raise file.refusal
 
-    def _content(self, node):
+    def _content(self, node: Leaf) -> bytes | bytearray:
         """The bytes as they are seen at this path."""
         draft, file = self._draft_of(node), node.file
         self._must_be_made(file)
@@ -554,20 +529,21 @@ class Tree:
             return draft.content
         return file.kept if file.is_gone else self.image.content(file)
 
-    def _drafted(self, file):
+    def _drafted(self, file: File) -> bytearray:
         """The bytes that are written to."""
         self._must_be_made(file)
-        if file.draft.content is None:
-            file.draft.content = bytearray(file.kept if file.is_gone else self.image.content(file))
-        return file.draft.content
+        draft = draft_to_write(file)
+        if draft.content is None:
+            draft.content = bytearray(file.kept if file.is_gone else self.image.content(file))
+        return draft.content
 
     @answering
-    def read(self, handle, offset, size):
-        return self._content(self.handles[handle].node)[offset:offset + size]
+    def read(self, handle: int, offset: int, size: int) -> bytes | bytearray:
+        return self._content(self._open_file(handle).node)[offset:offset + size]
 
     @answering
-    def write(self, handle, offset, data, flags):
-        node = self.handles[handle].node
+    def write(self, handle: int, offset: int, data: bytes | memoryview, flags: int) -> int:
+        node = self._open_file(handle).node
         file, content = node.file, self._drafted(node.file)
         if flags & os.O_APPEND:
             offset = len(content)
@@ -575,23 +551,24 @@ class Tree:
         if offset > len(content):
             content.extend(bytes(offset - len(content)))
         content[offset:offset + len(data)] = data
-        file.draft.is_written(time.time_ns())
+        draft_to_write(file).is_written(time.time_ns())
         self._is_written(node)
         return len(data)
 
-    def _fits(self, size):
+    def _fits(self, size: int) -> None:
         if size > self.image.limits.file_bytes:
             raise fault(errno.EFBIG, "a file has at most so many bytes")
 
-    def _resize(self, node, size, handle):
+    def _resize(self, node: Node, size: int, handle: int | None) -> None:
         """Through an open file the draft changes, as by a write. By its path the file is changed in the image at once, with what was
         written to it."""
         if not isinstance(node, Leaf):
             raise fault(errno.EISDIR, "a folder")
         self._fits(size)
-        if handle is not None and self.handles[handle].writes:
-            return self._cut(node, size)
-        temporary = self.handles[self._opened(node, os.O_WRONLY)]
+        if handle is not None and self._open_file(handle).writes:
+            self._cut(node, size)
+            return
+        temporary = self._open_file(self._opened(node, os.O_WRONLY))
         try:
             self._cut(node, size)
             self._commit(node)
@@ -599,65 +576,70 @@ class Tree:
             # A draft of its own is dropped where it was refused.
             self._end_writing(temporary)
 
-    def _cut(self, node, size):
+    def _cut(self, node: Leaf, size: int) -> None:
         content = self._drafted(node.file)
         if size < len(content):
             del content[size:]
         else:
             content.extend(bytes(size - len(content)))
-        node.file.draft.is_written(time.time_ns())
+        draft_to_write(node.file).is_written(time.time_ns())
         self._is_written(node)
 
     @answering
-    def flush(self, handle, process):
+    def flush(self, handle: int, process: int) -> None:
         """Somebody closes the file. A shell opens the file of `> x`, makes it the output of what it runs, and closes the first of the two,
         before a byte is written: that is no end of the writing."""
-        handle = self.handles[handle]
-        self._must_be_made(handle.file)
-        if handle.writes and self._is_unstored(handle.file):
-            draft = handle.file.draft
-            if draft.is_dirty and not draft.is_emptied or not is_open_in(process, handle.node.inode):
-                self._commit(handle.node)
+        closed = self._open_file(handle)
+        self._must_be_made(closed.file)
+        if closed.writes and self._is_unstored(closed.file):
+            draft = draft_to_write(closed.file)
+            if draft.is_dirty and not draft.is_emptied or not is_open_in(process, closed.node.inode):
+                self._commit(closed.node)
 
-    def _is_unstored(self, file):
+    def _is_unstored(self, file: File) -> bool:
         """Whether it has other bytes than in the image, or isn't there yet."""
-        return file.draft.is_dirty or file is self.image.waiting
+        return draft_to_write(file).is_dirty or file is self.image.waiting
 
     @answering
-    def fsync(self, handle):
-        node = self.handles[handle].node
+    def fsync(self, handle: int) -> None:
+        node = self._open_file(handle).node
         self._must_be_made(node.file)
         if node.file.draft and self._is_unstored(node.file):
             self._commit(node)
 
-    def _commit(self, node):
+    def _commit(self, node: Leaf) -> None:
         """Stores the draft whole. Where it is refused it stays, and can be tried again."""
         file = node.file
         self._must_be_made(file)
         if not file.is_gone:
+            draft = draft_to_write(file)
             try:
-                self.image.write(file, bytes(file.draft.content or b""))
+                self.image.write(file, bytes(draft.content or b""))
             except Refused:
-                file.draft.is_refused = True
+                draft.is_refused = True
                 raise
         self._is_stored(file, node)
 
-    def _is_stored(self, file, node):
-        file.looks.modified = file.draft.modified or file.looks.modified
-        file.draft.is_dirty = file.draft.is_emptied = file.draft.is_refused = False
+    def _is_stored(self, file: File, node: Leaf | None) -> None:
+        draft = draft_to_write(file)
+        file.looks.modified = draft.modified or file.looks.modified
+        draft.is_dirty = draft.is_emptied = draft.is_refused = False
         file.version += 1
         self._tell(file, node)
 
     @answering
-    def release(self, handle):
+    def release(self, handle: int) -> None:
         """Nobody has this handle any more."""
-        self._end_writing(self.handles.pop(handle))
+        closed = self._open_file(handle)
+        del self.handles[handle]
+        self._end_writing(closed)
 
-    def _end_writing(self, handle):
-        file, draft, node = handle.file, handle.file.draft, handle.node
+    def _end_writing(self, handle: Handle) -> None:
+        file, node = handle.file, handle.node
         file.handles -= 1
         if not handle.writes:
             return
+        draft = draft_to_write(file)
         node.writers -= 1
         draft.writers -= 1
         if draft.writers:
@@ -679,11 +661,11 @@ class Tree:
                 file.version += 1
                 self._tell(file)
 
-    def _lose(self, file, why):
+    def _lose(self, file: File, why: str) -> None:
         self.has_lost = True
         write_line(sys.stderr, f"mount: {file.name.decode()}: {why}")
 
-    def finish(self):
+    def finish(self) -> None:
         """Stores what was written and not closed, when nobody asks any more, as a close would. Tells each file that can't be stored."""
         self.changed = lambda number: None
         written = {handle.file: handle.node for handle in self.handles.values() if isinstance(handle, Handle) and handle.writes}
@@ -695,5 +677,5 @@ class Tree:
                     self._lose(file, f"what was written and not closed is lost: {error.strerror}")
 
     @answering
-    def _store(self, node):
+    def _store(self, node: Leaf) -> None:
         self._commit(node)

@@ -13,6 +13,7 @@ The status is 0 at the end, and 1 where a line of a script was refused, somethin
 where another one has the image or at a fault of the disk, it is that of the program, or 128 and the number of the signal that killed it.
 Ctrl-C ends a script with 130. Nothing of this is proved.
 """
+import io
 import os
 import sys
 
@@ -28,7 +29,7 @@ from lisfs.showing import harmless
 STOPPED = 130
 
 
-def run(image, screen):
+def run(image: str, screen: Screen) -> int:
     """The status."""
     program, dump = opened(image)
     # Ctrl-C is for the shell alone, and the program comes to its end.
@@ -48,18 +49,18 @@ def run(image, screen):
             raise
 
 
-def cause_of(end):
+def cause_of(end: Ended) -> str:
     """Why the program has ended."""
     if end.status < 0:
         return f"the program was killed by signal {-end.status}; what was replied to is kept"
     return ": ".join(end.text.splitlines()) or f"the program has ended with {end.status}; what was replied to is kept"
 
 
-def status_of(end):
+def status_of(end: Ended) -> int:
     return 128 - end.status if end.status < 0 else end.status or 1
 
 
-def main():
+def main() -> int:
     if len(sys.argv) != 2 or sys.argv[1].startswith("-"):
         sys.exit(__doc__)
     if what := missing():
@@ -67,11 +68,13 @@ def main():
     if sys.stdin is None or sys.stdout is None:
         sys.exit("shell: standard input or output is closed")
     for stream in (sys.stdin, sys.stdout):
-        stream.reconfigure(errors="surrogateescape")
+        if isinstance(stream, io.TextIOWrapper):
+            stream.reconfigure(errors="surrogateescape")
     image, screen = sys.argv[1], Screen(Interrupts())
     shown = harmless(os.fsencode(image))
+    cause: str | None = None
     try:
-        status, cause = run(image, screen), None
+        status = run(image, screen)
     except Locked as end:
         others = "another `tools/shell`, `tools/mount` or `tools/serve`"
         status, cause = status_of(end), f"{shown}: another program has it open, as {others}: end that first"

@@ -1,6 +1,7 @@
 """The commands: how each is said, what it does, and where it is refused. `help` tells it."""
-import collections
+import enum
 import textwrap
+from typing import NamedTuple
 
 from lisfs.constants import (
     ALREADY_DECLARED, AXIOM_THERE, BAD_FORMULA, BUILT_IN, CYCLE, IN_USE, LARGE_DESCRIPTION, LARGE_FILE, LARGE_FORMULA, NAME_TAKEN, NO_AXIOM,
@@ -8,20 +9,43 @@ from lisfs.constants import (
     UNKNOWN_PROPERTY)
 from lisfs.refusals import meaning
 
-# What a word of a line is: a word that is new, declared or known, or that a file can be given; a file that is new, or here; a formula; a count
-# of bytes; a path of the system; a command.
-NEW_WORD, DECLARED, KNOWN, GIVEN = "new word", "declared", "known", "given"
-NEW_FILE, FILE, FORMULA, COUNT, PATH, COMMAND = "new file", "file", "formula", "count", "path", "command"
+
+class Part(enum.Enum):
+    """What a word of a line is: a word that is new, declared or known, or that a file can be given; a file that is new, or here; a formula; a
+    count of bytes; a path of the system; a command."""
+
+    NEW_WORD = "new word"
+    DECLARED = "declared"
+    KNOWN = "known"
+    GIVEN = "given"
+    NEW_FILE = "new file"
+    FILE = "file"
+    FORMULA = "formula"
+    COUNT = "count"
+    PATH = "path"
+    COMMAND = "command"
+
+
 WIDTH = 79
-WORDS = (NEW_WORD, DECLARED, KNOWN, GIVEN)
-FILES = (NEW_FILE, FILE)
-
-# `parts` are what the words behind the command are, of which the first `needed` must stand; the last one may be repeated where `repeats`.
-# `refusals` are the numbers, in the order in which the program looks, or of the shell's own commands those that it hands on.
-Command = collections.namedtuple("Command", "form does more parts needed repeats refusals")
+WORDS = (Part.NEW_WORD, Part.DECLARED, Part.KNOWN, Part.GIVEN)
+FILES = (Part.NEW_FILE, Part.FILE)
 
 
-def command(form, does, *parts, needed=None, repeats=False, refusals=(), more=""):
+class Command(NamedTuple):
+    """`parts` are what the words behind the command are, of which the first `needed` must stand; the last one may be repeated where `repeats`.
+    `refusals` are the numbers, in the order in which the program looks, or of the shell's own commands those that it hands on."""
+
+    form: str
+    does: str
+    more: str
+    parts: tuple[Part, ...]
+    needed: int
+    repeats: bool
+    refusals: tuple[int, ...]
+
+
+def command(form: str, does: str, *parts: Part, needed: int | None = None, repeats: bool = False, refusals: tuple[int, ...] = (),
+            more: str = "") -> Command:
     return Command(form, does, more, parts, len(parts) if needed is None else needed, repeats, refusals)
 
 
@@ -30,63 +54,63 @@ COMMANDS = {
     "ls": command("ls [-c]", "lists words that narrow the place, and other files",
                   more="Words stand behind `d`, and behind `f` the files that none of them covers. With -c a count stands before each word: so many "
                        "files are left behind `cd WORD`."),
-    "cd": command("cd FORMULA", "goes to a place", FORMULA, refusals=(BAD_FORMULA, LARGE_FORMULA, UNKNOWN_PROPERTY),
+    "cd": command("cd FORMULA", "goes to a place", Part.FORMULA, refusals=(BAD_FORMULA, LARGE_FORMULA, UNKNOWN_PROPERTY),
                   more="`/` is and, `|` is or, `!` is not, `size>=N` and `size<N` test the bytes. A formula that begins with `/` starts at the root, "
                        "any other goes on from here; `..` drops the last step."),
     "pwd": command("pwd", "shows the place"),
-    "find": command("find [FORMULA]", "shows all files of a place, one a line", FORMULA, needed=0,
+    "find": command("find [FORMULA]", "shows all files of a place, one a line", Part.FORMULA, needed=0,
                     refusals=(BAD_FORMULA, LARGE_FORMULA, UNKNOWN_PROPERTY),
                     more="The formula is said as in `cd`. Without one it is this place. You stay where you are."),
-    "cat": command("cat NAME", "shows the bytes of a file", FILE, refusals=(NO_FILE_HERE,),
+    "cat": command("cat NAME", "shows the bytes of a file", Part.FILE, refusals=(NO_FILE_HERE,),
                    more="On a terminal, what is no text is shown as `^X`, `\\xNN` or `\\uNNNN`."),
-    "props": command("props NAME", "shows all words that a file has", FILE, refusals=(NO_FILE_HERE,)),
-    "way": command("way NAME", "shows the words of listings that lead to a file", FILE, refusals=(NO_FILE_HERE,)),
+    "props": command("props NAME", "shows all words that a file has", Part.FILE, refusals=(NO_FILE_HERE,)),
+    "way": command("way NAME", "shows the words of listings that lead to a file", Part.FILE, refusals=(NO_FILE_HERE,)),
     "stat": command("stat", "counts files, words, axioms and free blocks", more="A block has 4,096 bytes."),
-    "put": command("put [-w] FILE [AS] [WORD..]", "takes a file of the system in", PATH, NEW_FILE, GIVEN,
+    "put": command("put [-w] FILE [AS] [WORD..]", "takes a file of the system in", Part.PATH, Part.NEW_FILE, Part.GIVEN,
                    needed=1, repeats=True, refusals=(LARGE_FILE, *CREATES, NO_SPACE),
                    more="It has these words and those of the place. AS is its name here, which else is that of FILE. Where a file of that name is "
                         "here already, it gets the bytes and keeps its words, if you say yes, or -w. Quotes, and `\\` before a blank, are as in "
                         "other shells."),
-    "get": command("get NAME [FILE]", "writes a file's bytes to a file of the system", FILE, PATH, needed=1, refusals=(NO_FILE_HERE,),
+    "get": command("get NAME [FILE]", "writes a file's bytes to a file of the system", Part.FILE, Part.PATH, needed=1, refusals=(NO_FILE_HERE,),
                    more="FILE may be a folder; without it NAME is taken. A file that is there is not written over, unless you say yes."),
-    "create": command("create NAME WORD..", "makes an empty file", NEW_FILE, GIVEN, needed=1, repeats=True, refusals=CREATES,
+    "create": command("create NAME WORD..", "makes an empty file", Part.NEW_FILE, Part.GIVEN, needed=1, repeats=True, refusals=CREATES,
                       more="It has these words and those of the place."),
-    "add": command("add NAME N WORD..", "makes a file of the N bytes that follow", NEW_FILE, COUNT, GIVEN, needed=2, repeats=True,
+    "add": command("add NAME N WORD..", "makes a file of the N bytes that follow", Part.NEW_FILE, Part.COUNT, Part.GIVEN, needed=2, repeats=True,
                    refusals=(LARGE_FILE, *CREATES, NO_SPACE),
                    more="They begin with the next line, and a line feed stands behind them. It is for scripts: at a prompt `put` counts the bytes."),
-    "write": command("write NAME N", "gives a file the N bytes that follow", FILE, COUNT,
+    "write": command("write NAME N", "gives a file the N bytes that follow", Part.FILE, Part.COUNT,
                      refusals=(LARGE_FILE, NO_FILE_HERE, LARGE_DESCRIPTION, NO_PROPERTY_ROOM, NO_SPACE),
                      more="They stand as those of `add`. It is for scripts: at a prompt `put` counts the bytes."),
-    "rename": command("rename NAME OTHER", "gives a file another name", FILE, NEW_FILE,
+    "rename": command("rename NAME OTHER", "gives a file another name", Part.FILE, Part.NEW_FILE,
                       refusals=(NO_FILE_HERE, NAME_TAKEN, LARGE_DESCRIPTION, NO_PROPERTY_ROOM)),
-    "mv": command("mv NAME FORMULA", "takes a file from here to another place", FILE, FORMULA,
+    "mv": command("mv NAME FORMULA", "takes a file from here to another place", Part.FILE, Part.FORMULA,
                   refusals=(BAD_FORMULA, LARGE_FORMULA, NO_FILE_HERE, NOT_A_PLACE, BUILT_IN, NOT_ASSIGNABLE, UNKNOWN_PROPERTY, TOO_MANY_ASSIGNED,
                             LARGE_DESCRIPTION, NO_PROPERTY_ROOM),
                   more="It loses the words of this place that it was given, and gains those of the other."),
-    "rm": command("rm NAME", "removes a file", FILE, refusals=(NO_FILE_HERE,)),
-    "mkdir": command("mkdir WORD", "declares a word, under the words of the place", NEW_WORD,
+    "rm": command("rm NAME", "removes a file", Part.FILE, refusals=(NO_FILE_HERE,)),
+    "mkdir": command("mkdir WORD", "declares a word, under the words of the place", Part.NEW_WORD,
                      refusals=(BUILT_IN, NOT_ASSIGNABLE, ALREADY_DECLARED, NOT_A_PLACE, UNKNOWN_PROPERTY, NO_AXIOM_ROOM, NO_PROPERTY_ROOM,
                                LARGE_DESCRIPTION),
                      more="`music` is a plain word. `year:` is a head, of which a file can have values, as `year:2003`. A test, as `size>=1000`, "
                           "is then a word of each file that meets it."),
-    "rmdir": command("rmdir WORD", "takes back a word that nothing uses", DECLARED, refusals=(BUILT_IN, NOT_ASSIGNABLE, NOT_DECLARED, IN_USE)),
-    "axiom": command("axiom LEFT RIGHT", "says that each file with LEFT has RIGHT too", KNOWN, DECLARED,
+    "rmdir": command("rmdir WORD", "takes back a word that nothing uses", Part.DECLARED, refusals=(BUILT_IN, NOT_ASSIGNABLE, NOT_DECLARED, IN_USE)),
+    "axiom": command("axiom LEFT RIGHT", "says that each file with LEFT has RIGHT too", Part.KNOWN, Part.DECLARED,
                      refusals=(NOT_ASSIGNABLE, UNKNOWN_PROPERTY, AXIOM_THERE, CYCLE, NO_AXIOM_ROOM, NO_PROPERTY_ROOM, LARGE_DESCRIPTION)),
-    "unaxiom": command("unaxiom LEFT RIGHT", "takes that back", KNOWN, DECLARED, refusals=(NO_AXIOM,)),
-    "help": command("help [COMMAND]", "tells of all commands, or of one", COMMAND, needed=0),
+    "unaxiom": command("unaxiom LEFT RIGHT", "takes that back", Part.KNOWN, Part.DECLARED, refusals=(NO_AXIOM,)),
+    "help": command("help [COMMAND]", "tells of all commands, or of one", Part.COMMAND, needed=0),
     "exit": command("exit", "ends, as Ctrl-D does"),
 }
 # Those that the program does not know.
 OWN = ("find", "put", "get", "help", "exit")
 
 
-def all_in_lines():
+def all_in_lines() -> list[str]:
     """All commands, one a line."""
     width = max(len(command.form) for command in COMMANDS.values())
     return [f"{command.form:{width}}  {command.does}" for command in COMMANDS.values()]
 
 
-def told(name):
+def told(name: str) -> list[str]:
     """What there is to know of a command."""
     command = COMMANDS[name]
     lines = [f"{command.form}: {command.does}."] + textwrap.wrap(command.more, WIDTH)

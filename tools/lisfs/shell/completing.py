@@ -2,12 +2,18 @@
 import os
 import re
 import shutil
+from collections.abc import Iterable, Sequence
+from typing import NamedTuple
 
 from lisfs.client import Ended, NotAReply, NotSent
-from lisfs.shell.commands import COMMAND, COMMANDS, DECLARED, FILE, FORMULA, GIVEN, KNOWN, NEW_FILE, PATH
-from lisfs.shell.terminal import Stopped, readline
+from lisfs.shell.commands import COMMANDS, Part
+from lisfs.shell.session import Session
+from lisfs.shell.terminal import HAS_READLINE, Screen, Stopped
 from lisfs.showing import harmless
 from lisfs.words import is_file_name
+
+if HAS_READLINE:
+    import readline
 
 BLANKS = b" \t\n"
 # The most of what may stand there that is shown.
@@ -17,25 +23,35 @@ PIECE = re.compile(rb"(?:\\.|[^\\ \t\n])*\\?", re.S)
 ESCAPED = re.compile(rb"([\\ \t\n'\"])")
 
 
-def in_columns(texts, width):
+class Piece(NamedTuple):
+    """A word of a line as it was typed, and where it begins."""
+
+    at: int
+    text: bytes
+
+
+def in_columns(texts: Sequence[str], width: int) -> list[str]:
     """Lines of texts, in order from above to below."""
     columns = max(1, shutil.get_terminal_size().columns // width)
     rows = -(-len(texts) // columns)
     return ["".join(f"{text:{width}}" for text in texts[row::rows]).rstrip() for row in range(rows)]
 
 
-def unescaped(piece):
+def unescaped(piece: bytes) -> bytes:
     return re.sub(rb"\\(.)", rb"\1", piece, flags=re.S)
 
 
-def pieces(line):
-    """The words of a line with a backslash before some blanks, and where each begins. The last one is that which is being typed, and may be empty."""
-    found, at = [], 0
+def pieces(line: bytes) -> list[Piece]:
+    """The words of a line with a backslash before some blanks. The last one is that which is being typed, and may be empty."""
+    found: list[Piece] = []
+    at = 0
     while True:
         while line[at:at + 1] and line[at:at + 1] in BLANKS:
             at += 1
         piece = PIECE.match(line, at)
-        found.append((at, piece[0]))
+        # It may be empty.
+        assert piece
+        found.append(Piece(at, piece[0]))
         if piece.end() >= len(line):
             return found
         at = piece.end()
@@ -44,17 +60,18 @@ def pieces(line):
 class Completer:
     """`complete` and `show` are what Python's `readline` calls."""
 
-    def __init__(self, session, screen):
-        self.session, self.screen, self.interrupts, self.found = session, screen, screen.interrupts, []
+    def __init__(self, session: Session, screen: Screen) -> None:
+        self.session, self.screen, self.interrupts = session, screen, screen.interrupts
+        self.found: list[str] = []
 
-    def install(self):
-        if readline:
+    def install(self) -> None:
+        if HAS_READLINE:
             readline.set_completer(self.complete)
             readline.set_completion_display_matches_hook(self.show)
             readline.set_completer_delims(BLANKS.decode())
             readline.parse_and_bind("tab: complete")
 
-    def complete(self, _, state):
+    def complete(self, _: str, state: int) -> str | None:
         if state == 0:
             line = os.fsencode(readline.get_line_buffer())
             with self.interrupts.working():
@@ -66,7 +83,7 @@ class Completer:
             self.found = [os.fsdecode(one) for one in found]
         return self.found[state] if state < len(self.found) else None
 
-    def show(self, begun, found, _):
+    def show(self, begun: str, found: Sequence[str], _: int) -> None:
         """Shows what may stand there, as far as a screen has room, and the line again. Of a formula or a path the last word is shown."""
         at = max(map(begun.rfind, "/|!(")) + 1
         texts = [harmless(os.fsencode(one[at:].rstrip())) for one in found[:SHOWN]]
@@ -74,7 +91,7 @@ class Completer:
         line = readline.get_line_buffer()
         self.screen.again(lines, line, len(os.fsencode(line)[readline.get_endidx():].decode(errors="replace")))
 
-    def candidates(self, line, begin):
+    def candidates(self, line: bytes, begin: int) -> list[bytes]:
         """What may stand in place of the line's end from `begin` on, in byte order. The line ends where the cursor is."""
         typed = pieces(line)
         start, piece = typed[-1]
@@ -82,10 +99,10 @@ class Completer:
         # A word of the line in which a blank is escaped may begin before what is to be replaced.
         return sorted({one[max(0, begin - start):] for one in found if one.startswith(piece)})
 
-    def _whole(self, before, piece):
+    def _whole(self, before: Sequence[Piece], piece: bytes) -> Iterable[bytes]:
         if not before:
             return [name.encode() + (b" " if command.parts else b"") for name, command in COMMANDS.items()]
-        command = COMMANDS.get(before[0][1].decode(errors="replace"))
+        command = COMMANDS.get(before[0].text.decode(errors="replace"))
         given = [one for _, one in before[1:]]
         if command is None or not command.parts:
             return []
@@ -97,31 +114,31 @@ class Completer:
         has_more = command.repeats or len(given) + 1 < len(command.parts)
         return self._of(part, piece, given, b" " if has_more else b"")
 
-    def _of(self, part, piece, given, behind):
-        if part == FORMULA:
+    def _of(self, part: Part, piece: bytes, given: list[bytes], behind: bytes) -> Iterable[bytes]:
+        if part is Part.FORMULA:
             return self._formulas(piece)
-        if part == PATH:
+        if part is Part.PATH:
             return paths(piece, behind)
-        if part == FILE:
+        if part is Part.FILE:
             return [name + behind for name in self.session.names_here(piece)]
-        if part == COMMAND:
+        if part is Part.COMMAND:
             return [name.encode() for name in COMMANDS]
-        if part == NEW_FILE:
+        if part is Part.NEW_FILE:
             # That of the file that is taken in.
             name = os.path.basename(unescaped(given[0])) if given else b""
             return [name + behind] if is_file_name(name) else []
-        if part == GIVEN:
+        if part is Part.GIVEN:
             return [word + b" " for word in self._words(piece) if self.session.is_assignable(word)]
-        if part == KNOWN:
+        if part is Part.KNOWN:
             return [word + behind for word in self._words(piece)]
-        return [word + behind for word in self.session.declared] if part == DECLARED else []
+        return [word + behind for word in self.session.declared] if part is Part.DECLARED else []
 
-    def _words(self, stem, formula=b""):
+    def _words(self, stem: bytes, formula: bytes = b"") -> Iterable[bytes]:
         """The words that a place offers, and with some of its letters any word that is known."""
         offered = self.session.offered(formula)
         return {*offered, *self.session.known()} if stem else offered
 
-    def _formulas(self, text):
+    def _formulas(self, text: bytes) -> list[bytes]:
         """The last word of a formula. What the place offers to which the steps before it lead, those within parentheses not counted."""
         at = max(map(text.rfind, (b"/", b"|", b"!", b"("))) + 1
         base, stem, depth, step = text[:at], text[at:], 0, 0
@@ -134,7 +151,7 @@ class Completer:
         return [base + word for word in self._words(stem, context)] + ([b".."] if b"..".startswith(text) and text else [])
 
 
-def paths(piece, behind):
+def paths(piece: bytes, behind: bytes) -> list[bytes]:
     """The paths of the system that begin so: each as it would be typed, a folder with a slash behind it."""
     folder, slash, stem = piece.rpartition(b"/")
     found = []

@@ -4,37 +4,47 @@ The program tells a number. Which of several words is meant is found out here, b
 it can't be, the sentence names the line's own words.
 """
 import difflib
+from collections.abc import Callable, Iterable
+from typing import TypeAlias
 
 from lisfs import constants
-from lisfs.client import words_of
+from lisfs.client import Refused, words_of
 from lisfs.constants import MAX_ASSIGNED, MAX_DESCRIPTION, MAX_DIGITS, MAX_FORMULA, MAX_LINE, MAX_NODES, MAX_PAYLOAD
 from lisfs.formulas import words_in
 from lisfs.refusals import meaning
-from lisfs.shell.commands import COMMANDS, COUNT, FILES, WORDS
+from lisfs.shell.commands import COMMANDS, FILES, WORDS, Part
+from lisfs.shell.session import Session
 from lisfs.showing import harmless
 from lisfs.words import NAME_FORM, head_of, is_built_in, is_file_name, is_head, is_plain, is_test, is_word
 
 
-def said(*words):
+# The words behind a command.
+Words: TypeAlias = list[bytes]
+# A sentence for a command, its words and the session.
+Explanation: TypeAlias = Callable[[str, Words, Session], str]
+
+
+def said(*words: bytes) -> str:
     """Words of a line, as they are named in a sentence."""
     return ", ".join(map(harmless, words))
 
 
-def meant(word, among):
+def meant(word: bytes, among: Iterable[bytes]) -> str:
     """A question for the word that may have been meant."""
     near = difflib.get_close_matches(harmless(word), map(harmless, among), 1, 0.75)
     return f"; is it `{near[0]}`?" if near else ""
 
 
-def sentence(refused, line, session):
+def sentence(refused: Refused, line: bytes, session: Session) -> str:
     """What a refusal of a line means. Where the session has ended, `Ended` may be raised."""
     words = words_of(line)
     command, given = words[0].decode(errors="replace"), words[1:]
+    explain = SENTENCES.get(refused.number)
     # A number that is not known here is one of a later program.
-    return SENTENCES.get(refused.number, lambda *_: f"{harmless(line)}: {refused.words}")(command, given, session)
+    return explain(command, given, session) if explain else f"{harmless(line)}: {refused.words}"
 
 
-def bad_line(command, given, _):
+def bad_line(command: str, given: Words, _: object) -> str:
     if command not in COMMANDS:
         near = meant(command.encode(), [name.encode() for name in COMMANDS])
         return f"{harmless(command.encode())}: there is no such command{near or '; `help` tells of all'}"
@@ -43,30 +53,30 @@ def bad_line(command, given, _):
         for word, part in zip(given, parts + parts[-1:] * len(given)):
             if part in FILES and not is_file_name(word):
                 return f"{harmless(word)}: no name of a file, which has {NAME_FORM}"
-            if part == COUNT and not (word.isdigit() and len(word) <= MAX_DIGITS):
+            if part is Part.COUNT and not (word.isdigit() and len(word) <= MAX_DIGITS):
                 return f"{harmless(word)}: no count of bytes"
             if part in WORDS and not is_word(word) and not is_test(word):
                 return f"{harmless(word)}: no word: `music`, `year:`, `year:2003` or a test, as `size>=1000`; a part has {NAME_FORM}"
     return f"{command}: it is said so: {form.form}"
 
 
-def long_line(command, given, session):
+def long_line(command: str, given: Words, session: Session) -> str:
     return f"{harmless(command.encode())[:60]}: the line has more than {MAX_LINE:,} bytes"
 
 
-def cut_payload(command, given, session):
+def cut_payload(command: str, given: Words, session: Session) -> str:
     return f"{said(*given[:1])}: the input ends within its {said(*given[1:2])} bytes"
 
 
-def payload_end(command, given, session):
+def payload_end(command: str, given: Words, session: Session) -> str:
     return f"{said(*given[:1])}: no line ends behind its {said(*given[1:2])} bytes, so that their count is wrong; the rest of that line is dropped"
 
 
-def formula(command, given, session):
+def formula(command: str, given: Words, session: Session) -> str:
     return f"{said(given[-1])}: no formula: words with `/` (and), `|` (or), `!` (not) and parentheses, without blanks"
 
 
-def unknown(command, given, session):
+def unknown(command: str, given: Words, session: Session) -> str:
     if command in ("cd", "find"):
         words = session.unknown(given[-1])
     elif command == "mkdir":
@@ -84,7 +94,7 @@ def unknown(command, given, session):
     is_value = not is_plain(first) and not is_head(first) and not is_test(first)
     if is_built_in(first) or is_value and head_of(first) in session.declared:
         return f"{said(*words)}: no file has it"
-    needed = head_of(first) if is_value else first
+    needed = is_value and head_of(first) or first
     if first in session.names:
         return f"{said(first)}: this is the name of a file, and no word"
     near = meant(first, session.known() if command in ("cd", "find") else session.declared)
@@ -93,16 +103,16 @@ def unknown(command, given, session):
     return f"{said(first)}: this word is not known{near or f'; `mkdir {harmless(needed)}` declares it'}"
 
 
-def words_given(command, given):
+def words_given(command: str, given: Words) -> Words:
     """The words of a line that a file is to be given."""
     return words_in(given[1]) if command == "mv" else given[2:] if command == "add" else given[1:]
 
 
-def large_formula(command, given, session):
+def large_formula(command: str, given: Words, session: Session) -> str:
     return f"{said(*given[-1:])}: too large: a place has at most {MAX_NODES} words and signs, and {MAX_FORMULA:,} bytes"
 
 
-def not_a_place(command, given, session):
+def not_a_place(command: str, given: Words, session: Session) -> str:
     place = harmless(session.place)
     if command == "mkdir":
         return f"{said(*given)}: a word is declared at the root or at a place of plain words, and not at {place}"
@@ -111,11 +121,11 @@ def not_a_place(command, given, session):
     return f"{said(*given[:1])}: no file is made at {place}, which has `|`, `!` or a test in it, and so no words to give it"
 
 
-def name_taken(command, given, session):
+def name_taken(command: str, given: Words, session: Session) -> str:
     return f"{said(given[1] if command == 'rename' else given[0])}: there is a file of this name already"
 
 
-def no_such_file(command, given, session):
+def no_such_file(command: str, given: Words, session: Session) -> str:
     name = given[0]
     if name in session.names:
         return f"{said(name)}: this file is not here, but elsewhere; all files are at `/`"
@@ -123,22 +133,22 @@ def no_such_file(command, given, session):
     return f"{said(name)}: there is no file of this name{hint}"
 
 
-def declared(command, given, session):
+def declared(command: str, given: Words, session: Session) -> str:
     return f"{said(*given)}: this word is declared already"
 
 
-def not_declared(command, given, session):
+def not_declared(command: str, given: Words, session: Session) -> str:
     return f"{said(*given)}: no such word is declared{meant(given[0], session.declared)}"
 
 
-def in_use(command, given, session):
+def in_use(command: str, given: Words, session: Session) -> str:
     axioms = [pair for pair in sorted(session.axioms) if given[0] in pair or head_of(pair[0]) == given[0]]
     if axioms:
         return f"{said(*given)}: an axiom names it: {said(axioms[0][0])} entails {said(axioms[0][1])}"
     return f"{said(*given)}: a file has this word: `find /{said(*given)}`"
 
 
-def not_assignable(command, given, session):
+def not_assignable(command: str, given: Words, session: Session) -> str:
     if command == "mkdir":
         return f"{said(*given)}: a value is not declared, but its head is: `mkdir {said(head_of(given[0]) or given[0])}`"
     if command == "rmdir":
@@ -152,62 +162,62 @@ def not_assignable(command, given, session):
     return f"{said(heads[0])}: a file is given a value of this head, as `{said(heads[0])}x`"
 
 
-def cycle(command, given, session):
+def cycle(command: str, given: Words, session: Session) -> str:
     left, right = map(harmless, given)
     return f"{left}: a word entails itself" if left == right else f"{left}, {right}: {right} entails {left} already, and this would be a circle"
 
 
-def axiom_there(command, given, session):
+def axiom_there(command: str, given: Words, session: Session) -> str:
     return f"{said(*given)}: there is this axiom already"
 
 
-def no_such_axiom(command, given, session):
+def no_such_axiom(command: str, given: Words, session: Session) -> str:
     return f"{said(*given)}: there is no axiom that {said(given[0])} entails {said(given[1])}"
 
 
-def too_many_given(command, given, session):
+def too_many_given(command: str, given: Words, session: Session) -> str:
     return f"{said(*given[:1])}: a file is given at most {MAX_ASSIGNED} words, those of the place counted"
 
 
-def too_many_had(command, given, session):
+def too_many_had(command: str, given: Words, session: Session) -> str:
     whose = "some file" if command in ("mkdir", "axiom") else "it"
     return f"{said(*given[:1])}: {whose} would have more than {MAX_DESCRIPTION} words, with all that they entail"
 
 
-def file_too_large(command, given, session):
+def file_too_large(command: str, given: Words, session: Session) -> str:
     count = int(given[1])
     # Of more than a line can count there is no number.
     many = f"{count:,}" if count <= MAX_PAYLOAD else f"more than {MAX_PAYLOAD:,}"
     return f"{said(*given[:1])}: it has {many} bytes, and a file of this image at most {session.limits.file_bytes:,}"
 
 
-def no_file_room(command, given, session):
+def no_file_room(command: str, given: Words, session: Session) -> str:
     return f"{said(*given[:1])}: the image has no room for another file: `rm` one, or take a larger image"
 
 
-def no_word_room(command, given, session):
+def no_word_room(command: str, given: Words, session: Session) -> str:
     return f"{said(*given[:1])}: the image has no room for more words: take some back, or take a larger image"
 
 
-def no_axiom_room(command, given, session):
+def no_axiom_room(command: str, given: Words, session: Session) -> str:
     return f"{said(*given)}: the image has no room for another axiom: take one back, or take a larger image"
 
 
-def no_space(command, given, session):
+def no_space(command: str, given: Words, session: Session) -> str:
     return f"{said(*given[:1])}: the image has no room for its bytes: `rm` files with bytes, or take a larger image"
 
 
-def built_in(command, given, session):
+def built_in(command: str, given: Words, session: Session) -> str:
     words = given if command in ("mkdir", "rmdir") else words_given(command, given)
     words = [word for word in words if is_built_in(word)] or given
     return f"{said(*words)}: files have such words by themselves, and nobody gives or declares them"
 
 
-def of_put(number):
+def of_put(number: int) -> Explanation:
     return lambda command, given, session: f"{said(*given[:1])}: {meaning(number)}"
 
 
-SENTENCES = {
+SENTENCES: dict[int, Explanation] = {
     constants.BAD_LINE: bad_line,
     constants.LONG_LINE: long_line,
     constants.CUT_PAYLOAD: cut_payload,

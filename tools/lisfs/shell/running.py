@@ -6,15 +6,17 @@ import shlex
 import shutil
 import stat
 import tempfile
+from collections.abc import Callable, Iterator, Sequence
+from typing import NoReturn
 
 from lisfs import derived
-from lisfs.client import CONTENT, Items, NotSent, Refused, words_of
+from lisfs.client import CONTENT, LINES, Item, Items, NotSent, Refused, Reply, words_of
 from lisfs.constants import MAX_LINE, MAX_PAYLOAD
 from lisfs.formulas import words_in
 from lisfs.shell.commands import COMMANDS, all_in_lines, told
 from lisfs.shell.explaining import bad_line, sentence
-from lisfs.shell.session import NoWayBack
-from lisfs.shell.terminal import INPUT, WORD as WORD_COLOUR, Stopped
+from lisfs.shell.session import NoWayBack, Session
+from lisfs.shell.terminal import INPUT, WORD as WORD_COLOUR, History, Interrupts, Screen, Stopped
 from lisfs.showing import harmless
 from lisfs.words import NAME_FORM, head_of, is_file_name
 
@@ -30,13 +32,14 @@ class Over(Exception):
 
 
 class Shell:
-    def __init__(self, session, screen):
+    def __init__(self, session: Session, screen: Screen) -> None:
         self.session, self.screen, self.interrupts, self.has_told_misses = session, screen, screen.interrupts, False
-        self.own = {b"find": self.find, b"put": self.put, b"get": self.get, b"help": self.help, b"exit": self.exit}
+        self.own: dict[bytes, Callable[[bytes, list[bytes]], None]] = {
+            b"find": self.find, b"put": self.put, b"get": self.get, b"help": self.help, b"exit": self.exit}
 
     # Lines.
 
-    def carry_out(self, line, payload=b""):
+    def carry_out(self, line: bytes, payload: bytes = b"") -> None:
         """Raises `Failed` where it is refused or something is amiss, `Stopped` at Ctrl-C, and `Over` where it is the last one."""
         words = words_of(line)
         if not words:
@@ -58,27 +61,27 @@ class Shell:
             raise Failed(f"{harmless(words[0])}: {error}") from None
         self.interrupts.ask()
 
-    def show(self, command, reply):
-        if reply.kind == CONTENT:
+    def show(self, command: bytes, reply: Reply) -> None:
+        if reply.kind is CONTENT:
             self.screen.content(reply.body)
         else:
             has_words = command in (b"ls", b"way")
             self.in_pieces([self.row(letter, harmless(text), has_words) for letter, text in reply.body])
 
-    def note(self, line):
+    def note(self, line: str) -> None:
         """Something beside what was asked. Of a script it is told on standard error, so that its output is that of the program."""
         if self.screen.asks:
             self.screen.lines([line])
         else:
             self.screen.fault(f"shell: {line}")
 
-    def tell_cut(self, words, reply):
+    def tell_cut(self, words: Sequence[bytes], reply: Reply) -> None:
         """Behind the words of a file, how many it would have, where the program keeps no more of them."""
-        if words[0] == b"props" and derived.is_full(text for _, text in reply.body):
+        if words[0] == b"props" and reply.kind is LINES and derived.is_full(text for _, text in reply.body):
             if told := derived.told_of_cut(words[1], self.session.content(words[1])):
                 self.note(f"{harmless(words[1])}: {told}")
 
-    def tell_misses(self, words):
+    def tell_misses(self, words: Sequence[bytes]) -> None:
         """Once, that a search can miss a file whose words are cut, also where it finds none."""
         formula = words_in(words[1]) if words[0] in (b"cd", b"find") and len(words) == 2 else []
         # Only such a word makes it worth to look at all files.
@@ -88,24 +91,24 @@ class Shell:
             self.has_told_misses = True
             self.note(told)
 
-    def row(self, letter, text, is_word, before=""):
+    def row(self, letter: bytes, text: str, is_word: bool, before: str = "") -> str:
         return f"{letter.decode()} {before}{self.screen.coloured(text, WORD_COLOUR) if is_word and letter == b'd' else text}"
 
-    def in_pieces(self, lines):
+    def in_pieces(self, lines: list[str]) -> None:
         """Many lines, a screen or two at a time, so that Ctrl-C ends them."""
         for at in range(0, len(lines), 100):
             self.screen.lines(lines[at:at + 100])
 
     # The shell's own commands.
 
-    def counts(self):
+    def counts(self) -> None:
         words, files = self.session.listing()
         count = collections.Counter(word for _, had in self.session.files() for word in had)
         width = max((len(str(count[word])) for word in words), default=0)
         self.in_pieces([self.row(b"d", harmless(word), True, f"{count[word]:>{width}} ") for word in words]
                        + [self.row(b"f", harmless(name), False, " " * (width + 1) if words else "") for name in files])
 
-    def find(self, _, given):
+    def find(self, _: bytes, given: list[bytes]) -> None:
         if len(given) > 1:
             raise Failed(bad_line("find", given, self.session))
         try:
@@ -116,20 +119,21 @@ class Shell:
                          "say a formula that goes on from here, or `cd` elsewhere first") from None
         self.in_pieces([harmless(name) for name in names])
 
-    def help(self, _, given):
+    def help(self, _: bytes, given: list[bytes]) -> None:
         if not given:
-            return self.screen.lines(all_in_lines())
+            self.screen.lines(all_in_lines())
+            return
         name = given[0].decode(errors="replace")
         if len(given) > 1 or name not in COMMANDS:
             raise Failed(bad_line("help" if len(given) > 1 else name, given, self.session))
         self.screen.lines(told(name))
 
-    def exit(self, _, given):
+    def exit(self, _: bytes, given: list[bytes]) -> None:
         if given:
             raise Failed(bad_line("exit", given, self.session))
         raise Over
 
-    def put(self, line, _):
+    def put(self, line: bytes, _: list[bytes]) -> None:
         words = self.in_quotes(line)
         is_sure = words[:1] == [b"-w"]
         path, *words = words[is_sure:] or self.wrong("put")
@@ -146,14 +150,14 @@ class Shell:
             self.judged(b"add", name, content, words, lambda: self.session.add(name, content, *words))
         self.screen.lines([f"{harmless(name)}: {len(content):,} bytes{told}"])
 
-    def judged(self, command, name, content, words, call):
+    def judged(self, command: bytes, name: bytes, content: bytes, words: Sequence[bytes], call: Callable[[], None]) -> None:
         """A command with bytes, which is told as the line that it is."""
         try:
             call()
         except Refused as refused:
             raise Failed(sentence(refused, b" ".join([command, name, b"%d" % len(content), *words]), self.session)) from None
 
-    def content_of(self, path):
+    def content_of(self, path: bytes) -> bytes:
         """The bytes of a file of the system, where a file may have so many."""
         path, most = os.path.expanduser(path), self.session.limits.file_bytes
         try:
@@ -168,7 +172,7 @@ class Shell:
             raise Failed(f"{harmless(path)}: it has {max(found.st_size, len(content)):,} bytes, and a file of this image at most {most:,}")
         return content
 
-    def get(self, line, _):
+    def get(self, line: bytes, _: list[bytes]) -> None:
         words = self.in_quotes(line)
         if not 1 <= len(words) <= 2:
             self.wrong("get")
@@ -183,7 +187,7 @@ class Shell:
             raise Failed(f"{harmless(path)}: {error.strerror}") from None
         self.screen.lines([f"{harmless(path)}: {len(content):,} bytes"])
 
-    def write_to(self, path, content):
+    def write_to(self, path: bytes, content: bytes) -> None:
         """Writes a file of the system: a new one, or in place of another where that is wanted."""
         if not os.path.lexists(path):
             try:
@@ -213,7 +217,7 @@ class Shell:
                 os.unlink(new)
             raise
 
-    def in_quotes(self, line):
+    def in_quotes(self, line: bytes) -> list[bytes]:
         """The words behind the command, with quotes and backslashes as in other shells."""
         try:
             words = [os.fsencode(word) for word in shlex.split(os.fsdecode(line.removesuffix(b"\r")))]
@@ -223,17 +227,18 @@ class Shell:
             raise Failed(f"{harmless(line.strip())}: no path has such a byte")
         return words[1:]
 
-    def wrong(self, name):
+    def wrong(self, name: str) -> NoReturn:
         raise Failed(f"{name}: it is said so: {COMMANDS[name].form}")
 
 
-def at_a_prompt(shell, history):
+def at_a_prompt(shell: Shell, history: History) -> None:
     """Goes on until Ctrl-D or `exit`."""
     while True:
         try:
             text = shell.screen.typed(shell.screen.prompt(shell.session.place))
         except EOFError:
-            return shell.screen.lines([""])
+            shell.screen.lines([""])
+            return
         except (KeyboardInterrupt, Stopped):
             shell.interrupts.forget()
             shell.screen.lines([""])
@@ -253,16 +258,17 @@ def at_a_prompt(shell, history):
             shell.interrupts.forget()
             shell.screen.lines([""])
         except Over:
-            return None
+            return
 
 
-def from_input():
+def from_input() -> bytes:
     return os.read(INPUT, PIECE)
 
 
-def commands(read, interrupts):
-    """The commands of what is read, each a line and the bytes behind it, and at last `None` where these are cut off."""
-    items, data = Items(MAX_LINE), None
+def commands(read: Callable[[], bytes], interrupts: Interrupts) -> Iterator[Item | None]:
+    """The commands of what is read, each a line without its line feed and the bytes behind it, and at last `None` where these are cut off."""
+    items = Items(MAX_LINE)
+    data: bytes | None = None
     # A last line, and last bytes, may lack their line feed.
     while data != b"" or items.lacks_feed():
         if data == b"":
@@ -272,12 +278,12 @@ def commands(read, interrupts):
                 data = read()
             items.feed(data)
         while taken := items.take():
-            yield taken[0][:-1], taken[1]
+            yield Item(taken.line[:-1], taken.payload)
     if items.is_cut():
         yield None
 
 
-def as_a_script(shell, read=from_input):
+def as_a_script(shell: Shell, read: Callable[[], bytes] = from_input) -> bool:
     """Carries out the lines that are read, with bytes behind them as `lisfs run` takes them. Whether none was refused."""
     is_fine = True
     for taken in commands(read, shell.interrupts):

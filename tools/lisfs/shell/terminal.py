@@ -4,14 +4,16 @@ import os
 import shutil
 import signal
 import sys
+from collections.abc import Iterable, Iterator
+
+from lisfs.showing import harmless
 
 try:
     import readline
+    HAS_READLINE = True
 except ImportError:
     # A Python without it: lines are typed as the terminal lets one.
-    readline = None
-
-from lisfs.showing import harmless
+    HAS_READLINE = False
 
 INPUT, OUTPUT, ERRORS = 0, 1, 2
 # So many lines are kept of earlier days.
@@ -29,26 +31,26 @@ class Interrupts:
     """Ctrl-C. While a line is typed it breaks the typing off. Else it is noted, and told where somebody asks: so no command is broken off in its
     middle, and the session goes on."""
 
-    def __init__(self):
+    def __init__(self) -> None:
         self.has_come = self._is_typing = False
         if signal.getsignal(signal.SIGINT) != signal.SIG_IGN:
             signal.signal(signal.SIGINT, self._come)
 
-    def _come(self, *_):
+    def _come(self, *_: object) -> None:
         if self._is_typing:
             self._is_typing = False
             raise KeyboardInterrupt
         self.has_come = True
 
-    def ask(self):
+    def ask(self) -> None:
         if self.has_come:
             raise Stopped
 
-    def forget(self):
+    def forget(self) -> None:
         self.has_come = False
 
     @contextlib.contextmanager
-    def typing(self):
+    def typing(self) -> Iterator[None]:
         """In the block `KeyboardInterrupt` may be raised; `Stopped`, where Ctrl-C has come before."""
         self._is_typing = True
         try:
@@ -58,7 +60,7 @@ class Interrupts:
             self._is_typing = False
 
     @contextlib.contextmanager
-    def working(self):
+    def working(self) -> Iterator[None]:
         """A part of the typing that is not to be broken off, as where the program is asked for words."""
         was_typing, self._is_typing = self._is_typing, False
         try:
@@ -70,63 +72,64 @@ class Interrupts:
 class Screen:
     """Where the shell shows what there is."""
 
-    def __init__(self, interrupts):
+    def __init__(self, interrupts: Interrupts) -> None:
         self.interrupts = interrupts
         self.is_terminal, self.asks = os.isatty(OUTPUT), os.isatty(INPUT) and os.isatty(OUTPUT)
         may_be = not os.environ.get("NO_COLOR") and os.environ.get("TERM", "dumb") != "dumb"
         self._has_colours = {stream: may_be and os.isatty(stream) for stream in (OUTPUT, ERRORS)}
         self.encoding, self._prompt = sys.stdout.encoding or "utf-8", ""
 
-    def coloured(self, text, colour, stream=OUTPUT):
+    def coloured(self, text: str, colour: str, stream: int = OUTPUT) -> str:
         return f"\x1b[{colour}m{text}\x1b[0m" if self._has_colours[stream] else text
 
-    def put(self, data, stream=OUTPUT):
+    def put(self, data: bytes, stream: int = OUTPUT) -> None:
         """Shows bytes as they are."""
         left = memoryview(data)
         while left:
             left = left[os.write(stream, left[:65_536]):]
             self.interrupts.ask()
 
-    def lines(self, lines):
+    def lines(self, lines: Iterable[str]) -> None:
         self.put("".join(line + "\n" for line in lines).encode(self.encoding, "backslashreplace"))
 
-    def content(self, data):
+    def content(self, data: bytes) -> None:
         """Shows the bytes of a file: on a terminal harmlessly, and so that a new line follows."""
         if not self.is_terminal:
-            return self.put(data)
+            self.put(data)
+            return
         text = harmless(data, "\n\t")
         text += "" if text.endswith("\n") or not text else "\n"
         for at in range(0, len(text), PIECE):
             self.put(text[at:at + PIECE].encode(self.encoding, "backslashreplace"))
 
-    def fault(self, line):
+    def fault(self, line: str) -> None:
         """Tells what is amiss, on standard error."""
         with contextlib.suppress(OSError):
             text = self.coloured(harmless(line), FAULT, ERRORS) + "\n"
             os.write(ERRORS, text.encode(self.encoding, "backslashreplace"))
 
-    def prompt(self, place):
+    def prompt(self, place: bytes) -> str:
         """The end of it where it is long. What a terminal does not show is marked, so that the line's length is known."""
         text, most = harmless(place if place.startswith(b"/") else b"/" + place), max(20, shutil.get_terminal_size().columns // 2)
         text = text if len(text) <= most else ".." + text[-most + 2:]
-        shown = f"\1\x1b[{PLACE}m\2{text}\1\x1b[0m\2" if readline and self._has_colours[OUTPUT] else text
+        shown = f"\1\x1b[{PLACE}m\2{text}\1\x1b[0m\2" if HAS_READLINE and self._has_colours[OUTPUT] else text
         return shown + "> "
 
-    def again(self, lines, typed, behind):
+    def again(self, lines: Iterable[str], typed: str, behind: int) -> None:
         """Shows lines below the one that is being typed, and then that one again, with the cursor before so many characters."""
         prompt = self._prompt.replace("\1", "").replace("\2", "")
         text = "\n" + "".join(line + "\n" for line in lines) + prompt + harmless(os.fsencode(typed)) + "\b" * behind
         with self.interrupts.working(), contextlib.suppress(Stopped):
             self.put(text.encode(self.encoding, "backslashreplace"))
 
-    def typed(self, prompt):
+    def typed(self, prompt: str) -> bytes:
         """A line that is typed, as bytes; lines where they were pasted. Raises `EOFError` at Ctrl-D and `KeyboardInterrupt` at Ctrl-C."""
         self._prompt = prompt
         self.interrupts.forget()
         with self.interrupts.typing():
             return os.fsencode(input(prompt))
 
-    def says_yes(self, question):
+    def says_yes(self, question: str) -> bool:
         """Whether the answer to a question is yes. Without a terminal it is no."""
         if not self.asks:
             return False
@@ -137,7 +140,7 @@ class Screen:
             return False
 
 
-def history_path():
+def history_path() -> str:
     """The file of the lines of earlier days."""
     state = os.environ.get("XDG_STATE_HOME", "")
     # One that does not begin at the root is to be passed over.
@@ -148,9 +151,10 @@ def history_path():
 class History:
     """Lines of earlier days, in a file that its owner alone reads. Where it can't be read or written, there are those of today."""
 
-    def __init__(self, path):
-        self.path, self.last = path, None
-        if readline:
+    def __init__(self, path: str) -> None:
+        self.path = path
+        self.last: bytes | None = None
+        if HAS_READLINE:
             readline.set_auto_history(False)
             readline.clear_history()
             # What is pasted is looked at before it is carried out.
@@ -158,7 +162,7 @@ class History:
             with contextlib.suppress(OSError, ValueError):
                 self._begin()
 
-    def _begin(self):
+    def _begin(self) -> None:
         with contextlib.suppress(FileNotFoundError):
             with open(self.path, "rb") as file:
                 lines = file.read().splitlines()
@@ -167,16 +171,16 @@ class History:
             if len(lines) > 2 * REMEMBERED:
                 self._write(lines[-REMEMBERED:], os.O_TRUNC)
 
-    def _write(self, lines, flags):
+    def _write(self, lines: Iterable[bytes], flags: int) -> None:
         os.makedirs(os.path.dirname(self.path), 0o700, exist_ok=True)
         descriptor = os.open(self.path, os.O_WRONLY | os.O_CREAT | os.O_CLOEXEC | flags, 0o600)
         with open(descriptor, "wb") as file:
             os.fchmod(descriptor, 0o600)
             file.write(b"".join(line + b"\n" for line in lines))
 
-    def add(self, line):
+    def add(self, line: bytes) -> None:
         """Keeps a line, each as it comes, so that none is lost where the terminal is."""
-        if not readline or not line.strip() or line == self.last:
+        if not HAS_READLINE or not line.strip() or line == self.last:
             return
         self.last = line
         with contextlib.suppress(OSError, ValueError):

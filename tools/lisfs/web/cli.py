@@ -17,44 +17,57 @@ import os
 import signal
 import socket
 import sys
+from types import FrameType
 
-from lisfs.client import Ended, Locked, NotAReply, missing
+from lisfs.client import Ended, NotAReply, missing
 from lisfs.dumps import NotADump, opened
+from lisfs.endings import cause_of
 from lisfs.image import limits_of
 from lisfs.showing import write_line
-from lisfs.web.connections import WAITING, Connections
 from lisfs.web.image import Image
-from lisfs.web.site import Site
+
+PACKAGES = {"jinja2": "python3-jinja2", "markupsafe": "python3-markupsafe"}
+try:
+    from lisfs.web.connections import WAITING, Connections
+    from lisfs.web.site import Site
+except ModuleNotFoundError as absent:
+    if absent.name not in PACKAGES:
+        raise
+    sys.exit(f"browse: {absent.name} is missing: apt-get install {PACKAGES[absent.name]}")
 
 
 class NotServed(Exception):
     """Nothing can be served, for a cause that one line tells."""
 
 
-def tell(line):
+def tell(line: str) -> None:
     write_line(sys.stderr, f"browse: {line}")
 
 
-def come_signals():
+def heard(number: int, frame: FrameType | None) -> None:
+    """That a signal has come is written where `come_signals` says."""
+
+
+def come_signals() -> int:
     """Where a byte can be read when one of the signals has come that end it. One that is ignored, as by `nohup`, stays so."""
     come, sent = os.pipe()
     os.set_blocking(sent, False)
     signal.set_wakeup_fd(sent, warn_on_full_buffer=False)
     for number in (signal.SIGINT, signal.SIGTERM, signal.SIGHUP):
         if signal.getsignal(number) != signal.SIG_IGN:
-            signal.signal(number, lambda *_: None)
+            signal.signal(number, heard)
     return come
 
 
-def listening(port):
+def listening(port: int) -> socket.socket:
     """Where clients of this machine come."""
     try:
         return socket.create_server(("127.0.0.1", port), backlog=WAITING)
     except OSError as error:
-        raise NotServed(f"port {port}: {os.strerror(error.errno)}") from None
+        raise NotServed(f"port {port}: {os.strerror(error.errno or 0)}") from None
 
 
-def serve(path, port, can_write):
+def serve(path: str, port: int, can_write: bool) -> int:
     """The status."""
     with listening(port) as listener:
         program, dump = opened(path)
@@ -74,15 +87,15 @@ def serve(path, port, can_write):
     return 1 if site.end else 0
 
 
-def port_of(text):
+def port_of(text: str) -> int:
     port = int(text)
     if not 0 <= port < 65_536:
         raise ValueError(text)
     return port
 
 
-def main():
-    parser = argparse.ArgumentParser(usage=__doc__.split("usage: ", 1)[1])
+def main() -> int:
+    parser = argparse.ArgumentParser(usage=(__doc__ or "").split("usage: ", 1)[1])
     parser.add_argument("--port", type=port_of, default=0)
     parser.add_argument("--write", action="store_true")
     parser.add_argument("image")
@@ -92,14 +105,6 @@ def main():
             tell(what)
             return 1
         return serve(words.image, words.port, words.write)
-    except Locked:
-        tell(f"{words.image}: in use by another lisfs")
-    except Ended as end:
-        tell(": ".join(end.text.splitlines()) or str(end))
-    except (NotServed, NotADump, NotAReply) as error:
-        tell(error)
-    except OSError as error:
-        tell(f"{error.filename or words.image}: {error.strerror}")
-    except KeyboardInterrupt:
-        tell("stopped before it began")
+    except (Ended, NotServed, NotADump, NotAReply, OSError, KeyboardInterrupt) as error:
+        tell(cause_of(error, words.image))
     return 1

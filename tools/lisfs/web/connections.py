@@ -10,12 +10,15 @@ import email.utils
 import http
 import os
 import selectors
+import socket
 import sys
 import time
 import traceback
+from collections.abc import Callable
+from typing import Protocol
 
 from lisfs.showing import harmless, write_line
-from lisfs.web.site import HEAD, POLICY, Wrong
+from lisfs.web.site import HEAD, POLICY, Answer, Request, Wrong
 
 READ, WRITE = selectors.EVENT_READ, selectors.EVENT_WRITE
 # So many connections are open at most, and so many wait to be opened. So many bytes are read at once, and of a refused request still, so that
@@ -24,7 +27,7 @@ MOST, WAITING = 200, 128
 PIECE, PASSED_OVER = 65_536, 16_777_216
 
 
-def patience(seconds):
+def patience(seconds: float) -> float:
     """How long something may take: so many seconds, or as many as the environment says."""
     text = os.environ.get("LISFS_PATIENCE") or str(seconds)
     with contextlib.suppress(ValueError):
@@ -37,7 +40,7 @@ def patience(seconds):
 REQUEST, ANSWER, END = patience(20), patience(60), patience(5)
 
 
-def spelled(answer, can_write):
+def spelled(answer: Answer, can_write: bool) -> bytes:
     """The bytes of an answer. Each has all that keeps a browser from taking it for something else, or showing it elsewhere."""
     # With `no-referrer` a browser would say of a form that it comes from nowhere, as a page from elsewhere could let it say too.
     rows = [f"HTTP/1.1 {answer.status} {http.HTTPStatus(answer.status).phrase}", f"Date: {email.utils.formatdate(usegmt=True)}",
@@ -51,9 +54,22 @@ def spelled(answer, can_write):
     return "\r\n".join(rows).encode("latin-1") + b"\r\n\r\n" + answer.body
 
 
+class Site(Protocol):
+    """Who answers: `site.Site`."""
+    can_write: bool
+
+    def admitted(self, head: bytes) -> tuple[Request, int]: ...
+
+    def answer(self, request: Request, body: bytes) -> Answer: ...
+
+    def refused(self, wrong: Wrong) -> Answer: ...
+
+
 class Connection:
-    def __init__(self, socket):
-        self.socket, self.given, self.request, self.length, self.unsent, self.passed = socket, bytearray(), None, 0, memoryview(b""), 0
+    def __init__(self, client: socket.socket) -> None:
+        self.socket, self.given, self.length, self.unsent, self.passed = client, bytearray(), 0, memoryview(b""), 0
+        # Once it is admitted.
+        self.request: Request | None = None
         # Whether it waits for a request, and when it is closed.
         self.is_asking, self.until = True, time.monotonic() + REQUEST
 
@@ -61,21 +77,23 @@ class Connection:
 class Connections:
     """Serves a site at a listening socket until it is told to end."""
 
-    def __init__(self, site, listener):
-        self.site, self.listener, self.is_ending, self.open = site, listener, False, {}
+    def __init__(self, site: Site, listener: socket.socket) -> None:
+        self.site, self.listener, self.is_ending = site, listener, False
+        # By their descriptors.
+        self.open: dict[int, Connection] = {}
         listener.setblocking(False)
         self.selector = selectors.DefaultSelector()
         self.selector.register(listener, READ, self._take)
 
-    def watch(self, file, call):
+    def watch(self, file: int, call: Callable[[], None]) -> None:
         self.selector.register(file, READ, call)
 
-    def end(self, come):
+    def end(self, come: int) -> None:
         """Answers nothing more, since a signal has come."""
         os.read(come, PIECE)
         self.is_ending = True
 
-    def serve(self):
+    def serve(self) -> None:
         while not self.is_ending:
             now = time.monotonic()
             for connection in [connection for connection in self.open.values() if connection.until <= now]:
@@ -88,17 +106,17 @@ class Connections:
         for connection in list(self.open.values()):
             self._close(connection)
 
-    def _take(self):
+    def _take(self) -> None:
         with contextlib.suppress(OSError):
-            socket, _ = self.listener.accept()
-            socket.setblocking(False)
+            client, _ = self.listener.accept()
+            client.setblocking(False)
             if len(self.open) >= MOST and not self._make_room():
-                socket.close()
+                client.close()
                 return
-            connection = self.open[socket.fileno()] = Connection(socket)
-            self.selector.register(socket, READ, lambda: self._serve(connection))
+            connection = self.open[client.fileno()] = Connection(client)
+            self.selector.register(client, READ, lambda: self._serve(connection))
 
-    def _make_room(self):
+    def _make_room(self) -> bool:
         """Closes a connection that is not being answered: one without an admitted request, or else one that has its answer, or else one whose
         request is not there whole; and of these the one that has waited longest. Whether there was one."""
         waiting = [connection for connection in self.open.values() if connection.request is None or not connection.unsent]
@@ -106,13 +124,13 @@ class Connections:
             self._close(min(waiting, key=lambda connection: (connection.request is not None, connection.is_asking, connection.until)))
         return bool(waiting)
 
-    def _close(self, connection):
+    def _close(self, connection: Connection) -> None:
         if self.open.get(connection.socket.fileno()) is connection:
             del self.open[connection.socket.fileno()]
             self.selector.unregister(connection.socket)
             connection.socket.close()
 
-    def _serve(self, connection):
+    def _serve(self, connection: Connection) -> None:
         try:
             if connection.unsent:
                 self._send(connection)
@@ -129,34 +147,33 @@ class Connections:
             write_line(sys.stderr, traceback.format_exc().rstrip("\n"), "\n")
             self._close(connection)
 
-    def _read(self, connection):
+    def _read(self, connection: Connection) -> None:
         data = connection.socket.recv(PIECE)
         if not data:
             self._close(connection)
             return
         connection.given += data
         try:
-            if connection.request is None and not self._admit(connection):
-                return
+            request = connection.request or self._admit(connection)
         except Wrong as wrong:
             self._answer(connection, self.site.refused(wrong))
             return
-        if len(connection.given) >= connection.length:
-            self._answer(connection, self.site.answer(connection.request, bytes(connection.given[:connection.length])))
+        if request is not None and len(connection.given) >= connection.length:
+            self._answer(connection, self.site.answer(request, bytes(connection.given[:connection.length])))
 
-    def _admit(self, connection):
-        """Whether the head of the request is there whole."""
+    def _admit(self, connection: Connection) -> Request | None:
+        """The request, once its head is there whole."""
         end = connection.given.find(b"\r\n\r\n", 0, HEAD)
         if end < 0:
             if len(connection.given) >= HEAD:
                 raise Wrong(431, "The request is too large.")
-            return False
+            return None
         head = bytes(connection.given[:end + 4])
         del connection.given[:end + 4]
         connection.request, connection.length = self.site.admitted(head)
-        return True
+        return connection.request
 
-    def _answer(self, connection, answer):
+    def _answer(self, connection: Connection, answer: Answer) -> None:
         connection.unsent, connection.given = memoryview(spelled(answer, self.site.can_write)), bytearray()
         connection.is_asking, connection.until = False, time.monotonic() + ANSWER
         with contextlib.suppress(BlockingIOError):
@@ -164,7 +181,7 @@ class Connections:
         if connection.unsent:
             self.selector.modify(connection.socket, WRITE, self.selector.get_key(connection.socket).data)
 
-    def _send(self, connection):
+    def _send(self, connection: Connection) -> None:
         connection.unsent = connection.unsent[connection.socket.send(connection.unsent):]
         if not connection.unsent:
             # Bytes that nobody reads would make the system take the answer back, so the other side is read until it closes too.
@@ -172,7 +189,7 @@ class Connections:
             connection.until = time.monotonic() + END
             self.selector.modify(connection.socket, READ, self.selector.get_key(connection.socket).data)
 
-    def _pass_over(self, connection):
+    def _pass_over(self, connection: Connection) -> None:
         data = connection.socket.recv(PIECE)
         connection.passed += len(data)
         if not data or connection.passed > PASSED_OVER:

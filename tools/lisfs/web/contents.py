@@ -3,12 +3,12 @@
 Whatever the bytes are, it takes no longer than in proportion to them, and a fraction of a second, since other pages wait meanwhile; and it
 gives text alone.
 """
-import collections
 import email.errors
 import email.header
 import email.message
 import email.parser
 import re
+from typing import NamedTuple
 
 # So many characters of a text are shown, and of a header; so many parts of a mail.
 SHOWN, HEADER, MOST_HEADERS, PARTS = 262_144, 1_000, 20, 64
@@ -24,12 +24,22 @@ NO_TEXT = bytes((*range(9), *range(14, 27), *range(28, 32), 127))
 CHARSET = re.compile(r"(utf-?8|us-ascii|ascii|iso-?8859-?[0-9]{1,2}|windows-125[0-9]|cp125[0-9]|koi8-[ru]|big5|gb2312|gbk|gb18030|shift_jis"
                      r"|euc-(jp|kr)|iso-2022-jp)", re.I)
 
-# A part of a mail: its type, the name of a file that it may be, its text or None, how many bytes it has, and whether its text was cut.
-Part = collections.namedtuple("Part", "kind name text size is_cut")
-Mail = collections.namedtuple("Mail", "headers parts")
+
+class Part(NamedTuple):
+    """A part of a mail: its type, the name of a file that it may be, its text, how many bytes it has, and whether its text was cut."""
+    kind: str
+    name: str | None
+    text: str | None
+    size: int
+    is_cut: bool
 
 
-def text_of(content):
+class Mail(NamedTuple):
+    headers: list[tuple[str, str]]
+    parts: list[Part]
+
+
+def text_of(content: bytes) -> str | None:
     """The text that some bytes are, or None. A NUL is in no text."""
     if b"\0" in content:
         return None
@@ -38,21 +48,20 @@ def text_of(content):
     return text if RARE * wrong <= len(text) else None
 
 
-def cut(text, most=SHOWN):
+def cut(text: str, most: int = SHOWN) -> tuple[str, bool]:
     """What is shown of a text, and whether that is not all."""
     return text[:most].replace("\r\n", "\n"), len(text) > most
 
 
-def decoded(data, charset):
-    if not CHARSET.fullmatch(charset or ""):
-        charset = "utf-8"
+def decoded(data: bytes, charset: str | None) -> str:
+    known = charset if charset and CHARSET.fullmatch(charset) else "utf-8"
     try:
-        return data.decode(charset, "replace")
+        return data.decode(known, "replace")
     except (LookupError, UnicodeError):
         return data.decode("utf-8", "replace")
 
 
-def header_text(value):
+def header_text(value: str) -> str:
     """A header as it is meant: encoded words decoded, in one line."""
     line = " ".join(value[:HEADER].encode("utf-8", "surrogateescape").decode("utf-8", "replace").split())
     if "=?" not in line:
@@ -64,7 +73,7 @@ def header_text(value):
     return "".join(piece if isinstance(piece, str) else decoded(piece, charset) for piece, charset in pieces)
 
 
-def part_of(part, most):
+def part_of(part: email.message.Message, most: int) -> Part:
     kind, name = part.get_content_type(), part.get_filename()
     data = part.get_payload(decode=True) or b""
     is_text = part.get_content_maintype() == "text" and not name
@@ -75,12 +84,12 @@ def part_of(part, most):
 class Message(email.message.Message):
     """A report of delivery is a text here: the package would make a message of each of its paragraphs."""
 
-    def get_content_type(self):
+    def get_content_type(self) -> str:
         kind = super().get_content_type()
         return "text/plain" if kind == "message/delivery-status" else kind
 
 
-def is_simple(content):
+def is_simple(content: bytes) -> bool:
     """Whether the package reads a mail in no more than its time: it makes an object of each part, goes through each line once for each part in
     which it stands, and through the header of a part with the square of its parameters."""
     small = b"\n" + content.lower().replace(b"\r\n", b"\n").replace(b"\r", b"\n")
@@ -91,14 +100,14 @@ def is_simple(content):
     return max(sizes, default=0) <= PARAMETERS and sum(sizes) <= ALL_PARAMETERS
 
 
-def headers_of(message):
+def headers_of(message: email.message.Message) -> list[tuple[str, str]]:
     """The headers that are shown, in their order, each as it is meant."""
     given = [(name.lower(), value) for name, value in message.raw_items() if name.title() in HEADERS]
     found = [(wanted, value) for wanted in HEADERS for name, value in given if name == wanted.lower()]
     return [(name, header_text(value)) for name, value in found[:MOST_HEADERS]]
 
 
-def mail_of(content):
+def mail_of(content: bytes) -> Mail | None:
     """The header and the parts of a mail, or None where it is not to be read as one."""
     if not is_simple(content):
         return None

@@ -4,15 +4,24 @@ What a place is, and what it shows, the program says. The index says how many fi
 the two agree is looked at each time: the files that no word covers are those that the program shows, and each word leaves some files and not
 all.
 """
-import collections
+from collections.abc import Iterable
+from typing import NamedTuple
 
 from lisfs import image
-from lisfs.client import Refused, item
+from lisfs.client import Program, Refused, as_content, as_lines, item
+from lisfs.dumps import Axiom, Dump
+from lisfs.index import File
 from lisfs.web.places import Place
 from lisfs.words import head_of, is_test, is_word
 
-# A place, its files as a row of bits, the words of its listing with the number of files that each leaves, and the files that no word covers.
-View = collections.namedtuple("View", "place here words locals")
+
+class View(NamedTuple):
+    """A place, its files as a row of bits, the words of its listing with the number of files that each leaves, and the files that no word
+    covers."""
+    place: Place
+    here: int
+    words: list[tuple[bytes, int]]
+    locals: list[File]
 
 
 class Differs(Exception):
@@ -23,15 +32,15 @@ class WrongWord(ValueError):
     """What was typed can't be one word of a command, or no word that a file is given."""
 
 
-class Image(image.Image):
-    def __init__(self, program, dump, limits):
+class Image(image.Image[File]):
+    def __init__(self, program: Program, dump: Dump, limits: image.Limits) -> None:
         super().__init__(program, dump, limits)
         self.axioms = set(dump.axioms)
         self.describe(self.index.files.values())
 
     # Questions.
 
-    def look(self, formula):
+    def look(self, formula: bytes) -> View:
         """A place and what it shows. Raises `Refused` where the formula leads to none."""
         _, printed, listing, _ = self.told((b"cd", formula), (b"pwd",), (b"ls",), (b"cd", b"/"))
         place = Place(printed[0][1])
@@ -45,7 +54,7 @@ class Image(image.Image):
                 self.describe(self.index.files.values())
         raise Differs(place.text)
 
-    def _agrees(self, here, words, shown):
+    def _agrees(self, here: int, words: list[tuple[bytes, int]], shown: list[bytes]) -> bool:
         whole, covered = here.bit_count(), 0
         for word, count in words:
             if not 0 < count < whole:
@@ -53,25 +62,25 @@ class Image(image.Image):
             covered |= self.index.having(word)
         return [file.name for file in self.index.of(here & ~covered)] == shown
 
-    def file(self, name):
+    def file(self, name: bytes) -> tuple[File, list[bytes], bytes]:
         """A file of the index, the words of a route to it and its bytes."""
-        way, content = self.told((b"way", name), (b"cat", name))
-        return self.index.files[name], [text for _, text in way], content
+        way, content = self.asked((b"way", name), (b"cat", name))
+        return self.index.files[name], [text for _, text in as_lines(way).body], as_content(content).body
 
     # Changes. Each is one command. If it is refused, nothing was changed.
 
-    def _change(self, *command, at=image.ROOT):
+    def _change(self, *command: bytes, at: bytes = image.ROOT) -> None:
         item(command)
         with self.at(at):
             self.told(command)
 
-    def _file(self, name):
+    def _file(self, name: bytes) -> File:
         """The file of a name. Where there is none, the program says so."""
         if name not in self.index.files:
             self.told((b"props", name))
         return self.index.files[name]
 
-    def give(self, name, word):
+    def give(self, name: bytes, word: bytes) -> bool:
         """Gives a file a word. Whether it had it already, by itself or by another word."""
         file = self._file(name)
         if not is_word(word):
@@ -82,7 +91,7 @@ class Image(image.Image):
         self.describe([file])
         return had
 
-    def take(self, name, word):
+    def take(self, name: bytes, word: bytes) -> bool:
         """Takes a word from a file. Whether it has it still, since another word entails it."""
         file = self._file(name)
         if not is_word(word):
@@ -92,18 +101,18 @@ class Image(image.Image):
         self.describe([file])
         return word in file.words
 
-    def rename(self, name, other):
+    def rename(self, name: bytes, other: bytes) -> None:
         file = self._file(name)
         self._change(b"rename", name, other)
         self.index.rename(file, other)
         self.describe([file])
 
-    def remove(self, name):
+    def remove(self, name: bytes) -> None:
         file = self._file(name)
         self._change(b"rm", name)
         self.index.drop(file)
 
-    def add(self, name, content, words):
+    def add(self, name: bytes, content: bytes, words: Iterable[bytes]) -> None:
         try:
             self.program.add(name, content, *words)
         except Refused as refused:
@@ -111,34 +120,34 @@ class Image(image.Image):
             raise
         self.describe([self.index.add(name, len(content), words)])
 
-    def declare(self, word, place):
+    def declare(self, word: bytes, place: Place) -> None:
         """Declares a word under those of a place."""
         self._change(b"mkdir", word, at=place.text)
         self.declared.add(word)
-        self.axioms |= {(word, right) for right in place.words}
+        self.axioms |= {Axiom(word, right) for right in place.words or ()}
         if is_test(word):
             self.describe(self.index.files.values())
 
-    def take_back(self, word):
+    def take_back(self, word: bytes) -> None:
         """Declares a word no more."""
         files = self.index.of(self.index.having(word))
         self._change(b"rmdir", word)
         self.declared.discard(word)
         self.describe(files)
 
-    def axiom(self, left, right):
+    def axiom(self, left: bytes, right: bytes) -> None:
         self._change(b"axiom", left, right)
-        self.axioms.add((left, right))
+        self.axioms.add(Axiom(left, right))
         self.describe(self.index.of(self.index.having(left)))
 
-    def unaxiom(self, left, right):
+    def unaxiom(self, left: bytes, right: bytes) -> None:
         files = self.index.of(self.index.having(left))
         self._change(b"unaxiom", left, right)
-        self.axioms.discard((left, right))
+        self.axioms.discard(Axiom(left, right))
         self.describe(files)
 
 
-def kind_of(word):
+def kind_of(word: bytes) -> bytes:
     """The group of a listing's word: `tests`, the head of a value, `heads` for heads themselves, and `words` for all others."""
     if is_test(word):
         return b"tests"

@@ -1,59 +1,67 @@
-"""HTML in which whatever is not markup is escaped: a page is made of `element`, and a text in it stays a text."""
-import html
+"""HTML out of templates, in which whatever is not markup is escaped, and the addresses of pages.
+
+A template writes what it is given by `{{ }}` alone, and there each value is a text: what is no character in it is made visible, and then it is
+escaped. No template turns that off, and each attribute that shows a value stands in quotes (`tools/tests/test_browse_parts.py` looks).
+"""
+import functools
 import urllib.parse
 
-VOID = {"input", "link", "meta", "br"}
+import jinja2
+import markupsafe
+
+from lisfs.constants import MAX_WORD
+
 CONTROLS = {code: 0x2400 + code for code in range(32) if code not in (9, 10)} | {0x7F: 0x2421} | {code: 0xFFFD
                                                                                                   for code in range(0x80, 0xA0)}
 # What makes a text run the other way, so that it is read as another one than it is.
 CONTROLS |= {code: 0xFFFD for code in (*range(0x202A, 0x202F), *range(0x2066, 0x206A))}
 
 
-class Markup(str):
-    """Text that is HTML already. Only `element` and `together` make it."""
-
-
-def visible(text):
+def visible(text: str | bytes) -> str:
     """A text without what is no character: a NUL and its like are shown as signs for them, and what is no UTF-8 as a replacement."""
     if isinstance(text, bytes):
         text = text.decode(errors="replace")
-    return str(text).translate(CONTROLS).encode("utf-8", "replace").decode()
+    return text.translate(CONTROLS).encode("utf-8", "replace").decode()
 
 
-def escaped(part):
-    if isinstance(part, Markup):
-        return part
-    return html.escape(visible(part), quote=True)
+def written(value: object) -> str:
+    """What a template writes of a value, before it is escaped. Markup is what another part of a template has made."""
+    if isinstance(value, markupsafe.Markup):
+        return value
+    if isinstance(value, (str, bytes)):
+        return visible(value)
+    if isinstance(value, int):
+        return str(value)
+    raise TypeError(f"no text: {value!r}")
 
 
-def together(parts):
-    """Markup, texts, bytes and lists of them, one behind the other. None is nothing."""
-    if parts is None:
-        return Markup()
-    if isinstance(parts, (str, bytes)):
-        return Markup(escaped(parts))
-    return Markup("".join(together(part) for part in parts))
+def number(count: int) -> str:
+    return f"{count:,}"
 
 
-def element(kind, *parts, **attributes):
-    """An element. Of an attribute's name `_` at its end is dropped, and one within it is a hyphen; True is one without a value, None is none."""
-    spelled = []
-    for name, value in attributes.items():
-        name = name.rstrip("_").replace("_", "-")
-        if value is True:
-            spelled.append(f" {name}")
-        elif value is not None and value is not False:
-            spelled.append(f' {name}="{escaped(value)}"')
-    begin = f"<{kind}{''.join(spelled)}>"
-    return Markup(begin if kind in VOID else f"{begin}{together(parts)}</{kind}>")
+def counted(count: int, what: str) -> str:
+    """A number of things of one name."""
+    return f"{number(count)} {what}{'' if count == 1 else 's'}"
 
 
-def address(page, /, **given):
+def address(page: str, /, **given: str | bytes | int | None) -> str:
     """The address of a page, with what it is given. None is not given, and `_` at the end of a name is dropped."""
-    query = "&".join(f"{name.rstrip('_')}={urllib.parse.quote(value if isinstance(value, bytes) else str(value), safe='/:@!(),')}"
-                     for name, value in given.items() if value is not None)
+    def quoted(value: str | bytes | int) -> str:
+        return urllib.parse.quote(str(value) if isinstance(value, int) else value, safe="/:@!(),")
+
+    query = "&".join(f"{name.rstrip('_')}={quoted(value)}" for name, value in given.items() if value is not None)
     return f"{page or './'}?{query}" if query else page or "./"
 
 
-def link(label, page, attributes=None, /, **given):
-    return element("a", label, href=address(page, **given), **(attributes or {}))
+@functools.cache
+def environment() -> jinja2.Environment:
+    made = jinja2.Environment(loader=jinja2.PackageLoader("lisfs.web"), autoescape=True, finalize=written, undefined=jinja2.StrictUndefined,
+                              trim_blocks=True, lstrip_blocks=True, auto_reload=False)
+    made.globals.update(address=address, counted=counted, most_of_word=MAX_WORD)
+    made.filters["number"] = number
+    return made
+
+
+def rendered(template: str, **given: object) -> str:
+    """What a template makes of what it is given."""
+    return environment().get_template(template).render(given)

@@ -7,7 +7,6 @@ there, but not below another path. A form has a token of its own, since a cookie
 
 No path of a request is ever one of a file: each page stands in a table.
 """
-import collections
 import hmac
 import http.server
 import io
@@ -17,15 +16,17 @@ import secrets
 import sys
 import traceback
 import urllib.parse
+from collections.abc import Callable
+from typing import NamedTuple
 
 from lisfs.client import Ended, NotAReply, NotSent, Refused
 from lisfs.constants import BAD_FORMULA, BAD_LINE, LARGE_FILE, LARGE_FORMULA, MAX_FORMULA, MAX_LINE, MAX_WORD, NO_FILE_HERE, NOT_A_PLACE
 from lisfs.refusals import sentence
 from lisfs.showing import write_line
 
-from lisfs.web.image import Differs, WrongWord
+from lisfs.web.image import Differs, Image, View, WrongWord
 from lisfs.web.markup import address
-from lisfs.web.pages import DONE, Pages, place_of
+from lisfs.web.pages import DONE, Link, Pages, place_of
 from lisfs.words import FILE_NAME, mapped
 
 # The most bytes of a request before its body; of a body without a file, and with one beside the file's own; the most fields of either.
@@ -40,14 +41,22 @@ TITLES = {404: "Not here", 409: "Refused", 500: "A mistake"}
 # What a page names that tells of a refusal.
 MEANT = ("name", "other", "word", "words", "left", "right")
 
-# `headers` are pairs, beside those that each answer has.
-Answer = collections.namedtuple("Answer", "status kind body headers", defaults=((),))
+# The fields of an address or a form.
+Fields = dict[str, bytes]
+
+
+class Answer(NamedTuple):
+    """`headers` are pairs, beside those that each answer has."""
+    status: int
+    kind: str
+    body: bytes
+    headers: tuple[tuple[str, str], ...] = ()
 
 
 class Wrong(Exception):
     """A request that is refused: a status, and a sentence for who asked. Who is known is shown a page, with a link to the first one."""
 
-    def __init__(self, status, told, is_known=False):
+    def __init__(self, status: int, told: str, is_known: bool = False) -> None:
         super().__init__(told)
         self.status, self.told, self.is_known = status, told, is_known
 
@@ -55,42 +64,45 @@ class Wrong(Exception):
 class Request(http.server.BaseHTTPRequestHandler):
     """The line and the headers of a request, read by Python's own server, without one."""
 
-    def __init__(self, head):
+    def __init__(self, head: bytes) -> None:
         # Nothing of the base is called but what reads the head out of memory.
-        self.rfile, self.wfile, self.wrong, self.command = io.BytesIO(head), io.BytesIO(), None, ""
+        self.rfile, self.wfile, self.command = io.BytesIO(head), io.BytesIO(), ""
+        self.wrong = Wrong(400, "This is no request.")
+        self.page = self.query = ""
         self.raw_requestline = self.rfile.readline()
         if not self.parse_request():
-            raise Wrong(*(self.wrong or (400, "This is no request.")))
+            raise self.wrong
 
-    def send_error(self, code, message=None, explain=None):
-        self.wrong = code, "This is no request that is served here."
+    def send_error(self, code: int, message: str | None = None, explain: str | None = None) -> None:
+        self.wrong = Wrong(code, "This is no request that is served here.")
 
-    def header(self, name):
+    def header(self, name: str) -> str | None:
         """What a header says, or None where it isn't there. One that may stand once stands once."""
-        found = self.headers.get_all(name, [])
+        found: list[str] = self.headers.get_all(name, [])
         if len(found) > 1 and name in ONCE:
             raise Wrong(400, f"The request says {name} more than once.")
         return found[0] if found else None
 
 
-def fields(text):
+def fields(text: str) -> Fields:
     """The fields of an address or a form, each as bytes, the first of each name."""
     try:
         pairs = urllib.parse.parse_qsl(text, keep_blank_values=True, encoding="utf-8", errors="surrogateescape", max_num_fields=FIELDS)
     except ValueError:
         raise Wrong(400, "There are too many fields.") from None
-    found = {}
+    found: Fields = {}
     for name, value in pairs:
         found.setdefault(name, value.encode("utf-8", "surrogateescape"))
     return found
 
 
-def parts(body, kind):
+def parts(body: bytes, kind: str) -> Fields:
     """The fields of a form with a file, each as bytes, and the name of the file as `filename`."""
     boundary = re.search(r'boundary="?([A-Za-z0-9\'()+_,./:=?-]{1,70})"?', kind)
     if not boundary:
         raise Wrong(400, "The form has no boundary.")
-    pieces, found = re.split(rb"\r\n--%s(?=\r\n|--)" % re.escape(boundary[1].encode()), b"\r\n" + body, maxsplit=FIELDS), {}
+    pieces = re.split(rb"\r\n--%s(?=\r\n|--)" % re.escape(boundary[1].encode()), b"\r\n" + body, maxsplit=FIELDS)
+    found: Fields = {}
     if len(pieces) > FIELDS or pieces[-1][:2] != b"--":
         raise Wrong(400, "The form is cut off.")
     for piece in pieces[1:-1]:
@@ -104,50 +116,54 @@ def parts(body, kind):
     return found
 
 
-def same(given, wanted):
+def same(given: str | None, wanted: str) -> bool:
     """Whether a secret is the right one, in the same time whatever it is."""
     return hmac.compare_digest((given or "").encode("utf-8", "surrogateescape"), wanted.encode())
 
 
-def number_in(given, name):
+def number_in(given: Fields, name: str) -> int:
     """The number of a page, from 0 on."""
     text = given.get(name, b"1")
     return int(text) - 1 if re.fullmatch(rb"[1-9][0-9]{0,5}", text) else 0
 
 
-def name_for(wanted):
+def name_for(wanted: bytes) -> bytes:
     """A file's name out of that which it has elsewhere: each other byte becomes `_`, as `tools/import` does."""
     return mapped(re.split(rb"[/\\]", wanted)[-1])[-MAX_WORD:]
 
 
 class Site:
-    def __init__(self, image, name, can_write, port):
-        self.image, self.can_write, self.end = image, can_write, None
+    def __init__(self, image: Image, name: str, can_write: bool, port: int) -> None:
+        self.image, self.can_write = image, can_write
+        # Why the program has ended, once it has.
+        self.end: str | None = None
         self.token, self.cookie, form = (secrets.token_urlsafe(24) for _ in range(3))
         self.top = f"/{secrets.token_urlsafe(12)}/"
         self.pages, self.form = Pages(image, name, can_write, form), form
         self.hosts = {f"127.0.0.1:{port}"} | ({"127.0.0.1"} if port == 80 else set())
         self.address = f"http://127.0.0.1:{port}/?token={self.token}"
-        self.static = {}
+        self.static: dict[str, Answer] = {}
         for file, kind in STATIC.items():
             with open(os.path.join(os.path.dirname(__file__), file), "rb") as data:
                 self.static[file] = Answer(200, kind, data.read())
-        self.shown = {"": self.place, "words": self.words, "files": self.files, "rest": self.rest, "file": self.file, "bytes": self.bytes,
-                      "remove": self.removing, "declared": self.declared}
-        self.changed = {"give": self.give, "take": self.take, "rename": self.rename, "remove": self.remove, "upload": self.upload,
-                        "declare": self.declare, "undeclare": self.undeclare, "axiom": self.axiom, "unaxiom": self.unaxiom}
+        self.shown: dict[str, Callable[[Fields], Answer]] = {
+            "": self.place, "words": self.words, "files": self.files, "rest": self.rest, "file": self.file, "bytes": self.download,
+            "remove": self.removing, "declared": self.declared}
+        self.changed: dict[str, Callable[[Fields], Answer]] = {
+            "give": self.give, "take": self.take, "rename": self.rename, "remove": self.remove, "upload": self.upload,
+            "declare": self.declare, "undeclare": self.undeclare, "axiom": self.axiom, "unaxiom": self.unaxiom}
 
     # Who may ask.
 
-    def admitted(self, head):
+    def admitted(self, head: bytes) -> tuple[Request, int]:
         """The request whose head this is, and how many bytes of a body it has. Raises `Wrong` where it is not to be answered; before that
         nothing of its body is read."""
         if b"\0" in head or re.search(rb"\r(?!\n)", head):
             raise Wrong(400, "This is no request.")
         request = Request(head)
-        if request.header("Host") not in self.hosts:
+        if (host := request.header("Host")) is None or host not in self.hosts:
             raise Wrong(403, "This address is not served here. Open the address that tools/browse has printed.")
-        if request.header("Origin") not in (None, "http://" + request.header("Host")):
+        if request.header("Origin") not in (None, "http://" + host):
             raise Wrong(403, "A page from elsewhere may not ask here.")
         if request.command not in ("GET", "POST"):
             raise Wrong(405, "Only pages and forms are served here.")
@@ -164,7 +180,7 @@ class Site:
             wrong.is_known = True
             raise
 
-    def _must_be_known(self, request):
+    def _must_be_known(self, request: Request) -> None:
         if request.header("Sec-Fetch-Site") not in (None, "same-origin", "none"):
             # Who knows the path of the pages has come by the printed address, shown as a link somewhere. From here on it is our own page that
             # leads, so that the browser sends its cookie.
@@ -176,24 +192,25 @@ class Site:
         if not request.page.startswith(self.top):
             raise Wrong(404, "There is no such page.")
 
-    def _length(self, request):
+    def _length(self, request: Request) -> int:
         """How many bytes the body has."""
         if request.command == "GET":
             return 0
-        if request.header("Transfer-Encoding") is not None or not re.fullmatch(r"[0-9]{1,9}", request.header("Content-Length") or ""):
+        said = request.header("Content-Length") or ""
+        if request.header("Transfer-Encoding") is not None or not re.fullmatch(r"[0-9]{1,9}", said):
             raise Wrong(411, "The request does not say how long it is.")
         if request.header("Origin") is None:
             raise Wrong(403, "A form has to say where it comes from.")
         if not self.can_write:
             raise Wrong(403, "Nothing is changed here: tools/browse was started without --write.")
         is_upload = request.page == self.top + "upload"
-        if (length := int(request.header("Content-Length"))) > (self.image.limits.file_bytes + BESIDE if is_upload else BODY):
+        if (length := int(said)) > (self.image.limits.file_bytes + BESIDE if is_upload else BODY):
             raise Wrong(413, sentence(LARGE_FILE) if is_upload else "The form is too large.")
         return length
 
     # What is asked for.
 
-    def answer(self, request, body):
+    def answer(self, request: Request, body: bytes) -> Answer:
         """The answer to a request that was admitted."""
         if request.page == "/":
             return Answer(303, TEXT, b"", (("Location", self.top),
@@ -228,13 +245,13 @@ class Site:
         meant = [given[name] for name in MEANT if given.get(name)]
         return Answer(status, HTML, self.pages.told(TITLES[status], told, self._back(given), meant).encode())
 
-    def refused(self, wrong):
+    def refused(self, wrong: Wrong) -> Answer:
         """The answer to a request that is refused. To who is not known it says nothing that not everybody may know."""
         if not wrong.is_known:
             return Answer(wrong.status, TEXT, f"{wrong.told}\n".encode())
         return Answer(wrong.status, HTML, self.pages.told("Not here" if wrong.status == 404 else "Refused", wrong.told).encode())
 
-    def _over(self, cause):
+    def _over(self, cause: str) -> Answer:
         if not self.end:
             self.end = cause
             write_line(sys.stderr, f"browse: the program has ended: {cause}")
@@ -243,7 +260,7 @@ class Site:
             f"The program that holds the image has ended: {self.end}. Each change that was done is kept. Of one under way it is "
             "not known. End tools/browse by Ctrl-C and start it again.").encode())
 
-    def _found(self, request, page, body):
+    def _found(self, request: Request, page: str, body: bytes) -> Answer:
         given = fields(request.query)
         if request.command == "GET":
             if page not in self.shown:
@@ -256,7 +273,7 @@ class Site:
             raise Wrong(403, "The form is not of this run of tools/browse. Load its page again.")
         return self.changed[page](given)
 
-    def _form(self, request, body):
+    def _form(self, request: Request, body: bytes) -> Fields:
         kind = request.header("Content-Type") or ""
         if kind.startswith("multipart/form-data"):
             return parts(body, kind)
@@ -264,31 +281,31 @@ class Site:
             raise Wrong(415, "This is no form.")
         return fields(body.decode("latin-1"))
 
-    def _given(self, request, body):
+    def _given(self, request: Request, body: bytes) -> Fields:
         """The fields of a request that was looked at before."""
         try:
             return self._form(request, body) if request.command == "POST" else fields(request.query)
         except Wrong:
             return {}
 
-    def _back(self, given):
+    def _back(self, given: Fields) -> Link:
         """Where a page leads back to that tells of a refusal: to the file or the place of the form."""
         if given.get("name", b"") in self.image.index.files:
-            return "file", {"name": given["name"], "at": given.get("at")}
-        return ("declared", {}) if given.get("to") == b"declared" or "left" in given else ("", {"at": given.get("at")})
+            return Link("file", {"name": given["name"], "at": given.get("at")})
+        return Link("declared", {}) if given.get("to") == b"declared" or "left" in given else Link("", {"at": given.get("at")})
 
-    def _page(self, text, status=200):
+    def _page(self, text: str, status: int = 200) -> Answer:
         return Answer(status, HTML, text.encode())
 
-    def _done(self, page, done, **given):
+    def _done(self, page: str, done: str, **given: bytes | None) -> Answer:
         return Answer(303, TEXT, b"", (("Location", self.top + address(page, done=done, **given).removeprefix("./")),))
 
     # Pages.
 
-    def _look(self, given):
+    def _look(self, given: Fields) -> View:
         return self.image.look(given.get("at") or b"/")
 
-    def place(self, given):
+    def place(self, given: Fields) -> Answer:
         try:
             view = self._look(given)
         except (Refused, NotSent) as error:
@@ -296,78 +313,78 @@ class Site:
             return self._page(self.pages.wrong_place(given.get("at", b""), told), 404)
         return self._page(self.pages.place(view, given.get("q", b""), self._told(given)))
 
-    def _told(self, given):
+    def _told(self, given: Fields) -> str | None:
         done = given.get("done", b"").decode("latin-1")
         return done if done in DONE else None
 
-    def words(self, given):
+    def words(self, given: Fields) -> Answer:
         return self._page(self.pages.words(self._look(given), given.get("group", b"words"), given.get("q", b""), number_in(given, "page")))
 
-    def files(self, given):
+    def files(self, given: Fields) -> Answer:
         return self._page(self.pages.files(self._look(given), given.get("q", b""), number_in(given, "page")))
 
-    def rest(self, given):
+    def rest(self, given: Fields) -> Answer:
         return self._page(self.pages.rest(self._look(given), given.get("q", b""), number_in(given, "page")))
 
-    def file(self, given):
+    def file(self, given: Fields) -> Answer:
         file, way, content = self.image.file(given.get("name", b""))
         return self._page(self.pages.file(file, way, content, place_of(given.get("at", b"/")), given.get("as") == b"text",
                                           self._told(given)))
 
-    def bytes(self, given):
+    def download(self, given: Fields) -> Answer:
         file, _, content = self.image.file(given.get("name", b""))
         # A file's name has letters, digits and six signs, none of which a header knows.
         return Answer(200, BYTES, content, (("Content-Disposition", f'attachment; filename="{file.name.decode()}"'),))
 
-    def removing(self, given):
+    def removing(self, given: Fields) -> Answer:
         if not self.can_write:
             raise Wrong(403, "Nothing is changed here: tools/browse was started without --write.")
         file, _, _ = self.image.file(given.get("name", b""))
         return self._page(self.pages.removing(file, place_of(given.get("at", b"/"))))
 
-    def declared(self, given):
+    def declared(self, given: Fields) -> Answer:
         return self._page(self.pages.declared(given.get("q", b""), number_in(given, "page"), self._told(given)))
 
     # Changes.
 
-    def give(self, given):
+    def give(self, given: Fields) -> Answer:
         had = self.image.give(given.get("name", b""), given.get("word", b""))
         return self._done("file", "had" if had else "given", name=given["name"], at=given.get("at"))
 
-    def take(self, given):
+    def take(self, given: Fields) -> Answer:
         has = self.image.take(given.get("name", b""), given.get("word", b""))
         return self._done("file", "still" if has else "taken", name=given["name"], at=given.get("at"))
 
-    def rename(self, given):
+    def rename(self, given: Fields) -> Answer:
         self.image.rename(given.get("name", b""), given.get("other", b""))
         return self._done("file", "renamed", name=given["other"], at=given.get("at"))
 
-    def remove(self, given):
+    def remove(self, given: Fields) -> Answer:
         self.image.remove(given.get("name", b""))
         return self._done("", "removed", at=given.get("at"))
 
-    def upload(self, given):
+    def upload(self, given: Fields) -> Answer:
         name, content = given.get("name") or name_for(given.get("filename", b"")), given.get("file", b"")
         if not FILE_NAME.fullmatch(name):
             raise WrongWord(name)
         self.image.add(name, content, list(dict.fromkeys(given.get("words", b"").split())))
         return self._done("file", "added", name=name, at=given.get("at"))
 
-    def declare(self, given):
+    def declare(self, given: Fields) -> Answer:
         place = place_of(given.get("at", b"/"))
         if place.words is None:
             raise Wrong(409, sentence(NOT_A_PLACE, "mkdir"))
         self.image.declare(given.get("word", b""), place)
         return self._done("declared", "declared") if given.get("to") == b"declared" else self._done("", "declared", at=place.text)
 
-    def undeclare(self, given):
+    def undeclare(self, given: Fields) -> Answer:
         self.image.take_back(given.get("word", b""))
         return self._done("declared", "undeclared")
 
-    def axiom(self, given):
+    def axiom(self, given: Fields) -> Answer:
         self.image.axiom(given.get("left", b""), given.get("right", b""))
         return self._done("declared", "axiom")
 
-    def unaxiom(self, given):
+    def unaxiom(self, given: Fields) -> Answer:
         self.image.unaxiom(given.get("left", b""), given.get("right", b""))
         return self._done("declared", "unaxiom")

@@ -160,7 +160,8 @@ class Served:
 
 
 # Lines, for a file N; such with a payload of S bytes, and what stands behind it; and what may stand at the end of an input.
-LINES = (b"ls", b"cd w", b"cd /", b"cd ..\r", b"cd ..\r\r", b"pwd", b"pwd\r\r", b"add N 3\r\r", b"write N 2\r\r\r", b"stat", b"mkdir w", b"mkdir " + b"w" * 60, b"cat N", b"cat N\r", b"rm N", b"create N w",
+LINES = (b"ls", b"cd w", b"cd /", b"cd ..\r", b"cd ..\r\r", b"pwd", b"pwd\r\r", b"add N 3\r\r", b"write N 2\r\r\r", b"stat", b"mkdir w",
+         b"mkdir " + b"w" * 60, b"cat N", b"cat N\r", b"rm N", b"create N w",
          b"props N", b"add N 0000000000001", b"add N 0\n", b"add N 0\nls", b"", b" \t ", b"\r", b"\r\r", b"\0\xff\x0b", b"\x0c", b"x" * 1_021,
          b"x" * 1_025, b"y" * 70_000, b" " * 1_021, b" " * 1_025, b"@1 ls", b"@-", b"ok")
 WITH_PAYLOAD = (b"add N S w", b"add N S", b" write\tN 000S\r", b"write N S x", b"add . S", b"add N S" + b" w1 w2 w3" * 6)

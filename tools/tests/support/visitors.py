@@ -5,6 +5,7 @@ import os
 import re
 import signal
 import subprocess
+import sys
 import tempfile
 import urllib.parse
 
@@ -24,7 +25,7 @@ class Browsed:
 
     def __init__(self, *words, program=PROGRAM, wait=True):
         self.said = tempfile.TemporaryFile()
-        self.tool = subprocess.Popen([BROWSE, *words], stdin=subprocess.DEVNULL, stdout=subprocess.PIPE, stderr=self.said,
+        self.tool = subprocess.Popen([sys.executable, BROWSE, *words], stdin=subprocess.DEVNULL, stdout=subprocess.PIPE, stderr=self.said,
                                      env={**os.environ, "LISFS_PROGRAM": program, "LISFS_PATIENCE": str(LONG)})
         self.started.append(self.tool)
         self.address = self.tool.stdout.readline().decode().strip()

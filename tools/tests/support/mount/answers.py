@@ -327,6 +327,7 @@ NAMES = (
     (None, "rename", "live/concert", "music/year:2003/gig"), (["gig"], "ls", "year:2003"), ([], "ls", "live"), (["gig"], "ls", "music"),
     ("EEXIST", "rename", "todo", "live/gig"), (["gig"], "ls", "music"), (b"todo", "get", "todo"),
     ("EPERM", "rename", "music/gig", "!live/gig"), ("EPERM", "rename", "size>=3/gig", "live/gig"),
+    ("EPERM", "rename", "size>=3/gig", "!live/gig"), ("EPERM", "rename", "size>=3/gig", "music|live/concert"), (b"gig", "get", "size>=3/gig"),
     ("EPERM", "rename", "music/gig", "year:/concert"), (b"gig", "get", "gig"),
     ("EINVAL", "rename", "todo", "x~"), ("ENAMETOOLONG", "rename", "todo", "n" * 61), ("ENOENT", "rename", "nosuch", "x"),
     ("EPERM", "rename", "music", "sound"),

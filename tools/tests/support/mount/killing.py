@@ -1,6 +1,7 @@
 """Kills of a mount, of the program below it and of both, under three that write, and what is in the image then. For tests alone."""
 import contextlib
 import errno
+import functools
 import os
 import random
 import signal
@@ -38,20 +39,20 @@ class Keeper:
             after[name] = data, words
             between[name] = (b"", words) if name not in files or kind == "shell" and not has_inodes() else files[name]
             path = name if name in files else f"{word}/{name}"
-            call = lambda: {"put": self.ways.put, "sync": self.synced, "shell": self.shell}[kind](path, data)
+            call = functools.partial({"put": self.ways.put, "sync": self.synced, "shell": self.shell}[kind], path, data)
         elif kind == "move":
             after[name] = files[name][0], frozenset(word)
-            call = lambda: self.ways.rename("/".join(sorted(files[name][1]) + [name]), f"{word}/{name}")
+            call = functools.partial(self.ways.rename, "/".join(sorted(files[name][1]) + [name]), f"{word}/{name}")
         elif kind == "remove":
             del after[name]
-            call = lambda: self.ways.unlink(name)
+            call = functools.partial(self.ways.unlink, name)
         else:
             other = chance.choice(sorted(files))
             if other == name:
                 return
             after[other] = between[other] = files[name][0], files[other][1]
             del after[name]
-            call = lambda: self.ways.rename(name, other)
+            call = functools.partial(self.ways.rename, name, other)
         self.others = [between, after]
         call()
         self.files, self.others, self.done = after, [], self.done + 1

@@ -214,7 +214,8 @@ def unclosed():
         ways.write(refused, bytes(20_000), 0)
         answers("what a sync was refused", "ENOSPC", ways.sync, refused)
         told = finished(ways)
-        check("the end of a full image", told[1] and [line.partition(": what was")[0] for line in told[0].splitlines()] == ["mount: old", "mount: refused"], told)
+        lines = [line.partition(": what was")[0] for line in (told[0] or "").splitlines()]
+        check("the end of a full image", told[1] and lines == ["mount: old", "mount: refused"], told)
     with directly("image") as ways:
         answers("what there was room for", {"old": b"OLD", "new": b"NEW", "refused": b""}, lambda: {name: ways.get(name) for name in ("old", "new", "refused")})
     for number in (20, 21):

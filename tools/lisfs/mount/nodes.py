@@ -1,0 +1,121 @@
+"""What a mount keeps beside an image: of each file how it looks and what was written to it, and the folders and files that the kernel knows."""
+from __future__ import annotations
+
+import dataclasses
+import enum
+import hashlib
+from collections.abc import Iterable
+from typing import TypeAlias
+
+from lisfs import index
+from lisfs.client import Refused
+from lisfs.formulas import Place
+from lisfs.mount.kernel import Changes
+
+SPREAD, INODES = 0x9E3779B97F4A7C15, (1 << 63) - 1
+# An entry of an open folder: its inode, what it is, and its name. It is a plain tuple, since there are thousands of them.
+Listed: TypeAlias = tuple[int, int, bytes]
+
+
+class Looks:
+    """What an image doesn't keep of a file or a folder: it lives for one mount."""
+
+    def __init__(self, mode: int, user: int, group: int, now: int) -> None:
+        self.mode, self.user, self.group = mode, user, group
+        self.accessed = self.modified = self.changed = now
+
+    def take(self, changes: Changes, now: int) -> None:
+        """Changes what is to be changed."""
+        self.mode = self.mode if changes.mode is None else changes.mode
+        self.user = self.user if changes.user is None else changes.user
+        self.group = self.group if changes.group is None else changes.group
+        self.accessed = self.accessed if changes.accessed is None else changes.accessed
+        self.modified = self.modified if changes.modified is None else changes.modified
+        self.changed = now
+
+
+@dataclasses.dataclass(eq=False)
+class Draft:
+    """What was written to a file and is not in the image yet."""
+
+    # The bytes, once somebody wrote. Whether they are other ones than those of the image; whether all that happened is that somebody emptied
+    # it by opening it; and whether they were refused since the last change.
+    content: bytearray | None = None
+    is_dirty: bool = False
+    is_emptied: bool = False
+    is_refused: bool = False
+    # How many have the file open to write, and when it was written last.
+    writers: int = 0
+    modified: int | None = None
+
+    def is_written(self, now: int) -> None:
+        self.is_dirty, self.is_emptied, self.is_refused, self.modified = True, False, False, now
+
+
+class File(index.File):
+    """A file of the image, of which `given` are the words that it surely was given. No other file ever has its `number`. `refusal` is what
+    kept a file that waited from being made, and None of all others."""
+
+    def __init__(self, name: bytes, size: int, given: Iterable[bytes], bit: int) -> None:
+        super().__init__(name, size, given, bit)
+        self.number, self.is_gone = 0, False
+        self.refusal: Refused | None = None
+        # The tree says how it looks. How often it is open, and where the kernel knows it.
+        self.looks, self.handles = Looks(0, 0, 0, 0), 0
+        self.draft: Draft | None = None
+        self.nodes: set[Leaf] = set()
+        # What it had when it was removed while it was open; and a count of its changes.
+        self.kept, self.version = b"", 0
+
+
+class Shows(enum.Enum):
+    """What a folder shows: words that files were given, these and derived ones, or no words and every file."""
+
+    GIVEN = enum.auto()
+    DERIVED = enum.auto()
+    FILES = enum.auto()
+
+
+class Folder:
+    """A place under one path. `:by/music` and `music/:by` show the same, and are two: a folder stands in one other."""
+
+    def __init__(self, number: int, path: bytes, place: Place, shows: Shows) -> None:
+        self.number, self.key, self.place, self.shows, self.lookups = number, path, place, shows, 0
+        self.inode = inode_of(path)
+
+
+class Leaf:
+    """A file as it stands in one folder."""
+
+    def __init__(self, number: int, folder: Folder, file: File) -> None:
+        self.number, self.key, self.file, self.lookups = number, (folder.key, file), file, 0
+        self.inode = leaf_inode(folder, file)
+        # How many have it open to write, and which bytes of the file the kernel may have kept.
+        self.writers, self.version = 0, -1
+
+
+Node: TypeAlias = Folder | Leaf
+
+
+class Handle:
+    """A file that somebody has open, and whether to write."""
+
+    def __init__(self, node: Leaf, writes: bool) -> None:
+        self.node, self.file, self.writes = node, node.file, writes
+
+
+class Shelf:
+    """An open folder: what it showed when it was read from its beginning."""
+
+    def __init__(self, folder: Folder) -> None:
+        self.folder = folder
+        self.entries: list[Listed] = []
+
+
+def inode_of(path: bytes) -> int:
+    """The same each time, without a table of all paths that were ever looked at."""
+    return int.from_bytes(hashlib.blake2b(path, digest_size=8).digest(), "little") & INODES
+
+
+def leaf_inode(folder: Folder, file: File) -> int:
+    return (folder.inode + file.number * SPREAD) & INODES
