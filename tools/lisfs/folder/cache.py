@@ -45,6 +45,8 @@ class Kept(NamedTuple):
 
 
 class Cache(Protocol):
+    """What earlier runs can be asked of: `Remembered`, or `Nothing`."""
+
     def record(self, found: walk.Found, rules: str, kind: Callable[..., R]) -> R | None: ...
 
     def keep(self, found: walk.Found, times: Times | None, rules: str, record: Record) -> None: ...

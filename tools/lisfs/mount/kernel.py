@@ -1,8 +1,8 @@
 """The messages of /dev/fuse: each is cut into what is asked, one of the handlers answers, and the answer is put together.
 
-It knows nothing of images. The handlers are any object with the calls that `Connection` makes (`tree.Tree` is one); an `OSError` that
-they raise is the answer. The device is any descriptor that gives one message a read and takes one a write, so a pair of sockets serves
-for tests. The layouts are those of linux/fuse.h, protocol 7, as of minor 23: later minors add to them and change none.
+It knows nothing of images. What answers has the calls of `Handlers` (`tree.Tree` is one); an `OSError` that they raise is the answer. The
+device is any descriptor that gives one message a read and takes one a write, so a pair of sockets serves for tests. The layouts are those of
+linux/fuse.h, protocol 7, as of minor 23: later minors add to them and change none.
 """
 from __future__ import annotations
 

@@ -1,7 +1,6 @@
 """What a mount keeps beside an image: of each file how it looks and what was written to it, and the folders and files that the kernel knows."""
 from __future__ import annotations
 
-import dataclasses
 import enum
 import hashlib
 from collections.abc import Iterable
@@ -34,19 +33,17 @@ class Looks:
         self.changed = now
 
 
-@dataclasses.dataclass(eq=False)
 class Draft:
     """What was written to a file and is not in the image yet."""
 
-    # The bytes, once somebody wrote. Whether they are other ones than those of the image; whether all that happened is that somebody emptied
-    # it by opening it; and whether they were refused since the last change.
-    content: bytearray | None = None
-    is_dirty: bool = False
-    is_emptied: bool = False
-    is_refused: bool = False
-    # How many have the file open to write, and when it was written last.
-    writers: int = 0
-    modified: int | None = None
+    def __init__(self) -> None:
+        # The bytes, once somebody wrote. Whether they are other ones than those of the image; whether all that happened is that somebody
+        # emptied it by opening it; and whether they were refused since the last change.
+        self.content: bytearray | None = None
+        self.is_dirty = self.is_emptied = self.is_refused = False
+        # How many have the file open to write, and when it was written last.
+        self.writers = 0
+        self.modified: int | None = None
 
     def is_written(self, now: int) -> None:
         self.is_dirty, self.is_emptied, self.is_refused, self.modified = True, False, False, now
