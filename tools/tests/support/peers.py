@@ -9,10 +9,34 @@ import time
 
 from lisfs.client import PROGRAM, Replies
 from lisfs.constants import MAX_PAYLOAD
-from support import tool
+from support import images, tool
 from support.waiting import LONG, children, is_running, stop, until
 
 SERVE, TALK = tool("serve"), tool("talk")
+LIMITS = ("1024", "512", "2048", "v2")
+# What `pwd` shows to one at the root, and what a talk says that was not replied to.
+PWD = b"w /\nok\n"
+ENDED = "talk: socket: the server ended before all was replied to\n"
+
+
+def make(image="image", limits=LIMITS):
+    """Makes an image for a server. Its name."""
+    return images.make(image, limits)
+
+
+def ran(image, data):
+    """What `run` shows."""
+    return subprocess.run([PROGRAM, "run", image], input=data, stdout=subprocess.PIPE, timeout=LONG, check=True).stdout
+
+
+def written(name, data):
+    """A file of these bytes, opened."""
+    return open(images.written(name, data), "rb")
+
+
+def script(name, text):
+    """The path of a script that runs the program, which is its `$REAL`."""
+    return os.path.abspath(images.written(name, text, 0o700))
 
 
 def answers(path):
@@ -113,7 +137,7 @@ class Served:
 
     def __init__(self, image="image", path="socket", wait=True, patience=LONG, program=PROGRAM, command=(SERVE,), **more):
         self.said = tempfile.TemporaryFile()
-        words = {**os.environ, "LISFS_PROGRAM": program, "LISFS_PATIENCE": str(patience)}
+        words = {**os.environ, "REAL": PROGRAM, "LISFS_PROGRAM": program, "LISFS_PATIENCE": str(patience)}
         self.server = subprocess.Popen([*command, image, path], stdin=subprocess.DEVNULL, stdout=subprocess.DEVNULL, stderr=self.said, env=words, **more)
         self.started.append(self.server)
         if wait and not until(lambda: answers(path) or self.server.poll() is not None):
@@ -159,8 +183,14 @@ class Served:
             return next(int(line.split()[1]) for line in lines if line.startswith("VmHWM")) // 1_024
 
 
+def refusing(image, path="socket", **more):
+    """The status of a server that does not begin, and what it says."""
+    return Served(image, path, wait=False, **more).ended()
+
+
 # Lines, for a file N; such with a payload of S bytes, and what stands behind it; and what may stand at the end of an input.
-LINES = (b"ls", b"cd w", b"cd /", b"cd ..\r", b"cd ..\r\r", b"pwd", b"pwd\r\r", b"add N 3\r\r", b"write N 2\r\r\r", b"stat", b"mkdir w", b"mkdir " + b"w" * 60, b"cat N", b"cat N\r", b"rm N", b"create N w",
+LINES = (b"ls", b"cd w", b"cd /", b"cd ..\r", b"cd ..\r\r", b"pwd", b"pwd\r\r", b"add N 3\r\r", b"write N 2\r\r\r", b"stat", b"mkdir w", b"mkdir " + b"w" * 60,
+         b"cat N", b"cat N\r", b"rm N", b"create N w",
          b"props N", b"add N 0000000000001", b"add N 0\n", b"add N 0\nls", b"", b" \t ", b"\r", b"\r\r", b"\0\xff\x0b", b"\x0c", b"x" * 1_021,
          b"x" * 1_025, b"y" * 70_000, b" " * 1_021, b" " * 1_025, b"@1 ls", b"@-", b"ok")
 WITH_PAYLOAD = (b"add N S w", b"add N S", b" write\tN 000S\r", b"write N S x", b"add . S", b"add N S" + b" w1 w2 w3" * 6)
