@@ -419,7 +419,7 @@ def test_names_by_sync(evil, words):
 
 
 @pytest.mark.parametrize("tool, words", (("browse", []), ("mount", ["top"])))
-def test_the_name_of_an_image(evil, tool, words):
+def test_the_name_of_an_image(program, evil, tool, words):
     # A path that is no UTF-8 the program doesn't take.
     _, error = told(tool, "x\x1b]0;title\x07y", *words)
     assert is_harmless(error) and b"x^[]0;title^Gy" in error, (f"{tool} of an image of such a name", error)
