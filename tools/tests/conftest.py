@@ -6,6 +6,7 @@ import os
 import shutil
 import signal
 import stat
+import sys
 import tempfile
 
 import pytest
@@ -50,6 +51,8 @@ class Held:
 
 def pytest_configure(config):
     config.addinivalue_line("markers", "limits(files, words, blocks[, version]): of the image of a test")
+    # The Python that runs the tests runs the tools too, since it has their packages; and no launcher of Pythons comes in between.
+    os.environ["PATH"] = os.pathsep.join([os.path.dirname(sys.executable), os.environ["PATH"]])
     # So that what a test starts hears them, and what it ends by them ends.
     hear(*ENDING)
     # So that terminals and what runs in them end too.

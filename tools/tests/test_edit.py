@@ -36,11 +36,16 @@ def drafts_folder(folder):
     os.mkdir("drafts")
 
 
-@pytest.fixture
-def notes(program):
-    """An image with one file of notes, of a program that has views."""
+@pytest.fixture(scope="module")
+def with_views(program):
+    """A program that has views."""
     if b"lisfs view IMAGE NAME F" not in images.usage(program, "view"):
         pytest.skip("the program has no word `view`: build it again")
+
+
+@pytest.fixture
+def notes(with_views, folder):
+    """An image with one file of notes."""
     make()
 
 
@@ -115,7 +120,7 @@ TEXTS = (b"", b"\n", b"alpha", b"alpha\n", NOTES, b"\r\n\r\r\nalpha\r", b"\0\n\0
 
 @pytest.mark.parametrize("formula", ("word:alpha", "line:", "!line:", "line:empty"))
 @pytest.mark.parametrize("number", range(len(TEXTS)))
-def test_changes(notes, number, formula):
+def test_changes(with_views, number, formula):
     """What is changed is written, and nothing else."""
     make(text=TEXTS[number])
     before = file_in()
@@ -158,7 +163,7 @@ def test_no_change(notes, name, does):
     assert dump() == before, "the state stays"
 
 
-def test_a_file_without_lines(notes):
+def test_a_file_without_lines(with_views):
     make(text=b"")
     done("a file without lines", edit(SEE), UNCHANGED)
     assert content("seen") == b"", "its view is empty"
@@ -268,7 +273,7 @@ def test_one_empty_line_is_left(notes):
     assert file_in() == b"\n", "and it is written"
 
 
-def test_a_view_that_was_empty_before(notes):
+def test_a_view_that_was_empty_before(with_views):
     make(text=b"")
     done("a view that was empty before", edit("open(path, 'wb').close()\n", formula="line:"), UNCHANGED)
 
@@ -373,7 +378,7 @@ def test_more_than_there_are_blocks(notes):
 
 
 @pytest.mark.parametrize("line", ([], ["image"], ["image", "notes.txt"], ["image", "notes.txt", "line:", "x"], ["--help"]))
-def test_wrong_use(notes, line):
+def test_wrong_use(line):
     ran = runs.run(EDIT, line)
     assert ran.code == 1 and ran.out == b"" and "usage: tools/edit IMAGE NAME F\n" in ran.error, (f"wrong use: {line}", ran)
 
