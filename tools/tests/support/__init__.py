@@ -1,5 +1,5 @@
 """What tests and measures share, and the one place from which they find the rest: importing it puts the package `lisfs` and the modules of
-`bench/` on the path. Scripts in `bench/`, `.ci/` and `docs/` reach it by a module of this name beside them.
+`bench/` on the path. `conftest.py` does so for tests. Scripts in `bench/`, `.ci/` and `docs/` reach it by a module of this name beside them.
 
 - `waiting`: waits for what must come, from processes, pipes and sockets.
 - `costs`: processor time beside a yardstick.
@@ -9,6 +9,10 @@
 - `visitors`: a client of the pages, as a browser is one.
 - `chromium`: a headless browser.
 - `shell_tables`: scripts for the prompt, and what they show.
+- `images`: images, files beside them, and what an image holds.
+- `replies`: what calls of the client answer.
+- `shells`: the prompt over scripts.
+- `syncing`: runs of `tools/sync`, and folders for them.
 - `mount`: what a mount is asked, and what it answers.
 """
 import os

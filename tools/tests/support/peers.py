@@ -9,10 +9,34 @@ import time
 
 from lisfs.client import PROGRAM, Replies
 from lisfs.constants import MAX_PAYLOAD
-from support import tool
+from support import images, tool
 from support.waiting import LONG, children, is_running, stop, until
 
 SERVE, TALK = tool("serve"), tool("talk")
+LIMITS = ("1024", "512", "2048", "v2")
+# What `pwd` shows to one at the root, and what a talk says that was not replied to.
+PWD = b"w /\nok\n"
+ENDED = "talk: socket: the server ended before all was replied to\n"
+
+
+def make(image="image", limits=LIMITS):
+    """Makes an image for a server. Its name."""
+    return images.make(image, limits)
+
+
+def ran(image, data):
+    """What `run` shows."""
+    return subprocess.run([PROGRAM, "run", image], input=data, stdout=subprocess.PIPE, timeout=LONG, check=True).stdout
+
+
+def written(name, data):
+    """A file of these bytes, opened."""
+    return open(images.written(name, data), "rb")
+
+
+def script(name, text):
+    """The path of a script that runs the program, which is its `$REAL`."""
+    return os.path.abspath(images.written(name, text, 0o700))
 
 
 def answers(path):
@@ -113,7 +137,7 @@ class Served:
 
     def __init__(self, image="image", path="socket", wait=True, patience=LONG, program=PROGRAM, command=(SERVE,), **more):
         self.said = tempfile.TemporaryFile()
-        words = {**os.environ, "LISFS_PROGRAM": program, "LISFS_PATIENCE": str(patience)}
+        words = {**os.environ, "REAL": PROGRAM, "LISFS_PROGRAM": program, "LISFS_PATIENCE": str(patience)}
         self.server = subprocess.Popen([*command, image, path], stdin=subprocess.DEVNULL, stdout=subprocess.DEVNULL, stderr=self.said, env=words, **more)
         self.started.append(self.server)
         if wait and not until(lambda: answers(path) or self.server.poll() is not None):
@@ -157,6 +181,11 @@ class Served:
         """How many MiB the server has taken at most."""
         with open(f"/proc/{self.server.pid}/status", encoding="ascii") as lines:
             return next(int(line.split()[1]) for line in lines if line.startswith("VmHWM")) // 1_024
+
+
+def refusing(image, path="socket", **more):
+    """The status of a server that does not begin, and what it says."""
+    return Served(image, path, wait=False, **more).ended()
 
 
 # Lines, for a file N; such with a payload of S bytes, and what stands behind it; and what may stand at the end of an input.

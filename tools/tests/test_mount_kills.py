@@ -1,4 +1,4 @@
-"""Kills of a mount, of the program below it and of both, under three that write, and what is in the image then. For tests alone."""
+"""Kills of a mount, of the program below it and of both, under three that write, and what is in the image then."""
 import contextlib
 import errno
 import functools
@@ -9,15 +9,15 @@ import subprocess
 import threading
 import time
 
+import pytest
+
 from lisfs.formulas import Place
 from lisfs.mount import attach
-from support.mount.answers import NEW, WR, Mount, check, directly, make, told_by
+from support.mount.answers import NEW, WR, Mount, directly, has_inodes, make, told_by
 from support.mount.asking import Real
-from support.mount.sending import has_inodes
 from support.waiting import LONG, children, is_running, until
 
-# How often it is killed. `KILLS=25` tries more.
-KILLS = int(os.environ.get("KILLS") or 9)
+pytestmark = pytest.mark.usefixtures("program", "fuse")
 
 
 class Keeper:
@@ -96,34 +96,29 @@ def killed(keepers, processes, chance):
         writer.join()
 
 
-def kills():
+def test_kills(mount_kill):
     """The mount, the program below it, or both are killed at random points, under three that write."""
-    os.makedirs("folder", exist_ok=True)
-    done = 0
-    for turn in range(KILLS):
-        make("image", "64", "128", "64")
-        mount = Mount("image", "folder")
-        # By the folder that is mounted now: at its path there is another one once it is unmounted.
-        top = os.open("folder", os.O_RDONLY)
-        program, ways = children(mount.child.pid)[0], Real(f"/proc/{os.getpid()}/fd/{top}")
-        keepers = [Keeper(ways, f"{turn} {letter}", letter) for letter in "fgh"]
-        for word in "abc":
-            ways.mkdir(word)
-        chance, both = random.Random(turn), [mount.child.pid, program]
-        killed(keepers, [both[:1], both[1:], chance.sample(both, 2)][turn % 3], chance)
-        os.close(top)
-        mount.child.wait(LONG)
-        mount.child.stderr.close()
-        attach.detach("folder")
-        check(f"kill {turn}: no process is left", until(lambda: not is_running(program)))
-        found = left("image")
-        for keeper in keepers:
-            own = {name: of for name, of in found.items() if name[0] == keeper.letter}
-            other = {name for name in own.keys() | keeper.files.keys() if own.get(name) != keeper.files.get(name)}
-            check(f"kill {turn}: what was acknowledged is kept", own in [keeper.files] + keeper.others, (keeper.kind, other))
-            done += keeper.done
-    if os.environ.get("KILLS"):
-        print(f"tools/mount: {KILLS} kills, {done} changes acknowledged")
+    os.mkdir("folder")
+    make("image", "64", "128", "64")
+    mount = Mount("image", "folder")
+    # By the folder that is mounted now: at its path there is another one once it is unmounted.
+    top = os.open("folder", os.O_RDONLY)
+    program, ways = children(mount.child.pid)[0], Real(f"/proc/{os.getpid()}/fd/{top}")
+    keepers = [Keeper(ways, f"{mount_kill} {letter}", letter) for letter in "fgh"]
+    for word in "abc":
+        ways.mkdir(word)
+    chance, both = random.Random(mount_kill), [mount.child.pid, program]
+    killed(keepers, [both[:1], both[1:], chance.sample(both, 2)][mount_kill % 3], chance)
+    os.close(top)
+    mount.child.wait(LONG)
+    mount.child.stderr.close()
+    attach.detach("folder")
+    assert until(lambda: not is_running(program)), "no process is left"
+    found = left("image")
+    for keeper in keepers:
+        own = {name: of for name, of in found.items() if name[0] == keeper.letter}
+        other = {name for name in own.keys() | keeper.files.keys() if own.get(name) != keeper.files.get(name)}
+        assert own in [keeper.files] + keeper.others, ("what was acknowledged is kept", (keeper.kind, other))
 
 
 def left(image):

@@ -1,25 +1,29 @@
-"""What a mount sends to the program for what it is asked, and when: a new file waits for its bytes, and is never lost without a word. For
-tests alone."""
+"""What a mount sends to the program for what it is asked, and when: a new file waits for its bytes, and is never lost without a word."""
 import contextlib
 import errno
 import io
 import os
 
-from lisfs.client import PROGRAM, Ended, Program, Refused
+import pytest
+
+from lisfs.client import Ended, Refused
 from lisfs.mount import tree
 from lisfs.mount.kernel import Changes
 from lisfs.refusals import error_of
-from support.mount.answers import NEW, RD, RW, WR, answers, check, directly, make, told_by
+from support import images
+from support.mount.answers import NEW, RD, RW, WR, directly, has_inodes, make, told_by
+
+pytestmark = pytest.mark.usefixtures("program")
 
 CHANGES = ("cd", "create", "add", "write", "mv", "rename", "rm", "mkdir", "rmdir", "axiom", "unaxiom")
 
 
-def commands():
-    """What is sent for what is asked."""
+@pytest.fixture
+def asked(program):
+    """A mount that is asked directly, and what a call of it sends: the changes, and the steps on the way."""
     noted = []
 
     def sent(call, *given):
-        """The changes that a call made, and the steps on the way."""
         noted.clear()
         call(*given)
         return [line for line in noted if line.split()[0] in CHANGES]
@@ -29,53 +33,67 @@ def commands():
         program = ways.tree.image.program
         send_bytes = program.send_bytes
         program.send_bytes = lambda line, payload=b"", room=None: (noted.append(line.decode().rstrip()), send_bytes(line, payload, room))
-        for wanted, call, *given in (
-                (["mkdir music"], "mkdir", "music"), (["cd /music", "mkdir jazz", "cd /"], "mkdir", "music/jazz"),
-                (["add x 1 music"], "put", "music/x", b"x"), (["write x 2"], "put", "music/x", b"xy"),
-                (["create y"], "put", "y", b""),
-                (["cd /music", "mv x /", "cd /"], "rename", "music/x", "x"), (["mv x /music/jazz"], "rename", "x", "music/jazz/x"),
-                (["rename x z"], "rename", "x", "z"),
-                (["rename z x", "cd /music/jazz", "mv x /music", "cd /"], "rename", "music/jazz/z", "music/x"),
-                (["write y 2", "rm x"], "rename", "music/x", "y"), (["mv y /jazz"], "link", "y", "jazz/y"), (["rm y"], "unlink", "jazz/y"),
-                (["unaxiom jazz music", "rmdir jazz"], "rmdir", "music/jazz"), (["add x 3"], "put", "x", b"old"),
-                ([], "get", "x")):
-            answers(f"sent for {call}{given}", wanted, sent, getattr(ways, call), *given)
-        closes(ways, sent)
-        waits(ways, sent)
-        notices(ways)
+        yield ways, sent
 
 
-def closes(ways, sent):
+def test_commands(asked):
+    """What is sent for what is asked."""
+    ways, sent = asked
+    for wanted, call, *given in (
+            (["mkdir music"], "mkdir", "music"), (["cd /music", "mkdir jazz", "cd /"], "mkdir", "music/jazz"),
+            (["add x 1 music"], "put", "music/x", b"x"), (["write x 2"], "put", "music/x", b"xy"),
+            (["create y"], "put", "y", b""),
+            (["cd /music", "mv x /", "cd /"], "rename", "music/x", "x"), (["mv x /music/jazz"], "rename", "x", "music/jazz/x"),
+            (["rename x z"], "rename", "x", "z"),
+            (["rename z x", "cd /music/jazz", "mv x /music", "cd /"], "rename", "music/jazz/z", "music/x"),
+            (["write y 2", "rm x"], "rename", "music/x", "y"), (["mv y /jazz"], "link", "y", "jazz/y"), (["rm y"], "unlink", "jazz/y"),
+            (["unaxiom jazz music", "rmdir jazz"], "rmdir", "music/jazz"), (["add x 3"], "put", "x", b"old"),
+            ([], "get", "x")):
+        assert told_by(sent, getattr(ways, call), *given) == wanted, f"sent for {call}{given}"
+
+
+@pytest.fixture
+def with_a_file(asked):
+    """The same, with a word and a file."""
+    ways, _ = asked
+    ways.mkdir("music")
+    ways.put("x", b"old")
+    return asked
+
+
+def test_closes(with_a_file):
     """A shell closes one of two before it writes, and the other at the end."""
+    ways, sent = with_a_file
     node, handle = ways.walk("x"), ways.open("x", WR | os.O_TRUNC)
     # A file of which nothing that is open has the number, on whatever disk.
     other = next(name for name in map("other{}".format, range(99)) if not tree.is_open_in(os.getpid(), number_of(name)))
     with open(other, "w"):
         inode = ways.tree.nodes[node].inode = number_of(other)
-        check("an open file of this process", tree.is_open_in(os.getpid(), inode) == has_inodes())
-        answers("the first close", [] if has_inodes() else ["write x 0"], sent, ways.tree.flush, handle, os.getpid())
+        assert tree.is_open_in(os.getpid(), inode) == has_inodes(), "an open file of this process"
+        assert told_by(sent, ways.tree.flush, handle, os.getpid()) == ([] if has_inodes() else ["write x 0"]), "the first close"
         ways.write(handle, b"new", 0)
-        answers("the second one", ["write x 3"], sent, ways.tree.flush, handle, os.getpid())
+        assert told_by(sent, ways.tree.flush, handle, os.getpid()) == ["write x 3"], "the second one"
     ways.close(handle)
     handle = ways.open("x", WR | os.O_TRUNC)
     with open(other):
-        answers("a close of the only one that may write", ["write x 0"], sent, ways.tree.flush, handle, os.getpid())
+        assert told_by(sent, ways.tree.flush, handle, os.getpid()) == ["write x 0"], "a close of the only one that may write"
     ways.write(handle, b"more", 0)
     ways.close(handle)
     handle = ways.open("x", WR | os.O_TRUNC)
-    answers("a close of the only one", ["write x 0"], sent, ways.close, handle)
-    answers("a close of a reader", [], sent, lambda: ways.close(ways.open("x", RD)))
+    assert told_by(sent, ways.close, handle) == ["write x 0"], "a close of the only one"
+    assert told_by(sent, lambda: ways.close(ways.open("x", RD))) == [], "a close of a reader"
 
 
-def waits(ways, sent):
+def test_waits(with_a_file):
     """A new file waits for its bytes, but not while anything else is to be changed or asked."""
+    ways, sent = with_a_file
     handles = []
 
     def begin(name):
         handles.append(ways.open(name, WR | NEW))
 
     def row(wanted, call, *given):
-        answers(f"a new file waits, {call}{given}", wanted, sent, getattr(ways, call), *given)
+        assert told_by(sent, getattr(ways, call), *given) == wanted, f"a new file waits, {call}{given}"
 
     for name, rows in (
             ("new", (([], "write", b"n", 0), ([], "stat", "new"), ([], "get", "x"), (["create new"], "ls", ""), (["write new 1"], "close"))),
@@ -90,7 +108,7 @@ def waits(ways, sent):
             ("named", (([], "write", b"n", 0), (["create named", "rename named other"], "rename", "named", "other"), (["write other 1"], "close"))),
             ("taken", (([], "write", b"t", 0), (["create taken", "write x 1", "rm taken"], "rename", "taken", "x"), ([], "close"))),
             ("one", ((["create one", "mkdir word"], "mkdir", "word"), ([], "close")))):
-        answers(f"the beginning of {name}", [], sent, begin, name)
+        assert told_by(sent, begin, name) == [], f"the beginning of {name}"
         for wanted, call, *given in rows:
             row(wanted, call, *([handles[-1]] if call in ("write", "sync", "close") else []), *given)
     begin("both")
@@ -98,12 +116,13 @@ def waits(ways, sent):
     row(["create both"], "close", handles[-1])
     row([], "write", handles[-2], b"b", 0)
     row(["write both 1"], "close", handles[-2])
-    answers("a new file that is cut by its path", ["add cut 5"], sent, lambda: (begin("cut"), ways.change("cut", size=5)))
+    assert told_by(sent, lambda: (begin("cut"), ways.change("cut", size=5))) == ["add cut 5"], "a new file that is cut by its path"
     ways.close(handles[-1])
 
 
-def notices(ways):
+def test_notices(with_a_file):
     """Who else may have old attributes of a folder is told of a change; the kernel knows itself what a thread changed that has them."""
+    ways, _ = with_a_file
     told, tree = [], ways.tree
     tree.changed = told.append
 
@@ -111,7 +130,7 @@ def notices(ways):
         for tree.asker, call, *given in calls:
             told.clear()
             getattr(ways, call)(*given)
-        answers(f"notices of {calls}", wanted, lambda: sorted(number for number in told if number in (1, folder)))
+        assert told_by(lambda: sorted(number for number in told if number in (1, folder))) == wanted, f"notices of {calls}"
 
     tree.asker = 1
     folder = ways.walk("music")
@@ -132,16 +151,10 @@ def number_of(name):
         return os.fstat(file.fileno()).st_ino
 
 
-def has_inodes():
-    """Whether this system tells the inodes of open files."""
-    with open("/proc/self/stat", encoding="ascii") as file, open(f"/proc/self/fdinfo/{file.fileno()}", encoding="ascii") as info:
-        return "ino:" in info.read()
-
-
 def crowded(is_asked):
     """What is told of nine new files with new endings, where known words have room for seven of them; and which of them are there."""
     make("image", "64", "64", "8")
-    with Program([PROGRAM, "run", "image"]) as program:
+    with images.session() as program:
         for number in range(54):
             program.mkdir(b"w%d" % number)
     with directly("image") as ways:
@@ -161,7 +174,8 @@ def refusing(number):
     return call
 
 
-def not_made(number):
+@pytest.mark.parametrize("number", (9, 18, 19, 20, 21, 22, 24))
+def test_not_made(number):
     """A new file that the program doesn't make after all, which nothing here leads to: whoever has it open is told."""
     name, error = f"a new file that is refused as {number}", errno.errorcode[error_of(number)]
     make("image", "64", "64", "8")
@@ -169,29 +183,34 @@ def not_made(number):
         handle = ways.open("x", RW | NEW)
         reader, program = ways.open("x", RD), ways.tree.image.program
         create, program.create = program.create, refusing(number)
-        answers(f"{name}, and who asks", error, ways.ls, "")
+        assert told_by(ways.ls, "") == error, f"{name}, and who asks"
         program.create = create
-        answers(f"{name}, and is not there", [], ways.ls, "")
+        assert told_by(ways.ls, "") == [], f"{name}, and is not there"
         for call, *given in (("read", reader, 9, 0), ("read", handle, 9, 0), ("write", handle, b"x", 0), ("sync", handle), ("sync", reader)):
-            answers(f"{name}, {call}{given}", error, getattr(ways, call), *given)
+            assert told_by(getattr(ways, call), *given) == error, f"{name}, {call}{given}"
         node = ways.tree.handles[handle].node
-        answers(f"{name}, and a cut", error, ways.tree.setattr, node.number, Changes(None, None, None, 5, None, None), handle)
+        assert told_by(ways.tree.setattr, node.number, Changes(None, None, None, 5, None, None), handle) == error, f"{name}, and a cut"
         with open("other", "w") as other:
             node.inode = os.fstat(other.fileno()).st_ino
-            answers(f"{name}, a close of one of two", error, ways.tree.flush, handle, os.getpid())
-        answers(f"{name}, its close", error, ways.close, handle)
+            assert told_by(ways.tree.flush, handle, os.getpid()) == error, f"{name}, a close of one of two"
+        assert told_by(ways.close, handle) == error, f"{name}, its close"
         ways.tree.release(reader)
-        answers(f"{name}, and another one", (None, b"x"), lambda: (ways.put("x", b"x"), ways.get("x")))
+        assert told_by(lambda: (ways.put("x", b"x"), ways.get("x"))) == (None, b"x"), f"{name}, and another one"
+
+
+@pytest.mark.parametrize("number", (9, 18, 19, 20, 21, 22, 24))
+def test_not_made_with_bytes(number):
+    name, error = f"a new file that is refused as {number}", errno.errorcode[error_of(number)]
     make("image", "64", "64", "8")
     with directly("image") as ways:
         handle, program = ways.open("x", WR | NEW), ways.tree.image.program
         ways.write(handle, b"written", 0)
         program.create = program.add = refusing(number)
-        answers(f"{name}, with bytes, at a sync", error, ways.sync, handle)
-        answers(f"{name}, with bytes, at its close", error, ways.close, handle)
+        assert told_by(ways.sync, handle) == error, f"{name}, with bytes, at a sync"
+        assert told_by(ways.close, handle) == error, f"{name}, with bytes, at its close"
 
 
-def unclosed():
+def test_unclosed():
     """What is written and not closed is stored when nobody asks any more, or told by name."""
     make("image", "64", "64", "4")
     with directly("image") as ways:
@@ -204,28 +223,32 @@ def unclosed():
             ways.write(handles[name], name.upper().encode(), 0)
         ways.unlink("gone")
         ways.sync(handles["synced"])
-        answers("the end with open files", (None, False), finished, ways)
+        assert told_by(finished, ways) == (None, False), "the end with open files"
     with directly("image") as ways:
-        answers("what is in the image then", {"old": b"OLD", "new": b"NEW", "waits": b"", "read": b"", "emptied": b"", "synced": b"SYNCED"},
-                lambda: {name: ways.get(name) for name in ways.ls(":all")})
+        assert told_by(lambda: {name: ways.get(name) for name in ways.ls(":all")}) == {
+            "old": b"OLD", "new": b"NEW", "waits": b"", "read": b"", "emptied": b"", "synced": b"SYNCED"}, "what is in the image then"
         ways.write(ways.open("old", WR), bytes(20_000), 0)
         ways.write(ways.open("new", WR), b"N", 0)
         refused = ways.open("refused", WR | NEW)
         ways.write(refused, bytes(20_000), 0)
-        answers("what a sync was refused", "ENOSPC", ways.sync, refused)
+        assert told_by(ways.sync, refused) == "ENOSPC", "what a sync was refused"
         told = finished(ways)
-        lines = [line.partition(": what was")[0] for line in (told[0] or "").splitlines()]
-        check("the end of a full image", told[1] and lines == ["mount: old", "mount: refused"], told)
+        assert told[1] and [line.partition(": what was")[0] for line in told[0].splitlines()] == ["mount: old", "mount: refused"], (
+            "the end of a full image", told)
     with directly("image") as ways:
-        answers("what there was room for", {"old": b"OLD", "new": b"NEW", "refused": b""}, lambda: {name: ways.get(name) for name in ("old", "new", "refused")})
-    for number in (20, 21):
-        make("image", "64", "64", "8")
-        with directly("image") as ways:
-            ways.tree.image.program.create = ways.tree.image.program.add = refusing(number)
-            ways.open("x", WR | NEW)
-            told_by(ways.ls, "")
-            told = finished(ways)
-            check("the end with a file that can't be made", told[1] and told[0].startswith("mount: x: what was written and not closed is lost: "), told)
+        assert told_by(lambda: {name: ways.get(name) for name in ("old", "new", "refused")}) == {
+            "old": b"OLD", "new": b"NEW", "refused": b""}, "what there was room for"
+
+
+@pytest.mark.parametrize("number", (20, 21))
+def test_unclosed_and_not_made(number):
+    make("image", "64", "64", "8")
+    with directly("image") as ways:
+        ways.tree.image.program.create = ways.tree.image.program.add = refusing(number)
+        ways.open("x", WR | NEW)
+        told_by(ways.ls, "")
+        told = finished(ways)
+        assert told[1] and told[0].startswith("mount: x: what was written and not closed is lost: "), ("the end with a file that can't be made", told)
 
 
 def finished(ways):
@@ -243,17 +266,19 @@ def dead(is_asked):
         handle = ways.open("x", WR | NEW)
         ways.tree.image.program.kill()
         if is_asked:
-            answers("a question to a program that has ended", "EIO", ways.ls, "")
-        answers("the close of a new file where the program has ended", "EIO", ways.close, handle)
+            assert told_by(ways.ls, "") == "EIO", "a question to a program that has ended"
+        assert told_by(ways.close, handle) == "EIO", "the close of a new file where the program has ended"
 
 
-def losses():
+@pytest.mark.parametrize("is_asked", (False, True))
+def test_losses(is_asked):
     """No call of a file says success that is not in the image then."""
-    for is_asked in (False, True):
-        told, there = crowded(is_asked)
-        check(f"new files beside each other, {is_asked}", told == [None] * 7 + ["ENOSPC"] * 2, told)
-        check(f"each of them is there, {is_asked}", there == [f"f.e{number}" for number in range(7)], there)
-        answers("the program's end", Ended, dead, is_asked)
-    for number in (9, 18, 19, 20, 21, 22, 24):
-        not_made(number)
-    unclosed()
+    told, there = crowded(is_asked)
+    assert told == [None] * 7 + ["ENOSPC"] * 2, f"new files beside each other, {is_asked}"
+    assert there == [f"f.e{number}" for number in range(7)], f"each of them is there, {is_asked}"
+
+
+@pytest.mark.parametrize("is_asked", (False, True))
+def test_dead(is_asked):
+    """The program has ended while a new file waited."""
+    assert told_by(dead, is_asked) == Ended, "the program's end"

@@ -1,0 +1,53 @@
+"""Images for tests, files beside them, and what an image holds. For tests alone."""
+import os
+import subprocess
+
+from lisfs.client import PROGRAM, Program
+from support.waiting import LONG
+
+SMALL = ("64", "64", "8")
+
+
+def make(image="image", limits=SMALL, script=b""):
+    """Makes an image on which these lines were run. Its name."""
+    Program([PROGRAM, "make", image, *limits]).close()
+    if script:
+        subprocess.run([PROGRAM, "run", image], input=script, stdout=subprocess.DEVNULL, timeout=LONG, check=True)
+    return image
+
+
+def session(image="image"):
+    """A session over an image, in a `with` block."""
+    return Program([PROGRAM, "run", image])
+
+
+def usage(program, *words):
+    """What a program says to wrong words: those that it has."""
+    return subprocess.run([program, *words], stdin=subprocess.DEVNULL, capture_output=True, check=False).stderr
+
+
+def dump(image="image"):
+    """The dump of an image."""
+    return subprocess.run([PROGRAM, "dump", image], stdin=subprocess.DEVNULL, capture_output=True, check=True).stdout
+
+
+def bytes_of(name, image="image"):
+    """The bytes of a file in an image."""
+    with session(image) as program:
+        return program.cat(name.encode()).body
+
+
+def written(path, data=b"", mode=None):
+    """Writes a file, in a folder that is made if it isn't there. Its path."""
+    os.makedirs(os.path.dirname(os.path.abspath(path)), exist_ok=True)
+    with open(path, "wb") as file:
+        file.write(data if isinstance(data, bytes) else data.encode())
+    if mode is not None:
+        os.chmod(path, mode)
+    return path
+
+
+def content(path):
+    """The bytes of a file."""
+    with open(path, "rb") as file:
+        return file.read()

@@ -1,0 +1,24 @@
+"""What calls of the client answer. For tests alone."""
+from lisfs.client import LINES, Ended, NotAReply, NotSent, Refused
+from lisfs.constants import MAX_PAYLOAD
+
+DONE = (LINES, [])
+CONTENTS = {
+    "empty": b"",
+    "a line feed": b"\n",
+    "like a reply": b"ok\nno 01 bad line\nb 5\nok\n",
+    "no line feed": b"\0\xff" * (MAX_PAYLOAD // 2),
+    "lines": b"ok\n" * (MAX_PAYLOAD // 3) + b"\n",
+}
+
+
+def told_by(call, *words, **more):
+    """What a call answers: the kind and the body of a reply, or the error with what it tells."""
+    try:
+        return call(*words, **more)
+    except Refused as refusal:
+        return Refused, refusal.number, refusal.words
+    except Ended as end:
+        return type(end), end.status, end.text
+    except (NotSent, NotAReply, RuntimeError) as error:
+        return type(error)

@@ -1,0 +1,95 @@
+"""Runs of `tools/sync`, folders for them, and what they leave in an image. For its tests alone."""
+import contextlib
+import fcntl
+import os
+import subprocess
+import sys
+
+from lisfs.client import PROGRAM
+from lisfs.dumps import dumped
+from support import images, tool
+from support.images import session, written
+from support.waiting import LONG
+
+SYNC, PROGRAM = tool("sync"), os.path.abspath(PROGRAM)
+LIMITS = ("256", "1024", "512")
+
+
+def make(image="image", limits=LIMITS):
+    """Makes an image. Its name."""
+    return images.make(image, limits)
+
+
+def sync(*words, program=PROGRAM, python=sys.executable, user=None, **environment):
+    """The status, the lines without the tool's name, and what is said on standard error."""
+    if user is not None:
+        # Each user has memories of their own.
+        environment["XDG_STATE_HOME"] = os.path.abspath(f"state-{user}")
+        os.makedirs(environment["XDG_STATE_HOME"], exist_ok=True)
+        os.chmod(environment["XDG_STATE_HOME"], 0o777)
+    user = {} if user is None else {"user": user, "group": user, "extra_groups": []}
+    ran = subprocess.run([python, SYNC, *words], stdin=subprocess.DEVNULL, capture_output=True, timeout=LONG, check=False,
+                         env={**os.environ, "LISFS_PROGRAM": program, **environment}, **user)
+    out = [line.removeprefix("sync: ") for line in ran.stdout.decode(errors="replace").splitlines()]
+    return ran.returncode, out, ran.stderr.decode(errors="replace")
+
+
+def held(image="image"):
+    """The words that each file of an image was given."""
+    return {name.decode(): {word.decode() for word in words} for name, (_, words) in dumped(image).files.items()}
+
+
+def mail(subject="Hello there", sender="Alice Adams <alice@example.org>", to="bob@example.org", number=1, more="", body="Text.\n"):
+    number = "" if number is None else f"Message-ID: <{number}@example.org>\n"
+    return f"From: {sender}\nTo: {to}\nSubject: {subject}\nDate: Mon, 3 Jun 2024 10:00:00 +0200\n{number}{more}\n{body}"
+
+
+def maildir(top, *boxes):
+    for box in ("", *boxes):
+        for part in ("cur", "new", "tmp"):
+            os.makedirs(os.path.join(top, box, part), exist_ok=True)
+
+
+def contents(image="image"):
+    """The bytes of each file of an image, and whether it has the word that somebody gave it."""
+    words = held(image)
+    with session(image) as program:
+        return {name: (program.cat(name.encode()).body.decode(), "mine" in words[name]) for name in words}
+
+
+def memory_words(image="image"):
+    """The words by which an image names memories."""
+    return sorted(word for word in dumped(image).declared if word.startswith(b"synced-"))
+
+
+def brought_in(*files):
+    """Makes an image with these files of a folder, each with a word that somebody gave it. How the run ended."""
+    make()
+    for name in files:
+        written(f"top/{name}", f"{name} as it was\n")
+    ended = sync("--as", "t", "image", "top")
+    with session() as program:
+        program.mkdir(b"mine")
+        for name in files:
+            program.mv(name.encode(), b"mine")
+    return ended
+
+
+def is_free(image):
+    """Whether no program has the lock of an image."""
+    with open(image, "rb") as file, contextlib.suppress(BlockingIOError):
+        fcntl.flock(file, fcntl.LOCK_EX | fcntl.LOCK_NB)
+        return True
+    return False
+
+
+def who_may_not_read(path):
+    """By which user, and which Python, the tool can be run so that it can't read a file, or None. Root may read all."""
+    for user in (None, 65_534):
+        for python in (sys.executable, "/usr/bin/python3"):
+            more = {} if user is None else {"user": user, "group": user, "extra_groups": []}
+            with contextlib.suppress(OSError, subprocess.SubprocessError):
+                look = f"import os; print(os.access({path!r}, os.R_OK), os.access({SYNC!r}, os.R_OK), os.access({PROGRAM!r}, os.X_OK))"
+                if subprocess.run([python, "-c", look], capture_output=True, check=False, **more).stdout == b"False True True\n":
+                    return {"python": python, "user": user}
+    return None
