@@ -184,10 +184,10 @@ def root():
 
 
 @pytest.fixture
-def needs():
+def needs(request):
     """Skips the test where a program is missing."""
     def look(*programs):
         if lacking := [name for name in programs if not shutil.which(name)]:
             packages = sorted({PACKAGES.get(name, name) for name in lacking})
-            pytest.skip(f"no {' and '.join(lacking)} (Debian's {' '.join(packages)})")
+            pytest.skip(f"{request.node.name}: no {' and '.join(lacking)} (Debian's {' '.join(packages)})")
     return look
