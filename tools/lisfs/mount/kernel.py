@@ -6,6 +6,7 @@ linux/fuse.h, protocol 7, as of minor 23: later minors add to them and change no
 """
 from __future__ import annotations
 
+import enum
 import errno
 import os
 import struct
@@ -17,31 +18,95 @@ from typing import NamedTuple, Protocol, TypeAlias
 
 from lisfs.showing import write_line
 
-MINOR, OLDEST_MINOR = 38, 23
-# So much is written or read by one message at most.
-LARGEST = 1_048_576
-# What the reply to INIT may choose (FUSE_ATOMIC_O_TRUNC: an open tells that it truncates).
-ATOMIC_TRUNCATION, BIG_WRITES, AUTO_INVALIDATION, MAX_PAGES = 1 << 3, 1 << 5, 1 << 12, 1 << 22
-KEEP_CACHE, NO_FLUSH = 1 << 1, 1 << 5
-INVALID_INODE = 2
+# The protocol, and the minors of it that are spoken.
+MAJOR, MINOR, OLDEST_MINOR = 7, 38, 23
+# So much is written or read by one message at most, and so much a message has beside that at most.
+LARGEST, BESIDE = 1_048_576, 8_192
+PAGE = 4_096
+# What the reply to INIT says: so many requests the kernel has under way that nobody waits for, from so many on it counts as congested; and times
+# go by so many nanoseconds.
+MAX_BACKGROUND, CONGESTED, TIME_STEP = 12, 9, 1
+SECOND = 1_000_000_000
+# The bits of a mode that may be set.
+PERMISSIONS = 0o7777
+# An entry of a folder begins at a multiple of this.
+ALIGNMENT = 8
+# The names of messages that nobody has asked for, and the one of them that is sent. Its place of -1 is that of no bytes: attributes alone are old.
+UNASKED, INVALID_INODE, NO_BYTES = 0, 2, -1
 
-IN = struct.Struct("=IIQQIII4x")
-OUT = struct.Struct("=IiQ")
-ATTRIBUTES = struct.Struct("=6Q10I")
-ENTRY = struct.Struct("=QQQQII")
-ATTRIBUTES_OUT = struct.Struct("=QII")
-OPEN_OUT = struct.Struct("=QII")
-DIRENT = struct.Struct("=QQII")
-INIT_IN = struct.Struct("=IIII")
+
+class Opcode(enum.IntEnum):
+    """What a message asks for (`enum fuse_opcode`)."""
+
+    LOOKUP = 1
+    FORGET = 2
+    GETATTR = 3
+    SETATTR = 4
+    SYMLINK = 6
+    MKNOD = 8
+    MKDIR = 9
+    UNLINK = 10
+    RMDIR = 11
+    RENAME = 12
+    LINK = 13
+    OPEN = 14
+    READ = 15
+    WRITE = 16
+    STATFS = 17
+    RELEASE = 18
+    FSYNC = 20
+    FLUSH = 25
+    INIT = 26
+    OPENDIR = 27
+    READDIR = 28
+    RELEASEDIR = 29
+    FSYNCDIR = 30
+    CREATE = 35
+    DESTROY = 38
+    BATCH_FORGET = 42
+    RENAME2 = 45
+
+
+class Wanted(enum.IntFlag):
+    """What the reply to INIT may choose. With the first an open says that it truncates."""
+
+    ATOMIC_O_TRUNC = 1 << 3
+    BIG_WRITES = 1 << 5
+    AUTO_INVAL_DATA = 1 << 12
+    MAX_PAGES = 1 << 22
+
+
+# How the kernel treats an open file (FOPEN_KEEP_CACHE, FOPEN_NOFLUSH).
+KEEP_CACHE, NO_FLUSH = 1 << 1, 1 << 5
+# What a SETATTR changes: the bits of its first field.
+MODE, OWNER, GROUP, SIZE, ACCESSED, MODIFIED, HANDLE, ACCESSED_NOW, MODIFIED_NOW = (1 << bit for bit in range(9))
+
+# The layouts, by their names in linux/fuse.h. A message may go on after what is read of it, and a name follows where it has one.
+IN_HEADER = struct.Struct("=IIQQIII4x")  # length, opcode, unique, node, user, group, process
+OUT_HEADER = struct.Struct("=IiQ")  # length, error, unique
+ATTR = struct.Struct("=6Q10I")
+ENTRY_OUT = struct.Struct("=QQQQII")  # node, generation, seconds of the name and of the attributes, their nanoseconds
+ATTR_OUT = struct.Struct("=QII")  # seconds and nanoseconds of the attributes
+OPEN_OUT = struct.Struct("=QII")  # handle, flags
+WRITE_OUT = struct.Struct("=II")  # size
+DIRENT = struct.Struct("=QQII")  # inode, place of the next entry, length of the name, kind
+INIT_IN = struct.Struct("=IIII")  # major, minor, bytes read ahead, flags
 INIT_OUT = struct.Struct("=IIIIHHIIHHI28x")
 STATFS_OUT = struct.Struct("=QQQQQIII28x")
 SETATTR_IN = struct.Struct("=IIQQQQQQIIIIIIII")
-TRANSFER_IN = struct.Struct("=QQIIQII")
-TWO, FOUR, LONG, LONG_AND_TWO = (struct.Struct(form) for form in ("=II", "=IIII", "=Q", "=QII"))
-NOTIFY = struct.Struct("=Qqq")
-SECOND = 1_000_000_000
-# The bits of SETATTR.
-MODE, OWNER, GROUP, SIZE, ACCESSED, MODIFIED, HANDLE, ACCESSED_NOW, MODIFIED_NOW = (1 << bit for bit in range(9))
+FORGET_IN = struct.Struct("=Q")  # count
+BATCH_FORGET_IN = struct.Struct("=II")  # how many pairs follow
+FORGET_ONE = struct.Struct("=QQ")  # node, count
+MKNOD_IN = struct.Struct("=IIII")  # mode, device, mask
+MKDIR_IN = struct.Struct("=II")  # mode, mask
+RENAME_IN = struct.Struct("=Q")  # the other folder
+RENAME2_IN = struct.Struct("=QII")  # the other folder, flags
+LINK_IN = struct.Struct("=Q")  # the file
+OPEN_IN = struct.Struct("=II")  # flags
+CREATE_IN = struct.Struct("=IIII")  # flags, mode, mask
+TRANSFER_IN = struct.Struct("=QQIIQII")  # `fuse_read_in` and `fuse_write_in`: handle, place, size, flags
+HANDLE_IN = struct.Struct("=Q")  # the beginning of all that are about a handle alone
+INVAL_INODE_OUT = struct.Struct("=Qqq")  # node, the place of the bytes that are old, and how many
 
 # The bytes of an answer.
 Reply: TypeAlias = bytes | bytearray | memoryview
@@ -119,15 +184,15 @@ class Unmounted(Exception):
 
 
 def packed(found: Attributes) -> bytes:
-    return ATTRIBUTES.pack(
+    return ATTR.pack(
         found.inode, found.size, found.blocks, found.accessed // SECOND, found.modified // SECOND, found.changed // SECOND,
         found.accessed % SECOND, found.modified % SECOND, found.changed % SECOND, found.mode, found.links, found.user, found.group,
-        0, 4096, 0)
+        0, PAGE, 0)
 
 
 def entry_bytes(entry: Entry) -> bytes:
     # A name is asked for again each time: what it leads to changes with the words of a file.
-    return ENTRY.pack(entry.node, 0, 0, entry.seconds, 0, 0) + packed(entry.attributes)
+    return ENTRY_OUT.pack(entry.node, 0, 0, entry.seconds, 0, 0) + packed(entry.attributes)
 
 
 def names(body: memoryview) -> list[bytes]:
@@ -176,16 +241,19 @@ class Connection:
 
     def __init__(self, device: int, handlers: Handlers) -> None:
         self.device, self.handlers = device, handlers
-        self.buffer = bytearray(LARGEST + 8_192)
+        self.buffer = bytearray(LARGEST + BESIDE)
         self.view = memoryview(self.buffer)
         self.calls: dict[int, Callable[[int, memoryview, Caller], Reply]] = {
-            1: self.lookup, 2: self.forget, 3: self.getattr, 4: self.setattr, 6: self.symlink, 8: self.mknod, 9: self.mkdir, 10: self.unlink,
-            11: self.rmdir, 12: self.rename, 13: self.link, 14: self.open, 15: self.read, 16: self.write, 17: self.statfs, 18: self.release,
-            20: self.fsync, 25: self.flush, 26: self.init, 27: self.opendir, 28: self.readdir, 29: self.releasedir, 30: self.fsyncdir,
-            35: self.create, 38: self.nothing, 42: self.forget_all, 45: self.rename_with_flags,
+            Opcode.LOOKUP: self.lookup, Opcode.FORGET: self.forget, Opcode.GETATTR: self.getattr, Opcode.SETATTR: self.setattr,
+            Opcode.SYMLINK: self.symlink, Opcode.MKNOD: self.mknod, Opcode.MKDIR: self.mkdir, Opcode.UNLINK: self.unlink,
+            Opcode.RMDIR: self.rmdir, Opcode.RENAME: self.rename, Opcode.LINK: self.link, Opcode.OPEN: self.open, Opcode.READ: self.read,
+            Opcode.WRITE: self.write, Opcode.STATFS: self.statfs, Opcode.RELEASE: self.release, Opcode.FSYNC: self.fsync,
+            Opcode.FLUSH: self.flush, Opcode.INIT: self.init, Opcode.OPENDIR: self.opendir, Opcode.READDIR: self.readdir,
+            Opcode.RELEASEDIR: self.releasedir, Opcode.FSYNCDIR: self.fsyncdir, Opcode.CREATE: self.create, Opcode.DESTROY: self.nothing,
+            Opcode.BATCH_FORGET: self.forget_all, Opcode.RENAME2: self.rename_with_flags,
         }
         # These have no reply.
-        self.silent = {2, 42}
+        self.silent = {Opcode.FORGET, Opcode.BATCH_FORGET}
         handlers.changed = self.changed
 
     def serve(self) -> None:
@@ -201,7 +269,7 @@ class Connection:
             raise
         if not count:
             raise Unmounted
-        _, code, unique, node, user, group, process = IN.unpack_from(self.buffer)
+        _, code, unique, node, user, group, process = IN_HEADER.unpack_from(self.buffer)
         self.handlers.asker = process
         answer: Reply
         try:
@@ -209,7 +277,7 @@ class Connection:
             call = self.calls.get(code)
             if call is None:
                 raise OSError(errno.ENOSYS, "not known")
-            answer = call(node, self.view[IN.size:count], Caller(user, group, process))
+            answer = call(node, self.view[IN_HEADER.size:count], Caller(user, group, process))
             failed = 0
         except OSError as error:
             answer, failed = b"", error.errno or errno.EIO
@@ -217,7 +285,7 @@ class Connection:
             write_line(sys.stderr, traceback.format_exc().rstrip("\n"), "\n")
             answer, failed = b"", errno.EIO
         if code not in self.silent:
-            self.send(OUT.pack(OUT.size + len(answer), -failed, unique), answer)
+            self.send(OUT_HEADER.pack(OUT_HEADER.size + len(answer), -failed, unique), answer)
 
     def send(self, head: bytes, body: Reply = b"") -> None:
         try:
@@ -229,15 +297,15 @@ class Connection:
 
     def changed(self, node: int) -> None:
         """Tells the kernel that what it keeps of a file's attributes is old. Its bytes are then looked at by these."""
-        self.send(OUT.pack(OUT.size + NOTIFY.size, INVALID_INODE, 0), NOTIFY.pack(node, -1, 0))
+        self.send(OUT_HEADER.pack(OUT_HEADER.size + INVAL_INODE_OUT.size, INVALID_INODE, UNASKED), INVAL_INODE_OUT.pack(node, NO_BYTES, 0))
 
     def init(self, _: int, body: memoryview, caller: Caller) -> bytes:
         major, minor, ahead, flags = INIT_IN.unpack_from(body)
-        if major != 7 or minor < OLDEST_MINOR:
-            print(f"mount: this kernel speaks {major}.{minor}, and 7.{OLDEST_MINOR} is needed", file=sys.stderr)
+        if major != MAJOR or minor < OLDEST_MINOR:
+            print(f"mount: this kernel speaks {major}.{minor}, and {MAJOR}.{OLDEST_MINOR} is needed", file=sys.stderr)
             raise OSError(errno.EPROTO, "too old")
-        wanted = (ATOMIC_TRUNCATION | BIG_WRITES | AUTO_INVALIDATION | MAX_PAGES) & flags
-        return INIT_OUT.pack(7, min(minor, MINOR), ahead, wanted, 12, 9, LARGEST, 1, LARGEST // 4096, 0, 0)
+        wanted = (Wanted.ATOMIC_O_TRUNC | Wanted.BIG_WRITES | Wanted.AUTO_INVAL_DATA | Wanted.MAX_PAGES) & flags
+        return INIT_OUT.pack(MAJOR, min(minor, MINOR), ahead, wanted, MAX_BACKGROUND, CONGESTED, LARGEST, TIME_STEP, LARGEST // PAGE, 0, 0)
 
     def nothing(self, node: int, body: memoryview, caller: Caller) -> bytes:
         return b""
@@ -249,16 +317,17 @@ class Connection:
         return entry_bytes(self.handlers.lookup(node, names(body)[0]))
 
     def forget(self, node: int, body: memoryview, caller: Caller) -> bytes:
-        self.handlers.forget(node, LONG.unpack_from(body)[0])
+        self.handlers.forget(node, FORGET_IN.unpack_from(body)[0])
         return b""
 
     def forget_all(self, _: int, body: memoryview, caller: Caller) -> bytes:
-        for node, count in struct.iter_unpack("=QQ", body[8:8 + 16 * TWO.unpack_from(body)[0]]):
+        begin = BATCH_FORGET_IN.size
+        for node, count in FORGET_ONE.iter_unpack(body[begin:begin + FORGET_ONE.size * BATCH_FORGET_IN.unpack_from(body)[0]]):
             self.handlers.forget(node, count)
         return b""
 
     def attributes(self, found: Entry) -> bytes:
-        return ATTRIBUTES_OUT.pack(found.seconds, 0, 0) + packed(found.attributes)
+        return ATTR_OUT.pack(found.seconds, 0, 0) + packed(found.attributes)
 
     def getattr(self, node: int, body: memoryview, caller: Caller) -> bytes:
         return self.attributes(self.handlers.getattr(node))
@@ -268,19 +337,19 @@ class Connection:
          _) = SETATTR_IN.unpack_from(body)
         now = time.time_ns()
         changes = Changes(
-            mode & 0o7777 if valid & MODE else None, user if valid & OWNER else None, group if valid & GROUP else None,
+            mode & PERMISSIONS if valid & MODE else None, user if valid & OWNER else None, group if valid & GROUP else None,
             size if valid & SIZE else None,
             now if valid & ACCESSED_NOW else accessed * SECOND + accessed_part if valid & ACCESSED else None,
             now if valid & MODIFIED_NOW else modified * SECOND + modified_part if valid & MODIFIED else None)
         return self.attributes(self.handlers.setattr(node, changes, handle if valid & HANDLE else None))
 
     def mknod(self, node: int, body: memoryview, caller: Caller) -> bytes:
-        mode = FOUR.unpack_from(body)[0]
-        return entry_bytes(self.handlers.mknod(node, names(body[FOUR.size:])[0], mode, caller))
+        mode = MKNOD_IN.unpack_from(body)[0]
+        return entry_bytes(self.handlers.mknod(node, names(body[MKNOD_IN.size:])[0], mode, caller))
 
     def mkdir(self, node: int, body: memoryview, caller: Caller) -> bytes:
-        mode = TWO.unpack_from(body)[0]
-        return entry_bytes(self.handlers.mkdir(node, names(body[TWO.size:])[0], mode, caller))
+        mode = MKDIR_IN.unpack_from(body)[0]
+        return entry_bytes(self.handlers.mkdir(node, names(body[MKDIR_IN.size:])[0], mode, caller))
 
     def unlink(self, node: int, body: memoryview, caller: Caller) -> bytes:
         self.handlers.unlink(node, names(body)[0])
@@ -291,26 +360,26 @@ class Connection:
         return b""
 
     def rename(self, node: int, body: memoryview, caller: Caller) -> bytes:
-        old, new = names(body[LONG.size:])[:2]
-        self.handlers.rename(node, old, LONG.unpack_from(body)[0], new, 0)
+        old, new = names(body[RENAME_IN.size:])[:2]
+        self.handlers.rename(node, old, RENAME_IN.unpack_from(body)[0], new, 0)
         return b""
 
     def rename_with_flags(self, node: int, body: memoryview, caller: Caller) -> bytes:
-        folder, flags, _ = LONG_AND_TWO.unpack_from(body)
-        old, new = names(body[LONG_AND_TWO.size:])[:2]
+        folder, flags, _ = RENAME2_IN.unpack_from(body)
+        old, new = names(body[RENAME2_IN.size:])[:2]
         self.handlers.rename(node, old, folder, new, flags)
         return b""
 
     def link(self, node: int, body: memoryview, caller: Caller) -> bytes:
-        return entry_bytes(self.handlers.link(LONG.unpack_from(body)[0], node, names(body[LONG.size:])[0]))
+        return entry_bytes(self.handlers.link(LINK_IN.unpack_from(body)[0], node, names(body[LINK_IN.size:])[0]))
 
     def open(self, node: int, body: memoryview, caller: Caller) -> bytes:
-        handle, flags = self.handlers.open(node, TWO.unpack_from(body)[0])
+        handle, flags = self.handlers.open(node, OPEN_IN.unpack_from(body)[0])
         return OPEN_OUT.pack(handle, flags, 0)
 
     def create(self, node: int, body: memoryview, caller: Caller) -> bytes:
-        flags, mode, _, _ = FOUR.unpack_from(body)
-        entry, handle = self.handlers.create(node, names(body[FOUR.size:])[0], flags, mode, caller)
+        flags, mode, _, _ = CREATE_IN.unpack_from(body)
+        entry, handle = self.handlers.create(node, names(body[CREATE_IN.size:])[0], flags, mode, caller)
         return entry_bytes(entry) + OPEN_OUT.pack(handle, 0, 0)
 
     def read(self, node: int, body: memoryview, caller: Caller) -> Reply:
@@ -319,18 +388,18 @@ class Connection:
 
     def write(self, node: int, body: memoryview, caller: Caller) -> bytes:
         handle, offset, size, _, _, flags, _ = TRANSFER_IN.unpack_from(body)
-        return TWO.pack(self.handlers.write(handle, offset, body[TRANSFER_IN.size:TRANSFER_IN.size + size], flags), 0)
+        return WRITE_OUT.pack(self.handlers.write(handle, offset, body[TRANSFER_IN.size:TRANSFER_IN.size + size], flags), 0)
 
     def flush(self, node: int, body: memoryview, caller: Caller) -> bytes:
-        self.handlers.flush(LONG.unpack_from(body)[0], caller.process)
+        self.handlers.flush(HANDLE_IN.unpack_from(body)[0], caller.process)
         return b""
 
     def fsync(self, node: int, body: memoryview, caller: Caller) -> bytes:
-        self.handlers.fsync(LONG.unpack_from(body)[0])
+        self.handlers.fsync(HANDLE_IN.unpack_from(body)[0])
         return b""
 
     def release(self, node: int, body: memoryview, caller: Caller) -> bytes:
-        self.handlers.release(LONG.unpack_from(body)[0])
+        self.handlers.release(HANDLE_IN.unpack_from(body)[0])
         return b""
 
     def opendir(self, node: int, body: memoryview, caller: Caller) -> bytes:
@@ -342,14 +411,14 @@ class Connection:
         for index in range(offset, len(entries)):
             inode, kind, name = entries[index]
             record = DIRENT.pack(inode, index + 1, len(name), kind) + name
-            record += bytes(-len(record) % 8)
+            record += bytes(-len(record) % ALIGNMENT)
             if len(out) + len(record) > size:
                 break
             out += record
         return out
 
     def releasedir(self, node: int, body: memoryview, caller: Caller) -> bytes:
-        self.handlers.releasedir(LONG.unpack_from(body)[0])
+        self.handlers.releasedir(HANDLE_IN.unpack_from(body)[0])
         return b""
 
     def fsyncdir(self, node: int, body: memoryview, caller: Caller) -> bytes:
