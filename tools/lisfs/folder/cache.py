@@ -100,7 +100,7 @@ class Remembered:
                 return {}
             given = json.loads(body)
             is_ours = (given["form"], given["version"], given["folder"]) == (FORM, version(), self.folder)
-            return {path: Kept(*kept) for path, kept in given["files"].items()} if is_ours else {}
+            return {path: Kept(*kept) for path, kept in dict(given["files"]).items()} if is_ours else {}
         except (OSError, ValueError, LookupError, TypeError, RecursionError):
             return {}
 
