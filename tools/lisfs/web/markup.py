@@ -4,6 +4,7 @@ A template writes what it is given by `{{ }}` alone, and there each value is a t
 escaped. No template turns that off, and each attribute that shows a value stands in quotes (`tools/tests/test_browse_parts.py` looks).
 """
 import functools
+import re
 import urllib.parse
 
 import jinja2
@@ -17,11 +18,15 @@ CONTROLS = {code: 0x2400 + code for code in range(32) if code not in (9, 10)} | 
 CONTROLS |= {code: 0xFFFD for code in (*range(0x202A, 0x202F), *range(0x2066, 0x206A))}
 
 
+# Most texts have none of these, nor a lone half of a pair.
+UNSEEN = re.compile("[" + "".join(map(re.escape, map(chr, CONTROLS))) + "\ud800-\udfff]")
+
+
 def visible(text: str | bytes) -> str:
     """A text without what is no character: a NUL and its like are shown as signs for them, and what is no UTF-8 as a replacement."""
     if isinstance(text, bytes):
         text = text.decode(errors="replace")
-    return text.translate(CONTROLS).encode("utf-8", "replace").decode()
+    return text.translate(CONTROLS).encode("utf-8", "replace").decode() if UNSEEN.search(text) else text
 
 
 def written(value: object) -> str:

@@ -7,7 +7,8 @@
 - `peers`: a server and its clients.
 - `terminals`: a program at a terminal, and a person at one.
 - `visitors`: a client of the pages, as a browser is one.
-- `chromium`: a headless browser.
+- `chromium`: a headless browser, by Selenium.
+- `web`: images, hostile files and fixtures for the tests of `tools/browse`.
 - `shell_tables`: scripts for the prompt, and what they show.
 - `images`: images, files beside them, and what an image holds.
 - `replies`: what calls of the client answer.
