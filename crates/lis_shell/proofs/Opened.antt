@@ -84,8 +84,8 @@ pub opened_past : {T : Type 0} {old mid : Meaning} {unmoved : Type 0} (opened : 
 opened_past {old = old} opened opening state honest stands = opening.past state.limits honest (has_super old.bytes state stands) (λ is. absurd (cc))
 
 -- what was recovered stays
-still_recovered : {old mid new : Meaning} → Recovers old mid → DiskStays mid new → Recovers old new
-still_recovered at stays =
+still_recovered : (old mid new : Meaning) → Recovers old mid → DiskStays mid new → Recovers old new
+still_recovered old mid new at stays =
     (at.0, at.1, record { reads = stays.same.bytes ∙ at.2.reads; only = λ image there. at.2.only image (stays.same.images.only image there) })
 
 -- nothing was written by the opening, nor behind it
@@ -115,7 +115,7 @@ module _ {old mid : Meaning} {unmoved : Type 0} (work : Work) (quiet : IsQuiet w
       (opening_moments (work.moment state bytes) (quiet state bytes) (moments state entry.honest entry.stands)) (did state bytes (fits state entry.honest entry.stands) entry.told))
       (λ state bytes entry n le. (did state bytes (fits state entry.honest entry.stands) entry.told).past n le ∙ opened_past store opening state entry.honest entry.stands n le)
       (λ state bytes entry is. moments_behind (NotBegun state) opening.run.shown (not_begun state (moments state entry.honest entry.stands)) (undid is state bytes (fits state entry.honest entry.stands) entry.told))
-      (λ nothing honest. still_recovered (recovers honest) (read nothing (opening.run.honest ∙ honest)))
+      (λ nothing honest. still_recovered old mid new (recovers honest) (read nothing (opening.run.honest ∙ honest)))
       (λ nothing honest shut. written_behind (Ended halt) (unwritten honest shut) (read nothing (opening.run.honest ∙ honest)))
 
   -- there was no memory behind the opening, and nothing was done

@@ -64,11 +64,11 @@ pub refused_unwritten : {old new : Meaning} (fault : OpenFault) → OpenUnwritte
 refused_unwritten fault opening = record { left = λ worked. opening.left (λ is. worked (ap Opening (one_fault fault DiskFault is))); moments = opening_stays opening }
 
 -- what is left of a refused image
-refused_opened : {old new : Meaning} (fault : OpenFault) → FaultLeft old new fault → OnlyOpened old new (Opening fault)
-refused_opened NoMemory left = inl left
-refused_opened (TooShort len need) left = left
-refused_opened (Damaged spot) left = left
-refused_opened DiskFault left = left
+refused_opened : (old new : Meaning) (fault : OpenFault) → FaultLeft old new fault → OnlyOpened old new (Opening fault)
+refused_opened old new NoMemory left = inl left
+refused_opened old new (TooShort len need) left = left
+refused_opened old new (Damaged spot) left = left
+refused_opened old new DiskFault left = left
 
 module _ {T : Type 0} {old new : Meaning} {unmoved : Type 0} (fault : OpenFault) (opening : IsOpening {T = T} old new unmoved (Err fault))
     (ended : IsTrue old.is_honest → OpenEnded old new (Err fault)) (left : IsTrue old.is_honest → OpenLeft old new (Err fault)) where
@@ -91,7 +91,7 @@ module _ {T : Type 0} {old new : Meaning} {unmoved : Type 0} (fault : OpenFault)
       ended = refused (Told work.takes_input input bytes) entry.told state entry.honest entry.stands fault refl (ended entry.honest);
     };
     undone = λ state bytes entry is. undone state is entry.honest entry.stands;
-    opened = λ nothing honest. refused_opened fault (left honest);
+    opened = λ nothing honest. refused_opened old new fault (left honest);
     unwritten = unwritten;
     past = λ state bytes entry settled. opening.past state.limits entry.honest (has_super old.bytes state entry.stands) (λ is. settled (disk_fault fault is));
     judged = ended;
