@@ -1,4 +1,4 @@
-use Rattle.std.proofs.Common.{ℕ, List, Option, sym, subst}
+use Rattle.std.proofs.Common.{ℕ, List, Option, sym, ap, subst}
 use Rattle.lis_line.specs.Taking.{TakesFew}
 use Rattle.lis_parts.specs.Putting.{view_limit}
 use Rattle.lis_store.specs.Stored.{Stored, IsSound, StoreFits}
@@ -29,7 +29,9 @@ returns-clause-goes g c = λ state bytes fits told.
     put_goes state c.args.self.now.0.name c.args.self.now.0.text.now bytes (g.S.Source.left c.put_file-halt.new.input) c.put_file-halt.result (c.put_file-halt.ensures.input bytes told) made
 
 pub returns-clause-disk : goal.returns-clause-disk
-returns-clause-disk g c = λ is honest. subst (λ (now : g.T). DiskStays (g.T.Disk.meaning c.args.station.now) (g.T.Disk.meaning now)) (sym (c.put_file-halt.ensures.unbegun is).0) (stays_none _)
+returns-clause-disk g c = λ is honest.
+    let old = g.T.Disk.meaning c.args.station.now in
+    subst (DiskStays old) (sym (ap g.T.Disk.meaning (c.put_file-halt.ensures.unbegun is).0)) (stays_none old)
 
 pub returns-clause-undone : goal.returns-clause-undone
 returns-clause-undone g c = λ is state bytes fits told.
