@@ -174,7 +174,7 @@ def written(stops: Stops, image: str, name: str, formula: str, shown: bytes, tex
     """Writes the edited text, where the view is still the one that was shown."""
     try:
         if stops.heed(lambda: view(image, name, formula)) != shown:
-            raise Failed(f"{name}: its view has changed meanwhile")
+            raise Failed(f"{name}: its view has changed in the meantime")
     except (Refused, Ended, NotAReply, OSError) as error:
         raise Failed(cause_of(error, image, name, formula)) from None
     stops.ask()
@@ -202,7 +202,7 @@ def edit(stops: Stops, image: str, name: str, formula: str) -> None:
         if text == shown:
             tell(f"{name}: nothing was changed")
         elif not text:
-            raise Failed(f"{name}: the editor left an empty file, and only `lisfs put` takes all shown lines away")
+            raise Failed(f"{name}: the editor left an empty file, and only `lisfs put` removes all shown lines")
         else:
             stops.ask()
             has_begun = True

@@ -314,7 +314,7 @@ def lock_held(path: str, signals: Signals) -> Iterator[None]:
     at, until = f"{path}.lock", time.monotonic() + PATIENCE
     while not (lock := tried_lock(at)):
         if time.monotonic() > until:
-            fail(f"{path}: another server begins there: it has the lock of {at}")
+            fail(f"{path}: another server is starting there: it has the lock of {at}")
         signals.wait(0.05)
     try:
         yield
@@ -442,7 +442,7 @@ def serve(image: str, path: str, signals: Signals) -> None:
 def cause_of(end: Ended, image: str, signals: Signals) -> str:
     """Why the program has ended."""
     if signals.has_come and end.status == -signal.SIGKILL:
-        return f"serve: {image}: the program had not ended {PATIENCE:g} seconds behind a signal, and was killed; what was replied to is kept\n"
+        return f"serve: {image}: the program had not ended {PATIENCE:g} seconds after a signal, and was killed; what was replied to is kept\n"
     return end.text or f"serve: {end}\n"
 
 
@@ -459,7 +459,7 @@ def main() -> int:
         sys.stderr.write(harmless(cause_of(end, image, signals), "\n"))
         return end.status if end.status >= 0 else 128 - end.status
     except NotAReply as error:
-        fail(f"the program is none of this kind: {error}")
+        fail(f"the program does not reply as lisfs does: {error}")
     except OSError as error:
         fail(f"{error.filename or path}: {error.strerror or error}")
     return 0

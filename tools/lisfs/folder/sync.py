@@ -168,7 +168,7 @@ class Sync:
         plan = Changes(entries.all, dump, self.marker, self.words.lean, self.known, wishes, entries.walk.is_blind)
         if plan.own and not plan.kept and not plan.is_blind and not self.words.all_gone:
             raise Failed(f"nothing was done: none of the {counted(plan.own, 'file')} of {self.marker.decode()} is in {self.folder} any "
-                         "more; --all-gone removes them all the same")
+                         "more; --all-gone removes them anyway")
         self.plan = plan
         for entry in plan.refused:
             self.telling.leave(entry.found.path, entry.found.problem or "")
@@ -262,7 +262,7 @@ class Sync:
     def report_carrying(self, carrying: Carrying) -> None:
         """What there was no room for."""
         tell = self.telling.tell
-        left_out(tell, carrying.too_many, carrying.too_many_files, f"a file has {MAX_DESCRIPTION} at most, with those that it has by itself")
+        left_out(tell, carrying.too_many, carrying.too_many_files, f"a file has {MAX_DESCRIPTION} at most, with those that it has on its own")
         left_out(tell, carrying.without, carrying.without_files, "no room for more words")
         if carrying.lean:
             tell(f"{counted(carrying.lean, 'mail')} named without .eml: no room for the words that the program derives")
@@ -271,10 +271,10 @@ class Sync:
         """What the program derives no words of, since there are too many."""
         cut = plan.cut()
         for name, count in cut:
-            self.telling.tell_file(f"cut: {name}: {MAX_DERIVED} of at least {count:,} words that it has by itself")
+            self.telling.tell_file(f"cut: {name}: {MAX_DERIVED} of at least {count:,} words that it has on its own")
         if cut:
             self.telling.tell(f"at least {counted(sum(count - MAX_DERIVED for _, count in cut), 'word')} of {counted(len(cut), 'file')} cut: a file "
-                              f"has {MAX_DERIVED} by itself at most, so a search by from:, to:, subject:, includes: or defines: can miss it")
+                              f"has at most {MAX_DERIVED} on its own, so a search by from:, to:, subject:, includes: or defines: can miss it")
 
     def report_image(self, plan: Changes) -> None:
         """What was changed in the image, and stays."""
@@ -291,7 +291,7 @@ class Sync:
             tell(f"{counted(len(plan.away), 'file')} removed from the image: left out until changed in the folder, or --restore")
         if plan.conflicts:
             if self.known is None and plan.own:
-                tell("nothing is known of earlier runs, so no difference tells who made it")
+                tell("nothing is known of earlier runs, so no difference shows who made it")
             named = plan.conflicts if self.telling.is_verbose else plan.conflicts[:NAMED]
             for text, why in named:
                 tell(f"conflict: {harmless(text)}: {why}")

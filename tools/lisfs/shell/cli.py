@@ -39,7 +39,7 @@ def run(image: str, screen: Screen) -> int:
         try:
             if not screen.asks:
                 return 0 if as_a_script(shell) else 1
-            screen.lines([f"{harmless(os.fsencode(image))}: {len(dump.files):,} files. `help` tells the commands, Ctrl-D ends."])
+            screen.lines([f"{harmless(os.fsencode(image))}: {len(dump.files):,} files. `help` lists the commands, Ctrl-D ends."])
             Completer(session, screen).install()
             at_a_prompt(shell, History(history_path()))
             return 0
@@ -82,7 +82,7 @@ def main() -> int:
         # Ctrl-C ends what reads the image at the beginning.
         status, cause = (STOPPED, "stopped") if screen.interrupts.has_come else (status_of(end), cause_of(end))
     except NotAReply as error:
-        status, cause = 1, f"the program is none of this kind: {error}"
+        status, cause = 1, f"the program does not reply as lisfs does: {error}"
     except (KeyboardInterrupt, Stopped):
         status, cause = STOPPED, "stopped"
     except NotADump as error:
