@@ -8,7 +8,7 @@ is stored, or named if that fails. --derived also shows as folders the words tha
 
 One `lisfs run IMAGE` runs each change, and an answer comes after its `ok`. What is between a program and these commands is not proved.
 
-The status is 0 if it was told to end and the image has all that was written, 1 if something is wrong, which a line says, and 2 for wrong use.
+The status is 0 after a requested end if the image has all that was written, 1 if something is wrong, which a line says, and 2 for wrong use.
 """
 import argparse
 import os

@@ -12,7 +12,7 @@ connections are open. When one more comes, one that has not sent an admitted req
 One `lisfs run IMAGE` runs each question and each change. It holds the image's lock all the time. A page shows a change as done after its
 `ok`. What is between a browser and these commands is not proved.
 
-The status is 0 if it was told to end, 1 if something is wrong, which one line says, and 2 for wrong use.
+The status is 0 after a requested end, 1 if something is wrong, which one line says, and 2 for wrong use.
 """
 import argparse
 import functools
