@@ -293,13 +293,13 @@ class Replies:
         if len(self.shown) < end:
             return None
         if self.shown[begin + size:end] != b"\nok\n":
-            raise NotAReply(f"{bytes(self.shown[begin + size:end])!r} behind a content")
+            raise NotAReply(f"{bytes(self.shown[begin + size:end])!r} after a content")
         return self._cut(end)
 
     def _cut(self, end: int) -> Tagged | None:
         tag = bytes(self.shown[end:end + TAG_SIZE]) if self._has_tags else b""
         if not TAG_LINE.fullmatch(tag):
-            raise NotAReply(f"{tag!r} is no tag behind a reply")
+            raise NotAReply(f"{tag!r} is no tag after a reply")
         if self._has_tags and len(tag) < TAG_SIZE:
             return None
         whole = bytes(self.shown[:end])
@@ -322,14 +322,14 @@ def reply_of(whole: bytes) -> Reply:
 def as_lines(reply: Reply) -> Lines:
     """A reply to a command whose reply has lines."""
     if reply.kind is not LINES:
-        raise NotAReply("a content in place of lines")
+        raise NotAReply("a content instead of lines")
     return reply
 
 
 def as_content(reply: Reply) -> Content:
     """A reply to `cat`."""
     if reply.kind is not CONTENT:
-        raise NotAReply("lines in place of a content")
+        raise NotAReply("lines instead of a content")
     return reply
 
 
@@ -492,7 +492,7 @@ class Program(Commands):
         if not self._awaited:
             raise NotAReply(f"a reply to no command: {whole[:80]!r}")
         if tag != (awaited := self._awaited.popleft()):
-            raise NotAReply(f"{tag!r} behind the reply to a command of {awaited!r}")
+            raise NotAReply(f"{tag!r} after the reply to a command of {awaited!r}")
         return whole
 
     def fileno(self) -> int:

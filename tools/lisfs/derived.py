@@ -63,7 +63,7 @@ def is_full(words: Iterable[bytes]) -> bool:
 def told_of_cut(name: bytes, content: bytes) -> str | None:
     """How many of its words a file has, where some are cut, or None."""
     count = len(derived_words(name, content)) if has_many(name) else 0
-    return f"{MAX_DERIVED} of at least {count:,} words that it has by itself: a search for one of the others misses it" if count > MAX_DERIVED else None
+    return f"{MAX_DERIVED} of at least {count:,} words that it has on its own: a search for one of the others misses it" if count > MAX_DERIVED else None
 
 
 def told_of_misses(words: Iterable[bytes], described: Iterable[tuple[bytes, Iterable[bytes]]]) -> str | None:
@@ -73,7 +73,7 @@ def told_of_misses(words: Iterable[bytes], described: Iterable[tuple[bytes, Iter
     if not count:
         return None
     files = "1 file has" if count == 1 else f"{count:,} files have"
-    return f"{files} the most words that a file has by itself, {MAX_DERIVED}, and may say more: a search by {missing[0].decode()} can miss such a file"
+    return f"{files} the most words that a file has on its own, {MAX_DERIVED}, and may say more: a search by {missing[0].decode()} can miss such a file"
 
 
 def suffix_of(name: bytes) -> bytes | None:

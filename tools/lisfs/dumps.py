@@ -95,7 +95,7 @@ def pass_over(stream: IO[bytes], size: int, digest: Digest | None = None) -> Non
             digest.update(read)
         size -= len(read)
     if stream.read(1) != b"\n":
-        raise NotADump("another byte than a line feed behind the bytes of a file")
+        raise NotADump("a byte other than a line feed after the bytes of a file")
 
 
 def dumped(image: str, with_digests: bool = False) -> Dump:

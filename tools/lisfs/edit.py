@@ -1,20 +1,20 @@
-"""Lets an editor change the lines of a file of which a formula holds, and leaves all others as they are.
+"""Lets an editor change the lines of a file of which a formula holds, and leaves all other lines as they are.
 
 usage: tools/edit IMAGE NAME F
 
-The editor, which is the command in `$VISUAL`, or else in `$EDITOR`, or else `vi`, is given what `lisfs view IMAGE NAME F` shows, in a file
-whose name ends with NAME. Where that was changed when the editor ends, `lisfs put IMAGE NAME F` writes it. While the editor is open the
-image is not locked. So the view is looked at once more before it is written, and where it is another one by then, nothing is.
+The editor is the command in `$VISUAL`, otherwise in `$EDITOR`, otherwise `vi`. It opens a file with what `lisfs view IMAGE NAME F` shows;
+the name of that file ends with NAME. If the file was changed when the editor ends, `lisfs put IMAGE NAME F` writes it. While the editor is
+open the image is not locked. So `edit` looks at the view once more before it writes. If the view differs by then, nothing is written.
 
-The status is 0 where the file was written, or nothing was changed, which is said. It is 1 where something is amiss, as one line on standard
-error tells: the editor failed, the view has changed meanwhile, it is refused, the image is in use. An editor that leaves an empty file, or
-something else than a plain file, has nothing written: all shown lines are taken away by `lisfs put IMAGE NAME F < /dev/null`.
+The status is 0 if the file was written, or if nothing was changed, which one line says. The status is 1 if something is wrong, which one line
+on standard error says: the editor failed, the view has changed in the meantime, it is refused, the image is in use. If the editor leaves an
+empty file, or something other than a plain file, nothing is written. `lisfs put IMAGE NAME F < /dev/null` removes all shown lines.
 
-The editor's file stays where an editor was started, the status is 1 and the editor has not removed it: the line then names it. Else it is
-removed, also where the editor has returned at once and still shows it: nothing was changed by then, and what it stores later is in no file.
+The editor's file stays if an editor was started, the status is 1 and the editor has not removed it; the line then names it. Otherwise it
+is removed, even if the editor has returned at once and still shows it: nothing was changed by then, and what it stores later is in no file.
 
-SIGTERM and SIGHUP end it with 1, and an editor that still runs goes on. But where the writing has begun it comes to its end first, and the
-status is that of the writing.
+SIGTERM and SIGHUP end `edit` with status 1, and an editor that still runs goes on. But a write that has begun is finished first, and the
+status is that of the write.
 """
 from __future__ import annotations
 
@@ -174,7 +174,7 @@ def written(stops: Stops, image: str, name: str, formula: str, shown: bytes, tex
     """Writes the edited text, where the view is still the one that was shown."""
     try:
         if stops.heed(lambda: view(image, name, formula)) != shown:
-            raise Failed(f"{name}: its view has changed meanwhile")
+            raise Failed(f"{name}: its view has changed in the meantime")
     except (Refused, Ended, NotAReply, OSError) as error:
         raise Failed(cause_of(error, image, name, formula)) from None
     stops.ask()
@@ -202,7 +202,7 @@ def edit(stops: Stops, image: str, name: str, formula: str) -> None:
         if text == shown:
             tell(f"{name}: nothing was changed")
         elif not text:
-            raise Failed(f"{name}: the editor left an empty file, and only `lisfs put` takes all shown lines away")
+            raise Failed(f"{name}: the editor left an empty file, and only `lisfs put` removes all shown lines")
         else:
             stops.ask()
             has_begun = True

@@ -1,6 +1,6 @@
 """What refusals mean: each in one row, in the words of each tool. `constants` has their numbers, and the words that the program shows.
 
-- `means` is a clause, after "it is refused where": help has a list of them.
+- `means` is a clause, after "it is refused if": help has a list of them.
 - `sentence` is a whole sentence, for a page, and `error` the error of a file system. Those of `put` alone have none, since no session meets them.
 - `cause` is a short cause, for a report of many files.
 """
@@ -49,7 +49,7 @@ REFUSALS = {
         f"the line has more than {MAX_LINE:,} bytes", f"This is longer than a line may be, which has {MAX_LINE:,} bytes.", errno.ENAMETOOLONG),
     CUT_PAYLOAD: Refusal("the input ends within the bytes of a file", "The bytes of the file were cut off.", errno.EIO),
     PAYLOAD_END: Refusal(
-        "something else than the end of a line stands behind the bytes of a file, so that their count is wrong",
+        "something other than the end of a line follows the bytes of a file, so their count is wrong",
         "The bytes of the file do not end where they should.", errno.EIO),
     BAD_FORMULA: Refusal(
         "FORMULA is no formula",
@@ -94,7 +94,7 @@ REFUSALS = {
         "the image has no room for the bytes", "The image is full: its blocks have no room for so many bytes.", errno.ENOSPC,
         "no room for its bytes"),
     BUILT_IN: Refusal(
-        f"a word is one that files have by themselves, as those of {' and '.join(HEADS[:2])}",
+        f"a word is one that files have on their own, as those of {' and '.join(HEADS[:2])}",
         f"The words of {', '.join(HEADS)} and {LAST_HEAD} come from a file itself, and nobody declares or gives them.", errno.EPERM),
     NOT_IN_FORM: Refusal("what was edited is no view of a file"),
     OTHER_MARKS: Refusal("the marks of hidden lines are not those of the view"),

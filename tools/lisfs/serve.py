@@ -1,25 +1,29 @@
-"""Serves an image to up to eight clients at a time over a Unix socket, each as if it had `lisfs run IMAGE` to itself.
+"""Serves an image to up to eight clients at a time over a Unix socket, each as if it had `lisfs run IMAGE` for itself.
 
 usage: tools/serve IMAGE SOCKET
        tools/talk SOCKET < session
 
-A client is a connection to the socket. It sends what it would give to `run`, and gets the replies of `run`. It begins at the root and has a
-place of its own; the files are the same for all. It differs from `run` in two things:
+A client is a connection to the socket. It sends what it would give to `run`, and gets the replies of `run`. It begins at the root and has
+its own place; the files are the same for all. It differs from `run` in two things:
 
 - A line has at most 1,021 bytes before its line feed. A longer one is refused as 2.
-- A command is carried out when it has come whole, with its line feeds. Of the half command of a client that ends nothing is done. Where it
-  was cut off within a payload, a client that still reads is told `no 03 cut payload`; a last line without a line feed has no reply.
+- A command runs when it is complete, with its line feeds. If a client ends, its half command does nothing. If the client was cut off within
+  a payload and still reads, it gets `no 03 cut payload`; a last line without a line feed has no reply.
 
-Of each client one command at a time is under way, and the next one is looked at when the reply to it went out. So a client waits for seven
-others at most, and one that does not read holds up nobody. A ninth client is told so in one line, and its connection is closed.
+Of each client one command runs at a time, and the server looks at the next one when the reply has gone out. So a client waits for at most
+seven others, and one that does not read delays nobody. A ninth client gets one line that says so, and its connection is closed.
 
-The socket is its owner's alone. That of a server that is gone is replaced. SIGTERM, SIGINT and SIGHUP end the server in good order: what is
-under way is carried out and replied to, the connections are closed, the socket is removed, and the status is 0. Where the program ends, the
-server hands out what was replied to, closes the connections, and ends with the status of the program and what it said.
+Only its owner may use the socket. If a server is gone, its socket is replaced. SIGTERM, SIGINT and SIGHUP end the server in order: the
+commands that are under way run and are replied to, the connections are closed, the socket is removed, and the status is 0. If the program
+ends, the server sends the replies that there are, closes the connections, and exits with the status of the program and what it said.
 
-It waits at most 5 seconds, or as many as `$LISFS_PATIENCE` says: at its beginning for the lock of the file SOCKET.lock, as another server has it
-that begins at the same socket; behind a signal for the program, which is killed where it has not ended by then (the status is 137, and what was
-replied to is kept); and at its end for clients that don't read. The lock file is there while a server begins, and no longer.
+It waits at most 5 seconds, or the seconds in `$LISFS_PATIENCE`, in three cases:
+
+- At its start, for the lock of the file SOCKET.lock, if another server that starts at the same socket has it.
+- After a signal, for the program. If the program has not ended by then, it is killed: the status is 137, and what was replied to is kept.
+- At its end, for clients that do not read.
+
+The lock file is there only while a server starts.
 """
 from __future__ import annotations
 
@@ -310,7 +314,7 @@ def lock_held(path: str, signals: Signals) -> Iterator[None]:
     at, until = f"{path}.lock", time.monotonic() + PATIENCE
     while not (lock := tried_lock(at)):
         if time.monotonic() > until:
-            fail(f"{path}: another server begins there: it has the lock of {at}")
+            fail(f"{path}: another server is starting there: it has the lock of {at}")
         signals.wait(0.05)
     try:
         yield
@@ -438,7 +442,7 @@ def serve(image: str, path: str, signals: Signals) -> None:
 def cause_of(end: Ended, image: str, signals: Signals) -> str:
     """Why the program has ended."""
     if signals.has_come and end.status == -signal.SIGKILL:
-        return f"serve: {image}: the program had not ended {PATIENCE:g} seconds behind a signal, and was killed; what was replied to is kept\n"
+        return f"serve: {image}: the program had not ended {PATIENCE:g} seconds after a signal, and was killed; what was replied to is kept\n"
     return end.text or f"serve: {end}\n"
 
 
@@ -455,7 +459,7 @@ def main() -> int:
         sys.stderr.write(harmless(cause_of(end, image, signals), "\n"))
         return end.status if end.status >= 0 else 128 - end.status
     except NotAReply as error:
-        fail(f"the program is none of this kind: {error}")
+        fail(f"the program does not reply as lisfs does: {error}")
     except OSError as error:
         fail(f"{error.filename or path}: {error.strerror or error}")
     return 0

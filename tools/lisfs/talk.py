@@ -2,9 +2,9 @@
 
 usage: tools/talk SOCKET < session
 
-It ends with 0 when its input has ended and all replies were shown. A last line may lack its line feed, and so may a last payload. Where
-there is no server, where it has eight clients already, and where it ends before, a line on standard error says so, and the status is 1.
-On a terminal what is no text is shown as `^X`, `\\xNN` or `\\uNNNN`; elsewhere replies are handed out as they are.
+It exits with 0 when its input has ended and all replies were shown. A last line may lack its line feed, and so may a last payload. If
+there is no server, if it already has eight clients, or if it ends early, a line on standard error says so, and the status is 1. On a terminal,
+what is not text is shown as `^X`, `\\xNN` or `\\uNNNN`; elsewhere replies are written as they are.
 """
 import os
 import select

@@ -16,7 +16,7 @@ FORMULAS = (b"/", b"music", b"!music", b"live", b"music/!live", b"music|ext:c", 
             b"unused", b"size>=7",
             b"!!music", b"subject:", b"from:", b"defines:", b"ext:", b"!size:small", b"live/year:", b"year:2001|year:2002",
             b"to:/!subject:number3")
-MISSES = "1 file has the most words that a file has by itself, 48, and may say more: a search by {} can miss such a file."
+MISSES = "1 file has the most words that a file has on its own, 48, and may say more: a search by {} can miss such a file."
 
 
 @pytest.fixture(scope="module")
@@ -29,7 +29,7 @@ def cut_words(web_program, tmp_path_factory):
 
 
 def test_words_that_are_cut(cut_words):
-    assert "48 of at least 193 words that it has by itself" in cut_words.page("file", name="many.eml").text
+    assert "48 of at least 193 words that it has on its own" in cut_words.page("file", name="many.eml").text
     assert "of at least" not in cut_words.page("file", name="few.eml").text
 
 

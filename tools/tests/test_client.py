@@ -121,8 +121,8 @@ def test_a_line_without_an_end():
 
 def test_another_kind_of_reply():
     with made_up() as program:
-        assert told_by(program.lines, b"show", in_hexadecimal(b"b 1\nx\nok\n")) == NotAReply, "a content in place of lines"
-        assert told_by(client.as_content, program.ask(b"show", in_hexadecimal(b"d x\nok\n"))) == NotAReply, "lines in place of a content"
+        assert told_by(program.lines, b"show", in_hexadecimal(b"b 1\nx\nok\n")) == NotAReply, "a content instead of lines"
+        assert told_by(client.as_content, program.ask(b"show", in_hexadecimal(b"d x\nok\n"))) == NotAReply, "lines instead of a content"
         assert told_by(program.ls) == DONE, "and the next reply"
 
 

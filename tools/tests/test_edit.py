@@ -23,7 +23,7 @@ VIEW = b"+alpha one\n@1 2\n+alpha two\n!\n"
 NOT_WRITTEN, NOT_KNOWN = "nothing was written", "it is not known whether it was written"
 KEPT = re.compile(r"edit: (.*): ([^:]*), and the edited text is in (.*)\n")
 LEFT = re.compile(r"edit: (.*): nothing was written, and what the editor left is at (.*)\n")
-EMPTIED = "notes.txt: the editor left an empty file, and only `lisfs put` takes all shown lines away"
+EMPTIED = "notes.txt: the editor left an empty file, and only `lisfs put` removes all shown lines"
 # What an editor does, in Python: `path` is the file that it is given, and `text` what is in it.
 SEE = "open('seen', 'wb').write(text)\n"
 ADD = "open(path, 'wb').write(b'+alpha zero\\n' + text)\n"
@@ -296,8 +296,8 @@ def commands(session):
 # What others do with the image while the editor is open.
 
 @pytest.mark.parametrize("name, session, cause", (
-    ("a line that is shown is another one", b"write notes.txt 10\nalpha two\n\n", "notes.txt: its view has changed meanwhile"),
-    ("a hidden line is gone", b"write notes.txt 20\nalpha one\n\nalpha two\n", "notes.txt: its view has changed meanwhile"),
+    ("a line that is shown is another one", b"write notes.txt 10\nalpha two\n\n", "notes.txt: its view has changed in the meantime"),
+    ("a hidden line is gone", b"write notes.txt 20\nalpha one\n\nalpha two\n", "notes.txt: its view has changed in the meantime"),
     ("the file is gone", b"rm notes.txt\n", "notes.txt: no 10 no such file here")))
 def test_changed_meanwhile(notes, name, session, cause):
     ran = edit(ADD + commands(session) + "open('left', 'wb').write(open('image', 'rb').read())\n")

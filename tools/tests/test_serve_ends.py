@@ -106,7 +106,7 @@ def test_early_signals(image, number):
 
 def stuck_after(patience):
     """How a server ends whose program does not end within its patience."""
-    return 137, f"serve: image: the program had not ended {patience:g} seconds behind a signal, and was killed; what was replied to is kept\n"
+    return 137, f"serve: image: the program had not ended {patience:g} seconds after a signal, and was killed; what was replied to is kept\n"
 
 
 # A signal ends the server whatever it waits for: a client, the lock, or a program that does not answer.

@@ -127,7 +127,7 @@ def lock():
 
 def test_a_lock_of_another_server(lock):
     assert refusing("image0", patience=0.1) == (
-        1, "serve: socket: another server begins there: it has the lock of socket.lock\n"), "a lock that another server has for long"
+        1, "serve: socket: another server is starting there: it has the lock of socket.lock\n"), "a lock that another server has for long"
 
 
 def test_a_signal_while_the_lock_is_waited_for(lock):

@@ -209,7 +209,7 @@ def test_files(image):
         ("a path, and the place's words", "cd a\nput folder/plain.txt\nprops plain.txt\n",
          "plain.txt: 5 bytes\np a\np ext:\np ext:txt\np size:\np size:small\n", ""),
         ("quotes", f"put '{odd[:-2]}'\"'s\" odd1\nput {escaped} odd2\n", "odd1: 3 bytes\nodd2: 3 bytes\n", ""),
-        ("no name", f'put "{odd}"\n', "", f"{odd}: no name of a file, which has {FORM}: say one behind the path: put FILE AS\n"),
+        ("no name", f'put "{odd}"\n', "", f"{odd}: no name of a file, which has {FORM}: give one after the path: put FILE AS\n"),
         ("a quote that is not closed", "put 'rest\n", "", "put 'rest: a quote is not closed\n"),
         ("too large", "put larger\n", "", "larger: it has 65,537 bytes, and a file of this image at most 65,536\n"),
         ("much too large", "put huge\n", "", "huge: it has 1,048,577 bytes, and a file of this image at most 65,536\n"),
@@ -217,7 +217,7 @@ def test_files(image):
         ("no path", "put a\0b\n", "", "put a^@b: no path has such a byte\n"),
         ("a folder and a pipe", "put folder\nput pipe\n", "", "folder: no plain file\npipe: no plain file\n"),
         ("no words", "put\nput -w\nget\nget a b c\n", "",
-         "put: it is said so: put [-w] FILE [AS] [WORD..]\n" * 2 + "get: it is said so: get NAME [FILE]\n" * 2),
+         "put: usage: put [-w] FILE [AS] [WORD..]\n" * 2 + "get: usage: get NAME [FILE]\n" * 2),
         ("a word that is none", "put rest r q\nput rest r 'a b'\n", "",
          "q: this word is not known; `mkdir q` declares it\nput: b'a b' is not one word of a line\n"),
         ("it is here already", "put folder/plain.txt rest\ncat rest\n", "x\n" * 9,
@@ -323,8 +323,8 @@ def test_find_finds_what_listings_lead_to(program):
 
 
 MANY = b"Subject: " + b" ".join(b"w%03d" % number for number in range(191)) + b"\n\n"
-MANY_TOLD = "48 of at least 193 words that it has by itself: a search for one of the others misses it"
-MISSES = "1 file has the most words that a file has by itself, 48, and may say more: a search by subject:{} can miss such a file"
+MANY_TOLD = "48 of at least 193 words that it has on its own: a search for one of the others misses it"
+MISSES = "1 file has the most words that a file has on its own, 48, and may say more: a search by subject:{} can miss such a file"
 
 
 def test_cut_words(program):
@@ -438,7 +438,7 @@ def test_wrong_use(words):
     ("echo 'lisfs: disk fault' >&2; echo 'image: Input/output error' >&2; exit 3", 3, "lisfs: disk fault: image: Input/output error"),
     ("kill -9 $$", 137, "the program was killed by signal 9; what was replied to is kept"),
     ("exit 0", 1, "the program has ended with 0; what was replied to is kept"),
-    ("echo hello; exec cat", 1, "the program is none of this kind: b'hello' is no line of a reply here")),
+    ("echo hello; exec cat", 1, "the program does not reply as lisfs does: b'hello' is no line of a reply here")),
     ids=("a fault", "a kill", "an end", "another program"))
 def test_a_program_that_ends_in_the_middle(taken, program, ends, status, told):
     front = written("program", b'#!/bin/sh\ncase $1 in dump) exec "$REAL" "$@";; esac\n'

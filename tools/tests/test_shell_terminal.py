@@ -22,13 +22,13 @@ def test_terminals(at_terminal):
     umlaut = "\N{LATIN SMALL LETTER A WITH DIAERESIS}".encode()
     word, place, fault = b"\x1b[1;34m", b"\x1b[1;32m", b"\x1b[31m"
     with at_terminal() as at:
-        assert at.sees(b"image: 5 files. `help` tells the commands, Ctrl-D ends.") is not None, ("a greeting", at.shown)
+        assert at.sees(b"image: 5 files. `help` lists the commands, Ctrl-D ends.") is not None, ("a greeting", at.shown)
         assert at.sees(place + b"/\x1b[0m> ") is not None, ("the place in the prompt", at.shown)
         at.types(b"cd music\n")
         assert at.sees(b"/music\x1b[0m> ") is not None, ("the new place", at.shown)
         assert at.types(b"ls\n").sees(b"d " + word + b"live\x1b[0m\r\n") is not None, ("coloured words", at.shown)
         at.types(b"frob\n")
-        assert at.sees(fault + b"frob: there is no such command; `help` tells of all\x1b[0m\r\n") is not None, ("a coloured refusal", at.shown)
+        assert at.sees(fault + b"frob: there is no such command; `help` lists all\x1b[0m\r\n") is not None, ("a coloured refusal", at.shown)
         at.types(b"cd /\ncat raw\n")
         assert at.sees(b"a^[]0;title^G\tb\\xff%b^M\r\n\\x9b^?\r\n" % umlaut) is not None, ("bytes without harm", at.shown)
         assert at.types(b"put rest\n").sees(b"rest: 18 bytes\r\n") is not None, ("a new line behind a file", at.shown)

@@ -181,7 +181,7 @@ def test_without_memory():
     with session() as program:
         program.rmdir(word)
     assert sync("--as", "t", "image", "top") == (
-        1, ["sync:t: nothing changed, 1 as they were", "nothing is known of earlier runs, so no difference tells who made it",
+        1, ["sync:t: nothing changed, 1 as they were", "nothing is known of earlier runs, so no difference shows who made it",
             "conflict: other: top/other: not the same in the folder and in the image", "conflict: gone: not in the folder",
             "2 conflicts left: --ours keeps what the image has, --theirs takes what the folder has"], ""), "without a memory"
     assert contents() == {

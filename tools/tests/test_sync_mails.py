@@ -124,8 +124,8 @@ def test_cut_words():
     status, out, _ = sync("--as", "m", "--verbose", "image", "mail")
     name, = held()
     # The suffix, the size, the sender, the one who gets it, and the words of the Subject.
-    told = "at least 56 words of 1 file cut: a file has 48 by itself at most, so a search by from:, to:, subject:, includes: or defines: can miss it"
-    assert (status, told in out, f"cut: {name}: 48 of at least 104 words that it has by itself" in out) == (0, True, True), "a mail"
+    told = "at least 56 words of 1 file cut: a file has at most 48 on its own, so a search by from:, to:, subject:, includes: or defines: can miss it"
+    assert (status, told in out, f"cut: {name}: 48 of at least 104 words that it has on its own" in out) == (0, True, True), "a mail"
     assert told in sync("--as", "m", "image", "mail")[1], "again, when it is not read"
     assert [line for line in sync("--as", "l", "--lean", "image", "mail")[1] if "cut" in line] == [], "not of a mail without derived words"
     written("top/many.c", "".join(f"int f{number}(int a) {{ }}\n" for number in range(60)))
@@ -144,7 +144,7 @@ def test_cut_words():
     written("wide/x/y/z/file", "x")
     status, out, _ = sync("--as", "w", "image", "wide")
     # The folder's word and head, the 121, the size and its head, and the head and two of the three words for folders.
-    assert (status, out[1:]) == (1, ["1 word of 1 file left out: a file has 128 at most, with those that it has by itself"]), "128 words"
+    assert (status, out[1:]) == (1, ["1 word of 1 file left out: a file has 128 at most, with those that it has on its own"]), "128 words"
 
 
 def test_music_without_mutagen(image):

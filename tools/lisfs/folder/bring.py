@@ -1,26 +1,27 @@
-"""Makes a session out of a folder or a maildir: the words that are needed, and an `add` line with its bytes for each file.
+"""Makes a session from a folder or a maildir: the words that are needed, and an `add` line with its bytes for each file.
 
 usage: tools/import [--word WORD].. [--by-folder] [--without PATTERN].. [--v2] [--verbose] FOLDER > session
        ./lisfs run files.lis < session
 
---word gives each file this word, and may stand more than once. --by-folder gives a file a word for each folder that it lies in below
-FOLDER. A mail gets words of its header (`date:2024-06`, `list:`, `who:`, `about:`), and a piece of music those of its tags (`artist:`,
-`album:`, `genre:`, `year:`), for which Debian's python3-mutagen is needed. Letters that are no ASCII are written with others, in small
-letters. A file is given 16 words at most: the first of those that --word says, those of its folders, and those of its own.
+--word gives each file this word, and may be repeated. --by-folder gives a file a word for each folder below FOLDER that it is in. A mail
+gets words of its header (`date:2024-06`, `list:`, `who:`, `about:`). A piece of music gets those of its tags (`artist:`, `album:`, `genre:`,
+`year:`), which needs Debian's python3-mutagen. Letters that are not ASCII are written with others, in small letters. A file gets at most 16
+words: first those of --word, then those of its folders, then its own.
 
-A folder with `cur` and `new` in it is a maildir, and so is a folder below with these and `tmp`: the mails of these two are taken, and those
-of its folders `.NAME.NAME`; each is named after its file without the flags, and ends with `.eml`. Elsewhere a file named `.eml` is a mail.
---without passes over files and folders with such a name, as `.git` or `*.o`, and may stand more than once. --v2 is for an image of version
-2: it takes files of up to 1,048,576 bytes, where else 65,536 are the most.
+A folder that has `cur` and `new` in it is a maildir, and so is a folder below that has these and `tmp`. Their mails are read, and those of
+folders named `.NAME.NAME`. Each mail is named after its file without the flags, and the name ends with `.eml`. Elsewhere a file named `.eml`
+is a mail. --without skips files and folders with such a name, as `.git` or `*.o`, and may be repeated. --v2 is for an image of version 2: it
+takes files of up to 1,048,576 bytes; without it 65,536 are the most.
 
-A name has 1 to 60 letters, digits and `_ - . + @`; each other byte becomes `_`, and where two files would have one name the later gets
-a number. A folder's word is made likewise, of 60 bytes at most and without full stops ahead; letters that are no ASCII are written with
-others. What is not taken (a file that is too large, one that can't be read, a link, a device), what gets another name or word, and what is
-left out is counted on standard error at the end; --verbose tells each, one a line. The status is 0 where all was taken, 1 where something
-was not, and 2 for wrong use. For which limits an image has room is told by the program itself, where it is built: it knows which words it
-derives. No bytes of files are kept: each is read when its turn comes.
+A name has 1 to 60 letters, digits and `_ - . + @`. Each other byte becomes `_`, and if two files would have the same name, the later one
+gets a number. A folder's word is made likewise, of at most 60 bytes and without leading full stops; letters that are not ASCII are written
+with others. Standard error has the counts at the end: what is not taken (a file that is too large, one that can't be read, a link, a
+device), what gets another name or word, and what is left out. --verbose names each, one a line.
 
-No symbolic link below FOLDER is followed. To bring the same folder in again and again, use `tools/sync`.
+If the program is built, it also says which limits an image needs, since it knows which words it derives. No bytes of files are kept: each
+file is read when its turn comes. No symbolic link below FOLDER is followed. To bring in the same folder again and again, use `tools/sync`.
+
+The status is 0 if all was taken, 1 if something was not, and 2 for wrong use.
 """
 from __future__ import annotations
 

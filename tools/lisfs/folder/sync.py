@@ -2,50 +2,50 @@
 
 usage: tools/sync [--as NAME] [--without PATTERN].. [--flat] [--lean] [--dry-run] [--verbose] [--all-gone] [--no-cache] [--ours | --theirs] [--restore] IMAGE FOLDER
 
-The files that are the folder's own have the word `sync:NAME` in the image. --as says which NAME, of at most 55 letters, digits and
-`_ - . + @`; else it is the folder's name and four digits that stand for where it lies. Only files with this word are written, given other
-words or removed: what others put in stays as it is. Words that somebody gave to the folder's files stay too, but for those that begin with
-one of the heads below, which are the folder's.
+The folder's own files have the word `sync:NAME` in the image. --as says which NAME, of at most 55 letters, digits and `_ - . + @`. Without it
+NAME is the folder's name and four digits that depend on its path. Only files with this word are written, given other words or removed: what
+others put in stays as it is. Words that somebody gave to the folder's files stay too, except those that begin with one of the heads below,
+which are the folder's.
 
-What was changed in the image is never written over and never removed. A file that has other bytes in the image alone keeps them. One that
-has other bytes there and in the folder, or is gone from the folder, is a conflict: it is named, and left. --ours settles conflicts by what
-the image has, and --theirs by what the folder has. A file that was renamed in the image keeps that name. One that was removed from it stays
-away until it changes in the folder; --restore brings such files back. A file that was renamed or moved in the folder is found again by its
-bytes, and keeps the words that it was given.
+What was changed in the image is never overwritten and never removed. A file that has other bytes only in the image keeps them. A file that
+has other bytes both there and in the folder, or is gone from the folder, is a conflict: it is named, and left. --ours settles conflicts by
+what the image has, and --theirs by what the folder has. A file that was renamed in the image keeps that name. One that was removed from it
+stays away until it changes in the folder; --restore brings such files back. A file that was renamed or moved in the folder is found again by
+its bytes, and keeps the words that it was given.
 
-What was brought in is kept in `$XDG_STATE_HOME/lisfs`, or in `~/.local/state/lisfs`, and the image has a plain word `synced-NAME-DIGEST` that
-names it. Where that is not there, as after an older `tools/sync`, each difference is a conflict.
+What was brought in is kept in `$XDG_STATE_HOME/lisfs`, or in `~/.local/state/lisfs`, and a plain word `synced-NAME-DIGEST` of the image names
+it. If that is missing, for example after an older `tools/sync`, each difference is a conflict.
 
-A file is named after its path below the folder, with `+` in place of `/`; where that is no name, it is made one with a digest. A folder
-with `cur` and `new` in it is a maildir, and so is a folder below with these and `tmp`. A mail there is named after its Subject and a digest
-of its Message-ID, or of its path where it has none, and ends with `.eml`. So names are the same at each run.
+A file is named after its path below the folder, with `+` instead of `/`. If that is no name, it gets one with a digest. A folder that has
+`cur` and `new` in it is a maildir, and so is a folder below that has these and `tmp`. A mail there is named after its Subject and a digest
+of its Message-ID, or of its path if it has none, and ends with `.eml`. So names are the same at each run.
 
---without passes over files and folders with such a name, as `.git` or `*.o`, and may stand more than once. The image itself is passed over
-too, where it lies in the folder. No symbolic link below the folder is followed.
+--without skips files and folders with such a name, as `.git` or `*.o`, and may be repeated. The image itself is skipped too, if it is in the
+folder. No symbolic link below the folder is followed.
 
-What a mail or a piece of music gave is kept in `$XDG_CACHE_HOME/lisfs`, or in `~/.cache/lisfs`, so that the next run reads those alone whose
-size or times are others. --no-cache reads all of them, and keeps nothing.
+What a mail or a piece of music gave is kept in `$XDG_CACHE_HOME/lisfs`, or in `~/.cache/lisfs`, so that the next run reads only those whose
+size or times have changed. --no-cache reads all of them, and keeps nothing.
 
-Words are given to files, in this order, 15 at most beside `sync:NAME`:
-  in:FOLDER       for each folder that it lies in, unless --flat is given
+Files get words in this order, at most 15 beside `sync:NAME`:
+  in:FOLDER       for each folder that it is in, unless --flat is given
   date:2024-06    of a mail, the month of its Date
   list:           its List-Id
-  who:            those who wrote it, by name or else by address
-  about:          the words of its Subject that say something
+  who:            those who wrote it, by name or otherwise by address
+  about:          the words of its Subject that carry meaning
   who:            those who got it
-  artist:, album:, genre:, year:  of a piece of music, by its tags, for which Debian's python3-mutagen is needed
-Where the image has no room for more words, a file goes in with fewer, and a mail where need be without `.eml` in its name, so that the
+  artist:, album:, genre:, year:  of a piece of music, by its tags, which needs Debian's python3-mutagen
+If the image has no room for more words, a file goes in with fewer, and a mail if necessary without `.eml` in its name, so that the
 program derives no words of it. --lean names new mails so from the start: an image then has room for the words of more mails.
 
 Words that do not fit are counted: those beyond the 16 that a file is given, the 128 that it has in all, and the 48 that the program derives
 for it. A search by a derived word can miss a file whose words are cut.
 
---dry-run says what would be done, one line a file, and does nothing. --verbose says what is done likewise. Counts are told at the end, and
-on a terminal the progress. Where none of its files is in the folder any more, as where a disk is not mounted, nothing is done, but with
---all-gone. Where not all of the folder could be read, nothing is removed.
+--dry-run says what it would do, one line a file, and does nothing. --verbose says what is done in the same way. The counts come at the end,
+and on a terminal there is a line of progress. If none of its files is in the folder any more, for example because a disk is not mounted,
+nothing is done, except with --all-gone. If some of the folder could not be read, nothing is removed.
 
-The status is 0 where all was taken, 1 where something was not, and 2 for wrong use. It may be stopped at any moment: the next run goes on.
-Nothing of it is proved. It uses the word `load` of the program, where that has it, and else `run`.
+The status is 0 if all was taken, 1 if something was not, and 2 for wrong use. It can be stopped at any point: the next run goes on. Nothing
+of it is proved. It uses the word `load` of the program if that has it, and otherwise `run`.
 """  # noqa: E501, as the line of the usage is printed
 from __future__ import annotations
 
@@ -168,7 +168,7 @@ class Sync:
         plan = Changes(entries.all, dump, self.marker, self.words.lean, self.known, wishes, entries.walk.is_blind)
         if plan.own and not plan.kept and not plan.is_blind and not self.words.all_gone:
             raise Failed(f"nothing was done: none of the {counted(plan.own, 'file')} of {self.marker.decode()} is in {self.folder} any "
-                         "more; --all-gone removes them all the same")
+                         "more; --all-gone removes them anyway")
         self.plan = plan
         for entry in plan.refused:
             self.telling.leave(entry.found.path, entry.found.problem or "")
@@ -262,7 +262,7 @@ class Sync:
     def report_carrying(self, carrying: Carrying) -> None:
         """What there was no room for."""
         tell = self.telling.tell
-        left_out(tell, carrying.too_many, carrying.too_many_files, f"a file has {MAX_DESCRIPTION} at most, with those that it has by itself")
+        left_out(tell, carrying.too_many, carrying.too_many_files, f"a file has {MAX_DESCRIPTION} at most, with those that it has on its own")
         left_out(tell, carrying.without, carrying.without_files, "no room for more words")
         if carrying.lean:
             tell(f"{counted(carrying.lean, 'mail')} named without .eml: no room for the words that the program derives")
@@ -271,10 +271,10 @@ class Sync:
         """What the program derives no words of, since there are too many."""
         cut = plan.cut()
         for name, count in cut:
-            self.telling.tell_file(f"cut: {name}: {MAX_DERIVED} of at least {count:,} words that it has by itself")
+            self.telling.tell_file(f"cut: {name}: {MAX_DERIVED} of at least {count:,} words that it has on its own")
         if cut:
             self.telling.tell(f"at least {counted(sum(count - MAX_DERIVED for _, count in cut), 'word')} of {counted(len(cut), 'file')} cut: a file "
-                              f"has {MAX_DERIVED} by itself at most, so a search by from:, to:, subject:, includes: or defines: can miss it")
+                              f"has at most {MAX_DERIVED} on its own, so a search by from:, to:, subject:, includes: or defines: can miss it")
 
     def report_image(self, plan: Changes) -> None:
         """What was changed in the image, and stays."""
@@ -291,7 +291,7 @@ class Sync:
             tell(f"{counted(len(plan.away), 'file')} removed from the image: left out until changed in the folder, or --restore")
         if plan.conflicts:
             if self.known is None and plan.own:
-                tell("nothing is known of earlier runs, so no difference tells who made it")
+                tell("nothing is known of earlier runs, so no difference shows who made it")
             named = plan.conflicts if self.telling.is_verbose else plan.conflicts[:NAMED]
             for text, why in named:
                 tell(f"conflict: {harmless(text)}: {why}")

@@ -1,14 +1,14 @@
-"""Lets a folder show an image, so that programs that know nothing of it work with its files. docs/MOUNT.md says what they see.
+"""Shows an image as a folder, so that programs that know nothing of images work with its files. docs/MOUNT.md says what they see.
 
 usage: tools/mount [--derived] [--allow-other] IMAGE DIR
 
-It goes on until `umount DIR`, Ctrl-C or a SIGTERM, and says on standard error when DIR can be used. What was written by then and not closed is
-stored, or named where that fails. --derived shows the words that files have by themselves as folders too; without it they are below `:by`.
---allow-other lets other users look, as far as modes allow: files begin as 0600 and folders as 0700.
+It goes on until `umount DIR`, Ctrl-C or a SIGTERM, and says on standard error when DIR can be used. What was written by then and not closed
+is stored, or named if that fails. --derived also shows as folders the words that files have automatically; without it they are below `:by`.
+--allow-other lets other users look, if the modes allow it: files begin as 0600 and folders as 0700.
 
-It carries out each change by one `lisfs run IMAGE`, and an answer comes after its `ok`. What stands between a program and these commands
-is not proved. The status is 0 after an end that was wanted, with all that was written in the image, 1 where something is amiss, which is told,
-and 2 for wrong use.
+One `lisfs run IMAGE` runs each change, and an answer comes after its `ok`. What is between a program and these commands is not proved.
+
+The status is 0 after a requested end if the image has all that was written, 1 if something is wrong, which a line says, and 2 for wrong use.
 """
 import argparse
 import os

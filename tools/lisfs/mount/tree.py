@@ -652,7 +652,7 @@ class Tree:
             if self._is_unstored(file) and not draft.is_refused:
                 self._commit(node)
         except Refused as refused:
-            self._lose(file, f"what was written behind the last close is lost: {refused}")
+            self._lose(file, f"what was written after the last close is lost: {refused}")
         finally:
             if file.is_gone and draft.content is not None:
                 file.kept = bytes(draft.content)

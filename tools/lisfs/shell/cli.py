@@ -1,17 +1,17 @@
-"""A prompt over an image: it shows the place, completes words and names by Tab, tells refusals in sentences, and counts bytes.
+"""A prompt over an image: it shows the place, completes words and names by Tab, explains refusals in sentences, and counts bytes.
 
 usage: tools/shell IMAGE
 
-`help` tells the commands: those of `lisfs run`, and `put` and `get`, which take files in and out, `find`, and `ls -c`, which counts. Ctrl-C
-stops a line, and Ctrl-D ends. The lines that were typed are kept in `$XDG_STATE_HOME/lisfs/shell_history`, or below `~/.local/state`. Where
-`$NO_COLOR` says anything there are no colours.
+`help` lists the commands: those of `lisfs run`, and `put` and `get`, which copy files in and out, `find`, and `ls -c`, which counts. Ctrl-C
+stops a line, and Ctrl-D ends the prompt. The lines that you type are kept in `$XDG_STATE_HOME/lisfs/shell_history`, or below
+`~/.local/state`. If `$NO_COLOR` is set there are no colours.
 
-Where standard input or output is no terminal, the lines of the input are carried out without a prompt, with bytes behind `add` and `write`
-lines as `lisfs run` takes them. What is refused is told on standard error, and the lines behind it are carried out all the same.
+If standard input or output is not a terminal, the lines of the input run without a prompt, with bytes after `add` and `write` lines as
+`lisfs run` takes them. Standard error says what is refused, and the lines after it still run.
 
-The status is 0 at the end, and 1 where a line of a script was refused, something else is amiss, or at wrong use. Where the program ends, as
-where another one has the image or at a fault of the disk, it is that of the program, or 128 and the number of the signal that killed it.
-Ctrl-C ends a script with 130. Nothing of this is proved.
+The status is 0 at the end, and 1 if a line of a script was refused, if something else is wrong, or for wrong use. If the program ends, for
+example because another one has the image or at a disk fault, the status is that of the program, or 128 plus the number of the signal that
+killed it. Ctrl-C ends a script with 130. Nothing of this is proved.
 """
 import io
 import os
@@ -39,7 +39,7 @@ def run(image: str, screen: Screen) -> int:
         try:
             if not screen.asks:
                 return 0 if as_a_script(shell) else 1
-            screen.lines([f"{harmless(os.fsencode(image))}: {len(dump.files):,} files. `help` tells the commands, Ctrl-D ends."])
+            screen.lines([f"{harmless(os.fsencode(image))}: {len(dump.files):,} files. `help` lists the commands, Ctrl-D ends."])
             Completer(session, screen).install()
             at_a_prompt(shell, History(history_path()))
             return 0
@@ -82,7 +82,7 @@ def main() -> int:
         # Ctrl-C ends what reads the image at the beginning.
         status, cause = (STOPPED, "stopped") if screen.interrupts.has_come else (status_of(end), cause_of(end))
     except NotAReply as error:
-        status, cause = 1, f"the program is none of this kind: {error}"
+        status, cause = 1, f"the program does not reply as lisfs does: {error}"
     except (KeyboardInterrupt, Stopped):
         status, cause = STOPPED, "stopped"
     except NotADump as error:

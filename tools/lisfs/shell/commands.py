@@ -52,15 +52,15 @@ def command(form: str, does: str, *parts: Part, needed: int | None = None, repea
 CREATES = (NAME_TAKEN, NOT_A_PLACE, BUILT_IN, NOT_ASSIGNABLE, UNKNOWN_PROPERTY, TOO_MANY_ASSIGNED, NO_FILE_ROOM, LARGE_DESCRIPTION, NO_PROPERTY_ROOM)
 COMMANDS = {
     "ls": command("ls [-c]", "lists words that narrow the place, and other files",
-                  more="Words stand behind `d`, and behind `f` the files that none of them covers. With -c a count stands before each word: so many "
-                       "files are left behind `cd WORD`."),
+                  more="`d` marks a word, and `f` a file that no word covers. With -c a count stands before each word: that many files "
+                       "are left after `cd WORD`."),
     "cd": command("cd FORMULA", "goes to a place", Part.FORMULA, refusals=(BAD_FORMULA, LARGE_FORMULA, UNKNOWN_PROPERTY),
                   more="`/` is and, `|` is or, `!` is not, `size>=N` and `size<N` test the bytes. A formula that begins with `/` starts at the root, "
                        "any other goes on from here; `..` drops the last step."),
     "pwd": command("pwd", "shows the place"),
     "find": command("find [FORMULA]", "shows all files of a place, one a line", Part.FORMULA, needed=0,
                     refusals=(BAD_FORMULA, LARGE_FORMULA, UNKNOWN_PROPERTY),
-                    more="The formula is said as in `cd`. Without one it is this place. You stay where you are."),
+                    more="The formula is written as in `cd`. Without one it is this place. You stay where you are."),
     "cat": command("cat NAME", "shows the bytes of a file", Part.FILE, refusals=(NO_FILE_HERE,),
                    more="On a terminal, what is no text is shown as `^X`, `\\xNN` or `\\uNNNN`."),
     "props": command("props NAME", "shows all words that a file has", Part.FILE, refusals=(NO_FILE_HERE,)),
@@ -68,7 +68,7 @@ COMMANDS = {
     "stat": command("stat", "counts files, words, axioms and free blocks", more="A block has 4,096 bytes."),
     "put": command("put [-w] FILE [AS] [WORD..]", "takes a file of the system in", Part.PATH, Part.NEW_FILE, Part.GIVEN,
                    needed=1, repeats=True, refusals=(LARGE_FILE, *CREATES, NO_SPACE),
-                   more="It has these words and those of the place. AS is its name here, which else is that of FILE. Where a file of that name is "
+                   more="It has these words and those of the place. AS is its name here, otherwise that of FILE. If a file of that name is "
                         "here already, it gets the bytes and keeps its words, if you say yes, or -w. Quotes, and `\\` before a blank, are as in "
                         "other shells."),
     "get": command("get NAME [FILE]", "writes a file's bytes to a file of the system", Part.FILE, Part.PATH, needed=1, refusals=(NO_FILE_HERE,),
@@ -77,10 +77,10 @@ COMMANDS = {
                       more="It has these words and those of the place."),
     "add": command("add NAME N WORD..", "makes a file of the N bytes that follow", Part.NEW_FILE, Part.COUNT, Part.GIVEN, needed=2, repeats=True,
                    refusals=(LARGE_FILE, *CREATES, NO_SPACE),
-                   more="They begin with the next line, and a line feed stands behind them. It is for scripts: at a prompt `put` counts the bytes."),
+                   more="They begin with the next line, and a line feed follows them. It is for scripts: at a prompt `put` counts the bytes."),
     "write": command("write NAME N", "gives a file the N bytes that follow", Part.FILE, Part.COUNT,
                      refusals=(LARGE_FILE, NO_FILE_HERE, LARGE_DESCRIPTION, NO_PROPERTY_ROOM, NO_SPACE),
-                     more="They stand as those of `add`. It is for scripts: at a prompt `put` counts the bytes."),
+                     more="They are given as those of `add`. It is for scripts: at a prompt `put` counts the bytes."),
     "rename": command("rename NAME OTHER", "gives a file another name", Part.FILE, Part.NEW_FILE,
                       refusals=(NO_FILE_HERE, NAME_TAKEN, LARGE_DESCRIPTION, NO_PROPERTY_ROOM)),
     "mv": command("mv NAME FORMULA", "takes a file from here to another place", Part.FILE, Part.FORMULA,
@@ -93,11 +93,11 @@ COMMANDS = {
                                LARGE_DESCRIPTION),
                      more="`music` is a plain word. `year:` is a head, of which a file can have values, as `year:2003`. A test, as `size>=1000`, "
                           "is then a word of each file that meets it."),
-    "rmdir": command("rmdir WORD", "takes back a word that nothing uses", Part.DECLARED, refusals=(BUILT_IN, NOT_ASSIGNABLE, NOT_DECLARED, IN_USE)),
+    "rmdir": command("rmdir WORD", "removes a declared word that nothing uses", Part.DECLARED, refusals=(BUILT_IN, NOT_ASSIGNABLE, NOT_DECLARED, IN_USE)),
     "axiom": command("axiom LEFT RIGHT", "says that each file with LEFT has RIGHT too", Part.KNOWN, Part.DECLARED,
                      refusals=(NOT_ASSIGNABLE, UNKNOWN_PROPERTY, AXIOM_THERE, CYCLE, NO_AXIOM_ROOM, NO_PROPERTY_ROOM, LARGE_DESCRIPTION)),
-    "unaxiom": command("unaxiom LEFT RIGHT", "takes that back", Part.KNOWN, Part.DECLARED, refusals=(NO_AXIOM,)),
-    "help": command("help [COMMAND]", "tells of all commands, or of one", Part.COMMAND, needed=0),
+    "unaxiom": command("unaxiom LEFT RIGHT", "removes that axiom", Part.KNOWN, Part.DECLARED, refusals=(NO_AXIOM,)),
+    "help": command("help [COMMAND]", "explains all commands, or one", Part.COMMAND, needed=0),
     "exit": command("exit", "ends, as Ctrl-D does"),
 }
 # Those that the program does not know.
@@ -115,4 +115,4 @@ def told(name: str) -> list[str]:
     command = COMMANDS[name]
     lines = [f"{command.form}: {command.does}."] + textwrap.wrap(command.more, WIDTH)
     refused = [f"- {meaning(number, name)}" for number in command.refusals]
-    return lines + (["It is refused where" + (":" if name in OWN else ", in this order:")] + refused if refused else [])
+    return lines + (["It is refused if" + (":" if name in OWN else ", in this order:")] + refused if refused else [])

@@ -47,7 +47,7 @@ def sentence(refused: Refused, line: bytes, session: Session) -> str:
 def bad_line(command: str, given: Words, _: object) -> str:
     if command not in COMMANDS:
         near = meant(command.encode(), [name.encode() for name in COMMANDS])
-        return f"{harmless(command.encode())}: there is no such command{near or '; `help` tells of all'}"
+        return f"{harmless(command.encode())}: there is no such command{near or '; `help` lists all'}"
     form, parts = COMMANDS[command], COMMANDS[command].parts
     if len(given) >= form.needed and (form.repeats or len(given) <= len(parts)):
         for word, part in zip(given, parts + parts[-1:] * len(given)):
@@ -57,7 +57,7 @@ def bad_line(command: str, given: Words, _: object) -> str:
                 return f"{harmless(word)}: no count of bytes"
             if part in WORDS and not is_word(word) and not is_test(word):
                 return f"{harmless(word)}: no word: `music`, `year:`, `year:2003` or a test, as `size>=1000`; a part has {NAME_FORM}"
-    return f"{command}: it is said so: {form.form}"
+    return f"{command}: usage: {form.form}"
 
 
 def long_line(command: str, given: Words, session: Session) -> str:
@@ -69,7 +69,7 @@ def cut_payload(command: str, given: Words, session: Session) -> str:
 
 
 def payload_end(command: str, given: Words, session: Session) -> str:
-    return f"{said(*given[:1])}: no line ends behind its {said(*given[1:2])} bytes, so that their count is wrong; the rest of that line is dropped"
+    return f"{said(*given[:1])}: no line ends after its {said(*given[1:2])} bytes, so their count is wrong; the rest of that line is dropped"
 
 
 def formula(command: str, given: Words, session: Session) -> str:
@@ -210,7 +210,7 @@ def no_space(command: str, given: Words, session: Session) -> str:
 def built_in(command: str, given: Words, session: Session) -> str:
     words = given if command in ("mkdir", "rmdir") else words_given(command, given)
     words = [word for word in words if is_built_in(word)] or given
-    return f"{said(*words)}: files have such words by themselves, and nobody gives or declares them"
+    return f"{said(*words)}: files have such words on their own, and nobody gives or declares them"
 
 
 def of_put(number: int) -> Explanation:

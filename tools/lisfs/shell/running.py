@@ -139,7 +139,7 @@ class Shell:
         path, *words = words[is_sure:] or self.wrong("put")
         name, words = words[0] if words else os.path.basename(path.rstrip(b"/")), words[1:]
         if not is_file_name(name):
-            raise Failed(f"{harmless(name)}: no name of a file, which has {NAME_FORM}: say one behind the path: put FILE AS")
+            raise Failed(f"{harmless(name)}: no name of a file, which has {NAME_FORM}: give one after the path: put FILE AS")
         content, told = self.content_of(path), ""
         if self.session.is_here(name):
             if not is_sure and not self.screen.says_yes(f"{harmless(name)} is here already, with its words: write these bytes to it?"):
@@ -228,7 +228,7 @@ class Shell:
         return words[1:]
 
     def wrong(self, name: str) -> NoReturn:
-        raise Failed(f"{name}: it is said so: {COMMANDS[name].form}")
+        raise Failed(f"{name}: usage: {COMMANDS[name].form}")
 
 
 def at_a_prompt(shell: Shell, history: History) -> None:

@@ -1,15 +1,18 @@
-"""Shows an image in a web browser, narrowed by clicks: the words of each place with how many files each leaves, the files, and what is in them.
+"""Shows an image in a web browser, narrowed by clicks: the words of each place and how many files each leaves, the files, and their contents.
 
 usage: tools/browse IMAGE [--port N] [--write]
 
-It prints one address, which a browser on this machine opens, and serves pages there until Ctrl-C or a SIGTERM. The address has a random token:
-whoever knows it sees the image, and nobody else. --port says at which port, in place of a free one. --write lets the pages change things.
+It prints one address, which you open in a browser on this machine, and serves pages there until Ctrl-C or a SIGTERM. The address has a
+random token: whoever knows it sees the image, and nobody else. --port N uses port N instead of a free one. --write lets the pages change
+things.
 
-A request has to come within 20 seconds, and an answer to be taken within 60, or as many as `$LISFS_PATIENCE` says. At most 200 connections are
-open; when one more comes, a connection that has not sent an admitted request is closed first.
-It carries out each question and each change by one `lisfs run IMAGE`, which holds the image's lock all the while, and shows a change as done
-after its `ok`. What stands between a browser and these commands is not proved. The status is 0 after an end that was wanted, 1 where something
-is amiss, which one line tells, and 2 for wrong use.
+A request must come within 20 seconds, and its answer be taken within 60, or each within the seconds in `$LISFS_PATIENCE`. At most 200
+connections are open. When one more comes, one that has not sent an admitted request is closed first.
+
+One `lisfs run IMAGE` runs each question and each change. It holds the image's lock all the time. A page shows a change as done after its
+`ok`. What is between a browser and these commands is not proved.
+
+The status is 0 after a requested end, 1 if something is wrong, which one line says, and 2 for wrong use.
 """
 import argparse
 import functools

@@ -147,7 +147,7 @@ def described(file: File) -> list[tuple[str, list[Word]]]:
                   and not any(word != head and head_of(word) == head for word in file.words))
     above = sorted(heads & file.words - set(bare) - file.given)
     return [(told, [word_of(word, word in file.given) for word in words]) for told, words in (
-        ("given", sorted(file.given)), ("by itself, or by another word", others + bare), ("their heads", above)) if words]
+        ("given", sorted(file.given)), ("on its own, or by another word", others + bare), ("their heads", above)) if words]
 
 
 def content_of(file: File, content: bytes, as_text: bool) -> Content:

@@ -240,7 +240,7 @@ class Site:
         except Exception:
             # A mistake of these pages ends one of them, and not the session.
             write_line(sys.stderr, traceback.format_exc().rstrip("\n"), "\n")
-            told, status = "These pages have a mistake here, which standard error tells. Nothing else is touched by it.", 500
+            told, status = "These pages have a mistake here, which standard error shows. It affects nothing else.", 500
         given = self._given(request, body)
         meant = [given[name] for name in MEANT if given.get(name)]
         return Answer(status, HTML, self.pages.told(TITLES[status], told, self._back(given), meant).encode())

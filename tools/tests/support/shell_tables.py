@@ -31,14 +31,14 @@ SCRIPTS = (
     ("no line feed behind the last bytes", b"create y\nadd z 0", b"", ""),
     ("no line feed behind more of them", b"add z 2\nab", b"", ""),
     ("refusals are told, and the lines behind them are carried out", b"frob\nmkdri x\ncat\nls x\nls -c x\npwd\n", b"w /\n",
-     "shell: frob: there is no such command; `help` tells of all\nshell: mkdri: there is no such command; is it `mkdir`?\n"
-     "shell: cat: it is said so: cat NAME\nshell: ls: it is said so: ls [-c]\nshell: ls: it is said so: ls [-c]\n"),
+     "shell: frob: there is no such command; `help` lists all\nshell: mkdri: there is no such command; is it `mkdir`?\n"
+     "shell: cat: usage: cat NAME\nshell: ls: usage: ls [-c]\nshell: ls: usage: ls [-c]\n"),
     ("the end", b"exit x\nfind a b\nhelp a b\nhelp x\npwd\nexit\npwd\n", b"w /\n",
-     "shell: exit: it is said so: exit\nshell: find: it is said so: find [FORMULA]\nshell: help: it is said so: help [COMMAND]\n"
-     "shell: x: there is no such command; `help` tells of all\n"),
+     "shell: exit: usage: exit\nshell: find: usage: find [FORMULA]\nshell: help: usage: help [COMMAND]\n"
+     "shell: x: there is no such command; `help` lists all\n"),
     ("a byte that harms", b"cat \x1b[2J\n\x1b[2J\n", b"",
      "shell: ^[[2J: no name of a file, which has 1 to 60 letters, digits and _ - . + @\n"
-     "shell: ^[[2J: there is no such command; `help` tells of all\n"),
+     "shell: ^[[2J: there is no such command; `help` lists all\n"),
 )
 
 FORM = "1 to 60 letters, digits and _ - . + @"
@@ -50,7 +50,7 @@ ELSEWHERE = (10, "song: this file is not here, but elsewhere; all files are at `
 TOO_MANY = (18, "x: a file is given at most 16 words, those of the place counted")
 MORE_WORDS = "take some back, or take a larger image"
 MORE_AXIOMS = "the image has no room for another axiom: take one back, or take a larger image"
-BY_THEMSELVES = "files have such words by themselves, and nobody gives or declares them"
+BY_THEMSELVES = "files have such words on their own, and nobody gives or declares them"
 WORDS = [b"w%02d" % k for k in range(17)]
 MANY = b"".join(b"mkdir %b\n" % word for word in WORDS)
 FULL = b"".join(b"create f%02d\n" % k for k in range(64))
@@ -62,11 +62,11 @@ REFUSED = (
     (SMALL, b"add x a\n", (1, "a: no count of bytes")),
     (SMALL, b"add . 1\nx\n", (1, f".: no name of a file, which has {FORM}")),
     (SMALL, b"mkdir .a\n", (1, f".a: {NO_WORD}")),
-    (SMALL, b"rename x\n", (1, "rename: it is said so: rename NAME OTHER")),
+    (SMALL, b"rename x\n", (1, "rename: usage: rename NAME OTHER")),
     (SMALL, b"create x" + b" a:b" * 16 + b" a/b\n", (1, f"a/b: {NO_WORD}")),
     (SMALL, b"mkdir " + b"x" * 1_019 + b"\n", (2, "mkdir: the line has more than 1,024 bytes")),
     (SMALL, b"add x 5\nab", (3, "the input ends within the bytes of a file")),
-    (SMALL, b"add x 2\nabc\n", (4, "x: no line ends behind its 2 bytes, so that their count is wrong; the rest of that line is dropped")),
+    (SMALL, b"add x 2\nabc\n", (4, "x: no line ends after its 2 bytes, so their count is wrong; the rest of that line is dropped")),
     (SMALL, b"mkdir a\ncd a/\ncreate x\nmv x a//b\n", (5, f"a/: {NO_FORMULA}"), (5, f"a//b: {NO_FORMULA}")),
     (SMALL, b"mkdir a\nmkdir rock\ncd a/(!b|size>=7|c:d)/rocks\n", (6, "b, c:d, rocks: these words are not known")),
     (SMALL, b"cd from:a@b\n", (6, "from:a@b: no file has it")),
