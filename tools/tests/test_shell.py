@@ -491,7 +491,7 @@ def test_completion(program):
         listed = {word for word in known if word.startswith(b"from:")}
         rows = (
             (b"", [name.encode() + (b" " if COMMANDS[name].parts else b"") for name in COMMANDS]),
-            (b"pr", [b"props "]), (b"pw", [b"pwd"]), (b"  un", [b"unaxiom "]),
+            (b"pr", [b"props "]), (b"pw", [b"pwd"]), (b"  un", [b"unaxiom ", b"undo", b"untag "]),
             (b"xyz", []), (b"xyz a", []), (b"pwd a", []), (b"help rm", [b"rm", b"rmdir"]),
             (b"cd ", offered), (b"cd from:", listed), (b"cd /from:a", [b"/from:a@x"]), (b"cd old|!from:a", [b"old|!from:a@x"]),
             (b"cd !(old|from:b", [b"!(old|from:b@x"]),

@@ -86,13 +86,12 @@ def test_a_place_that_nothing_leads_back_to(program):
 
 def test_a_place_too_long(program):
     """No line leads back to it, so it is not left."""
-    words = [b"%02d" % number * 30 for number in range(16)]
-    make(limits=("64", "128", "8"), script=b"mkdir a\nmkdir b\n" + b"".join(b"mkdir %b\n" % word for word in words) + b"create x\n")
-    place = b"".join(b"cd !%b\n" % word for word in words) + b"cd !(a/(!a/(a/b)))|!a|a\ncd !b\ncd !b\n"
+    words = [b"%02d" % number * 30 for number in range(MAX_ASSIGNED)]
+    make(limits=("64", "128", "8"), script=b"".join(b"mkdir %b\n" % word for word in [*words, b"n" * 44]) + b"create x %b\n" % b" ".join(words))
     with within() as answer:
-        assert answer(place)[0] == 0 and len(answer.session.place) > 1_020, answer.session.place
+        assert answer(b"".join(b"cd %b\n" % word for word in [*words, b"!" + b"n" * 44]))[0] == 0 and len(answer.session.place) == 1_021
         before = answer.session.place
-        assert answer(b"tag x a\n") == (1, b"", "shell: tag: there is no way back to this place, which is too long for a line: `cd` elsewhere first\n")
+        assert answer(b"tag x %b\n" % (b"n" * 44)) == (1, b"", "shell: tag: there is no way back to this place, which is too long for a line: `cd` elsewhere first\n")
         assert answer(b"undo\npwd\n")[1] == b"w %b\n" % before, "the place stays"
 
 

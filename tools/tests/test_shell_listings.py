@@ -8,7 +8,7 @@ from lisfs.listings import groups_of, kind_of, within
 from support.images import make
 from support.shell_tables import FORM, NO_WORD, TAKEN
 from support.shells import shell
-from support.waiting import rest
+from support.waiting import children, rest
 
 MANY = TAKEN + b"mkdir size>=2\nmkdir tag:\nadd big 3 year:2003\nabc\n" + b"".join(
     b"create n%02d tag:%02d year:1999\n" % (number, number % 25) for number in range(30))
@@ -64,23 +64,27 @@ def test_a_pager(at_terminal):
         assert at.sees(b"paged:album\r\npaged:big\r\npaged:gig\r\npaged:n00\r\n") is not None, ("a long output", at.shown)
         at.sees(b"/> ")
         at.types(b"find music\n")
-        assert at.sees(b"\nalbum\r\ngig\r\nsingle\r\n") is not None, ("a short one", at.shown[-300:])
+        shown = at.sees(b"album\r\ngig\r\nsingle\r\n")
+        assert shown and b"paged" not in shown, ("a short one", at.shown[-300:])
         at.types(b"less big\n")
         assert at.sees(b"paged:abc\r\n") is not None, ("a file", at.shown[-300:])
         at.types(b"cat big\nless nosuch\n")
-        assert at.sees(b"\nabc\r\n") and at.sees(b"nosuch: there is no file of this name\r\n"), ("and no file", at.shown[-300:])
+        shown = at.sees(b"abc\r\n")
+        assert shown and b"paged" not in shown and at.sees(b"nosuch: there is no file of this name\r\n"), ("and no file", at.shown[-300:])
         at.types(b"exit\n")
         assert at.ends() == 0
     assert shell(b"find\nless big\n", env={**os.environ, **PAGED})[1].startswith(b"album\nbig\ngig\nn00\n"), "not in a script"
 
 
-@pytest.mark.parametrize("pager, wanted", (("cat", b"\nalbum\r\nbig\r\n"), ("", b"\nalbum\r\nbig\r\n"), ("nosuch-pager", b"\nalbum\r\nbig\r\n"),
-                                           ("head -n 1", b"\nalbum\r\n/> ")), ids=("cat", "none", "not there", "one that ends early"))
+@pytest.mark.parametrize("pager, wanted", (("cat", b"album\r\nbig\r\n"), ("", b"album\r\nbig\r\n"), ("nosuch-pager", b"album\r\nbig\r\n"),
+                                           ("head -n 1", b"album\r\n")), ids=("cat", "none", "not there", "one that ends early"))
 def test_another_pager(at_terminal, pager, wanted):
     make(limits=("64", "256", "64"), script=MANY)
     with at_terminal(PAGER=pager, NO_COLOR="1") as at:
         at.sees(b"/> ")
-        assert at.types(b"find\n").sees(wanted) is not None, ("all is shown", at.shown[-300:])
+        assert at.types(b"find\n").sees(wanted) is not None, ("what it shows", at.shown[-300:])
+        shown = at.sees(b"/> ")
+        assert shown and (b"single\r\n" in shown) == (pager != "head -n 1"), ("all of it, or as much as the pager wants", at.shown[-300:])
         at.types(b"pwd\nexit\n")
         assert at.sees(b"w /\r\n") and at.ends() == 0, "and it goes on"
 
@@ -91,13 +95,13 @@ def test_the_pager_that_is_there(at_terminal, needs):
     make(limits=("64", "256", "64"), script=MANY)
     with at_terminal() as at:
         at.sees(b"/\x1b[0m> ")
-        assert at.types(b"less big\n").sees(b"abc\r\n") is not None, ("what fits", at.shown[-300:])
-        at.sees(b"/\x1b[0m> ")
+        shown = at.types(b"less big\n").sees(b"/\x1b[0m> ")
+        assert shown and b"\rabc" in shown, ("what fits", at.shown[-300:])
         assert at.types(b"find\n").sees(b"\nn24") is not None, ("the first lines", at.shown[-300:])
-        rest(at.process)
-        at.types(b"\x03")
-        rest(at.process)
-        at.types(b"q").sees(b"/\x1b[0m> ")
+        for key in (b"\x03", b"q"):
+            rest(at.process, *children(at.process))
+            at.types(key)
+        assert at.sees(b"/\x1b[0m> ") is not None, ("the prompt again", at.shown[-300:])
         assert at.types(b"pwd\nexit\n").sees(b"w /\r\n") is not None, ("and it goes on", at.shown[-300:])
         assert at.ends() == 0
 
@@ -149,7 +153,7 @@ ABOUT = (
     ("create x live nosuch", "nosuch: this word"), ("add x 0 nosuch\n", "nosuch: this word"), ("mv gig live/nosuch", "nosuch: this word"),
     ("tag gig live nosuch", "nosuch: this word"), ("untag gig nosuch", "nosuch: this word"), ("tag nosuch in music", "nosuch: this word"),
     ("tag live in nosuch", "nosuch: this word"), ("axiom live nosuch", "nosuch: this word"), ("axiom nosuch live", "nosuch: this word"),
-    ("put file gig2 nosuch", "nosuch: this word"), ("cd " + "/".join(["music"] * 32) + "\ncd nosuch", "nosuch: this word"))
+    ("put file gig2 nosuch", "nosuch: this word"), ("cd " + "/".join(["music"] * 32) + "\ncd /nosuch", "nosuch: this word"))
 
 
 @pytest.mark.parametrize("line, wanted", ABOUT)

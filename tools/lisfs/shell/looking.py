@@ -10,7 +10,7 @@ from lisfs.shell.commands import COMMANDS, SOME
 from lisfs.shell.explaining import Failed, bad_line, sentence
 from lisfs.shell.session import Counted, NoWayBack, Session
 from lisfs.shell.terminal import WORD as WORD_COLOUR
-from lisfs.shell.terminal import Screen, in_columns
+from lisfs.shell.terminal import Screen, as_text, in_columns
 from lisfs.showing import harmless
 
 # So many characters of a line that was found are shown on a terminal.
@@ -109,7 +109,7 @@ class Looking:
         if len(given) != 1:
             raise Failed(bad_line("less", given, self.session))
         content = self.session.content(given[0])
-        if not self.screen.page(harmless(content, "\n\t"), always=True):
+        if not self.screen.page(as_text(content), always=True):
             self.screen.content(content)
 
 

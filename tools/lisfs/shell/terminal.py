@@ -42,6 +42,12 @@ def in_columns(texts: Sequence[str], width: int, painted: Callable[[str], str] =
     return lines
 
 
+def as_text(data: bytes) -> str:
+    """The bytes of a file as a terminal shows them: harmlessly, and so that a new line follows."""
+    text = harmless(data, "\n\t")
+    return text if text.endswith("\n") or not text else text + "\n"
+
+
 class Stopped(Exception):
     """Ctrl-C has come: the line is over."""
 
@@ -138,8 +144,7 @@ class Screen:
         if not self.is_terminal:
             self.put(data)
             return
-        text = harmless(data, "\n\t")
-        text += "" if text.endswith("\n") or not text else "\n"
+        text = as_text(data)
         for at in range(0, len(text), PIECE):
             self.put(text[at:at + PIECE].encode(self.encoding, "backslashreplace"))
 
