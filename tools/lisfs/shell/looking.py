@@ -97,9 +97,8 @@ class Looking:
             raise Failed(bad_line("grep", given, self.session))
         found: list[bytes] = []
         with elsewhere(self.session, "grep", given[1] if len(given) > 1 else None):
-            for file in self.session.files():
-                self.session.ask_stop()
-                found += matches(file.name, self.session.content(file.name), given[0], is_small)
+            for file, content in self.session.contents(self.session.files()):
+                found += matches(file.name, content, given[0], is_small)
         if self.screen.is_terminal:
             self.screen.many([shortened(harmless(line.removesuffix(b"\r"), "\t")) for line in found])
         else:

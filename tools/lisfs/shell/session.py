@@ -12,7 +12,7 @@ from collections.abc import Callable, Iterable, Iterator, KeysView, Sequence
 from typing import NamedTuple
 
 from lisfs import client
-from lisfs.client import GoOn, NotSent, Program, Refused, Reply, Retag, Retagged, words_of
+from lisfs.client import GoOn, NotSent, Program, Refused, Reply, Retag, Retagged, as_content, words_of
 from lisfs.constants import MAX_LINE, UNKNOWN_PROPERTY
 from lisfs.dumps import Axiom, Dump
 from lisfs.formulas import formula as read_formula
@@ -23,8 +23,8 @@ from lisfs.shell.undoing import UNDOABLE, Change, moving, tags_of, undoing
 from lisfs.words import head_of, is_plain, is_test
 
 ROOT = b"/"
-# So many commands are sent before the first reply is received.
-AHEAD = 128
+# So many commands are sent before the first reply is received, and so many bytes are asked for.
+AHEAD, AHEAD_BYTES = 128, 4_194_304
 # Commands that change nothing.
 LOOKS = (b"pwd", b"ls", b"cat", b"props", b"way", b"stat")
 
@@ -306,6 +306,20 @@ class Session:
     def files(self) -> list[File]:
         """The files of the place, in byte order."""
         return self.index.of(self.row())
+
+    def contents(self, files: Iterable[File]) -> Iterator[tuple[File, bytes]]:
+        """Files of the place with their bytes, many asked for at once."""
+        some: list[File] = []
+        for file in (*files, None):
+            if some and (file is None or len(some) == AHEAD or sum(one.size for one in some) > AHEAD_BYTES):
+                self.ask_stop()
+                for one in some:
+                    self.program.send(b"cat", one.name)
+                # All of them are received before anybody else can send something.
+                yield from zip(some, [as_content(self.program.receive()).body for _ in some])
+                some = []
+            if file:
+                some.append(file)
 
     def names_here(self, beginning: bytes = b"") -> list[bytes]:
         """The names of the files of the place that begin so."""
