@@ -116,6 +116,8 @@ GREPS = (
     ("a text with a blank", "grep 'hello again' /live", b"a.txt:3:hello again\n", ""), ("no file has it", "grep nosuch", b"", ""),
     ("a formula", "grep hello live/!size>=20", b"bytes: the text is in it, and it has a NUL byte\n", ""), ("a sign", "grep ..o", b"", ""),
     ("no formula", "grep hello live/", b"", "live/: no formula: words with `/` (and), `|` (or), `!` (not) and parentheses, without blanks"),
+    ("a formula of two words", "grep hello 'live music'", b"",
+     "live music: no formula: words with `/` (and), `|` (or), `!` (not) and parentheses, without blanks"),
     ("an unknown word", "grep hello nosuch", b"", "nosuch: this word is not known; `mkdir nosuch` declares it"),
     ("no text", "grep", b"", "grep: usage: grep [-i] TEXT [FORMULA]"), ("an empty text", "grep ''", b"", "grep: usage: grep [-i] TEXT [FORMULA]"),
     ("too many words", "grep a live b", b"", "b: one word too many: usage: grep [-i] TEXT [FORMULA]"),

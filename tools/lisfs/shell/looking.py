@@ -4,10 +4,11 @@ from __future__ import annotations
 import contextlib
 from collections.abc import Iterable, Iterator, Sequence
 
-from lisfs.client import Refused
+from lisfs.client import NotSent, Refused
 from lisfs.listings import TITLES, Count, groups_of, within
 from lisfs.shell.commands import COMMANDS, SOME
 from lisfs.shell.explaining import Failed, bad_line, sentence
+from lisfs.shell.explaining import formula as no_formula
 from lisfs.shell.session import Counted, NoWayBack, Session
 from lisfs.shell.terminal import WORD as WORD_COLOUR
 from lisfs.shell.terminal import Screen, as_text, in_columns
@@ -26,6 +27,9 @@ def elsewhere(session: Session, command: str, formula: bytes | None) -> Iterator
     except NoWayBack:
         raise Failed(f"{command}: there is no way back to this place, which is too long or has a word that nothing has any more: "
                      "say a formula that goes on from here, or `cd` elsewhere first") from None
+    except NotSent:
+        # It has a blank, or no bytes at all.
+        raise Failed(no_formula(command, [formula or b""], session)) from None
     except Refused as refused:
         raise Failed(sentence(refused, b"cd %b" % (formula or b"/"), session)) from None
 

@@ -76,7 +76,7 @@ class Shell:
             self.screen.many([self.looking.row(letter, harmless(text), has_words) for letter, text in reply.body])
 
     def tell_cut(self, words: Sequence[bytes], reply: Reply) -> None:
-        """Behind the words of a file, where it has as many as it can have: how many it would have, if that can be told."""
+        """After the words of a file that has as many as it can have, says so, and how many it would have if that is known."""
         if words[0] != b"props" or reply.kind is not LINES:
             return
         name, had = words[1], [text for _, text in reply.body]
@@ -99,7 +99,7 @@ class Shell:
 
     def help(self, _: bytes, given: list[bytes]) -> None:
         if not given:
-            self.screen.lines(all_in_lines())
+            self.screen.many(all_in_lines())
             return
         name = given[0].decode(errors="replace")
         if len(given) > 1 or name not in COMMANDS:
