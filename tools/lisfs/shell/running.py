@@ -47,12 +47,15 @@ class Shell:
             return
         try:
             self.run(line, words, payload)
-            self.tell_misses(words)
         except Refused as refused:
             self.tell_misses(words)
             raise Failed(sentence(refused, line, self.session)) from None
         except NotSent as error:
             raise Failed(f"{harmless(words[0])}: {error}") from None
+        except Failed:
+            self.tell_misses(words)
+            raise
+        self.tell_misses(words)
         self.interrupts.ask()
 
     def run(self, line: bytes, words: list[bytes], payload: bytes) -> None:
