@@ -503,6 +503,7 @@ def test_completion(program):
             (b"rmdir ol", [b"old"]), (b"axiom from:a", [b"from:a@x "]), (b"axiom w1 ol", [b"old"]), (b"mkdir ol", []),
             (b"ls ", offered), (b"ls -a w1", [b"w1", b"w10", b"w11"]), (b"grep x w1", [b"w1", b"w10", b"w11"]), (b"grep w1", []),
             (b"tag ot", [b"other.txt "]), (b"tag other.txt w1", [b"w1 ", b"w10 ", b"w11 "]), (b"untag w1 ot", [b"other.txt "]),
+            (b"tag old in w1|w1", [b"w1|w1", b"w1|w10", b"w1|w11"]),
             (b"put in", [b"in/"]), (b"put in/o", [b"in/on\\ two ", b"in/one.txt "]), (b"put in/.", [b"in/.hidden "]), (b"put nosuch/", []),
             (b"put in/one.txt ", [b"one.txt "]), (b"put -w in/one.txt o", [b"one.txt "]), (b"put in/one.txt x ol", [b"old "]),
             (b"get other.txt in/s", [b"in/sub\\ dir/"]),

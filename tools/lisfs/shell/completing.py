@@ -103,6 +103,8 @@ class Completer:
         if len(given) >= len(command.parts) and not command.repeats:
             return []
         part = command.parts[min(len(given), len(command.parts) - 1)]
+        if part is Part.FILE_OR_WORD and given[1:] == [b"in"]:
+            part = Part.FORMULA
         has_more = command.repeats or len(given) + 1 < len(command.parts)
         return self._of(part, piece, given, b" " if has_more else b"")
 
