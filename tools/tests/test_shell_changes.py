@@ -291,9 +291,9 @@ def test_a_library_by_words(program):
     """Many files of all kinds: what a place has is what the program says, after changes too."""
     make(limits=("128", "512", "256"), script=library(60))
     with within() as answer:
-        for line in (b"tag old in w1", b"untag w2 in /", b"axiom w3 old", b"unaxiom w2 w1", b"mkdir size>=9", b"untag w5 in !w1", b"undo", b"undo", b"undo"):
+        for line in (b"tag old in w1", b"untag w2 in /", b"axiom w0 old", b"unaxiom w2 w1", b"mkdir size>=9", b"untag w5 in !w1", b"undo", b"undo", b"undo"):
             assert answer(line + b"\n")[0] == 0, line
-            for place in (b"/old", b"/w1|w2", b"/!w3/size>=9", b"/year:/!from:"):
+            for place in (b"/old", b"/w1", b"/w1|w2", b"/!w3/size>=9", b"/year:/!from:"):
                 answer(b"cd %b\n" % place)
                 here = answer.session.names_here()
                 assert here == sorted(name for name in answer.session.names if answer.session.is_here(name)), (line, place)
