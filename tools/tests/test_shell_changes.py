@@ -298,3 +298,5 @@ def test_a_library_by_words(program):
                 here = answer.session.names_here()
                 assert here == sorted(name for name in answer.session.names if answer.session.is_here(name)), (line, place)
             answer(b"cd /\n")
+            if line == b"mkdir size>=9":
+                assert dict(answer.session.counted().words)[b"size>=9"] == answer(b"find size>=9\n")[1].count(b"\n") > 0, "a test that is declared"
