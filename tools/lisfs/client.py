@@ -30,6 +30,7 @@ tag, is of no room: it is refused, has no payload, and the line `@-` stands behi
 - A `Program` is for one thread at a time.
 - What speaks for somebody else, as a server does, cuts what it was given into commands (`Items`), and hands on bytes.
 - `view` and `put` run the words of these names, and hand out, or write, a whole view.
+- `tag` and `untag` give words to several files, or take them back, and `undo` undoes what these made.
 """
 from __future__ import annotations
 
@@ -44,10 +45,11 @@ import signal
 import subprocess
 import tempfile
 import threading
-from collections.abc import Collection, Iterator, Sequence
+from collections.abc import Callable, Collection, Iterable, Iterator, Mapping, Sequence
 from typing import IO, Literal, NamedTuple, TypeAlias, overload
 
 from lisfs.constants import MAX_DIGITS, MAX_LINE, MAX_PAYLOAD, ROOMS
+from lisfs.words import is_word
 
 # The checkout, if this module lies in one.
 CHECKOUT = os.path.dirname(os.path.dirname(os.path.dirname(os.path.abspath(__file__))))
@@ -570,6 +572,98 @@ class Room(Commands):
 
     def send(self, *words: bytes, payload: bytes | None = None) -> None:
         self._program.send(*words, payload=payload, room=self.number)
+
+
+# Words of several files.
+
+class Retag(NamedTuple):
+    """A change of the words that a file was given."""
+
+    name: bytes
+    gains: tuple[bytes, ...] = ()
+    loses: tuple[bytes, ...] = ()
+
+    def inverse(self) -> Retag:
+        return Retag(self.name, self.loses, self.gains)
+
+
+class Retagged(NamedTuple):
+    """The changes that were made, and those that were refused, each with its refusal."""
+
+    done: list[Retag]
+    refused: list[tuple[Retag, Refused]]
+
+
+# It is asked after each change whether to go on.
+GoOn: TypeAlias = Callable[[Retagged], bool]
+
+
+def always(_: Retagged) -> bool:
+    return True
+
+
+def tag(program: Commands, given: Mapping[bytes, Collection[bytes]], words: Iterable[bytes], go_on: GoOn = always) -> Retagged:
+    """Gives files words: `given` has of each file the words that it was given, and a file that has all of these is no change. It begins and
+    ends at the root."""
+    return retag(program, gains_of(given, words), go_on)
+
+
+def untag(program: Commands, given: Mapping[bytes, Collection[bytes]], words: Iterable[bytes], go_on: GoOn = always) -> Retagged:
+    """Takes words back from those of the files that were given them, in the same way. A file can still have such a word by another one."""
+    return retag(program, losses_of(given, words), go_on)
+
+
+def undo(program: Commands, done: Sequence[Retag], go_on: GoOn = always) -> Retagged:
+    """Undoes changes that were made, the last one first, if nothing else has changed these files since."""
+    return retag(program, [change.inverse() for change in reversed(done)], go_on)
+
+
+def gains_of(given: Mapping[bytes, Collection[bytes]], words: Iterable[bytes]) -> list[Retag]:
+    """The changes of `tag`."""
+    wanted = dict.fromkeys(words)
+    changes = [Retag(name, gains=tuple(word for word in wanted if word not in had)) for name, had in given.items()]
+    return [change for change in changes if change.gains]
+
+
+def losses_of(given: Mapping[bytes, Collection[bytes]], words: Iterable[bytes]) -> list[Retag]:
+    """The changes of `untag`."""
+    wanted = dict.fromkeys(words)
+    changes = [Retag(name, loses=tuple(word for word in wanted if word in had)) for name, had in given.items()]
+    return [change for change in changes if change.loses]
+
+
+def retag(program: Commands, changes: Iterable[Retag], go_on: GoOn = always) -> Retagged:
+    """Makes changes, each by one `mv` from the place of the words that the file loses, so that a stop leaves a file as it was before or as it
+    is after. It goes on after a refusal, as long as `go_on` says so."""
+    changes = [part for change in changes for part in parts_of(change)]
+    for word in (word for change in changes for word in change.gains + change.loses):
+        if not is_word(word):
+            raise NotSent(f"{word!r} is no word")
+    found, at = Retagged([], []), b"/"
+    try:
+        for change in changes:
+            try:
+                if (place := b"/" + b"/".join(change.loses)) != at:
+                    program.cd(place)
+                    at = place
+                program.mv(change.name, b"/" + b"/".join(change.gains))
+                found.done.append(change)
+            except Refused as refused:
+                found.refused.append((change, refused))
+            if not go_on(found):
+                break
+    finally:
+        if at != b"/":
+            program.cd(b"/")
+    return found
+
+
+def parts_of(change: Retag) -> list[Retag]:
+    """A change as it is, or as two if its line would be too long."""
+    half = len(change.gains) // 2
+    if len(b"mv  ") + len(change.name) + sum(len(word) + 1 for word in change.gains) <= ROOM_LINE:
+        return [change]
+    return [change._replace(gains=change.gains[:half]), Retag(change.name, gains=change.gains[half:])]
 
 
 def shown_by(command: Sequence[Word], data: bytes = b"") -> bytes:

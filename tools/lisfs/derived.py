@@ -6,11 +6,11 @@ a person can be told which search may miss it. What a file has is the program's 
 from __future__ import annotations
 
 import re
-from collections.abc import Iterable, Iterator, Sequence
+from collections.abc import Collection, Iterable, Iterator, Sequence
 from typing import Literal, TypeAlias
 
-from lisfs.constants import BUILT_IN_HEADS, MAX_DERIVED, MAX_WORD, MEDIUM_FILE, SMALL_FILE
-from lisfs.words import PLAIN_BYTES, PLAIN_RUN, head_of, is_head
+from lisfs.constants import BUILT_IN_HEADS, MAX_ASSIGNED, MAX_DERIVED, MAX_DESCRIPTION, MAX_WORD, MEDIUM_FILE, SMALL_FILE
+from lisfs.words import PLAIN_BYTES, PLAIN_RUN, head_of, is_built_in, is_head
 
 # So many bytes are looked at here for more words than a file has, so that no file takes long: what is told is the least.
 LOOKED = 131_072
@@ -74,6 +74,31 @@ def told_of_misses(words: Iterable[bytes], described: Iterable[tuple[bytes, Iter
         return None
     files = "1 file has" if count == 1 else f"{count:,} files have"
     return f"{files} the most words that a file has on its own, {MAX_DERIVED}, and may say more: a search by {missing[0].decode()} can miss such a file"
+
+
+def has_no_room(given: Collection[bytes], words: Collection[bytes]) -> bool:
+    """Whether a file that was given these words, and has those, can be given no more, or hardly: a value brings its head too."""
+    return len(given) >= MAX_ASSIGNED or len(words) > MAX_DESCRIPTION - 2
+
+
+def told_of_no_room(given: Collection[bytes], words: Collection[bytes]) -> str | None:
+    """How many words such a file has, since others may have been left out when it was read from a folder, or None."""
+    if not has_no_room(given, words):
+        return None
+    count = f"{MAX_ASSIGNED} words that it was given, the most" if len(given) >= MAX_ASSIGNED else f"{len(words)} words in all, of at most {MAX_DESCRIPTION}"
+    return f"{count}: if one was left out, a search for it misses the file"
+
+
+def told_of_left_out(words: Iterable[bytes], files: Iterable[tuple[Collection[bytes], Collection[bytes]]]) -> str | None:
+    """What is to be told of a search by words that files are given: the files are pairs of the words that they were given and of all words."""
+    wanted = {word for word in words if not is_built_in(word)}
+    found = [(given, had) for given, had in files if has_no_room(given, had)] if wanted else []
+    missing = sorted(word for word in wanted if any(word not in given and word not in had for given, had in found))
+    if not missing:
+        return None
+    count = sum(missing[0] not in given and missing[0] not in had for given, had in found)
+    return (f"{'1 file has' if count == 1 else f'{count:,} files have'} the most words that a file can have, {MAX_ASSIGNED} given ones or "
+            f"{MAX_DESCRIPTION} in all: if {missing[0].decode()} was left out, a search by it misses such a file")
 
 
 def suffix_of(name: bytes) -> bytes | None:

@@ -22,7 +22,7 @@ from lisfs.shell.completing import Completer
 from lisfs.shell.explaining import SENTENCES
 from lisfs.shell.session import Session
 from support.images import bytes_of, content, make, session, written
-from support.shell_tables import FORM, PLACES, REFUSED, SCRIPTS, TAKEN, library
+from support.shell_tables import FORM, NO_WORD, PLACES, REFUSED, SCRIPTS, TAKEN, library
 from support.shells import SHELL, Kept, shell, within
 from support.waiting import LONG
 
@@ -219,7 +219,7 @@ def test_files(image):
         ("no words", "put\nput -w\nget\nget a b c\n", "",
          "put: usage: put [-w] FILE [AS] [WORD..]\n" * 2 + "get: usage: get NAME [FILE]\n" * 2),
         ("a word that is none", "put rest r q\nput rest r 'a b'\n", "",
-         "q: this word is not known; `mkdir q` declares it\nput: b'a b' is not one word of a line\n"),
+         f"q: this word is not known; `mkdir q` declares it\na b: {NO_WORD}\n"),
         ("it is here already", "put folder/plain.txt rest\ncat rest\n", "x\n" * 9,
          "rest: there is a file of this name already; `put -w` writes to it\n"),
         ("and is written to", "put -w folder/plain.txt rest b:2\ncat rest\ncd b:1\nfind size<6\n",
@@ -491,7 +491,7 @@ def test_completion(program):
         listed = {word for word in known if word.startswith(b"from:")}
         rows = (
             (b"", [name.encode() + (b" " if COMMANDS[name].parts else b"") for name in COMMANDS]),
-            (b"pr", [b"props "]), (b"pw", [b"pwd"]), (b"  un", [b"unaxiom "]),
+            (b"pr", [b"props "]), (b"pw", [b"pwd"]), (b"  un", [b"unaxiom ", b"undo", b"untag "]),
             (b"xyz", []), (b"xyz a", []), (b"pwd a", []), (b"help rm", [b"rm", b"rmdir"]),
             (b"cd ", offered), (b"cd from:", listed), (b"cd /from:a", [b"/from:a@x"]), (b"cd old|!from:a", [b"old|!from:a@x"]),
             (b"cd !(old|from:b", [b"!(old|from:b@x"]),
@@ -501,6 +501,9 @@ def test_completion(program):
             (b"create x w1", [b"w1 ", b"w10 ", b"w11 "]), (b"create x from:", []),
             (b"create x w1 year:199", [b"year:%d " % year for year in range(1990, 1996)]),
             (b"rmdir ol", [b"old"]), (b"axiom from:a", [b"from:a@x "]), (b"axiom w1 ol", [b"old"]), (b"mkdir ol", []),
+            (b"ls ", offered), (b"ls -a w1", [b"w1", b"w10", b"w11"]), (b"grep x w1", [b"w1", b"w10", b"w11"]), (b"grep w1", []),
+            (b"tag ot", [b"other.txt "]), (b"tag other.txt w1", [b"w1 ", b"w10 ", b"w11 "]), (b"untag w1 ot", [b"other.txt "]),
+            (b"tag old in w1|w1", [b"w1|w1", b"w1|w10", b"w1|w11"]),
             (b"put in", [b"in/"]), (b"put in/o", [b"in/on\\ two ", b"in/one.txt "]), (b"put in/.", [b"in/.hidden "]), (b"put nosuch/", []),
             (b"put in/one.txt ", [b"one.txt "]), (b"put -w in/one.txt o", [b"one.txt "]), (b"put in/one.txt x ol", [b"old "]),
             (b"get other.txt in/s", [b"in/sub\\ dir/"]),

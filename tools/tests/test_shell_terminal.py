@@ -26,7 +26,7 @@ def test_terminals(at_terminal):
         assert at.sees(place + b"/\x1b[0m> ") is not None, ("the place in the prompt", at.shown)
         at.types(b"cd music\n")
         assert at.sees(b"/music\x1b[0m> ") is not None, ("the new place", at.shown)
-        assert at.types(b"ls\n").sees(b"d " + word + b"live\x1b[0m\r\n") is not None, ("coloured words", at.shown)
+        assert at.types(b"ls\n").sees(b"\n  " + word + b"live\x1b[0m 1\r\n") is not None, ("coloured words", at.shown)
         at.types(b"frob\n")
         assert at.sees(fault + b"frob: there is no such command; `help` lists all\x1b[0m\r\n") is not None, ("a coloured refusal", at.shown)
         at.types(b"cd /\ncat raw\n")
@@ -61,7 +61,7 @@ def test_no_colours(at_terminal, more):
         at.sees(b"/> ")
         at.types(b"ls\nfrob\nexit\n")
         assert at.ends() == 0, "the end"
-        assert b"\x1b[1;" not in at.shown and b"\x1b[31m" not in at.shown and b"d live\r\n" in at.shown, ("no colours", at.shown)
+        assert b"\x1b[1;" not in at.shown and b"\x1b[31m" not in at.shown and b"  music 3  live 1\r\n" in at.shown, ("no colours", at.shown)
 
 
 def test_stops(at_terminal):

@@ -2,9 +2,10 @@
 
 usage: tools/shell IMAGE
 
-`help` lists the commands: those of `lisfs run`, and `put` and `get`, which copy files in and out, `find`, and `ls -c`, which counts. Ctrl-C
-stops a line, and Ctrl-D ends the prompt. The lines that you type are kept in `$XDG_STATE_HOME/lisfs/shell_history`, or below
-`~/.local/state`. If `$NO_COLOR` is set there are no colours.
+`help` lists the commands: those of `lisfs run`, and `put` and `get`, which copy files in and out, `tag` and `untag`, which change the words of
+several files, `undo`, `find`, `grep` and `less`. `ls` lists other places too, and counts. Ctrl-C stops a line, and `quit` or Ctrl-D ends the
+prompt. What is longer than the terminal is shown by `$PAGER`, or `less`; an empty `$PAGER`, or `cat`, turns this off. The lines that you
+type are kept in `$XDG_STATE_HOME/lisfs/shell_history`, or below `~/.local/state`. If `$NO_COLOR` is set there are no colours.
 
 If standard input or output is not a terminal, the lines of the input run without a prompt, with bytes after `add` and `write` lines as
 `lisfs run` takes them. Standard error says what is refused, and the lines after it still run.

@@ -1,5 +1,6 @@
 """The commands: how each is said, what it does, and where it is refused. `help` tells it."""
 import enum
+import re
 import textwrap
 from typing import NamedTuple
 
@@ -8,11 +9,15 @@ from lisfs.constants import (
     NO_AXIOM_ROOM, NO_FILE_HERE, NO_FILE_ROOM, NO_PROPERTY_ROOM, NO_SPACE, NOT_A_PLACE, NOT_ASSIGNABLE, NOT_DECLARED, TOO_MANY_ASSIGNED,
     UNKNOWN_PROPERTY)
 from lisfs.refusals import meaning
+from lisfs.shell.undoing import UNDOABLE
+
+# So many words of a head a listing shows on a terminal, and so many files are changed at once before somebody is asked.
+SOME, ASKED = 20, 20
 
 
 class Part(enum.Enum):
-    """What a word of a line is: a word that is new, declared or known, or that a file can be given; a file that is new, or here; a formula; a
-    count of bytes; a path of the system; a command."""
+    """What a word of a line is: a word that is new, declared or known, or that a file can be given; a file that is new, or here, or such a
+    file or word; a formula; a count of bytes; a path of the system; any text; a command."""
 
     NEW_WORD = "new word"
     DECLARED = "declared"
@@ -20,9 +25,11 @@ class Part(enum.Enum):
     GIVEN = "given"
     NEW_FILE = "new file"
     FILE = "file"
+    FILE_OR_WORD = "file or word"
     FORMULA = "formula"
     COUNT = "count"
     PATH = "path"
+    TEXT = "text"
     COMMAND = "command"
 
 
@@ -43,6 +50,11 @@ class Command(NamedTuple):
     repeats: bool
     refusals: tuple[int, ...]
 
+    @property
+    def flags(self) -> list[bytes]:
+        """What may stand before the parts."""
+        return [flag.encode() for flag in re.findall(r"\[(-\w)\]", self.form)]
+
 
 def command(form: str, does: str, *parts: Part, needed: int | None = None, repeats: bool = False, refusals: tuple[int, ...] = (),
             more: str = "") -> Command:
@@ -50,20 +62,32 @@ def command(form: str, does: str, *parts: Part, needed: int | None = None, repea
 
 
 CREATES = (NAME_TAKEN, NOT_A_PLACE, BUILT_IN, NOT_ASSIGNABLE, UNKNOWN_PROPERTY, TOO_MANY_ASSIGNED, NO_FILE_ROOM, LARGE_DESCRIPTION, NO_PROPERTY_ROOM)
+TAGS = (NO_FILE_HERE, BUILT_IN, NOT_ASSIGNABLE, UNKNOWN_PROPERTY, TOO_MANY_ASSIGNED, LARGE_DESCRIPTION, NO_PROPERTY_ROOM)
+RULE = "What is the name of a file of this place is a file, and anything else is a word, in any order. "
+# Where a formula leads nowhere.
+LEADS = (BAD_FORMULA, LARGE_FORMULA, UNKNOWN_PROPERTY)
 COMMANDS = {
-    "ls": command("ls [-c]", "lists words that narrow the place, and other files",
-                  more="`d` marks a word, and `f` a file that no word covers. With -c a count stands before each word: that many files "
-                       "are left after `cd WORD`."),
-    "cd": command("cd FORMULA", "goes to a place", Part.FORMULA, refusals=(BAD_FORMULA, LARGE_FORMULA, UNKNOWN_PROPERTY),
+    "ls": command("ls [-a] [-c] [PLACE]", "lists words that narrow the place, and other files", Part.FORMULA, needed=0,
+                  more="On a terminal the words stand by their heads, the most frequent first, each with the number of files that are left after "
+                       f"`cd WORD`; of more than {SOME} words of a head only -a shows all. In a script, and with -c, each has a line: `d` marks a word, "
+                       "and `f` a file that no word covers; -c puts the number before the word. PLACE is a formula as in `cd`; you stay where "
+                       "you are."),
+    "cd": command("cd FORMULA", "goes to a place", Part.FORMULA, refusals=LEADS,
                   more="`/` is and, `|` is or, `!` is not, `size>=N` and `size<N` test the bytes. A formula that begins with `/` starts at the root, "
                        "any other goes on from here; `..` drops the last step."),
     "pwd": command("pwd", "shows the place"),
     "find": command("find [FORMULA]", "shows all files of a place, one a line", Part.FORMULA, needed=0,
-                    refusals=(BAD_FORMULA, LARGE_FORMULA, UNKNOWN_PROPERTY),
-                    more="The formula is written as in `cd`. Without one it is this place. You stay where you are."),
+                    refusals=LEADS, more="The formula is written as in `cd`. Without one it is this place. You stay where you are."),
+    "grep": command("grep [-i] TEXT [FORMULA]", "shows lines of files that have a text", Part.TEXT, Part.FORMULA, needed=1, refusals=LEADS,
+                    more="Each is shown as NAME:NUMBER:LINE, of all files of the place to which the formula leads. The text stands for itself, "
+                         "and may be in quotes; -i takes small and large letters as the same. Of a file with a NUL byte it shows only that the "
+                         "text is there."),
     "cat": command("cat NAME", "shows the bytes of a file", Part.FILE, refusals=(NO_FILE_HERE,),
                    more="On a terminal, what is no text is shown as `^X`, `\\xNN` or `\\uNNNN`."),
-    "props": command("props NAME", "shows all words that a file has", Part.FILE, refusals=(NO_FILE_HERE,)),
+    "less": command("less NAME", "shows the bytes of a file by a pager", Part.FILE, refusals=(NO_FILE_HERE,),
+                    more="The pager is $PAGER, or `less`. In a script it is as `cat`."),
+    "props": command("props NAME", "shows all words that a file has", Part.FILE, refusals=(NO_FILE_HERE,),
+                     more="After the words of a file that has as many as it can have, a line says so: others were perhaps left out."),
     "way": command("way NAME", "shows the words of listings that lead to a file", Part.FILE, refusals=(NO_FILE_HERE,)),
     "stat": command("stat", "counts files, words, axioms and free blocks", more="A block has 4,096 bytes."),
     "put": command("put [-w] FILE [AS] [WORD..]", "takes a file of the system in", Part.PATH, Part.NEW_FILE, Part.GIVEN,
@@ -86,7 +110,14 @@ COMMANDS = {
     "mv": command("mv NAME FORMULA", "takes a file from here to another place", Part.FILE, Part.FORMULA,
                   refusals=(BAD_FORMULA, LARGE_FORMULA, NO_FILE_HERE, NOT_A_PLACE, BUILT_IN, NOT_ASSIGNABLE, UNKNOWN_PROPERTY, TOO_MANY_ASSIGNED,
                             LARGE_DESCRIPTION, NO_PROPERTY_ROOM),
-                  more="It loses the words of this place that it was given, and gains those of the other."),
+                  more="It loses the words of this place that it was given, and gains those of the other. On a terminal it shows which these are, "
+                       "and asks."),
+    "tag": command("tag FILE.. WORD..", "gives words to files", Part.FILE_OR_WORD, Part.FILE_OR_WORD, repeats=True, refusals=TAGS,
+                   more=RULE + "`tag WORD in FORMULA` gives it to all files of a place. On a terminal it asks before it changes more than "
+                   f"{ASKED} files."),
+    "untag": command("untag FILE.. WORD..", "takes words back from files", Part.FILE_OR_WORD, Part.FILE_OR_WORD, repeats=True, refusals=TAGS,
+                     more=RULE + "`untag WORD in FORMULA` takes it from all files of a place. A file that has a word on its own, or by another word, "
+                     "keeps it."),
     "rm": command("rm NAME", "removes a file", Part.FILE, refusals=(NO_FILE_HERE,)),
     "mkdir": command("mkdir WORD", "declares a word, under the words of the place", Part.NEW_WORD,
                      refusals=(BUILT_IN, NOT_ASSIGNABLE, ALREADY_DECLARED, NOT_A_PLACE, UNKNOWN_PROPERTY, NO_AXIOM_ROOM, NO_PROPERTY_ROOM,
@@ -97,11 +128,14 @@ COMMANDS = {
     "axiom": command("axiom LEFT RIGHT", "says that each file with LEFT has RIGHT too", Part.KNOWN, Part.DECLARED,
                      refusals=(NOT_ASSIGNABLE, UNKNOWN_PROPERTY, AXIOM_THERE, CYCLE, NO_AXIOM_ROOM, NO_PROPERTY_ROOM, LARGE_DESCRIPTION)),
     "unaxiom": command("unaxiom LEFT RIGHT", "removes that axiom", Part.KNOWN, Part.DECLARED, refusals=(NO_AXIOM,)),
+    "undo": command("undo", "undoes the last change",
+                    more=f"Each further `undo` undoes the change before it. The last {UNDOABLE} changes of this shell are kept. There is no redo."),
     "help": command("help [COMMAND]", "explains all commands, or one", Part.COMMAND, needed=0),
     "exit": command("exit", "ends, as Ctrl-D does"),
+    "quit": command("quit", "ends, as Ctrl-D does"),
 }
 # Those that the program does not know.
-OWN = ("find", "put", "get", "help", "exit")
+OWN = ("find", "grep", "less", "put", "get", "tag", "untag", "undo", "help", "exit", "quit")
 
 
 def all_in_lines() -> list[str]:

@@ -1,14 +1,13 @@
 """What Tab makes of a line: commands, the words that the place offers and others that are known, files of the place, and paths of the system."""
 import os
 import re
-import shutil
 from collections.abc import Iterable, Sequence
 from typing import NamedTuple
 
 from lisfs.client import Ended, NotAReply, NotSent
 from lisfs.shell.commands import COMMANDS, Part
 from lisfs.shell.session import Session
-from lisfs.shell.terminal import HAS_READLINE, Screen, Stopped
+from lisfs.shell.terminal import HAS_READLINE, Screen, Stopped, in_columns
 from lisfs.showing import harmless
 from lisfs.words import is_file_name
 
@@ -28,13 +27,6 @@ class Piece(NamedTuple):
 
     at: int
     text: bytes
-
-
-def in_columns(texts: Sequence[str], width: int) -> list[str]:
-    """Lines of texts, in order from above to below."""
-    columns = max(1, shutil.get_terminal_size().columns // width)
-    rows = -(-len(texts) // columns)
-    return ["".join(f"{text:{width}}" for text in texts[row::rows]).rstrip() for row in range(rows)]
 
 
 def unescaped(piece: bytes) -> bytes:
@@ -106,11 +98,13 @@ class Completer:
         given = [one for _, one in before[1:]]
         if command is None or not command.parts:
             return []
-        if given[:1] == [b"-w"]:
+        while given[:1] and given[0] in command.flags:
             given = given[1:]
         if len(given) >= len(command.parts) and not command.repeats:
             return []
         part = command.parts[min(len(given), len(command.parts) - 1)]
+        if part is Part.FILE_OR_WORD and given[1:] == [b"in"]:
+            part = Part.FORMULA
         has_more = command.repeats or len(given) + 1 < len(command.parts)
         return self._of(part, piece, given, b" " if has_more else b"")
 
@@ -123,15 +117,20 @@ class Completer:
             return [name + behind for name in self.session.names_here(piece)]
         if part is Part.COMMAND:
             return [name.encode() for name in COMMANDS]
+        if part is Part.FILE_OR_WORD:
+            return [name + b" " for name in self.session.names_here(piece)] + self._given(piece)
         if part is Part.NEW_FILE:
             # That of the file that is taken in.
             name = os.path.basename(unescaped(given[0])) if given else b""
             return [name + behind] if is_file_name(name) else []
         if part is Part.GIVEN:
-            return [word + b" " for word in self._words(piece) if self.session.is_assignable(word)]
+            return self._given(piece)
         if part is Part.KNOWN:
             return [word + behind for word in self._words(piece)]
         return [word + behind for word in self.session.declared] if part is Part.DECLARED else []
+
+    def _given(self, stem: bytes) -> list[bytes]:
+        return [word + b" " for word in self._words(stem) if self.session.is_assignable(word)]
 
     def _words(self, stem: bytes, formula: bytes = b"") -> Iterable[bytes]:
         """The words that a place offers, and with some of its letters any word that is known."""

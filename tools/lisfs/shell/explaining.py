@@ -18,6 +18,10 @@ from lisfs.showing import harmless
 from lisfs.words import NAME_FORM, head_of, is_built_in, is_file_name, is_head, is_plain, is_test, is_word
 
 
+class Failed(Exception):
+    """What is wrong with a line, in a sentence."""
+
+
 # The words behind a command.
 Words: TypeAlias = list[bytes]
 # A sentence for a command, its words and the session.
@@ -49,7 +53,9 @@ def bad_line(command: str, given: Words, _: object) -> str:
         near = meant(command.encode(), [name.encode() for name in COMMANDS])
         return f"{harmless(command.encode())}: there is no such command{near or '; `help` lists all'}"
     form, parts = COMMANDS[command], COMMANDS[command].parts
-    if len(given) >= form.needed and (form.repeats or len(given) <= len(parts)):
+    if len(given) > len(parts) and not form.repeats:
+        return f"{harmless(given[len(parts)])}: one word too many: usage: {form.form}"
+    if len(given) >= form.needed:
         for word, part in zip(given, parts + parts[-1:] * len(given)):
             if part in FILES and not is_file_name(word):
                 return f"{harmless(word)}: no name of a file, which has {NAME_FORM}"

@@ -1,5 +1,4 @@
 """Carries out the lines of somebody at a terminal, or of a script: those of the program, and those that the shell has of its own."""
-import collections
 import contextlib
 import os
 import shlex
@@ -14,17 +13,15 @@ from lisfs.client import CONTENT, LINES, Item, Items, NotSent, Refused, Reply, w
 from lisfs.constants import MAX_LINE, MAX_PAYLOAD
 from lisfs.formulas import words_in
 from lisfs.shell.commands import COMMANDS, all_in_lines, told
-from lisfs.shell.explaining import bad_line, sentence
-from lisfs.shell.session import NoWayBack, Session
-from lisfs.shell.terminal import INPUT, WORD as WORD_COLOUR, History, Interrupts, Screen, Stopped
+from lisfs.shell.explaining import Failed, bad_line, sentence
+from lisfs.shell.looking import Looking
+from lisfs.shell.session import Session
+from lisfs.shell.tagging import Tagging
+from lisfs.shell.terminal import INPUT, History, Interrupts, Screen, Stopped
 from lisfs.showing import harmless
-from lisfs.words import NAME_FORM, head_of, is_file_name
+from lisfs.words import NAME_FORM, head_of, is_file_name, is_word
 
 PIECE = 65_536
-
-
-class Failed(Exception):
-    """What is amiss with a line, in a sentence."""
 
 
 class Over(Exception):
@@ -34,8 +31,12 @@ class Over(Exception):
 class Shell:
     def __init__(self, session: Session, screen: Screen) -> None:
         self.session, self.screen, self.interrupts, self.has_told_misses = session, screen, screen.interrupts, False
+        self.looking, self.tagging = Looking(session, screen), Tagging(session, screen)
         self.own: dict[bytes, Callable[[bytes, list[bytes]], None]] = {
-            b"find": self.find, b"put": self.put, b"get": self.get, b"help": self.help, b"exit": self.exit}
+            b"put": self.put, b"get": self.get, b"help": self.help, b"exit": self.exit, b"quit": self.exit,
+            b"find": lambda _, given: self.looking.find(given), b"grep": lambda line, _: self.looking.grep(self.in_quotes(line)),
+            b"less": lambda _, given: self.looking.less(given), b"tag": self.tagging.tag, b"untag": self.tagging.untag,
+            b"undo": lambda _, given: self.tagging.undo(given)}
 
     # Lines.
 
@@ -45,92 +46,72 @@ class Shell:
         if not words:
             return
         try:
-            if words == [b"ls", b"-c"]:
-                self.counts()
-            elif words[0] in self.own and len(line) <= MAX_LINE:
-                self.own[words[0]](line, words[1:])
-            else:
-                reply = self.session.carry_out(line, payload)
-                self.show(words[0], reply)
-                self.tell_cut(words, reply)
-            self.tell_misses(words)
+            self.run(line, words, payload)
         except Refused as refused:
             self.tell_misses(words)
             raise Failed(sentence(refused, line, self.session)) from None
         except NotSent as error:
             raise Failed(f"{harmless(words[0])}: {error}") from None
+        except Failed:
+            self.tell_misses(words)
+            raise
+        self.tell_misses(words)
         self.interrupts.ask()
+
+    def run(self, line: bytes, words: list[bytes], payload: bytes) -> None:
+        is_short = len(line) <= MAX_LINE
+        if words[0] == b"ls" and is_short and (len(words) > 1 or self.screen.asks):
+            self.looking.ls(words[1:])
+        elif words[0] in self.own and is_short:
+            self.own[words[0]](line, words[1:])
+        else:
+            if words[0] == b"mv" and is_short:
+                self.tagging.asks_to_move(words[1:])
+            reply = self.session.carry_out(line, payload)
+            self.show(words[0], reply)
+            self.tell_cut(words, reply)
 
     def show(self, command: bytes, reply: Reply) -> None:
         if reply.kind is CONTENT:
             self.screen.content(reply.body)
         else:
             has_words = command in (b"ls", b"way")
-            self.in_pieces([self.row(letter, harmless(text), has_words) for letter, text in reply.body])
-
-    def note(self, line: str) -> None:
-        """Something beside what was asked. Of a script it is told on standard error, so that its output is that of the program."""
-        if self.screen.asks:
-            self.screen.lines([line])
-        else:
-            self.screen.fault(f"shell: {line}")
+            self.screen.many([self.looking.row(letter, harmless(text), has_words) for letter, text in reply.body])
 
     def tell_cut(self, words: Sequence[bytes], reply: Reply) -> None:
-        """Behind the words of a file, how many it would have, where the program keeps no more of them."""
-        if words[0] == b"props" and reply.kind is LINES and derived.is_full(text for _, text in reply.body):
-            if told := derived.told_of_cut(words[1], self.session.content(words[1])):
-                self.note(f"{harmless(words[1])}: {told}")
+        """After the words of a file that has as many as it can have, says so, and how many it would have if that is known."""
+        if words[0] != b"props" or reply.kind is not LINES:
+            return
+        name, had = words[1], [text for _, text in reply.body]
+        cut = derived.told_of_cut(name, self.session.content(name)) if derived.is_full(had) else None
+        for limit in filter(None, (cut, derived.told_of_no_room(self.session.index.files[name].given, had))):
+            self.screen.note(f"{harmless(name)}: {limit}")
 
     def tell_misses(self, words: Sequence[bytes]) -> None:
         """Once, that a search can miss a file whose words are cut, also where it finds none."""
-        formula = words_in(words[1]) if words[0] in (b"cd", b"find") and len(words) == 2 else []
-        # Only such a word makes it worth to look at all files.
-        if self.has_told_misses or not any(head_of(word) in derived.HEADS for word in formula):
-            return
-        if told := derived.told_of_misses(formula, self.session.described()):
+        searched = words_in(formula_of(words)) if not self.has_told_misses else []
+        # Only a word that bytes give makes it worth to look at all files.
+        files = self.session.described() if any(head_of(word) in derived.HEADS for word in searched) else self.session.index.files.values()
+        cut = derived.told_of_misses(searched, ((file.name, file.words) for file in files))
+        left_out = derived.told_of_left_out(filter(self.session.is_assignable, searched), ((file.given, file.words) for file in files))
+        for limit in filter(None, (cut, left_out)):
             self.has_told_misses = True
-            self.note(told)
-
-    def row(self, letter: bytes, text: str, is_word: bool, before: str = "") -> str:
-        return f"{letter.decode()} {before}{self.screen.coloured(text, WORD_COLOUR) if is_word and letter == b'd' else text}"
-
-    def in_pieces(self, lines: list[str]) -> None:
-        """Many lines, a screen or two at a time, so that Ctrl-C ends them."""
-        for at in range(0, len(lines), 100):
-            self.screen.lines(lines[at:at + 100])
+            self.screen.note(limit)
 
     # The shell's own commands.
 
-    def counts(self) -> None:
-        words, files = self.session.listing()
-        count = collections.Counter(word for _, had in self.session.files() for word in had)
-        width = max((len(str(count[word])) for word in words), default=0)
-        self.in_pieces([self.row(b"d", harmless(word), True, f"{count[word]:>{width}} ") for word in words]
-                       + [self.row(b"f", harmless(name), False, " " * (width + 1) if words else "") for name in files])
-
-    def find(self, _: bytes, given: list[bytes]) -> None:
-        if len(given) > 1:
-            raise Failed(bad_line("find", given, self.session))
-        try:
-            with self.session.away(given[0]) if given else contextlib.nullcontext():
-                names = [name for name, _ in self.session.files()]
-        except NoWayBack:
-            raise Failed("find: there is no way back to this place, which is too long or has a word that nothing has any more: "
-                         "say a formula that goes on from here, or `cd` elsewhere first") from None
-        self.in_pieces([harmless(name) for name in names])
-
     def help(self, _: bytes, given: list[bytes]) -> None:
         if not given:
-            self.screen.lines(all_in_lines())
+            self.screen.many(all_in_lines())
             return
         name = given[0].decode(errors="replace")
         if len(given) > 1 or name not in COMMANDS:
             raise Failed(bad_line("help" if len(given) > 1 else name, given, self.session))
         self.screen.lines(told(name))
 
-    def exit(self, _: bytes, given: list[bytes]) -> None:
+    def exit(self, line: bytes, given: list[bytes]) -> None:
         if given:
-            raise Failed(bad_line("exit", given, self.session))
+            raise Failed(bad_line(words_of(line)[0].decode(), given, self.session))
         raise Over
 
     def put(self, line: bytes, _: list[bytes]) -> None:
@@ -140,14 +121,16 @@ class Shell:
         name, words = words[0] if words else os.path.basename(path.rstrip(b"/")), words[1:]
         if not is_file_name(name):
             raise Failed(f"{harmless(name)}: no name of a file, which has {NAME_FORM}: give one after the path: put FILE AS")
+        if wrong := [word for word in words if not is_word(word)]:
+            raise Failed(bad_line("create", [name, *wrong], self.session))
         content, told = self.content_of(path), ""
         if self.session.is_here(name):
             if not is_sure and not self.screen.says_yes(f"{harmless(name)} is here already, with its words: write these bytes to it?"):
                 raise Failed(f"{harmless(name)}: there is a file of this name already" + ("" if self.screen.asks else "; `put -w` writes to it"))
-            self.judged(b"write", name, content, [], lambda: self.session.write(name, content))
+            self.judged(b"write", name, content, [], lambda: self.session.write(line, name, content))
             told = "; its words stay as they were" if words else ""
         else:
-            self.judged(b"add", name, content, words, lambda: self.session.add(name, content, *words))
+            self.judged(b"add", name, content, words, lambda: self.session.add(line, name, content, *words))
         self.screen.lines([f"{harmless(name)}: {len(content):,} bytes{told}"])
 
     def judged(self, command: bytes, name: bytes, content: bytes, words: Sequence[bytes], call: Callable[[], None]) -> None:
@@ -231,8 +214,20 @@ class Shell:
         raise Failed(f"{name}: usage: {COMMANDS[name].form}")
 
 
+def formula_of(words: Sequence[bytes]) -> bytes:
+    """The formula of a line that searches, or none."""
+    command, *given = words
+    if command in (b"tag", b"untag"):
+        return given[2] if len(given) == 3 and given[1] == b"in" else b""
+    if command not in (b"cd", b"find", b"ls", b"grep"):
+        return b""
+    given = [word for word in given if word not in COMMANDS[command.decode()].flags]
+    first = 1 if command == b"grep" else 0
+    return given[-1] if len(given) == first + 1 else b""
+
+
 def at_a_prompt(shell: Shell, history: History) -> None:
-    """Goes on until Ctrl-D or `exit`."""
+    """Goes on until Ctrl-D, `exit` or `quit`."""
     while True:
         try:
             text = shell.screen.typed(shell.screen.prompt(shell.session.place))

@@ -1,34 +1,53 @@
 """An open image as somebody goes about in it: the session that runs over it, its place, and which files and words there are.
 
-Which files the image has is known from its dump, and from then on by the commands that were carried out. Which of them are at a place the
-program says: `props` of a name is refused where the file is not there. So no formula is judged here.
+Which files the image has, and which words they were given, is known from its dump, and from then on by the commands that were run. All words
+of a file are in the index that the tools share: `props` says them again after each change. So which files are at a place is looked up there,
+by the text in which the program prints the place. Each change is kept with what undoes it.
 """
 from __future__ import annotations
 
+import collections
 import contextlib
-from collections.abc import Callable, ItemsView, Iterable, Iterator
+from collections.abc import Callable, Iterable, Iterator, KeysView, Sequence
 from typing import NamedTuple
 
-from lisfs.client import Program, Refused, Reply, words_of
+from lisfs import client
+from lisfs.client import GoOn, NotSent, Program, Refused, Reply, Retag, Retagged, as_content, words_of
 from lisfs.constants import MAX_LINE, UNKNOWN_PROPERTY
 from lisfs.dumps import Axiom, Dump
+from lisfs.formulas import formula as read_formula
 from lisfs.formulas import words_in
 from lisfs.image import Limits
-from lisfs.words import head_of, is_plain
+from lisfs.index import File, Index
+from lisfs.shell.undoing import UNDOABLE, Change, moving, tags_of, undoing
+from lisfs.words import head_of, is_plain, is_test
 
 ROOT = b"/"
-# So many commands are sent before the first reply is received.
-AHEAD = 128
+# So many commands are sent before the first reply is received, and so many bytes are asked for.
+AHEAD, AHEAD_BYTES = 128, 4_194_304
+# Commands that change nothing.
+LOOKS = (b"pwd", b"ls", b"cat", b"props", b"way", b"stat")
 
 
 class NoWayBack(Exception):
     """The place could not be come back to, so that it is not left."""
 
 
+class NothingKept(Exception):
+    """There is no change to undo."""
+
+
 class Listing(NamedTuple):
     """The words, and the names of the files, that `ls` shows."""
 
     words: list[bytes]
+    files: list[bytes]
+
+
+class Counted(NamedTuple):
+    """The same, with the number of files that each word leaves."""
+
+    words: list[tuple[bytes, int]]
     files: list[bytes]
 
 
@@ -47,70 +66,150 @@ class Offered(NamedTuple):
     words: list[bytes]
 
 
-class Known(NamedTuple):
-    """The words that were known after so many changes."""
-
-    changes: int
-    words: set[bytes]
-
-
 class Session:
     """`ask_stop` is called now and then in the middle of longer work, and may raise an error that ends it."""
 
     def __init__(self, program: Program, dump: Dump, limits: Limits, ask_stop: Callable[[], None] = lambda: None) -> None:
-        self.program, self.limits, self.ask_stop, self.place = program, limits, ask_stop, ROOT
-        self.names, self.declared, self.axioms = set(dump.files), set(dump.declared), set(dump.axioms)
-        # How many changes there were. Of files that were looked at since their last change, the words; and the names of all others.
-        self.changes, self._stale = 0, set(self.names)
-        self._words: dict[bytes, frozenset[bytes]] = {}
-        self._known: Known | None = None
+        self.program, self.limits, self.ask_stop = program, limits, ask_stop
+        self.declared, self.axioms = set(dump.declared), set(dump.axioms)
+        self.index: Index[File] = Index()
+        for name, (size, words) in dump.files.items():
+            self.index.add(name, size, words)
+        self.place = self._asked_place()
+        # How many changes there were, and the files whose words were not asked for since they changed.
+        self.changes, self._stale = 0, set(self.index.files.values())
         self._offered: Offered | None = None
+        # The last changes, the last one at the end.
+        self.kept: collections.deque[Change] = collections.deque(maxlen=UNDOABLE)
 
     # Commands.
 
     def carry_out(self, line: bytes, payload: bytes = b"") -> Reply:
         """Has a command carried out as it is written, with the bytes behind it, and notes what it does. Raises `Refused`."""
+        words = words_of(line)
+        change = self._undoing(line, words)
         self.program.send_bytes(line + b"\n", payload)
         reply = self.program.receive()
-        self._note(*words_of(line))
+        self._note(words, change)
         return reply
 
-    def add(self, name: bytes, content: bytes, *words: bytes) -> None:
-        self.program.add(name, content, *words)
-        self._note(b"add", name)
+    def add(self, line: bytes, name: bytes, content: bytes, *words: bytes) -> None:
+        """`line` is how it was said."""
+        self._run(line, (b"add", name, b"%d" % len(content), *words), content)
 
-    def write(self, name: bytes, content: bytes) -> None:
-        self.program.write(name, content)
-        self._note(b"write", name)
+    def write(self, line: bytes, name: bytes, content: bytes) -> None:
+        self._run(line, (b"write", name, b"%d" % len(content)), content)
+
+    def retag(self, line: bytes, changes: Iterable[Retag], go_on: GoOn) -> Retagged:
+        """Changes words of files at the root, and comes back."""
+        with self.at_the_root():
+            found = client.retag(self.program, changes, go_on)
+            self._note_retags(found.done)
+        if found.done:
+            self.kept.append(Change(line, retags=tuple(found.done)))
+        return found
+
+    def undo(self, go_on: GoOn) -> bytes:
+        """Undoes the last change that is kept. The line that made it. Of a change that is refused, or stopped, the rest is still kept."""
+        if not self.kept:
+            raise NothingKept
+        with self.at_the_root():
+            change = self.kept.pop()
+            while change.commands or change.retags:
+                # What is raised leaves the rest of it there.
+                self.kept.append(change)
+                change = self._undo_part(change, go_on)
+                self.kept.pop()
+        return change.line
+
+    def _undo_part(self, change: Change, go_on: GoOn) -> Change:
+        """Undoes a command of a change, or all words. What is left of it."""
+        if change.commands:
+            words, payload = change.commands[0]
+            self.program.ask(*words, payload=payload)
+            self._note(words)
+            return change._replace(commands=change.commands[1:])
+        found = client.undo(self.program, change.retags, go_on)
+        self._note_retags(found.done)
+        done = {part.inverse() for part in found.done}
+        rest = change._replace(retags=tuple(part for part in change.retags if part not in done))
+        if rest.retags:
+            self.kept[-1] = rest
+            self.ask_stop()
+        if found.refused:
+            raise found.refused[0][1]
+        return rest
 
     def content(self, name: bytes) -> bytes:
         return self.program.cat(name).body
 
-    def _note(self, command: bytes, *given: bytes) -> None:
+    def _run(self, line: bytes, words: Sequence[bytes], content: bytes) -> None:
+        change = self._undoing(line, words)
+        self.program.ask(*words, payload=content)
+        self._note(words, change)
+
+    # What a change does.
+
+    def _undoing(self, line: bytes, words: Sequence[bytes]) -> Change | None:
+        """What will undo a command, or None if it changes nothing or will be refused."""
+        try:
+            commands, retags = undoing(words, self.place, self.index.files, self.content)
+        except (Refused, NotSent):
+            return None
+        return Change(line, commands, retags) if commands or retags else None
+
+    def _note(self, words: Sequence[bytes], change: Change | None = None) -> None:
+        command, *given = words
         if command == b"cd":
             self.place = self._asked_place()
-            return
-        if command in (b"pwd", b"ls", b"cat", b"props", b"way", b"stat"):
-            return
-        self.changes += 1
+        elif command not in LOOKS:
+            self.changes += 1
+            if command in (b"mkdir", b"rmdir", b"axiom", b"unaxiom"):
+                self._note_word(command, given)
+            else:
+                self._note_file(command, given)
+            if change:
+                self.kept.append(change)
+
+    def _note_word(self, command: bytes, given: Sequence[bytes]) -> None:
         if command == b"mkdir":
             self.declared.add(given[0])
             self.axioms.update(Axiom(given[0], word) for word in words_in(self.place))
         elif command == b"rmdir":
             self.declared.discard(given[0])
         elif command == b"axiom":
-            self.axioms.add(Axiom(*given))
-        elif command == b"unaxiom":
-            self.axioms.discard(Axiom(*given))
-        elif command in (b"create", b"add", b"write", b"mv"):
-            self.names.add(given[0])
-            self._stale.add(given[0])
-        elif command in (b"rm", b"rename"):
-            self.names.discard(given[0])
-            self._stale.discard(given[0])
-            self._words.pop(given[0], None)
-            self.names.update(given[1:])
-            self._stale.update(given[1:])
+            self.axioms.add(Axiom(given[0], given[1]))
+        else:
+            self.axioms.discard(Axiom(given[0], given[1]))
+        if b"axiom" in command:
+            self._stale.update(self.index.of(self.index.having(given[0])))
+        elif is_test(given[0]):
+            self._stale.update(self.index.files.values())
+
+    def _note_file(self, command: bytes, given: Sequence[bytes]) -> None:
+        name, files = given[0], self.index.files
+        if command == b"rm":
+            self._stale.discard(files[name])
+            self.index.drop(files[name])
+            return
+        if command in (b"create", b"add"):
+            words = given[2:] if command == b"add" else given[1:]
+            self.index.add(name, int(given[1]) if command == b"add" else 0, {*(tags_of(self.place) or ()), *words})
+        file = files[name]
+        if command == b"write":
+            file.size = int(given[1])
+        elif command == b"mv" and (change := moving(name, self.place, given[1], files)):
+            self._note_retags([change])
+        elif command == b"rename":
+            self.index.rename(file, given[1])
+        self._stale.add(file)
+
+    def _note_retags(self, changes: Sequence[Retag]) -> None:
+        self.changes += len(changes)
+        for change in changes:
+            file = self.index.files[change.name]
+            file.given = file.given - set(change.loses) | set(change.gains)
+            self._stale.add(file)
 
     # Places.
 
@@ -132,28 +231,60 @@ class Session:
                 raise NoWayBack from None
         self.program.cd(formula)
         try:
+            self.place = ROOT if formula == ROOT else self._asked_place()
             yield
         finally:
-            if not is_onward:
-                self.program.cd(way_back)
-            else:
+            self.place = here
+            if is_onward:
                 # Its steps stand behind those of this place. No two places print alike.
                 while self._asked_place() != here:
                     self.program.cd(b"..")
+            else:
+                self.program.cd(way_back)
+
+    @contextlib.contextmanager
+    def at_the_root(self) -> Iterator[None]:
+        """Goes to the root for changes, and behind the block back to this place; it stays there if the place has a word that nothing has any
+        more. Raises `NoWayBack` if the place is too long for a line."""
+        here, way_back = self.place, self.place if self.place == ROOT else b"/" + self.place
+        if len(b"cd " + way_back) > MAX_LINE:
+            raise NoWayBack
+        self.program.cd(ROOT)
+        self.place = ROOT
+        try:
+            yield
+        finally:
+            with contextlib.suppress(Refused):
+                self.program.cd(way_back)
+                self.place = here
 
     # What is there.
 
-    def files(self, names: Iterable[bytes] | None = None) -> Iterator[tuple[bytes, frozenset[bytes]]]:
-        """The files of the place, or those of them that have these names: pairs of a name and the words that the file has, in byte order."""
-        names = sorted(self.names if names is None else names)
-        for at in range(0, len(names), AHEAD):
+    @property
+    def names(self) -> KeysView[bytes]:
+        """The names of all files."""
+        return self.index.files.keys()
+
+    def _refresh(self) -> None:
+        """Asks for the words of the files that were changed; where there is no way back from the root, of those at this place alone."""
+        if self._stale:
+            with contextlib.ExitStack() as stack:
+                if self.place != ROOT:
+                    with contextlib.suppress(NoWayBack):
+                        stack.enter_context(self.away(ROOT))
+                self._describe(sorted(self._stale, key=lambda file: file.name))
+
+    def _describe(self, files: Sequence[File]) -> None:
+        for at in range(0, len(files), AHEAD):
             self.ask_stop()
-            some = names[at:at + AHEAD]
-            for name in some:
-                self.program.send(b"props", name)
+            some = files[at:at + AHEAD]
+            for file in some:
+                self.program.send(b"props", file.name)
             # All of them are received before anybody else can send something.
-            found = [(name, self._received_words()) for name in some]
-            yield from [(name, words) for name, words in found if words is not None]
+            for file, words in [(file, self._received_words()) for file in some]:
+                if words is not None:
+                    self.index.describe(file, words)
+                    self._stale.discard(file)
 
     def _received_words(self) -> frozenset[bytes] | None:
         try:
@@ -161,18 +292,58 @@ class Session:
         except Refused:
             return None
 
+    def row(self) -> int:
+        """The files of the place, as a row of the index."""
+        if self.place == ROOT:
+            return self.index.everything
+        self._refresh()
+        found = read_formula(self.place).row(self.index)
+        for file in self._stale:
+            # It is elsewhere, since it could not be asked for here.
+            found &= ~file.bit
+        return found
+
+    def files(self) -> list[File]:
+        """The files of the place, in byte order."""
+        return self.index.of(self.row())
+
+    def contents(self, files: Iterable[File]) -> Iterator[tuple[File, bytes]]:
+        """Files of the place with their bytes, many asked for at once."""
+        some: list[File] = []
+        for file in (*files, None):
+            if some and (file is None or len(some) == AHEAD or sum(one.size for one in some) > AHEAD_BYTES):
+                self.ask_stop()
+                for one in some:
+                    self.program.send(b"cat", one.name)
+                # All of them are received before anybody else can send something.
+                yield from zip(some, [as_content(self.program.receive()).body for _ in some])
+                some = []
+            if file:
+                some.append(file)
+
     def names_here(self, beginning: bytes = b"") -> list[bytes]:
         """The names of the files of the place that begin so."""
-        names = [name for name in self.names if name.startswith(beginning)]
-        return names if self.place == ROOT else [name for name, _ in self.files(names)]
+        return [file.name for file in self.files() if file.name.startswith(beginning)]
 
     def is_here(self, name: bytes) -> bool:
-        return name in self.names_here(name)
+        if name not in self.index.files:
+            return False
+        with contextlib.suppress(Refused):
+            self.program.props(name)
+            return True
+        return False
 
     def listing(self) -> Listing:
         """What `ls` shows at the place: the words, and the files."""
         body = self.program.ls().body
         return Listing([text for letter, text in body if letter == b"d"], [text for letter, text in body if letter == b"f"])
+
+    def counted(self) -> Counted:
+        """The same, with counts."""
+        words, files = self.listing()
+        self._refresh()
+        here = self.row()
+        return Counted([(word, (self.index.having(word) & here).bit_count()) for word in words], files)
 
     def offered(self, formula: bytes = b"") -> list[bytes]:
         """The words that a listing shows at the place to which a formula leads, none where it leads nowhere."""
@@ -188,20 +359,14 @@ class Session:
     def known(self) -> set[bytes]:
         """The words that a formula may have: those that are declared or that an axiom begins with, and all that files have. Where there is
         no way back from the root, of files as far as they were looked at."""
-        if self._known is None or self._known.changes != self.changes:
-            if self._stale:
-                with contextlib.suppress(NoWayBack), self.away(ROOT):
-                    for name, words in self.files(self._stale):
-                        self._words[name] = words
-                    self._stale.clear()
-            begun = {left for left, _ in self.axioms}
-            self._known = Known(self.changes, self.declared.union(begun, filter(None, map(head_of, begun)), *self._words.values()))
-        return self._known.words
+        self._refresh()
+        begun = {left for left, _ in self.axioms}
+        return self.declared.union(begun, filter(None, map(head_of, begun)), self.index.words())
 
-    def described(self) -> ItemsView[bytes, frozenset[bytes]]:
+    def described(self) -> Iterable[File]:
         """Each file with all words that it has, as far as `known` could look."""
-        self.known()
-        return self._words.items()
+        self._refresh()
+        return self.index.files.values()
 
     def is_assignable(self, word: bytes) -> bool:
         """Whether a file may be given this word."""
@@ -217,4 +382,5 @@ class Session:
                 found += [word] if refused.number == UNKNOWN_PROPERTY else []
             else:
                 self.program.cd(b"..")
-        return found
+        # At a place that is almost too large none can be asked for.
+        return found or [word for word in words_in(formula) if word not in self.known()]

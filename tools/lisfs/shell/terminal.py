@@ -1,10 +1,12 @@
-"""What a person at a terminal sees and types: output, colours, Ctrl-C, and the lines of earlier days."""
+"""What a person at a terminal sees and types: output, colours, a pager, Ctrl-C, and the lines of earlier days."""
 import contextlib
 import os
+import re
 import shutil
 import signal
+import subprocess
 import sys
-from collections.abc import Iterable, Iterator
+from collections.abc import Callable, Iterable, Iterator, Sequence
 
 from lisfs.showing import harmless
 
@@ -21,6 +23,29 @@ REMEMBERED = 2_000
 # So many characters of a text are shown before somebody looks whether Ctrl-C has come.
 PIECE = 4_096
 WORD, PLACE, FAULT = "1;34", "1;32", "31"
+# What a colour is written as, of which a terminal shows nothing.
+COLOUR = re.compile(r"\x1b\[[0-9;]*m")
+# What `less` is told, unless `$LESS` says otherwise: end where it all fits, show colours, and leave the screen as it is.
+LESS = "FRX"
+# The statuses with which a system's shell says that it has not started a program.
+NOT_STARTED = (126, 127)
+
+
+def in_columns(texts: Sequence[str], width: int, painted: Callable[[str], str] = str) -> list[str]:
+    """Lines of texts, in order from above to below, each text in so many characters."""
+    columns = max(1, shutil.get_terminal_size().columns // width)
+    rows = -(-len(texts) // columns)
+    lines = []
+    for row in range(rows):
+        *before, last = texts[row::rows]
+        lines.append("".join(painted(text) + " " * (width - len(text)) for text in before) + painted(last))
+    return lines
+
+
+def as_text(data: bytes) -> str:
+    """The bytes of a file as a terminal shows them: harmlessly, and so that a new line follows."""
+    text = harmless(data, "\n\t")
+    return text if text.endswith("\n") or not text else text + "\n"
 
 
 class Stopped(Exception):
@@ -92,13 +117,34 @@ class Screen:
     def lines(self, lines: Iterable[str]) -> None:
         self.put("".join(line + "\n" for line in lines).encode(self.encoding, "backslashreplace"))
 
+    def many(self, lines: Sequence[str]) -> None:
+        """Shows lines by a pager, if they are more than the terminal shows; else a hundred at a time, so that Ctrl-C ends them."""
+        if not self.page("".join(line + "\n" for line in lines)):
+            for at in range(0, len(lines), 100):
+                self.lines(lines[at:at + 100])
+
+    def page(self, text: str, always: bool = False) -> bool:
+        """Shows a text by a pager, if it is longer than the terminal, or always. Whether it did."""
+        size, command = shutil.get_terminal_size(), pager() if self.asks else None
+        rows = sum(max(1, -(-len(COLOUR.sub("", line)) // size.columns)) for line in text.split("\n"))
+        if not command or rows <= size.lines and not always:
+            return False
+        # Whoever has seen enough ends the pager, which then takes no more.
+        with contextlib.suppress(BrokenPipeError), subprocess.Popen(["/bin/sh", "-c", command], stdin=subprocess.PIPE,
+                                                                    env={"LESS": LESS, **os.environ}) as shown:
+            assert shown.stdin
+            with contextlib.suppress(BrokenPipeError):
+                shown.stdin.write(text.encode(self.encoding, "backslashreplace"))
+        # Ctrl-C was for the pager.
+        self.interrupts.forget()
+        return shown.wait() not in NOT_STARTED
+
     def content(self, data: bytes) -> None:
         """Shows the bytes of a file: on a terminal harmlessly, and so that a new line follows."""
         if not self.is_terminal:
             self.put(data)
             return
-        text = harmless(data, "\n\t")
-        text += "" if text.endswith("\n") or not text else "\n"
+        text = as_text(data)
         for at in range(0, len(text), PIECE):
             self.put(text[at:at + PIECE].encode(self.encoding, "backslashreplace"))
 
@@ -107,6 +153,17 @@ class Screen:
         with contextlib.suppress(OSError):
             text = self.coloured(harmless(line), FAULT, ERRORS) + "\n"
             os.write(ERRORS, text.encode(self.encoding, "backslashreplace"))
+
+    def complain(self, line: str) -> None:
+        """The same of the shell's own work, which a script names."""
+        self.fault(line if self.asks else f"shell: {line}")
+
+    def note(self, line: str) -> None:
+        """Something beside what was asked. Of a script it is told on standard error, so that its output is that of the program."""
+        if self.asks:
+            self.lines([line])
+        else:
+            self.complain(line)
 
     def prompt(self, place: bytes) -> str:
         """The end of it where it is long. What a terminal does not show is marked, so that the line's length is known."""
@@ -138,6 +195,12 @@ class Screen:
         except (EOFError, KeyboardInterrupt, Stopped):
             self.lines([""])
             return False
+
+
+def pager() -> str | None:
+    """The command that shows a long text, or None: `$PAGER`, of which an empty one and `cat` say that none is wanted, or else `less`."""
+    command = os.environ.get("PAGER", "less" if shutil.which("less") else "").strip()
+    return command if command not in ("", "cat") and os.environ.get("TERM", "dumb") != "dumb" else None
 
 
 def history_path() -> str:

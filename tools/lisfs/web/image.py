@@ -12,7 +12,7 @@ from lisfs.client import Program, Refused, as_content, as_lines, item
 from lisfs.dumps import Axiom, Dump
 from lisfs.index import File
 from lisfs.web.places import Place
-from lisfs.words import head_of, is_test, is_word
+from lisfs.words import is_test, is_word
 
 
 class View(NamedTuple):
@@ -145,11 +145,3 @@ class Image(image.Image[File]):
         self._change(b"unaxiom", left, right)
         self.axioms.discard(Axiom(left, right))
         self.describe(files)
-
-
-def kind_of(word: bytes) -> bytes:
-    """The group of a listing's word: `tests`, the head of a value, `heads` for heads themselves, and `words` for all others."""
-    if is_test(word):
-        return b"tests"
-    head = head_of(word)
-    return b"words" if head is None else b"heads" if head == word else head

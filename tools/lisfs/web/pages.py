@@ -1,6 +1,5 @@
 """The pages: what each shows of an image. The templates beside this make HTML of it; each page works without a script, and has no address but
 of these pages."""
-import collections
 import dataclasses
 from collections.abc import Iterable
 from typing import NamedTuple
@@ -9,16 +8,16 @@ from lisfs import derived
 from lisfs.constants import MAX_FORMULA
 from lisfs.formulas import words_in
 from lisfs.index import File
+from lisfs.listings import TITLES, groups_of, within
 
 from lisfs.web.contents import SHOWN, Mail, cut, mail_of, text_of
-from lisfs.web.image import Image, View, kind_of
+from lisfs.web.image import Image, View
 from lisfs.web.markup import address, counted, number, rendered, visible
 from lisfs.web.places import Place
 from lisfs.words import head_of, is_head
 
 # So many words of a group, files of a list and words of a list stand on a page.
 SOME, FILES, WORDS = 15, 100, 200
-TITLES = {b"words": "Words", b"heads": "Heads", b"tests": "Sizes"}
 # What a change that was done says on the page after it.
 DONE = {
     "given": "The file has the word now.", "had": "The file had this word already.", "taken": "The file has the word no more.",
@@ -103,22 +102,9 @@ def steps_of(place: Place) -> list[Step]:
             for step, parts in enumerate(place.steps)]
 
 
-def groups_of(words: Iterable[tuple[bytes, int]], wanted: bytes = b"") -> list[tuple[bytes, list[tuple[bytes, int]]]]:
-    """The words of a listing that contain a text, by their groups, each with the most frequent first."""
-    found, wanted = collections.defaultdict(list), wanted.lower()
-    for word, count in words:
-        if wanted in word.lower():
-            found[kind_of(word)].append((word, count))
-    for group in found.values():
-        group.sort(key=lambda entry: (-entry[1], entry[0]))
-    first = {b"words": 0, b"heads": 1, b"tests": 2}
-    return sorted(found.items(), key=lambda group: (first.get(group[0], 3), -group[1][0][1], group[0]))
-
-
 def entries(place: Place, group: bytes, words: Iterable[tuple[bytes, int]]) -> list[Word]:
     """The words of a group of a listing at a place."""
-    dropped = len(group) if group.endswith(b":") else 0
-    return [Word(word, place.with_word(word), count, word[dropped:]) for word, count in words]
+    return [Word(word, place.with_word(word), count, within(group, word)) for word, count in words]
 
 
 def card(place: Place, group: bytes, words: list[tuple[bytes, int]], wanted: bytes) -> Card:

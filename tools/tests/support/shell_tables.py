@@ -32,10 +32,20 @@ SCRIPTS = (
     ("no line feed behind more of them", b"add z 2\nab", b"", ""),
     ("refusals are told, and the lines behind them are carried out", b"frob\nmkdri x\ncat\nls x\nls -c x\npwd\n", b"w /\n",
      "shell: frob: there is no such command; `help` lists all\nshell: mkdri: there is no such command; is it `mkdir`?\n"
-     "shell: cat: usage: cat NAME\nshell: ls: usage: ls [-c]\nshell: ls: usage: ls [-c]\n"),
-    ("the end", b"exit x\nfind a b\nhelp a b\nhelp x\npwd\nexit\npwd\n", b"w /\n",
-     "shell: exit: usage: exit\nshell: find: usage: find [FORMULA]\nshell: help: usage: help [COMMAND]\n"
-     "shell: x: there is no such command; `help` lists all\n"),
+     "shell: cat: usage: cat NAME\nshell: x: this word is not known; `mkdir x` declares it\n"
+     "shell: x: this word is not known; `mkdir x` declares it\n"),
+    ("the end", b"exit x\nfind a b\nhelp a b\nhelp x\nquit x\npwd\nexit\npwd\n", b"w /\n",
+     "shell: x: one word too many: usage: exit\nshell: b: one word too many: usage: find [FORMULA]\n"
+     "shell: b: one word too many: usage: help [COMMAND]\nshell: x: there is no such command; `help` lists all\n"
+     "shell: x: one word too many: usage: quit\n"),
+    ("another end", b"pwd\nquit\npwd\n", b"w /\n", ""),
+    ("one word too many", b"cat gig album\ncd music live\npwd gig\nrename gig a b\nls music live\nls -c music live\n", b"",
+     "shell: album: one word too many: usage: cat NAME\nshell: live: one word too many: usage: cd FORMULA\n"
+     "shell: gig: one word too many: usage: pwd\nshell: b: one word too many: usage: rename NAME OTHER\n"
+     + "shell: live: one word too many: usage: ls [-a] [-c] [PLACE]\n" * 2),
+    ("a listing of another place", b"ls music\nls -a music/live\nls -c /music\npwd\ncd live\nls /\nls ..\npwd\nls music -c\n",
+     b"d live\nd year:1999\nd year:2003\nf gig\nd 1 live\nd 1 year:1999\nd 2 year:2003\nw /\n"
+     + b"d live\nd music\nd year:\nf notes\n" * 2 + b"w live\n", "shell: ls: usage: ls [-a] [-c] [PLACE]\n"),
     ("a byte that harms", b"cat \x1b[2J\n\x1b[2J\n", b"",
      "shell: ^[[2J: no name of a file, which has 1 to 60 letters, digits and _ - . + @\n"
      "shell: ^[[2J: there is no such command; `help` lists all\n"),

@@ -12,7 +12,7 @@ import termios
 from support.waiting import LONG, until
 
 # What would make a terminal another one than that of the next machine.
-OTHERS = ("NO_COLOR", "INPUTRC", "COLUMNS", "LINES", "TMUX")
+OTHERS = ("NO_COLOR", "INPUTRC", "COLUMNS", "LINES", "TMUX", "PAGER", "LESS")
 ROWS, COLUMNS = 30, 100
 KEYS = ("Enter", "Tab", "Up", "C-a", "C-c", "C-d")
 

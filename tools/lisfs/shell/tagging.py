@@ -1,0 +1,152 @@
+"""The shell's own commands that change words of files, and `undo`."""
+from __future__ import annotations
+
+import contextlib
+from collections.abc import Iterator, Sequence
+from typing import NamedTuple
+
+from lisfs.client import Refused, Retag, Retagged, gains_of, losses_of
+from lisfs.constants import LARGE_DESCRIPTION, NOT_ASSIGNABLE, REFUSAL_WORDS, TOO_MANY_ASSIGNED, UNKNOWN_PROPERTY
+from lisfs.index import File
+from lisfs.shell.commands import ASKED
+from lisfs.shell.explaining import Failed, bad_line, said, sentence
+from lisfs.shell.looking import elsewhere
+from lisfs.shell.session import NothingKept, NoWayBack, Session
+from lisfs.shell.terminal import Screen
+from lisfs.shell.undoing import moving
+from lisfs.words import is_test, is_word
+
+# So many refusals of one command are shown.
+SHOWN = 5
+# Refusals that hold for one file, so that another one may still be changed.
+OF_ONE_FILE = (TOO_MANY_ASSIGNED, LARGE_DESCRIPTION)
+NO_WAY_BACK = "there is no way back to this place, which is too long for a line: `cd` elsewhere first"
+
+
+class Wanted(NamedTuple):
+    """Files, and words that they are to be given or to lose."""
+
+    files: list[File]
+    words: list[bytes]
+
+
+class Tagging:
+    def __init__(self, session: Session, screen: Screen) -> None:
+        self.session, self.screen = session, screen
+
+    # Words of several files.
+
+    def tag(self, line: bytes, given: Sequence[bytes]) -> None:
+        files, words = self.wanted("tag", given)
+        self.change(line, gains_of({file.name: file.given for file in files}, words), len(files), f"give {said(*words)} to")
+
+    def untag(self, line: bytes, given: Sequence[bytes]) -> None:
+        files, words = self.wanted("untag", given)
+        known = self.session.known()
+        for word in words:
+            if word not in known:
+                raise Failed(sentence(refusal_of(UNKNOWN_PROPERTY), b"cd " + word, self.session))
+        self.change(line, losses_of({file.name: file.given for file in files}, words), len(files), f"take {said(*words)} from")
+        self.session.described()
+        if still := sum(not file.words.isdisjoint(words) for file in files):
+            self.screen.lines([f"{said(*words)}: {of_files(still)} kept it: another word entails it, or the file has it on its own"])
+
+    def wanted(self, command: str, given: Sequence[bytes]) -> Wanted:
+        """Which arguments are files, and which are words: the name of a file of the place is a file, and anything else is a word. `WORD in
+        FORMULA` is a word and the files of another place."""
+        if len(given) == 3 and given[1] == b"in":
+            words = [given[0]]
+            with elsewhere(self.session, command, given[2]):
+                files = self.session.files()
+        else:
+            names = [word for word in dict.fromkeys(given) if self.session.is_here(word)]
+            words = [word for word in dict.fromkeys(given) if word not in names]
+            files = [self.session.index.files[name] for name in names]
+            if not files or not words:
+                raise Failed(self.lacking(command, given, bool(files)))
+        for word in words:
+            if is_test(word):
+                raise Failed(sentence(refusal_of(NOT_ASSIGNABLE), b"create x " + word, self.session))
+            if not is_word(word):
+                raise Failed(bad_line("create", [b"x", word], self.session))
+        return Wanted(files, words)
+
+    def lacking(self, command: str, given: Sequence[bytes], has_files: bool) -> str:
+        usage = f"usage: {command} FILE.. WORD.., or {command} WORD in FORMULA"
+        if not given:
+            return f"{command}: {usage}"
+        if has_files:
+            return f"{said(*given)}: no word is among these, since each is the name of a file here: {usage}"
+        return f"{said(*given)}: no file of this place is among these: {usage}"
+
+    def change(self, line: bytes, changes: Sequence[Retag], count: int, question: str) -> None:
+        """Makes changes, out of so many files."""
+        if len(changes) > ASKED and self.screen.asks and not self.screen.says_yes(f"{question} {of_files(len(changes))}?"):
+            raise Failed("nothing was changed")
+        with self.staying(said(line.split()[0])):
+            found = self.session.retag(line, changes, self.goes_on)
+        changed = len({change.name for change in found.done})
+        if changed or not found.refused:
+            self.screen.lines([f"{changed:,} of {of_files(count)} changed"])
+        self.tell_refusals(found)
+
+    def goes_on(self, found: Retagged) -> bool:
+        return not self.screen.interrupts.has_come and (not found.refused or found.refused[-1][1].number in OF_ONE_FILE)
+
+    def tell_refusals(self, found: Retagged) -> None:
+        """A sentence for each file that was refused, as far as there are not many."""
+        told = [sentence(refused, b"mv %b /%b" % (change.name, b"/".join(change.gains)), self.session) for change, refused in found.refused[:SHOWN]]
+        if len(found.refused) > SHOWN:
+            told.append(f"and {of_files(len(found.refused) - SHOWN)} more")
+        for line in told[:-1]:
+            self.screen.complain(line)
+        if told:
+            raise Failed(told[-1])
+
+    # One file.
+
+    def asks_to_move(self, given: Sequence[bytes]) -> None:
+        """On a terminal, shows which words `mv` takes and gives, and asks. What the program refuses is not asked about."""
+        if not self.screen.asks or len(given) != 2 or not self.session.is_here(given[0]):
+            return
+        change = moving(given[0], self.session.place, given[1], self.session.index.files)
+        if change is None or not all(map(self.session.is_assignable, change.gains)) or not (change.gains or change.loses):
+            return
+        parts = [f"{verb} {said(*words)}" for verb, words in (("loses", change.loses), ("gains", change.gains)) if words]
+        if not self.screen.says_yes(f"{said(given[0])} {' and '.join(parts)}: move it?"):
+            raise Failed(f"{said(given[0])}: it was not moved")
+
+    # The last change.
+
+    def undo(self, given: Sequence[bytes]) -> None:
+        if given:
+            raise Failed(bad_line("undo", list(given), self.session))
+        last = self.session.kept[-1].line if self.session.kept else b""
+        try:
+            with self.staying("undo"):
+                line = self.session.undo(self.goes_on)
+        except NothingKept:
+            raise Failed("undo: there is nothing to undo: no change of this shell is kept any more, or none was made") from None
+        except Refused as refused:
+            raise Failed(f"undo: {said(last)}: can't be undone now ({refused.words}); it is kept, and `undo` tries it again") from None
+        self.screen.lines([f"undone: {said(line.strip())}"])
+
+    @contextlib.contextmanager
+    def staying(self, command: str) -> Iterator[None]:
+        """Around changes at the root, after which the place is the same; or the root, if they have removed a word of it."""
+        place = self.session.place
+        try:
+            yield
+        except NoWayBack:
+            raise Failed(f"{command}: {NO_WAY_BACK}") from None
+        finally:
+            if self.session.place != place:
+                self.screen.note(f"{said(place)}: a word of this place is not known any more, so the place is / now")
+
+
+def of_files(count: int) -> str:
+    return "1 file" if count == 1 else f"{count:,} files"
+
+
+def refusal_of(number: int) -> Refused:
+    return Refused(number, REFUSAL_WORDS[number])
