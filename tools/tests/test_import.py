@@ -139,7 +139,7 @@ def shut(program, needs):
         told = Brought("open", more=other)
     except OSError as error:
         pytest.skip(f"no other user can be taken on: {error} (only root can)")
-    if told.status != 2 or "open is no folder" not in "\n".join(told.told):
+    if told.status != 2 or "open: not a folder" not in "\n".join(told.told):
         pytest.skip("no other user can run the tool here (it needs root, and a python3 for all users)")
     return other
 

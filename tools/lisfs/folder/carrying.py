@@ -13,12 +13,12 @@ import subprocess
 from collections.abc import Generator, Iterator, Sequence
 from typing import NamedTuple, Protocol, TypeAlias
 
-from lisfs.client import PROGRAM, Program, Refused
-from lisfs.constants import LARGE_DESCRIPTION, MAX_LINE, MAX_PAYLOAD, NO_FILE_ROOM, NO_PROPERTY_ROOM
+from lisfs.client import PROGRAM, ROOM_LINE, Program, Refused
+from lisfs.constants import LARGE_DESCRIPTION, MAX_PAYLOAD, NO_FILE_ROOM, NO_PROPERTY_ROOM
 from lisfs.folder import memory, names, walk
 from lisfs.folder.changes import MARKER, Change, Changes, Done
 from lisfs.folder.entries import Entry
-from lisfs.refusals import REFUSALS, cause_of
+from lisfs.refusals import REFUSALS, cause_of, named
 from lisfs.words import stem_of
 
 # So many commands, and bytes of files, are under way at most.
@@ -52,7 +52,7 @@ class Pending(NamedTuple):
     """A command that was sent, and how many bytes with it. The job is None if the command leads to the place of the next one."""
 
     job: Job | None
-    command: bytes
+    words: Words
     size: int
 
 
@@ -107,21 +107,23 @@ class Sender:
         self._program.send(*words, payload=payload)
         size = len(payload or b"")
         self._bytes += size
-        self._waiting.append(Pending(job, words[0], size))
+        self._waiting.append(Pending(job, words, size))
 
     def _take(self) -> None:
-        job, command, size = self._waiting.popleft()
+        job, words, size = self._waiting.popleft()
         self._bytes -= size
         refusal: Refused | None = None
         try:
             self._program.receive()
         except Refused as error:
             refusal = error
+            refusal.command, refusal.given = words[0].decode(), tuple(words[1:])
         if job is not None:
             self._go_on(job, refusal)
         elif refusal is not None:
-            # All that is under way would be done elsewhere. A place of words that files have is never refused.
-            raise RuntimeError(f"{command.decode()}: {refusal}")
+            # All that is under way would be done elsewhere. A place of words that files have is never refused, unless another client of a
+            # served image takes the last file from it.
+            raise RuntimeError(f"{refusal.command}: {named(refusal)}")
 
 
 class NoRoom(Exception):
@@ -191,7 +193,7 @@ class Carrying:
             self.plan.removed(name)
             self.told(Done.GONE, name)
         else:
-            self.failed(name.decode(), cause_of(refusal))
+            self.failed(name.decode(), cause_of(refusal, self.known))
 
     # A file that is new.
 
@@ -226,7 +228,7 @@ class Carrying:
     def _refused_file(self, entry: Entry, refusal: Refused) -> None:
         if refusal.number == NO_FILE_ROOM:
             self.has_no_file_room = True
-        self.failed(entry.found.path, cause_of(refusal))
+        self.failed(entry.found.path, cause_of(refusal, self.known))
 
     def _added(self, entry: Entry, line: Sequence[bytes]) -> tuple[Words, bytes]:
         """The line that makes a file, and its bytes as they are now."""
@@ -260,7 +262,7 @@ class Carrying:
                 self.failed(entry.found.path, error.strerror or str(error))
                 return
         if refusal is not None:
-            self.failed(entry.found.path, cause_of(refusal))
+            self.failed(entry.found.path, cause_of(refusal, self.known))
             return
         given, large = yield from self._complete(self.place, name, self._declared(change.gains), [])
         self._lacking(len(change.gains) - len(given), large)
@@ -327,8 +329,8 @@ class Carrying:
 
 
 def fitting(name: bytes, words: Sequence[bytes]) -> tuple[list[bytes], Sequence[bytes]]:
-    """A name and as many words as fit the line that makes a file, and the words that don't."""
-    room, line = MAX_LINE - len(b"add  %d" % MAX_PAYLOAD) - len(name), [name]
+    """A name and as many words as fit the line that makes a file, also one of a served image, and the words that don't."""
+    room, line = ROOM_LINE - len(b"add  %d" % MAX_PAYLOAD) - len(name), [name]
     for number, word in enumerate(words):
         room -= len(word) + 1
         if room < 0:

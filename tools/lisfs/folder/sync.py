@@ -50,7 +50,6 @@ of it is proved. It uses the word `load` of the program if that has it, and othe
 from __future__ import annotations
 
 import argparse
-import contextlib
 import hashlib
 import os
 import signal
@@ -59,9 +58,11 @@ import sys
 from collections.abc import Sequence
 from typing import NoReturn
 
+from lisfs import opening
 from lisfs.client import PROGRAM, Ended, Locked, NotAReply, Program, missing
 from lisfs.constants import MAX_ASSIGNED, MAX_DERIVED, MAX_DESCRIPTION, MAX_WORD
-from lisfs.dumps import Dump, NotADump, dumped, opened
+from lisfs.dumps import Dump, NotADump
+from lisfs.endings import folder_fault, quiet
 from lisfs.folder.cache import Cache, Nothing, Remembered
 from lisfs.folder.carrying import Carrying, NoRoom, Sender, session_word
 from lisfs.folder.changes import MARKER, Changes, Done, Wishes, folder_words
@@ -70,6 +71,7 @@ from lisfs.folder.forms import folder_value
 from lisfs.folder.memory import Memory, Records
 from lisfs.folder.report import Telling, counted, left_out
 from lisfs.image import limits_of
+from lisfs.served import Joined
 from lisfs.showing import harmless, write_line
 from lisfs.words import PLAIN_FORM, PLAIN_RUN
 
@@ -145,18 +147,24 @@ class Sync:
         self.entries = entries = Entries(self.folder, largest, words, self.telling.leave, look, self.words.without, os.stat(self.image), remembered)
         entries.read()
         if self.words.dry_run:
-            self.would(self.make_plan(entries, dumped(self.image, with_digests=True)))
+            self.telling.clear()
+            with opening.looked("sync", self.image) as dump:
+                self.would(self.make_plan(entries, dump))
         else:
             remembered.save()
-            program, dump = opened(self.image, word=session_word(), with_digests=True)
+            self.telling.clear()
+            program, dump = opening.opened("sync", self.image, session_word(), with_digests=True)
             with program:
+                if isinstance(program, Joined):
+                    # What another client changes from now on is not written over.
+                    program.guard()
                 self.carry(program, self.make_plan(entries, dump), largest)
 
     def look(self) -> int:
         """Whether the image can be opened, before anything takes long, and the most bytes that a file of it may have."""
         if what := missing():
             raise Failed(what)
-        Program([PROGRAM, "run", self.image]).close()
+        opening.tried("sync", self.image)
         try:
             return limits_of(self.image).file_bytes
         except (OSError, struct.error) as error:
@@ -347,13 +355,15 @@ def options() -> Options:
     longest = MAX_WORD - len(MARKER + b":")
     if words.name is not None and not (PLAIN_RUN.fullmatch(os.fsencode(words.name)) and len(words.name) <= longest):
         parser.error(f"{harmless(words.name)} is no name: it has 1 to {longest} {PLAIN_FORM}")
-    if not os.path.isdir(words.folder):
-        parser.error(f"{harmless(words.folder)} is no folder")
     return words
 
 
+@quiet
 def main() -> int:
     words = options()
+    if fault := folder_fault(words.folder):
+        write_line(sys.stderr, f"sync: {fault}")
+        return 2
     for number in STOPS:
         # What is ignored, as by `nohup`, stays so.
         if signal.getsignal(number) == signal.SIG_DFL:
@@ -363,12 +373,13 @@ def main() -> int:
     amiss: str | None = None
     try:
         syncing.run()
+    except BrokenPipeError:
+        raise
     except (Ended, Failed, NoRoom, NotADump, NotAReply, OSError, RuntimeError, KeyboardInterrupt, Stopped) as error:
         amiss = cause(error, words.image) + ("; the next run goes on" if syncing.carrying else "")
     telling.clear()
-    with contextlib.suppress(BrokenPipeError):
-        syncing.report()
-        sys.stdout.flush()
+    syncing.report()
+    sys.stdout.flush()
     if amiss:
         write_line(sys.stderr, f"sync: {amiss}")
     return 0 if amiss is None and syncing.is_whole() else 1

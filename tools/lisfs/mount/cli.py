@@ -12,17 +12,16 @@ The status is 0 after a requested end if the image has all that was written, 1 i
 """
 import argparse
 import os
-import sys
 
 from lisfs.client import Ended, NotAReply, missing
-from lisfs.dumps import NotADump, opened
-from lisfs.endings import cause_of
+from lisfs.dumps import NotADump
+from lisfs.endings import cause_of, folder_fault, quiet, say
 from lisfs.image import limits_of
 from lisfs.mount.attach import NotMounted, answered, mounted, stops
 from lisfs.mount.image import Image
 from lisfs.mount.kernel import Connection
 from lisfs.mount.tree import Tree
-from lisfs.showing import write_line
+from lisfs.opening import opened
 
 
 class Options(argparse.Namespace):
@@ -35,17 +34,16 @@ class Options(argparse.Namespace):
 
 
 def tell(line: str) -> None:
-    write_line(sys.stderr, f"mount: {line}")
+    say(f"mount: {line}")
 
 
 def run(image: str, folder: str, with_derived: bool, others: bool) -> int:
     """The status."""
     if what := missing():
         raise NotMounted(what)
-    if not os.path.isdir(folder):
-        os.stat(folder)
-        raise NotMounted(f"{folder}: not a folder")
-    program, dump = opened(image)
+    if fault := folder_fault(folder):
+        raise NotMounted(fault)
+    program, dump = opened("mount", image)
     # However it goes, nobody has the image any more at the end.
     with stops() as stop, program:
         tree = Tree(Image(program, dump, limits_of(image)), with_derived, os.stat(image).st_mtime_ns, others)
@@ -62,6 +60,7 @@ def run(image: str, folder: str, with_derived: bool, others: bool) -> int:
     return 0 if is_wanted and not tree.has_lost else 1
 
 
+@quiet
 def main() -> int:
     parser = argparse.ArgumentParser(usage=__doc__.split("usage: ", 1)[1])
     parser.add_argument("--derived", action="store_true")

@@ -19,8 +19,10 @@ import os
 import sys
 
 from lisfs.client import Ended, Locked, NotAReply, missing
-from lisfs.dumps import NotADump, opened
+from lisfs.dumps import NotADump
+from lisfs.endings import quiet
 from lisfs.image import limits_of
+from lisfs.opening import opened
 from lisfs.shell.completing import Completer
 from lisfs.shell.running import Shell, as_a_script, at_a_prompt
 from lisfs.shell.session import Session
@@ -32,7 +34,7 @@ STOPPED = 130
 
 def run(image: str, screen: Screen) -> int:
     """The status."""
-    program, dump = opened(image)
+    program, dump = opened("shell", image)
     # Ctrl-C is for the shell alone, and the program comes to its end.
     with program:
         session = Session(program, dump, limits_of(image), screen.interrupts.ask)
@@ -61,6 +63,7 @@ def status_of(end: Ended) -> int:
     return 128 - end.status if end.status < 0 else end.status or 1
 
 
+@quiet
 def main() -> int:
     if len(sys.argv) != 2 or sys.argv[1].startswith("-"):
         sys.exit(__doc__)
@@ -88,6 +91,8 @@ def main() -> int:
         status, cause = STOPPED, "stopped"
     except NotADump as error:
         status, cause = 1, str(error)
+    except BrokenPipeError:
+        raise
     except OSError as error:
         status, cause = 1, f"{error.filename or shown}: {error.strerror}"
     if cause:
