@@ -42,62 +42,12 @@ def limits_of(path: str) -> Limits:
     return Limits(files, words, blocks, FILE_BYTES[2 if head[24] == 2 else 1])
 
 
-class Image(Generic[F]):
-    """`index` has the files, each with the words that were asked for last."""
+class Following(Generic[F]):
+    """What is known of an image over which a session runs: `index` has the files, each with the words that were asked for last."""
 
-    @overload
-    def __init__(self: Image[File], program: Program, dump: Dump, limits: Limits) -> None: ...
-
-    @overload
-    def __init__(self, program: Program, dump: Dump, limits: Limits, kind: Kind[F]) -> None: ...
-
-    def __init__(self, program: Program, dump: Dump, limits: Limits, kind: Kind[File] = File) -> None:
-        self.program, self.limits, self.declared = program, limits, set(dump.declared)
-        # Without a kind F is `File`.
-        self.index: Index[F] = Index(cast(Kind[F], kind))
-        for name, (size, words) in dump.files.items():
-            self.index.add(name, size, words)
-
-    def told(self, *commands: Words) -> list[list[BodyLine]]:
-        """The same of commands whose replies have lines: these lines."""
-        return [as_lines(reply).body for reply in self.asked(*commands)]
-
-    def asked(self, *commands: Words) -> list[Reply]:
-        """The replies to commands that change no place, or go to one and back, sent ahead of each other. Raises the first refusal."""
-        found = self._answers(commands)
-        for answer in found:
-            if isinstance(answer, Refused):
-                raise answer
-        return [answer for answer in found if not isinstance(answer, Refused)]
-
-    def _answers(self, commands: Sequence[Words]) -> list[Reply | Refused]:
-        """The replies and the refusals, in order."""
-        for command in commands:
-            # Nothing is sent if one of them can't be.
-            item(command, None, self.program.longest)
-        for command in commands:
-            self.program.send(*command)
-        found: list[Reply | Refused] = []
-        for command in commands:
-            try:
-                found.append(self.program.receive())
-            except Refused as refused:
-                refused.command, refused.given = command[0].decode(), tuple(command[1:])
-                found.append(refused)
-        return found
-
-    def describe(self, files: Iterable[F]) -> set[bytes]:
-        """Asks for the words of files. The words that no file has any more."""
-        files, lost = list(files), set()
-        for file, answer in zip(files, self._answers([(b"props", file.name) for file in files])):
-            if not isinstance(answer, Refused):
-                lost |= self.index.describe(file, frozenset(text for _, text in as_lines(answer).body))
-            elif not (isinstance(self.program, Joined) and answer.number == NO_FILE_HERE):
-                raise answer
-            # Else another client has just removed or renamed it, as the next news say.
-        return {word for word in lost if not self.index.having(word)}
-
-    # What others change.
+    program: Program
+    index: Index[F]
+    declared: set[bytes]
 
     def catch_up(self) -> News | None:
         """Takes in what other clients of a served image have changed since the last time, or returns None if that is nothing."""
@@ -144,6 +94,63 @@ class Image(Generic[F]):
 
     def _is_stale(self, files: set[F]) -> None:
         """That the words of files may be others than those that are known."""
+        raise NotImplementedError
+
+
+class Image(Following[F]):
+    @overload
+    def __init__(self: Image[File], program: Program, dump: Dump, limits: Limits) -> None: ...
+
+    @overload
+    def __init__(self, program: Program, dump: Dump, limits: Limits, kind: Kind[F]) -> None: ...
+
+    def __init__(self, program: Program, dump: Dump, limits: Limits, kind: Kind[File] = File) -> None:
+        self.program, self.limits, self.declared = program, limits, set(dump.declared)
+        # Without a kind F is `File`.
+        self.index = Index(cast(Kind[F], kind))
+        for name, (size, words) in dump.files.items():
+            self.index.add(name, size, words)
+
+    def told(self, *commands: Words) -> list[list[BodyLine]]:
+        """The same of commands whose replies have lines: these lines."""
+        return [as_lines(reply).body for reply in self.asked(*commands)]
+
+    def asked(self, *commands: Words) -> list[Reply]:
+        """The replies to commands that change no place, or go to one and back, sent ahead of each other. Raises the first refusal."""
+        found = self._answers(commands)
+        for answer in found:
+            if isinstance(answer, Refused):
+                raise answer
+        return [answer for answer in found if not isinstance(answer, Refused)]
+
+    def _answers(self, commands: Sequence[Words]) -> list[Reply | Refused]:
+        """The replies and the refusals, in order."""
+        for command in commands:
+            # Nothing is sent if one of them can't be.
+            item(command, None, self.program.longest)
+        for command in commands:
+            self.program.send(*command)
+        found: list[Reply | Refused] = []
+        for command in commands:
+            try:
+                found.append(self.program.receive())
+            except Refused as refused:
+                refused.command, refused.given = command[0].decode(), tuple(command[1:])
+                found.append(refused)
+        return found
+
+    def describe(self, files: Iterable[F]) -> set[bytes]:
+        """Asks for the words of files. The words that no file has any more."""
+        files, lost = list(files), set()
+        for file, answer in zip(files, self._answers([(b"props", file.name) for file in files])):
+            if not isinstance(answer, Refused):
+                lost |= self.index.describe(file, frozenset(text for _, text in as_lines(answer).body))
+            elif not (isinstance(self.program, Joined) and answer.number == NO_FILE_HERE):
+                raise answer
+            # Else another client has just removed or renamed it, as the next news say.
+        return {word for word in lost if not self.index.having(word)}
+
+    def _is_stale(self, files: set[F]) -> None:
         self.describe(files)
 
     def counts(self) -> dict[str, int]:

@@ -17,7 +17,7 @@ from lisfs.index import File
 from lisfs.refusals import about
 from lisfs.served import News
 from lisfs.web.places import Place
-from lisfs.words import is_test, is_word
+from lisfs.words import head_of, is_test, is_word
 
 
 # So often a place is looked at again, while others change what it shows.
