@@ -150,6 +150,22 @@ def test_pages_while_others_change(pages):
     assert visitor.page("", at="/w").text.count("72 files") and visitor.page("declared").text.count("v → w") == 0
 
 
+def test_an_undo_beside_another_client(pages):
+    """One that is refused changes nothing, and can be tried again; nobody loses bytes by it."""
+    visitor = pages[1]
+    token = visitor.token()
+    visitor.does("declare", {**token, "word": "jazz", "at": "/"}, True)
+    asked(b"create x jazz")
+    visitor.does("undo", {**token, "at": "/"}, False, "The word is in use")
+    asked(b"rm x")
+    visitor.does("undo", {**token, "at": "/"}, True, "The last change is undone.")
+    assert b"jazz" not in asked(b"ls")
+    visitor.upload({**token, "at": "/", "name": "new"}, b"abc", b"new")
+    write(b"new", b"other bytes")
+    visitor.does("undo", {**token, "at": "/"}, False, "The file has other bytes by now")
+    assert asked(b"cat new") == b"b 11\nother bytes\nok\n"
+
+
 # The mount.
 
 @pytest.mark.usefixtures("fuse")

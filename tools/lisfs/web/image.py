@@ -17,7 +17,7 @@ from lisfs.index import File
 from lisfs.refusals import about
 from lisfs.served import News
 from lisfs.web.places import Place
-from lisfs.words import head_of, is_test, is_word
+from lisfs.words import head_of, is_head, is_plain, is_test, is_word
 
 
 # So often a place is looked at again, while others change what it shows.
@@ -107,6 +107,10 @@ class Image(image.Image[File]):
                 return False
             covered |= self.index.having(word)
         return [file.name for file in self.index.of(here & ~covered)] == shown
+
+    def is_assignable(self, word: bytes) -> bool:
+        """Whether a file may be given this word."""
+        return word in self.declared if is_plain(word) else not is_head(word) and head_of(word) in self.declared
 
     def about(self, refused: Refused) -> list[bytes]:
         """The words that a refusal is about, if it is about some."""

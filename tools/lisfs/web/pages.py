@@ -173,9 +173,11 @@ class Pages:
         rows = [(change.name, sentence_about(refused.number, "mv", self.image.about(refused))) for change, refused in made.refused]
         return self.whole("refused.html", "Refused", told=f"{done}Refused: {counted(len(rows), 'file')}.", rows=rows, back=address(back.page, **back.given))
 
-    def missing(self, words: Iterable[bytes]) -> str | None:
+    def missing(self, words: list[bytes]) -> str | None:
         """That a search by these words can miss a file, where it can."""
-        return derived.told_of_misses(words, ((file.name, file.words) for file in self.image.index.files.values()))
+        files = self.image.index.files.values()
+        return joined(derived.told_of_misses(words, ((file.name, file.words) for file in files)),
+                      derived.told_of_left_out(filter(self.image.is_assignable, words), ((file.given, file.words) for file in files)))
 
     def wrong_place(self, typed: bytes, sentence: str) -> str:
         return self.whole("wrong_place.html", "No such place", typed=typed, sentence=sentence, missing=self.missing(words_in(typed)))
@@ -226,8 +228,9 @@ class Pages:
         return self.whole(
             "file.html", file.name, place=place, done=done, file=file, file_size=len(content), groups=described(file),
             route=[(word, b"/" + b"/".join(way[:step + 1])) for step, word in enumerate(way)],
-            # How many words it would have, where the program keeps no more of them.
-            cut=derived.told_of_cut(file.name, content) if derived.is_full(file.words) else None,
+            # How many words it would have, where the program keeps no more of them, or that it can have no more.
+            cut=joined(derived.told_of_cut(file.name, content) if derived.is_full(file.words) else None,
+                       derived.told_of_no_room(file.given, file.words)),
             content=content_of(file, content, as_text))
 
     def removing(self, file: File, place: Place) -> str:
@@ -250,6 +253,11 @@ class Pages:
             words=[word_of(word, count=image.index.having(word).bit_count()) for word in words[at * WORDS:][:WORDS]],
             axioms=[(word_of(left), word_of(right)) for left, right in axioms[at * WORDS:][:WORDS]],
             turns=turns(at, WORDS, last, "declared", q=wanted or None))
+
+
+def joined(*sentences: str | None) -> str | None:
+    """Those of some sentences that there are, as one text without a full stop at its end."""
+    return ". ".join(filter(None, sentences)) or None
 
 
 def place_of(text: bytes) -> Place:

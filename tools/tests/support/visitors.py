@@ -66,6 +66,8 @@ class Seen(html.parser.HTMLParser):
     def __init__(self, text):
         super().__init__()
         self.links, self.forms, self.text, self.labels, self.wrong, self._link, self.scripts = [], [], "", {}, [], None, 0
+        # The files that can be chosen, and the other actions of buttons.
+        self.boxes, self.actions = [], []
         self.feed(text)
         if self.scripts != 1:
             self.wrong.append(f"{self.scripts} scripts")
@@ -73,13 +75,17 @@ class Seen(html.parser.HTMLParser):
     def handle_starttag(self, tag, attributes):
         given = dict(attributes)
         self.wrong += [tag] * (tag not in TAGS) + [name for name in given if name.startswith("on") or name == "style"]
-        self.wrong += [value for name, value in attributes if name in ("href", "src", "action") and re.match(r"[a-z]+:|//", value)]
+        self.wrong += [value for name, value in attributes if name in ("href", "src", "action", "formaction") and re.match(r"[a-z]+:|//", value)]
         self.scripts += tag == "script" and given.get("src") == "script.js"
         if tag == "a":
             self.links.append([given["href"], "", given.get("aria-label")])
             self._link = self.links[-1]
         elif tag == "form":
             self.forms.append((given["action"], {}))
+        elif tag == "button" and "formaction" in given:
+            self.actions.append(given["formaction"])
+        elif tag == "input" and given.get("type") == "checkbox":
+            self.boxes.append((given["name"], given["value"], given["form"]))
         elif tag == "input" and "name" in given:
             self.forms[-1][1][given["name"]] = given.get("value", "")
 
@@ -131,7 +137,7 @@ class Visitor:
         return self.ask("GET", f"{self.top}{page}?{query}")
 
     def post(self, page, given):
-        body = urllib.parse.urlencode(given).encode()
+        body = urllib.parse.urlencode(given, doseq=True).encode()
         return self.ask("POST", self.top + page, body, Content_Type="application/x-www-form-urlencoded")
 
     def upload(self, given, content, filename):
