@@ -551,11 +551,12 @@ class Program(Commands):
 
     def _is_readable(self, seconds: float | None, or_writable: bool = False) -> bool:
         """Whether there is something to read, or the end. Waits so long for it, or until something can be written."""
-        poll = select.poll()
-        poll.register(self._output, select.POLLIN)
+        poll, given, shown = select.poll(), self._input.fileno(), self._output.fileno()
         if or_writable:
-            poll.register(self._input, select.POLLOUT)
-        return self._output.fileno() in dict(poll.poll(None if seconds is None else seconds * 1_000))
+            poll.register(given, select.POLLOUT)
+        # They may be one.
+        poll.register(shown, select.POLLIN | (select.POLLOUT if or_writable and given == shown else 0))
+        return bool(dict(poll.poll(None if seconds is None else seconds * 1_000)).get(shown, 0) & ~select.POLLOUT)
 
     def _write(self, data: bytes | memoryview) -> int:
         """Sends what is taken now. How many bytes that is."""

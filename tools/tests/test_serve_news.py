@@ -1,4 +1,5 @@
 """What a server says to its clients of what others have changed, and what clients make of it."""
+import contextlib
 import os
 import random
 import shutil
@@ -8,11 +9,11 @@ import threading
 import pytest
 
 from lisfs import image as images, served
-from lisfs.client import Program, Refused
+from lisfs.client import Ended, Program, Refused
 from lisfs.dumps import Axiom, Dump, dumped, opened
 from lisfs.history import History, without_last_step
 from lisfs.image import limits_of
-from support.peers import LIMITS, PWD, TALK, Peer, Served, answers, drive, make, random_session, talked
+from support.peers import LIMITS, PWD, TALK, Peer, Served, drive, random_session, talked
 from support.waiting import until
 
 pytestmark = [pytest.mark.usefixtures("rooms"), pytest.mark.limits(*LIMITS)]
@@ -20,16 +21,8 @@ pytestmark = [pytest.mark.usefixtures("rooms"), pytest.mark.limits(*LIMITS)]
 SOCKET = "image.socket"
 
 
-class Beside(Served):
-    """A server at the socket beside its image."""
-
-    def __init__(self, image="image", **more):
-        super().__init__(image, wait=False, command=(TALK.replace("talk", "serve"),), **more)
-        assert until(lambda: answers(f"{image}.socket") or self.server.poll() is not None), "a server"
-
-
 @pytest.fixture
-def beside(image, rooms, monkeypatch):
+def beside(image, rooms):
     """A server at the socket beside the image."""
     with Served(image, SOCKET) as server:
         yield server
@@ -51,7 +44,7 @@ def held(dump):
 def joined(beside):
     """A client by this module, and what the image holds."""
     session = served.joined("image")
-    with session.program:
+    with contextlib.suppress(Ended), session.program:
         yield session
 
 
@@ -187,7 +180,7 @@ def test_lines_that_are_none(beside, line):
 
 def test_the_end_of_the_server(joined, beside):
     assert beside.end() == (0, "")
-    with pytest.raises(Exception, match="image: the server has ended; what was replied to is kept"):
+    with pytest.raises(Ended, match="image: the server has ended; what was replied to is kept"):
         joined.program.pwd()
 
 
@@ -257,7 +250,7 @@ def test_a_socket_of_another_user(image, root):
 
 
 def test_the_socket_beside_the_image(image):
-    with Beside(image) as server:
+    with Served(image, None) as server:
         assert talked(b"pwd\n", image) == (0, PWD, ""), "a talk finds it by the image"
         with Program([TALK, image]) as program:
             assert program.pwd().body == [(b"w", b"/")]

@@ -131,16 +131,18 @@ def talked(data, path="socket", **more):
 
 
 class Served:
-    """A server that runs, in a `with` block, at whose end it is ended. It waits for clients and for other servers as long as the test does."""
+    """A server that runs, in a `with` block, at whose end it is ended. It waits for clients and for other servers as long as the test does. Without
+    a path it listens beside its image."""
 
     started = []
 
     def __init__(self, image="image", path="socket", wait=True, patience=LONG, program=PROGRAM, command=(SERVE,), **more):
         self.said = tempfile.TemporaryFile()
         words = {**os.environ, "REAL": PROGRAM, "LISFS_PROGRAM": program, "LISFS_PATIENCE": str(patience)}
-        self.server = subprocess.Popen([*command, image, path], stdin=subprocess.DEVNULL, stdout=subprocess.DEVNULL, stderr=self.said, env=words, **more)
+        self.server = subprocess.Popen([*command, image, *([path] if path else [])], stdin=subprocess.DEVNULL, stdout=subprocess.DEVNULL, stderr=self.said, env=words, **more)
         self.started.append(self.server)
-        if wait and not until(lambda: answers(path) or self.server.poll() is not None):
+        at = path or f"{image}.socket"
+        if wait and not until(lambda: answers(at) or self.server.poll() is not None):
             raise TimeoutError("no server")
 
     def __enter__(self):
