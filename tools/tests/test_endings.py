@@ -75,6 +75,7 @@ def test_a_pipe_that_is_read_for_a_while(top):
         assert (child.stderr.read(), child.wait(LONG)) == (b"", -signal.SIGPIPE)
 
 
+@pytest.mark.limits("256", "512", "64")
 def test_a_sync_that_nobody_reads_can_go_on(top):
     """What was done stays, and the next run goes on."""
     for number in range(20):
@@ -104,7 +105,7 @@ def slow(program):
     return {"REAL": program, "LISFS_PROGRAM": os.path.abspath(images.written("slow", SLOW, 0o700)), "LISFS_PATIENCE": str(LONG)}
 
 
-OPENING = ((["shell", "image"], b"/> ", b"\4"), (["sync", "image", "top"], b"as they were", None), (["browse", "image"], b"http://", b"\3"),
+OPENING = ((["shell", "image"], b"Ctrl-D ends", b"\4"), (["sync", "image", "top"], b"as they were", None), (["browse", "image"], b"http://", b"\3"),
            (["edit", "image", "notes.txt", "word:a"], b"no 10 no such file here", None), (["serve", "image"], None, b"\3"))
 
 
