@@ -61,7 +61,7 @@ def test_many_at_once(browsed, visitor):
     assert visitor.page().counts()[b"live"] == 3 and given_to(visitor, "f000", "f001", "song") == [["live"], [], ["live", "music", "year:1999"]]
     visitor.does("tag", {**token, "at": "/", "word": "year:2003", "chosen": "song"}, True, "The word was given to 1 file.")
     assert browsed.end()[0] == 0
-    assert dump().count(b" live") == 3 and b"add song 0 live music year:1999 year:2003\n" in dump()
+    assert dump().count(b"0 live") == 3 and b"add song 0 live music year:1999 year:2003\n" in dump()
 
 
 @pytest.mark.parametrize("page, given, said", (
