@@ -304,15 +304,17 @@ class Server:
             self.ask(room, None, ROOT)
         elif taken := room.held or client.items.take():
             room.held = None
-            self.begin(room, client, taken, words_of(taken.line[:-1]))
+            self.begin(room, client, taken)
         elif client.has_ended:
             self.leave(room, client)
 
-    def begin(self, room: Room, client: Client, taken: Item, words: list[bytes]) -> None:
+    def begin(self, room: Room, client: Client, taken: Item) -> None:
         """Begins with a command: it is for the server itself, or for the program."""
-        if (reply := self.history.answer(client.number, words)) is not None:
+        # A line that is too long is refused, whatever it holds.
+        words = words_of(taken.line[:-1]) if len(taken.line) <= ROOM_LINE + 1 else []
+        if words and (reply := self.history.answer(client.number, words)) is not None:
             client.unsent = memoryview(reply)
-        elif words[0] in PLACED and room.place is None:
+        elif words and words[0] in PLACED and room.place is None:
             room.held = taken
             self.ask(room, None, PLACE)
         else:

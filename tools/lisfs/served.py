@@ -172,8 +172,8 @@ class Digests(dict[bytes, bytes]):
 
 
 def socket_of(image: str) -> str:
-    """Where an image is served, if it is."""
-    return image + SUFFIX
+    """Where an image is served, if it is: beside the file, also if a link leads to it."""
+    return (os.path.realpath(image) if os.path.islink(image) else image) + SUFFIX
 
 
 def connected(image: str) -> socket.socket | None:

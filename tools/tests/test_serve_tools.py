@@ -190,6 +190,20 @@ def test_two_mounts(monkeypatch):
         assert first.stop() == second.stop() == (0, "")
 
 
+@pytest.mark.usefixtures("fuse")
+def test_a_mount_whose_server_ends(monkeypatch, beside):
+    """The folder is free then, and what was not kept is named."""
+    mount, ways = mounted_by("one", monkeypatch)
+    ways.put("kept", b"bytes")
+    handle = ways.open("new", os.O_WRONLY | os.O_CREAT)
+    ways.write(handle, b"lost", 0)
+    beside.end()
+    status, said = mount.ended()
+    assert status == 1 and "mount: new: what was written and not closed is lost" in said and "mount: image: the server has ended" in said, said
+    assert told_by(ways.close, handle) is not None
+    assert images.bytes_of("kept") == b"bytes" and images.bytes_of("new") == b""
+
+
 def mounted_by(name, monkeypatch):
     """A mount, which says first that it is a client."""
     os.mkdir(name)
@@ -316,6 +330,13 @@ def test_a_change_between_look_and_write(top, monkeypatch, capsys):
     status, out, _ = sync("--as", "t", "image", "top")
     assert (status, out[1]) == (1, "conflict: a.txt: top/a.txt: changed in the folder and in the image")
     assert asked(b"cat a.txt", b"cat mine.txt") == b"b 7\nby hand\nok\nb 3\nnew\nok\n", "what was only renamed gets the folder's bytes"
+
+
+def test_a_folder_with_the_image_in_it(beside):
+    """Neither the image nor its socket is a file of the folder."""
+    images.written("f.txt", b"x")
+    status, out, said = sync("--as", "t", "image", ".")
+    assert (status, out, said) == (0, ["sync:t: 1 new, 0 as they were"], joins("sync"))
 
 
 def test_two_syncs_at_once(top):

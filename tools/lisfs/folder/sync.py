@@ -21,7 +21,8 @@ A file is named after its path below the folder, with `+` instead of `/`. If tha
 of its Message-ID, or of its path if it has none, and ends with `.eml`. So names are the same at each run.
 
 --without skips files and folders with such a name, as `.git` or `*.o`, and may be repeated. The image itself is skipped too, if it is in the
-folder. No symbolic link below the folder is followed.
+folder, and its socket if it is served. No symbolic link below the folder is followed. Over a served image `sync` is a client of its server, and
+what another client changes during the run is left as it is.
 
 What a mail or a piece of music gave is kept in `$XDG_CACHE_HOME/lisfs`, or in `~/.cache/lisfs`, so that the next run reads only those whose
 size or times have changed. --no-cache reads all of them, and keeps nothing.
@@ -50,6 +51,7 @@ of it is proved. It uses the word `load` of the program if that has it, and othe
 from __future__ import annotations
 
 import argparse
+import contextlib
 import hashlib
 import os
 import signal
@@ -71,7 +73,7 @@ from lisfs.folder.forms import folder_value
 from lisfs.folder.memory import Memory, Records
 from lisfs.folder.report import Telling, counted, left_out
 from lisfs.image import limits_of
-from lisfs.served import Joined
+from lisfs.served import Joined, socket_of
 from lisfs.showing import harmless, write_line
 from lisfs.words import PLAIN_FORM, PLAIN_RUN
 
@@ -144,7 +146,7 @@ class Sync:
         remembered: Cache = Nothing()
         if not self.words.no_cache:
             remembered = Remembered(self.folder)
-        self.entries = entries = Entries(self.folder, largest, words, self.telling.leave, look, self.words.without, os.stat(self.image), remembered)
+        self.entries = entries = Entries(self.folder, largest, words, self.telling.leave, look, self.words.without, own_files(self.image), remembered)
         entries.read()
         if self.words.dry_run:
             self.telling.clear()
@@ -311,6 +313,14 @@ class Sync:
         if self.telling.not_taken or self.unkept or plan and (plan.unseen or plan.conflicts):
             return False
         return not (carrying and (carrying.without or carrying.too_many or carrying.lean or carrying.is_forgetful))
+
+
+def own_files(image: str) -> list[os.stat_result]:
+    """The image, and the socket beside it if it is served: neither is one of the folder's files."""
+    found = [os.stat(image)]
+    with contextlib.suppress(OSError):
+        found.append(os.lstat(socket_of(image)))
+    return found
 
 
 def no_words(_: Sequence[str]) -> list[bytes]:
