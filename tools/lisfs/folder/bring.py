@@ -2,6 +2,7 @@
 
 usage: tools/import [--word WORD].. [--by-folder] [--without PATTERN].. [--v2] [--verbose] FOLDER > session
        ./lisfs run files.lis < session
+       tools/talk files.lis < session      (if files.lis is served by `tools/serve files.lis`)
 
 --word gives each file this word, and may be repeated. --by-folder gives a file a word for each folder below FOLDER that it is in. A mail
 gets words of its header (`date:2024-06`, `list:`, `who:`, `about:`). A piece of music gets those of its tags (`artist:`, `album:`, `genre:`,

@@ -6,7 +6,8 @@ It goes on until `umount DIR`, Ctrl-C or a SIGTERM, and says on standard error w
 is stored, or named if that fails. --derived also shows as folders the words that files have automatically; without it they are below `:by`.
 --allow-other lets other users look, if the modes allow it: files begin as 0600 and folders as 0700.
 
-One `lisfs run IMAGE` runs each change, and an answer comes after its `ok`. What is between a program and these commands is not proved.
+One `lisfs run IMAGE` runs each change, and an answer comes after its `ok`. If the image is served (`tools/serve IMAGE`), the mount is a client of
+its server, and shows what other clients change. What is between a program and these commands is not proved.
 
 The status is 0 after a requested end if the image has all that was written, 1 if something is wrong, which a line says, and 2 for wrong use.
 """

@@ -7,6 +7,8 @@ several files, `undo`, `find`, `grep` and `less`. `ls` lists other places too, a
 prompt. What is longer than the terminal is shown by `$PAGER`, or `less`; an empty `$PAGER`, or `cat`, turns this off. The lines that you
 type are kept in `$XDG_STATE_HOME/lisfs/shell_history`, or below `~/.local/state`. If `$NO_COLOR` is set there are no colours.
 
+If the image is served (`tools/serve IMAGE`), the prompt is a client of its server, and sees what other clients change.
+
 If standard input or output is not a terminal, the lines of the input run without a prompt, with bytes after `add` and `write` lines as
 `lisfs run` takes them. Standard error says what is refused, and the lines after it still run.
 

@@ -9,7 +9,8 @@ things.
 A request must come within 20 seconds, and its answer be taken within 60, or each within the seconds in `$LISFS_PATIENCE`. At most 200
 connections are open. When one more comes, one that has not sent an admitted request is closed first.
 
-One `lisfs run IMAGE` runs each question and each change. It holds the image's lock all the time. A page shows a change as done after its
+One `lisfs run IMAGE` runs each question and each change. It holds the image's lock all the time. If the image is served (`tools/serve IMAGE`),
+the pages are a client of its server, and each shows what other clients have changed. A page shows a change as done after its
 `ok`. What is between a browser and these commands is not proved.
 
 The status is 0 after a requested end, 1 if something is wrong, which one line says, and 2 for wrong use.
