@@ -10,6 +10,7 @@ import hashlib
 import os
 import socket
 import struct
+import threading
 from collections.abc import Callable
 from typing import NamedTuple
 
@@ -118,7 +119,9 @@ class Joined(Program):
         self._ending()
 
     def kill_after(self, seconds: float) -> None:
-        self._connection.settimeout(seconds)
+        timer = threading.Timer(seconds, self._connection.shutdown, [socket.SHUT_RDWR])
+        timer.daemon = True
+        timer.start()
 
     def _write(self, data: bytes | memoryview) -> int:
         return self._connection.send(data, socket.MSG_DONTWAIT)

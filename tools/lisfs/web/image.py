@@ -11,7 +11,7 @@ from typing import NamedTuple, Protocol
 
 from lisfs import image
 from lisfs.client import Commands, Program, Refused, Retag, Retagged, as_content, as_lines, item, tag, undo, untag
-from lisfs.constants import IN_USE, REFUSAL_WORDS, UNKNOWN_PROPERTY
+from lisfs.constants import IN_USE, NO_FILE_HERE, REFUSAL_WORDS, UNKNOWN_PROPERTY
 from lisfs.dumps import Axiom, Dump
 from lisfs.index import File
 from lisfs.refusals import about
@@ -121,7 +121,7 @@ class Image(image.Image[File]):
     def file(self, name: bytes) -> tuple[File, list[bytes], bytes]:
         """A file of the index, the words of a route to it and its bytes."""
         way, content = self.asked((b"way", name), (b"cat", name))
-        return self.index.files[name], [text for _, text in as_lines(way).body], as_content(content).body
+        return self._file(name), [text for _, text in as_lines(way).body], as_content(content).body
 
     # Changes. Each is one command, and a refusal changes nothing. Of the last one it is kept what undoes it.
 
@@ -134,6 +134,10 @@ class Image(image.Image[File]):
         """The file of a name. Where there is none, the program says so."""
         if name not in self.index.files:
             self.told((b"props", name))
+            # It says that there is one, which another client has just made.
+            self.catch_up()
+        if name not in self.index.files:
+            raise Refused(NO_FILE_HERE, REFUSAL_WORDS[NO_FILE_HERE])
         return self.index.files[name]
 
     def _can_undo(self, told: str, call: Callable[[], None]) -> None:

@@ -139,7 +139,8 @@ class Served:
     def __init__(self, image="image", path="socket", wait=True, patience=LONG, program=PROGRAM, command=(SERVE,), **more):
         self.said = tempfile.TemporaryFile()
         words = {**os.environ, "REAL": PROGRAM, "LISFS_PROGRAM": program, "LISFS_PATIENCE": str(patience)}
-        self.server = subprocess.Popen([*command, image, *([path] if path else [])], stdin=subprocess.DEVNULL, stdout=subprocess.DEVNULL, stderr=self.said, env=words, **more)
+        self.server = subprocess.Popen([*command, image, *([path] if path else [])], stdin=subprocess.DEVNULL, stdout=subprocess.DEVNULL,
+                                       stderr=self.said, env=words, **more)
         self.started.append(self.server)
         at = path or f"{image}.socket"
         if wait and not until(lambda: answers(at) or self.server.poll() is not None):
