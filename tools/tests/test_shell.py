@@ -5,6 +5,7 @@ import os
 import random
 import re
 import shutil
+import signal
 import subprocess
 import types
 
@@ -457,7 +458,7 @@ def test_nobody_reads(taken):
     os.close(read)
     ran = subprocess.run([SHELL, "image"], input=b"create y\nls\ncreate z\n", stdout=write, stderr=subprocess.PIPE, timeout=LONG, check=False)
     os.close(write)
-    assert (ran.returncode, ran.stderr) == (1, b"shell: image: Broken pipe\n"), "nobody reads"
+    assert (ran.returncode, ran.stderr) == (-signal.SIGPIPE, b""), "nobody reads"
     assert shell(b"find\n")[1] == b"album\ngig\nnotes\nsingle\ny\n", "what was carried out before is kept"
 
 
