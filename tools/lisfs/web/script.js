@@ -4,13 +4,14 @@
 
 const chooseAll = () => {
     for (const head of document.querySelectorAll("th.choice")) {
-        const all = document.createElement("input");
+        const all = document.createElement("input"), label = document.createElement("label"), text = document.createElement("span");
         all.type = "checkbox";
-        all.setAttribute("aria-label", "Choose all of this page");
+        text.textContent = "Choose all of this page";
+        label.append(all, text);
         all.addEventListener("change", () => {
             for (const box of head.closest("table").querySelectorAll("td.choice input")) box.checked = all.checked;
         });
-        head.replaceChildren(all);
+        head.replaceChildren(label);
     }
 };
 chooseAll();
