@@ -332,6 +332,23 @@ def test_a_change_between_look_and_write(top, monkeypatch, capsys):
     assert asked(b"cat a.txt", b"cat mine.txt") == b"b 7\nby hand\nok\nb 3\nnew\nok\n", "what was only renamed gets the folder's bytes"
 
 
+def test_a_word_that_another_client_takes_away(monkeypatch, capsys):
+    """A refusal names the words that it may be about."""
+    images.written("top/Garden/x.txt", b"x")
+    run = syncing_module.Carrying.run
+
+    def late(self):
+        asked(b"rmdir in:")
+        run(self)
+
+    with monkeypatch.context() as context:
+        context.setattr(syncing_module.Carrying, "run", late)
+        context.setattr(sys, "argv", ["sync", "--verbose", "--as", "t", "image", "top"])
+        assert syncing_module.main() == 1
+    assert "sync: not taken: top/Garden/x.txt: no 06 unknown property: sync:t, in:Garden" in capsys.readouterr().out.splitlines()
+    assert sync("--as", "t", "image", "top")[:2] == (0, ["sync:t: 1 new, 0 as they were"])
+
+
 def test_a_folder_with_the_image_in_it(beside):
     """Neither the image nor its socket is a file of the folder."""
     images.written("f.txt", b"x")
