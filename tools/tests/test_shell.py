@@ -417,7 +417,7 @@ def test_a_locked_image(taken):
     with open("image", "rb") as file:
         fcntl.flock(file, fcntl.LOCK_EX)
         assert shell(b"pwd\n") == (
-            3, b"", "shell: image: another program has it open, as another `tools/shell`, `tools/mount` or `tools/serve`: end that first\n")
+            3, b"", "shell: image: another program has it open, as another `tools/shell` or `tools/mount`: end that first; `tools/serve` lets several have it\n")
 
 
 def test_no_image(program):

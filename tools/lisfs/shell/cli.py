@@ -82,8 +82,8 @@ def main() -> int:
     try:
         status = run(image, screen)
     except Locked as end:
-        others = "another `tools/shell`, `tools/mount` or `tools/serve`"
-        status, cause = status_of(end), f"{shown}: another program has it open, as {others}: end that first"
+        others = "another `tools/shell` or `tools/mount`"
+        status, cause = status_of(end), f"{shown}: another program has it open, as {others}: end that first; `tools/serve` lets several have it"
     except Ended as end:
         # Ctrl-C ends what reads the image at the beginning.
         status, cause = (STOPPED, "stopped") if screen.interrupts.has_come else (status_of(end), cause_of(end))
