@@ -8,7 +8,8 @@ from support.visitors import Browsed, Seen
 from support.web import Visitor, adding, make
 
 SMALL = ("256", "256", "40")
-LINES = b"mkdir music\nmkdir live\nmkdir year:\nmkdir rock\naxiom rock music\n" + b"".join(b"create f%03d\n" % k for k in range(120)) + b"create song music year:1999\n"
+LINES = (b"mkdir music\nmkdir live\nmkdir year:\nmkdir rock\naxiom rock music\n" + b"".join(b"create f%03d\n" % k for k in range(120))
+         + b"create song music year:1999\n")
 
 
 @pytest.fixture
@@ -185,7 +186,8 @@ def test_named_at_an_upload(visitor):
 
 
 @pytest.mark.parametrize("at, said", (
-    ("/music/jazz", "jazz: not known here. No file has it, and nobody has declared it."), ("jazz|(who:x/!live)", "jazz, who:x: not known here. No file has them"),
+    ("/music/jazz", "jazz: not known here. No file has it, and nobody has declared it."),
+    ("jazz|(who:x/!live)", "jazz, who:x: not known here. No file has them"),
     ("from:a@b", "from:a@b: not known here."), ("music//", "This is no formula.")))
 def test_named_in_a_place(visitor, at, said):
     assert said in visitor.page("", at=at, status=404).text
