@@ -1,5 +1,6 @@
 """The tools over a served image: each is a client of the server, and sees what another client changes."""
 import os
+import random
 import subprocess
 import sys
 import threading
@@ -8,14 +9,15 @@ import time
 import pytest
 
 import support
-from lisfs import opening
+from lisfs import image as images_of
+from lisfs import opening, served
 from lisfs.folder import sync as syncing_module
 from lisfs.mount.tree import KEPT_SECONDS
 from support import images
 from support.mount.answers import Mount, by_messages, told_by
 from support.mount.asking import Real
 from support.peers import LIMITS, Served, talked
-from support.shells import SHELL, shell
+from support.shells import SHELL, shell, within
 from support.syncing import SYNC, sync
 from support.visitors import Browsed
 from support.waiting import LONG, until
@@ -96,6 +98,39 @@ def test_a_prompt_says_that_the_server_has_ended(beside):
         one.child.stdin.write(b"ls\n")
         assert one.child.wait(LONG) == 1
     assert one.said == joins("shell") + "shell: image: the server has ended; what was replied to is kept\n"
+
+
+def random_line(chance):
+    """A line that changes something, or goes somewhere."""
+    one, two = (b"f%d" % chance.randrange(12) for _ in range(2))
+    word, other = chance.sample((b"a", b"b", b"c", b"k:1", b"k:2"), 2)
+    return b" ".join(chance.choice((
+        (b"create", one, word), (b"create", one), (b"rm", one), (b"rename", one, two), (b"mv", one, word), (b"mv", one, b"/" + other), (b"mv", one, b"/"),
+        (b"write", one, b"3\nabc"), (b"tag", word, one, two), (b"untag", word, one), (b"undo",), (b"cd", word), (b"cd", b"/"), (b"cd", b".."),
+        (b"axiom", b"a", b"b"), (b"unaxiom", b"a", b"b"), (b"mkdir", b"size>=2"), (b"rmdir", b"size>=2"), (b"find",), (b"ls", b"-c")))) + b"\n"
+
+
+@pytest.mark.parametrize("seed", range(3))
+def test_prompts_keep_in_step(seed, monkeypatch, image):
+    """What two prompts know of the files is what the image holds, after random lines of both."""
+    monkeypatch.setattr("support.shells.opened", lambda image: opening.opened("shell", image))
+    chance = random.Random(seed)
+    asked(b"mkdir a", b"mkdir b", b"mkdir c", b"mkdir k:")
+    with within() as one, within() as other:
+        for _ in range(300):
+            chance.choice((one, other))(random_line(chance))
+        known = []
+        for prompt in (one, other):
+            prompt(b"cd /\nls -c\n")
+            session = prompt.session
+            known.append(({name: (file.size, file.given, file.words) for name, file in session.index.files.items()}, session.declared, session.axioms))
+        program, dump = served.joined(image)
+        with program:
+            fresh = images_of.Image(program, dump, images_of.limits_of(image))
+            fresh.describe(fresh.index.files.values())
+    files = {name: (file.size, file.given, file.words) for name, file in fresh.index.files.items()}
+    assert known[0] == known[1] == (files, dump.declared, dump.axioms)
+    assert len(files) > 3
 
 
 def test_bytes_through_a_prompt():
@@ -186,6 +221,40 @@ def test_two_mounts(monkeypatch):
         other.unlink("tune")
         other.rmdir("music")
         assert (one.ls(""), one.exists("music"), told_by(one.get, "tune")) == (["todo"], False, "ENOENT")
+    finally:
+        assert first.stop() == second.stop() == (0, "")
+
+
+def shuffle(ways, own, seed, fine):
+    """Makes, writes, moves, renames and removes files in a mount, some of them those of others, and looks at what is there."""
+    chance = random.Random(seed)
+    for number in range(120):
+        names = [name for name in told_by(ways.ls, ":all") if isinstance(name, str)] or ["none"]
+        one, place = chance.choice(names), chance.choice(("", "a/", "b/", "a/b/"))
+        answers = [told_by(*call) for call in chance.choice((
+            [(ways.put, f"{place}{own}{number}", os.urandom(chance.choice((0, 9, 5_000))))], [(ways.put, one, b"%d" % number)], [(ways.unlink, one)],
+            [(ways.rename, one, f"{place}{own}{number}")], [(ways.get, one), (ways.size, one)], [(ways.ls, place.rstrip("/"))]))]
+        fine.update(answer for answer in answers if isinstance(answer, str))
+
+
+@pytest.mark.usefixtures("fuse")
+def test_two_busy_mounts(monkeypatch):
+    """Each shows at the end what the other one shows, and is never wrong in another way than that somebody was quicker."""
+    first, one = mounted_by("one", monkeypatch)
+    second, other = mounted_by("two", monkeypatch)
+    try:
+        one.mkdir("a")
+        one.mkdir("b")
+        refused = [set(), set()]
+        threads = [threading.Thread(target=shuffle, args=(ways, own, number, refused[number])) for number, (ways, own) in enumerate(((one, "x"), (other, "y")))]
+        for thread in threads:
+            thread.start()
+        for thread in threads:
+            thread.join()
+        assert refused[0] | refused[1] <= {"ENOENT", "ESTALE", "EEXIST"}, refused
+        shown = [{place: (sorted(ways.ls(place)), {name: ways.get(f":all/{name}") for name in ways.ls(":all")}) for place in ("", "a", "b", "a/b", ":all")}
+                 for ways in (one, other)]
+        assert shown[0] == shown[1] and len(shown[0][":all"][0]) > 5
     finally:
         assert first.stop() == second.stop() == (0, "")
 
