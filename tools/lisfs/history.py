@@ -4,7 +4,7 @@ others have changed, so that what a client knows of an image stays true; and it 
 A client asks by lines of the server's own. They begin with a colon, as no command does, and the program gets none of them:
 
     :all        what the image holds, and which file the image is
-    :since N    what other clients have changed after the change of number N
+    :since N    what other clients have changed after the change of number N, and what this one has after that
     :guard N    from now on `write`, `mv`, `rename` and `rm` of a file that another client has changed after N is refused
 
 The replies have the form of replies. The first line says the number of the last change, and then the lines follow that are needed to know what is
@@ -46,9 +46,9 @@ BAD = f"no {BAD_LINE:02} {REFUSAL_WORDS[BAD_LINE]}\n".encode()
 # The commands whose meaning depends on the place, and those that need a file as it was.
 PLACED = frozenset((b"create", b"add", b"mv", b"mkdir"))
 GUARDED = frozenset((b"write", b"mv", b"rename", b"rm"))
-# The letters of changes, and those that say the same as another one, the other way.
+# The letters of changes, and those that are said as another one is. `b` are the bytes of a file with another name.
 LETTERS = (b"r", b"f", b"c", b"d", b"a")
-STATES = {b"g": b"f", b"u": b"d", b"x": b"a"}
+STATES = {b"g": b"f", b"u": b"d", b"x": b"a", b"b": b"c"}
 
 
 class Change(NamedTuple):
@@ -169,7 +169,7 @@ class History:
         yield b"g", given[0]
         yield b"f", given[1]
         # What was written before is known by the old name.
-        yield b"c", given[1]
+        yield b"b", given[1]
 
     def _remove(self, _: bytes, given: Sequence[bytes]) -> Iterator[tuple[bytes, ...]]:
         del self.files[given[0]]
@@ -204,21 +204,30 @@ class History:
 
     def _since(self, client: int, number: int) -> bytes:
         """What others than a client have changed after a change."""
-        found: list[Change] = []
-        for change in reversed(self._changes):
-            if change.number <= number:
-                break
-            if change.client != client:
-                found.append(change)
+        found = self._found(client, number)
         # Each once, in the order in which it came first.
         of: dict[bytes, dict[tuple[bytes, ...], None]] = {letter: {} for letter in LETTERS}
-        for change in reversed(found):
+        for change in found:
             of[STATES.get(change.letter, change.letter)][change.of] = None
         return self._shown([
-            *(b"r %b %b" % (change.of[0], change.of[1]) for change in reversed(found) if change.letter == b"r"),
+            *(b"r %b %b" % (change.of[0], change.of[1]) for change in found if change.letter == b"r"),
             *(self._file(name) for name, in of[b"f"]), *(b"c " + name for name, in of[b"c"] if name in self.files),
             *((b"d " if word in self.declared else b"u ") + word for word, in of[b"d"]),
             *((b"a " if Axiom(*pair) in self.axioms else b"x ") + b" ".join(pair) for pair in of[b"a"])])
+
+    def _found(self, client: int, number: int) -> list[Change]:
+        """What others have changed after a change, and what the client itself has from the first of these on: that may have been done to what
+        it does not know yet, as if it renames a file that has just got its name."""
+        found: list[Change] = []
+        count = 0
+        for change in reversed(self._changes):
+            if change.number <= number:
+                break
+            if change.client != client or change.letter != b"c":
+                found.append(change)
+            if change.client != client:
+                count = len(found)
+        return found[:count][::-1]
 
     def _all(self) -> bytes:
         """What the image holds."""

@@ -123,6 +123,23 @@ def test_news(joined):
     assert program.news() is None
 
 
+def test_news_of_what_both_have_changed(joined):
+    """What a client does to a file that it does not know yet, as one that has just been renamed, is said to it too."""
+    program = joined.program
+    asked(b"create a", b"create other")
+    program.create(b"mine")
+    assert set(program.news().files) == {b"a", b"other", b"mine"}
+    program.create(b"more")
+    assert program.news() is None
+    asked(b"rename a b")
+    program.rename(b"b", b"c")
+    program.write(b"other", b"x")
+    news = program.news()
+    assert (news.renamed, news.gone) == ([(b"a", b"b"), (b"b", b"c")], {b"a", b"b"})
+    assert (set(news.files), news.written) == ({b"c", b"other"}, {b"c"})
+    assert program.news() is None
+
+
 def test_a_place_decides_what_a_file_is_given(joined):
     asked(b"mkdir a", b"mkdir b", b"mkdir k:", b"create x", b"cd a", b"create y b", b"cd b/k:", b"create z k:1")
     assert joined.program.news().files == {b"x": (0, set()), b"y": (0, {b"a", b"b"}), b"z": (0, {b"a", b"b", b"k:1"})}

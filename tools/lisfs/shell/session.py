@@ -191,10 +191,10 @@ class Session(Following[File]):
 
     def _note_file(self, command: bytes, given: Sequence[bytes]) -> None:
         name, files = given[0], self.index.files
-        for new in given[1:] if command == b"rename" else given[:1] if command in (b"create", b"add") else ():
-            if new in files:
-                # It was there before, and another client had removed it.
-                self._is_removed(files[new])
+        new = given[1] if command == b"rename" and name in files else name if command in (b"create", b"add") else None
+        if new in files:
+            # What was there has gone, or it is the same, if the news have said so already.
+            self._is_removed(files[new])
         if command in (b"create", b"add"):
             words = given[2:] if command == b"add" else given[1:]
             self.index.add(name, int(given[1]) if command == b"add" else 0, {*(tags_of(self.place) or ()), *words})
