@@ -252,9 +252,11 @@ def test_two_busy_mounts(monkeypatch):
         for thread in threads:
             thread.join()
         assert refused[0] | refused[1] <= {"ENOENT", "ESTALE", "EEXIST"}, refused
+        one.put("a/last", b"x")
+        other.put("b/last2", b"y")
         shown = [{place: (sorted(ways.ls(place)), {name: ways.get(f":all/{name}") for name in ways.ls(":all")}) for place in ("", "a", "b", "a/b", ":all")}
                  for ways in (one, other)]
-        assert shown[0] == shown[1] and len(shown[0][":all"][0]) > 5
+        assert shown[0] == shown[1] and {"last", "last2"} <= set(shown[0][":all"][0])
     finally:
         assert first.stop() == second.stop() == (0, "")
 
