@@ -145,11 +145,11 @@ def test_nothing_is_said_of_an_image_that_opens_soon(top):
 # A wrong folder.
 
 @pytest.mark.parametrize("words, status", ((["sync", "image"], 2), (["import"], 2), (["mount", "image"], 1)), ids=("sync", "import", "mount"))
-@pytest.mark.parametrize("folder, why", (("nosuch", "No such file or directory"), ("image", "not a folder"), ("image/x", "not a folder")))
-def test_a_wrong_folder(words, status, folder, why):
-    ran = subprocess.run([sys.executable, tool(words[0]), *words[1:], folder], capture_output=True, check=False, timeout=LONG)
+@pytest.mark.parametrize("at, why", (("nosuch", "No such file or directory"), ("image", "not a folder"), ("image/x", "not a folder")))
+def test_a_wrong_folder(words, status, at, why):
+    ran = subprocess.run([sys.executable, tool(words[0]), *words[1:], at], capture_output=True, check=False, timeout=LONG)
     said = ran.stderr.decode()
-    assert (ran.returncode, ran.stdout, said) == (status, b"", f"{words[0]}: {folder}: {why}\n")
+    assert (ran.returncode, ran.stdout, said) == (status, b"", f"{words[0]}: {at}: {why}\n")
 
 
 def test_a_folder_that_can_not_be_read(root):
