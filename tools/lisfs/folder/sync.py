@@ -118,7 +118,7 @@ class Sync:
         self.image, self.folder, self.words, self.telling = words.image, words.folder, words, telling
         name = os.fsencode(words.name) if words.name is not None else default_name(words.folder)
         self.marker = MARKER + b":" + name
-        self.memory = Memory(self.marker)
+        self.memory = Memory(self.marker, words.image)
         # Why what was brought in could not be kept, and what earlier runs brought in, if it is known.
         self.unkept: str | None = None
         self.known: Records | None = None
