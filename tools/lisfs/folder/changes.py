@@ -9,20 +9,22 @@ from __future__ import annotations
 import enum
 import hashlib
 import os
-from collections.abc import Iterable, Sequence, Set
+from collections.abc import Callable, Iterable, Sequence, Set
 from typing import NamedTuple, TypeAlias
 
 from lisfs import derived
 from lisfs.constants import MAX_ASSIGNED, MAX_DERIVED, MAX_WORD
 from lisfs.dumps import Dump
 from lisfs.folder import mails, music, walk
-from lisfs.folder.entries import Entry
+from lisfs.folder.entries import Entry, newest_first
 from lisfs.folder.forms import folder_value
 from lisfs.folder.memory import REMOVAL, Record, Records, settled
 from lisfs.words import head_of, stem_of
 
 MARKER, FOLDER = b"sync", b"in"
 HEADS = frozenset(head + b":" for head in (FOLDER, *mails.HEADS, *music.HEADS))
+# So much more than a word of the folder, or a suffix, common bytes say of two files that they are one.
+SHARED = 4
 # The digest of no bytes, and what is no digest.
 NO_BYTES, NOTHING = hashlib.sha256().hexdigest(), ""
 
@@ -39,6 +41,7 @@ class Done(enum.Enum):
     MOVED = "moved"
     WORDS = "words"
     GONE = "gone"
+    OUT = "taken out"
     SAME = "same"
 
 
@@ -107,10 +110,12 @@ class Changes:
 
     `conflicts` are left, `edited` are the names of files that stay as the image has them, `away` the paths of those that stay away from it, and
     `renamed` are those that have another name in the image. `unseen` counts files that are not removed, since not all of the folder was seen.
-    `records` say what is so before any change, and what was done after it."""
+    `older` counts files that are older than those that are wanted and don't come in, `out` has the names of those in `gone` that go for this
+    reason alone, and `staying` counts those that stay all the same, since somebody changed them in the image.
+    `records` say what is so before any change, and what was done after it. `bytes_of` gives the bytes of a file of the image."""
 
     def __init__(self, entries: Iterable[Entry], dump: Dump, marker: bytes, is_lean: bool = False, records: Records | None = None,
-                 wishes: Wishes = Wishes(), is_blind: bool = False) -> None:
+                 wishes: Wishes = Wishes(), is_blind: bool = False, bytes_of: Callable[[bytes], bytes] | None = None) -> None:
         self.marker, self.dump, self.is_lean, self.wishes, self.is_blind = marker, dump, is_lean, wishes, is_blind
         self.changes: list[Change] = []
         self.gone: list[bytes] = []
@@ -119,7 +124,8 @@ class Changes:
         self.edited: list[str] = []
         self.away: list[str] = []
         self.renamed: list[Renamed] = []
-        self.same = self.beyond = self.beyond_files = self.unseen = 0
+        self.out: set[bytes] = set()
+        self.same = self.beyond = self.beyond_files = self.unseen = self.older = self.staying = 0
         self.own_names = {name for name, (_, words) in dump.files.items() if marker in words}
         self.own = len(self.own_names)
         # Names in the image that a file of the folder has, and those that no new one can have.
@@ -128,8 +134,8 @@ class Changes:
         # The key of the record of each that is gone, or None.
         self.gone_keys: dict[bytes, str | None] = {}
         self.records = settled(records or {}, self._digest)
-        self._find_renamed()
         self.keyed = keyed = [(key_of(entry, marker), entry) for entry in entries]
+        self._find_renamed(dict(keyed), bytes_of)
         self.waiting: set[str] = set()
         self.moved = self._find_moved(keyed)
         self._tell_mails_apart(keyed)
@@ -141,7 +147,7 @@ class Changes:
             self._fresh(key, entry)
         self._left({key for key, _ in keyed})
         self.gone.sort()
-        self.changes.sort(key=lambda change: (change.is_new, change.name))
+        self.changes.sort(key=lambda change: newest_first(change.entry))
 
     def _digest(self, name: str) -> str | None:
         """The digest of one of the folder's files in the image, or None where it is not there."""
@@ -149,15 +155,47 @@ class Changes:
 
     # Files with another name than before.
 
-    def _find_renamed(self) -> None:
-        """Files that somebody renamed in the image are found again by their bytes."""
+    def _find_renamed(self, entries: dict[str, Entry], bytes_of: Callable[[bytes], bytes] | None) -> None:
+        """Files that somebody renamed in the image are found again by their bytes, and those that were edited too by what else they have. Each
+        file with the folder's word was one of its files, so one that no record names is one of those that are lost since the last run."""
         free: dict[str | None, list[str]] = {}
         for name in sorted(self.own_names - {record.name.encode() for record in self.records.values()}):
             free.setdefault(self._digest(name.decode()), []).append(name.decode())
+        lost: set[str] = set()
         for key, record in sorted(self.records.items()):
-            if self._digest(record.name) is None and (names := free.get(record.image)):
-                self.records[key] = record._replace(name=names.pop(0))
-                self.renamed.append(Renamed(record.name, self.records[key].name))
+            if self._digest(record.name) is not None:
+                continue
+            if names := free.get(record.image or record.folder):
+                self._rename(key, names.pop(0))
+            elif record.image is not None:
+                lost.add(key)
+        left = {name for names in free.values() for name in names} - self._expected(entries) if lost else set()
+        parts_in = {name: parts_of(bytes_of(name.encode())) for name in left} if bytes_of and len(lost) * len(left) > 1 else {}
+        parts = {key: parts_of(content_of(entries[key])) for key in lost if key in entries} if parts_in else {}
+        alike = [(shared(parts.get(key), parts_in.get(name)) + self._likeness(key, entries.get(key), name), key, name) for key in lost for name in left]
+        for _, key, other in sorted(alike, key=lambda pair: (-pair[0], *pair[1:])):
+            if key in lost and other in left:
+                lost.remove(key)
+                left.remove(other)
+                self._rename(key, other)
+
+    def _expected(self, entries: dict[str, Entry]) -> set[str]:
+        """The names that files of the folder would have which did not come in, as far as is known. A run that was stopped may have brought them in."""
+        new = [entry for key, entry in entries.items() if (record := self.records.get(key)) is None or (record.folder, record.image) == (None, None)]
+        return {name.decode() for entry in new for name in entry.names(self.marker, True)}
+
+    def _rename(self, key: str, name: str) -> None:
+        self.renamed.append(Renamed(self.records[key].name, name))
+        self.records[key] = self.records[key]._replace(name=name)
+
+    def _likeness(self, key: str, entry: Entry | None, name: str) -> float:
+        """How likely a file of the image, with other bytes and another name, is the one of a record, beside what their bytes say: by the words
+        that the folder gave it, by its suffix, and by what the two names have in common."""
+        was, words = self.records[key].name, {word for word in self.dump.files[name.encode()].words if head_of(word) in HEADS}
+        alike = len(words & set(entry.words)) - len(words ^ set(entry.words)) / 2 if entry else 0.0
+        ends = os.path.splitext(was)[1] == os.path.splitext(name)[1]
+        common = len(os.path.commonprefix([was, name])) + len(os.path.commonprefix([was[::-1], name[::-1]]))
+        return alike + ends + common / (len(was) + len(name))
 
     def _find_moved(self, keyed: Keyed) -> dict[str, str]:
         """Files that were renamed or moved in the folder are found again by their bytes: first those whose own name is the same, and then all
@@ -228,9 +266,28 @@ class Changes:
             self.refused.append(entry)
         elif name is None:
             return self._stays_away(key, entry, folder)
-        else:
+        elif not self._is_out(key, entry, name, folder):
             self._judge(key, entry, name, folder)
         return True
+
+    def _is_out(self, key: str, entry: Entry, name: str, folder: str) -> bool:
+        """Whether a file goes since it is older than what is wanted. One that somebody edited, renamed or gave words to stays."""
+        if not entry.is_older:
+            return False
+        record, image, words = self.records.get(key), self._digest(name), self.dump.files[name.encode()].words
+        is_named = record.name == record.made if record else name.encode() in entry.names(self.marker, False)
+        is_read = image == folder or record is not None and image == record.image
+        if not (is_named and is_read and all(word == self.marker or head_of(word) in HEADS for word in words)):
+            self.staying += 1
+        elif self.is_blind:
+            # There may be newer ones that were not seen, or fewer.
+            self.unseen += 1
+        else:
+            self.gone.append(name.encode())
+            self.gone_keys[name.encode()] = key
+            self.out.add(name.encode())
+            return True
+        return False
 
     def _name_in_image(self, key: str, entry: Entry) -> str | None:
         """The name of a file in the image, by its record, or else the first of those that it may have."""
@@ -252,6 +309,8 @@ class Changes:
         if self.records[key].folder != folder or self.wishes.restore:
             del self.records[key]
             return False
+        # A file that the image gets later is another one.
+        self.records[key] = self.records[key]._replace(image=None)
         self.away.append(entry.found.path)
         return True
 
@@ -296,7 +355,9 @@ class Changes:
         record = self.records.get(key)
         if record is None or key not in self.moved or record.name != record.made:
             return None
-        names = entry.names(self.marker, self.is_lean)
+        all_names = entry.names(self.marker, True)
+        # One whose name is lean stays so, since the program may have no room for its words.
+        names = entry.names(self.marker, self.is_lean or derived.has_many(all_names[-1]) and not derived.has_many(record.made.encode()))
         if record.made.encode() in names:
             return None
         other = next((name for name in names[:2] if name not in self.taken), None)
@@ -311,6 +372,9 @@ class Changes:
         if key in self.waiting:
             entry.found.problem = "it may have moved, and not all of the folder could be read"
             self.refused.append(entry)
+            return
+        if entry.is_older:
+            self.older += 1
             return
         all_names = entry.names(self.marker, self.is_lean)
         name = next((name for name in all_names[:2] if name not in self.taken), None)
@@ -335,7 +399,7 @@ class Changes:
     def _left(self, present: Set[str]) -> None:
         if self.is_blind:
             # They may be where nothing was seen, and so their records stay.
-            self.unseen = len(self.own_names - self.kept)
+            self.unseen += len(self.own_names - self.kept)
             return
         keys = {record.name: key for key, record in self.records.items() if key not in present}
         for name in sorted(self.own_names - self.kept):
@@ -418,6 +482,24 @@ class Changes:
         """The heads that have to be declared, in the order of their importance."""
         wanted = dict.fromkeys(stem_of(word) for change in self.changes for word in change.gains)
         return [head for head in [MARKER, *wanted] if head + b":" not in self.dump.declared] if self.changes else []
+
+
+def parts_of(content: bytes) -> set[bytes]:
+    """What of some bytes can be found again after an edit: what stands between blanks."""
+    return set(content.split())
+
+
+def shared(some: Set[bytes] | None, others: Set[bytes] | None) -> float:
+    """How much two contents have in common."""
+    return SHARED * len(some & others) / len(some | others) if some and others else 0.0
+
+
+def content_of(entry: Entry) -> bytes:
+    """The bytes of a file of the folder, or none where it can't be read."""
+    try:
+        return walk.content(entry.found, entry.found.size or 0)
+    except OSError:
+        return b""
 
 
 def digest_of(entry: Entry) -> bytes:
