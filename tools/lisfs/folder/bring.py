@@ -13,9 +13,9 @@ folders named `.NAME.NAME`. Each mail is named after its file without the flags,
 is a mail. --without skips files and folders with such a name, as `.git` or `*.o`, and may be repeated. --v2 is for an image of version 2: it
 takes files of up to 1,048,576 bytes; without it 65,536 are the most.
 
---since DATE takes the files from a day, a month or a year on (2024-06-03, 2024-06, 2024), and --newest N the N newest files. The date of a mail is
-that of its header, and of another file the time of its last change. The newest files come first in the session, so an image that has no room for
-all refuses the oldest.
+--since DATE takes the files from a day, a month or a year on (2024-06-03, 2024-06, 2024), and --newest N the N newest files. The date of a
+mail is that of its header, and of another file the time of its last change. The newest files come first in the session, so an image that has
+no room for all refuses the oldest.
 
 A name has 1 to 60 letters, digits and `_ - . + @`. Each other byte becomes `_`, and if two files would have the same name, the later one
 gets a number. A folder's word is made likewise, of at most 60 bytes and without leading full stops; letters that are not ASCII are written

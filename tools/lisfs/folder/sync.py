@@ -9,9 +9,9 @@ which are the folder's.
 
 What was changed in the image is never overwritten and never removed. A file that has other bytes only in the image keeps them. A file that
 has other bytes both there and in the folder, or is gone from the folder, is a conflict: it is named, and left. --ours settles conflicts by
-what the image has, and --theirs by what the folder has. A file that was renamed in the image keeps that name. One that was removed from it
-stays away until it changes in the folder; --restore brings such files back. A file that was renamed or moved in the folder is found again by
-its bytes, and keeps the words that it was given.
+what the image has, and --theirs by what the folder has. A file that was renamed in the image keeps that name, also if it was edited there too.
+One that was removed from it stays away until it changes in the folder; --restore brings such files back. A file that was renamed or moved in
+the folder is found again by its bytes, and keeps the words that it was given.
 
 What was brought in is kept in `$XDG_STATE_HOME/lisfs`, or in `~/.local/state/lisfs`, and a plain word `synced-NAME-DIGEST` of the image names
 it. If that is missing, for example after an older `tools/sync`, each difference is a conflict.
@@ -23,12 +23,13 @@ of its Message-ID, or of its path if it has none, and ends with `.eml`. So names
 --without skips files and folders with such a name, as `.git` or `*.o`, and may be repeated. The image itself is skipped too, if it is in the
 folder. No symbolic link below the folder is followed.
 
---since DATE takes the files from a day, a month or a year on (2024-06-03, 2024-06, 2024), and --newest N the N newest files. The date of a mail is
-that of its header, and of another file the time of its last change. An older file does not come in. If it is in the image it is taken out
-again, unless somebody edited or renamed it there or gave it a word.
+--since DATE takes the files from a day, a month or a year on (2024-06-03, 2024-06, 2024), and --newest N the N newest files. The date of a
+mail is that of its header, and of another file the time of its last change. An older file does not come in. If it is in the image it is taken
+out again, unless somebody edited or renamed it there or gave it a word.
 
-The newest files come in first, so if the image has no room for all, the oldest are left out. A line says which limit was reached, and what helps.
---reserve says how many of the words of the image stay free for you: a number, or a part such as 1/10 or 0.1. Without it this is a twentieth.
+The newest files come in first, so if the image has no room for all, the oldest are left out. A line says which limit was reached, and what
+helps. --reserve says how many of the words of the image stay free for you: a number, or a part such as 1/10 or 0.1. Without it this is a
+twentieth.
 
 What a mail or a piece of music gave is kept in `$XDG_CACHE_HOME/lisfs`, or in `~/.cache/lisfs`, so that the next run reads only those whose
 size or times have changed. --no-cache reads all of them, and keeps nothing.
@@ -48,9 +49,10 @@ image then has room for more mails and sources.
 Words that do not fit are counted: those beyond the 16 that a file is given, the 128 that it has in all, and the 48 that the program derives
 for it. A search by a derived word can miss a file whose words are cut.
 
---dry-run says what it would do, one line a file, and works on a copy of the image below the temporary folder. --verbose says what is done in the same way. The counts come at the end,
-and on a terminal there is a line of progress. If none of its files is in the folder any more, for example because a disk is not mounted,
-nothing is done, except with --all-gone. If some of the folder could not be read, nothing is removed.
+--dry-run says what it would do, one line a file. It works on a copy of the image below the temporary folder, and no byte of the image
+changes. --verbose says what is done in the same way. The counts come at the end, and on a terminal there is a line of progress. If none of its
+files is in the folder any more, for example because a disk is not mounted, nothing is done, except with --all-gone. If some of the folder could
+not be read, nothing is removed.
 
 The status is 0 if all was taken, 1 if something was not, and 2 for wrong use. It can be stopped at any point: the next run goes on. Nothing
 of it is proved. It uses the word `load` of the program if that has it, and otherwise `run`.
