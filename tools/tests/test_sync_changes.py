@@ -374,3 +374,21 @@ def test_a_new_file_with_the_word_of_the_folder():
     written("top/a", "changed\n")
     assert sync("--as", "t", "image", "top")[1][0] == "sync:t: 1 new, 1 as they were", "what was removed comes in when it changes"
     assert contents()["own"] == ("somebody's own\n", False), "and the other one stays"
+
+
+def test_edited_and_then_renamed():
+    """A file that was edited before the last run and renamed after it is found again by the bytes that it had then."""
+    bring_in("a", "b", "c")
+    with session() as program:
+        program.write(b"a", b"all is new\n")
+    assert sync("--as", "t", "image", "top")[1][0] == "sync:t: nothing changed, 2 as they were", "edited"
+    with session() as program:
+        program.rename(b"a", b"z")
+        for name in (b"b", b"c"):
+            program.rm(name)
+        program.add(b"own", b"b as it was c as it was\n", b"sync:t")
+    out = sync("--as", "t", "--verbose", "image", "top")[1]
+    assert "renamed in the image: z: it was a" in out, out
+    assert contents()["z"] == ("all is new\n", True), "with its bytes and its word"
+    written("top/a", "the folder's\n")
+    assert "conflict: z: top/a: changed in the folder and in the image" in sync("--as", "t", "image", "top")[1], "and it is that file"

@@ -6,6 +6,7 @@ import time
 
 import pytest
 
+from lisfs.constants import BLOCK_LEN, MAX_IMAGE_BLOCKS
 from lisfs.folder import private
 from lisfs.folder.memory import KEPT, YEAR, Memory, Record, words_of_memories
 from support.images import content, session, written
@@ -144,6 +145,18 @@ def test_a_dry_run_changes_no_byte(image):
     assert sorted(os.listdir(state())) == kept, "nothing is kept of it"
     os.chmod(image, 0o644)
     assert sync("--as", "t", image, "top")[1] == ["sync:t: 1 new, 1 changed, 0 as they were"], "a run does it"
+
+
+def test_a_long_device(image):
+    """What follows an image is not read: a device may be large."""
+    whole = content(image)
+    os.truncate(image, 1 << 33)
+    written("top/f", "x\n")
+    assert sync("--as", "t", "--dry-run", image, "top")[:2] == (0, ["new: f: top/f", "sync:t: would be 1 new, 0 as they were"])
+    private.copy_image(image, "copy")
+    assert os.path.getsize("copy") == MAX_IMAGE_BLOCKS * BLOCK_LEN and os.stat("copy").st_blocks * 512 < 2 * len(whole)
+    with open("copy", "rb") as file:
+        assert file.read(len(whole)) == whole
 
 
 def test_no_space_for_a_copy(monkeypatch):

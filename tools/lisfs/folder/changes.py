@@ -24,7 +24,7 @@ from lisfs.words import head_of, stem_of
 MARKER, FOLDER = b"sync", b"in"
 HEADS = frozenset(head + b":" for head in (FOLDER, *mails.HEADS, *music.HEADS))
 # So much more than a word of the folder, or a suffix, common bytes say of two files that they are one.
-SHARED = 4
+SHARED, UNKNOWN_PART = 4, 0.3
 # The digest of no bytes, and what is no digest.
 NO_BYTES, NOTHING = hashlib.sha256().hexdigest(), ""
 
@@ -135,9 +135,10 @@ class Changes:
         self.gone_keys: dict[bytes, str | None] = {}
         self.records = settled(records or {}, self._digest)
         self.keyed = keyed = [(key_of(entry, marker), entry) for entry in entries]
-        self._find_renamed(dict(keyed), bytes_of)
+        self._find_renamed()
         self.waiting: set[str] = set()
         self.moved = self._find_moved(keyed)
+        self._find_edited(dict(keyed), bytes_of)
         self._tell_mails_apart(keyed)
         # Those of files that were only seen have served.
         self.records = {key: record for key, record in self.records.items() if (record.folder, record.image) != (None, None)}
@@ -155,29 +156,35 @@ class Changes:
 
     # Files with another name than before.
 
-    def _find_renamed(self, entries: dict[str, Entry], bytes_of: Callable[[bytes], bytes] | None) -> None:
-        """Files that somebody renamed in the image are found again by their bytes, and those that were edited too by what else they have. Each
-        file with the folder's word was one of its files, so one that no record names is one of those that are lost since the last run."""
+    def _find_renamed(self) -> None:
+        """Files that somebody renamed in the image are found again by their bytes: those that they had at the last run, or had before."""
         free: dict[str | None, list[str]] = {}
-        for name in sorted(self.own_names - {record.name.encode() for record in self.records.values()}):
-            free.setdefault(self._digest(name.decode()), []).append(name.decode())
-        lost: set[str] = set()
+        for name in sorted(self._unnamed()):
+            free.setdefault(self._digest(name), []).append(name)
         for key, record in sorted(self.records.items()):
-            if self._digest(record.name) is not None:
-                continue
-            if names := free.get(record.image or record.folder):
-                self._rename(key, names.pop(0))
-            elif record.image is not None:
-                lost.add(key)
-        left = {name for names in free.values() for name in names} - self._expected(entries) if lost else set()
-        parts_in = {name: parts_of(bytes_of(name.encode())) for name in left} if bytes_of and len(lost) * len(left) > 1 else {}
-        parts = {key: parts_of(content_of(entries[key])) for key in lost if key in entries} if parts_in else {}
+            digests = [digest for digest in (record.seen, record.image, record.folder) if free.get(digest)]
+            if self._digest(record.name) is None and digests:
+                self._rename(key, free[digests[0]].pop(0))
+
+    def _unnamed(self) -> set[str]:
+        """The names of the folder's files in the image that no record has."""
+        return {name.decode() for name in self.own_names} - {record.name for record in self.records.values()}
+
+    def _find_edited(self, entries: dict[str, Entry], bytes_of: Callable[[bytes], bytes] | None) -> None:
+        """Files that somebody edited and renamed in the image are found again by what they have in common with before. Each file with the
+        folder's word was one of its files, so one that no record names is one of those that are lost since the last run."""
+        lost = {key for key, record in self.records.items() if record.image is not None and self._digest(record.name) is None}
+        left = self._unnamed() - self._expected(entries) if lost else set()
+        parts, parts_in = dict[str, set[bytes]](), dict[str, set[bytes]]()
+        if bytes_of and len(lost) * len(left) > 1:
+            parts_in = {name: parts_of(bytes_of(name.encode())) for name in left}
+            parts = {key: parts_of(content_of(entries[key])) for key in lost if key in entries}
         alike = [(shared(parts.get(key), parts_in.get(name)) + self._likeness(key, entries.get(key), name), key, name) for key in lost for name in left]
-        for _, key, other in sorted(alike, key=lambda pair: (-pair[0], *pair[1:])):
-            if key in lost and other in left:
+        for _, key, name in sorted(alike, key=lambda pair: (-pair[0], *pair[1:])):
+            if key in lost and name in left:
                 lost.remove(key)
-                left.remove(other)
-                self._rename(key, other)
+                left.remove(name)
+                self._rename(key, name)
 
     def _expected(self, entries: dict[str, Entry]) -> set[str]:
         """The names that files of the folder would have which did not come in, as far as is known. A run that was stopped may have brought them in."""
@@ -310,12 +317,12 @@ class Changes:
             del self.records[key]
             return False
         # A file that the image gets later is another one.
-        self.records[key] = self.records[key]._replace(image=None)
+        self.records[key] = self.records[key]._replace(image=None, seen=None)
         self.away.append(entry.found.path)
         return True
 
     def _judge(self, key: str, entry: Entry, name: str, folder: str) -> None:
-        record, image = self.records.get(key), self._digest(name)
+        record, image = self._looked_at(key, name), self._digest(name)
         made = record.made if record else name
         if record is None:
             self.records.pop("image:" + name, None)
@@ -330,11 +337,19 @@ class Changes:
         else:
             if self.wishes.ours:
                 # That the folder has other bytes was seen, and the image has others than were brought in as before.
-                self.records[key] = Record(name, made, folder, NOTHING)
+                self.records[key] = Record(name, made, folder, NOTHING, seen=image)
                 self.edited.append(name)
             else:
                 self.conflicts.append(Conflict(f"{name}: {entry.found.path}", BOTH if record else UNKNOWN))
             self._change(key, entry, name)
+
+    def _looked_at(self, key: str | None, name: str) -> Record | None:
+        """The record of a file, which then says which bytes the image has of it, if these are others than were brought in."""
+        if key is None or key not in self.records:
+            return None
+        record, image = self.records[key], self._digest(name)
+        self.records[key] = record = record._replace(seen=None if image == record.image else image)
+        return record
 
     def _change(self, key: str, entry: Entry, name: str, has_other_bytes: bool = False, is_same: bool = False) -> None:
         """Notes what a file gets that the image has: bytes, words, and a name where it moved in the folder and nobody gave it one."""
@@ -408,7 +423,7 @@ class Changes:
             del self.records[key]
 
     def _judge_left(self, key: str | None, name: str) -> None:
-        record = self.records.get(key) if key else None
+        record = self._looked_at(key, name)
         if record and record.folder is None:
             self.edited.append(name)
         elif record and record.image == self._digest(name) or self.wishes.theirs:
@@ -416,7 +431,7 @@ class Changes:
             self.gone_keys[name.encode()] = key
         elif self.wishes.ours:
             # Where it is not known what was brought in, no bytes are those.
-            self.records[key or "image:" + name] = Record(name, name, None, record.image if record else NOTHING)
+            self.records[key or "image:" + name] = Record(name, name, None, record.image if record else NOTHING, seen=self._digest(name))
             self.edited.append(name)
         else:
             self.conflicts.append(Conflict(name, GONE if record else UNKNOWN_GONE))
@@ -469,7 +484,9 @@ class Changes:
         if before is not None:
             is_made = before.name == before.made or name in change.entry.names(self.marker, self.is_lean)
             made = name.decode() if is_made else before.made
-            self.records[change.key] = Record(name.decode(), made, digest or before.folder, digest or before.image)
+            self.records[change.key] = before._replace(name=name.decode(), made=made)
+            if digest is not None:
+                self.records[change.key] = Record(name.decode(), made, digest, digest)
         elif digest is not None:
             self.records[change.key] = Record(name.decode(), name.decode(), digest, digest)
         # Else only words changed of a file in conflict, of which nothing is known.
@@ -490,7 +507,9 @@ def parts_of(content: bytes) -> set[bytes]:
 
 
 def shared(some: Set[bytes] | None, others: Set[bytes] | None) -> float:
-    """How much two contents have in common."""
+    """How much two contents have in common. Of unknown ones this is less than of those that are alike, and more than of others."""
+    if some is None or others is None:
+        return SHARED * UNKNOWN_PART
     return SHARED * len(some & others) / len(some | others) if some and others else 0.0
 
 

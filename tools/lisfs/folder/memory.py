@@ -4,7 +4,8 @@
 2. The key is the path below the folder; of a mail of a maildir, which may move, it is the name that its Message-ID gives it.
 3. `folder` is the digest of the bytes that the folder had when both sides were last settled, and `image` that of the bytes which were brought
    in. None says that there was no file, and None twice that a file was seen in the folder and did not come in. A side has changed if it has
-   other bytes than its digest says, or no file, or one that was not.
+   other bytes than its digest says, or no file, or one that was not. `seen` is the digest of the bytes that the image had at the last run, if
+   these are others than were brought in.
 4. Words that somebody gave stand in the image alone. They stay on the file, also when it is renamed, so no record has them.
 5. A file that somebody removed from the image keeps its record, and so it stays away. Both sides gone, the record goes.
 6. All records of a folder are one memory: a text, named after its own digest, in `$XDG_STATE_HOME/lisfs`, or in `~/.local/state/lisfs`.
@@ -28,7 +29,7 @@ import json
 import os
 import re
 import time
-from collections.abc import Callable, Set
+from collections.abc import Callable, Sequence, Set
 from typing import NamedTuple, TypeAlias
 
 from lisfs.constants import MAX_WORD
@@ -52,6 +53,7 @@ class Record(NamedTuple):
     folder: str | None
     image: str | None
     coming: str | None = None
+    seen: str | None = None
 
 
 # By the keys of the files.
@@ -115,7 +117,7 @@ class Memory:
             self._clean(forgotten)
 
     def _body(self, records: Records) -> bytes:
-        files = {key: list(record[:4]) + ([] if record.coming is None else [record.coming]) for key, record in records.items()}
+        files = {key: [*record[:4], *filter_end(record[4:])] for key, record in records.items()}
         # The same records give the same text, and so the same word.
         return json.dumps({"form": FORM, "marker": self.marker.decode(), "files": files}, sort_keys=True).encode()
 
@@ -162,6 +164,11 @@ class Memory:
             return os.lstat(os.path.join(self.top, name)).st_mtime < time.time() - YEAR
         except FileNotFoundError:
             return True
+
+
+def filter_end(parts: Sequence[str | None]) -> Sequence[str | None]:
+    """Parts of a record up to the last that is known."""
+    return parts if not parts or parts[-1] is not None else filter_end(parts[:-1])
 
 
 def read_list(path: str) -> Listed:

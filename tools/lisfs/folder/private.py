@@ -9,6 +9,7 @@ import tempfile
 from collections.abc import Iterator
 
 from lisfs.client import held
+from lisfs.constants import BLOCK_LEN, MAX_IMAGE_BLOCKS
 
 # So many bytes are copied at a time. Those that are all zero are left out, so that the copy takes no more room than the image.
 PIECE = 65_536
@@ -29,15 +30,16 @@ def private_copy(image: str) -> Iterator[str]:
 
 
 def copy_image(image: str, path: str) -> None:
-    """Copies an image while nobody else can change it."""
+    """Copies an image while nobody else can change it. Of a longer device it copies as much as an image has at most."""
     kind = os.stat(image).st_mode
     if not (stat.S_ISREG(kind) or stat.S_ISBLK(kind) or stat.S_ISDIR(kind)):
         # A pipe would be waited for. Of a folder the system says what is wrong.
         raise OSError(errno.EINVAL, "not a file or a block device", image)
     with held(image), open(image, "rb", buffering=0) as source, open(path, "xb") as copy:
-        copy.truncate(source.seek(0, os.SEEK_END))
-        source.seek(0)
-        while piece := source.read(PIECE):
+        size = min(source.seek(0, os.SEEK_END), MAX_IMAGE_BLOCKS * BLOCK_LEN)
+        copy.truncate(size)
+        for at in range(0, size, PIECE):
+            piece = os.pread(source.fileno(), min(PIECE, size - at), at)
             if piece.count(0) < len(piece):
-                copy.seek(source.tell() - len(piece))
+                copy.seek(at)
                 copy.write(piece)
