@@ -178,7 +178,7 @@ def test_a_folder_that_may_not_be_read_at_all(other):
 
 
 def test_older_files_where_not_all_may_be_read(other):
-    """There may be fewer newer ones than it seems, so no older one is taken out."""
+    """There may be fewer newer ones than it seems, so no older one is removed."""
     os.chmod("closed/in", 0o755)
     os.utime(written("closed/old", "o"), (1, 1))
     assert sync("--as", "t", "shut", "closed", user=other["user"], python=other["python"])[0] == 1, "before"

@@ -45,7 +45,7 @@ def test_newest():
     assert dump() == before, "changes nothing"
     dated("top/f6", 7)
     assert sync("--as", "t", "--newest", "3", "image", "top")[:2] == (
-        0, ["sync:t: 1 new, 1 taken out, 2 as they were", "4 older files left out by --since or --newest"]), "a newer one comes in"
+        0, ["sync:t: 1 new, 1 removed as older, 2 as they were", "4 older files left out by --since or --newest"]), "a newer one comes in"
     assert sorted(held()) == ["f4", "f5", "f6"], "and the oldest goes"
     assert sync("--as", "t", "image", "top")[:2] == (0, ["sync:t: 4 new, 3 as they were"]), "without the option all are there"
 
@@ -64,14 +64,14 @@ def test_older_files_that_somebody_changed():
         program.write(b"edited", b"mine\n")
         program.rename(b"name", b"other")
     dated("top/both", 1, "the folder's\n")
-    assert sync("--as", "t", "--newest", "1", "--dry-run", "image", "top")[1][0] == "taken out: plain", "a dry run tells it"
+    assert sync("--as", "t", "--newest", "1", "--dry-run", "image", "top")[1][0] == "removed as older: plain", "a dry run tells it"
     assert sync("--as", "t", "--newest", "1", "image", "top") == (
-        0, ["sync:t: 1 changed, 1 taken out, 3 as they were", "1 older file left out by --since or --newest",
-            "4 older files changed in the image: not taken out", "1 file changed in the image: left as the image has it"], ""), "what is told"
+        0, ["sync:t: 1 changed, 1 removed as older, 3 as they were", "1 older file left out by --since or --newest",
+            "4 older files changed in the image: not removed", "1 file changed in the image: left as the image has it"], ""), "what is told"
     assert {name: "mine" in words for name, words in held().items()} == {
         "word": True, "both": True, "edited": False, "other": False, "new": False}, "what is there"
     assert bytes_of("both") == b"the folder's\n", "what changed in the folder comes in"
-    # What was taken out was not removed by somebody.
+    # What was removed for its age was not removed by somebody.
     assert sync("--as", "t", "image", "top")[1][0] == "sync:t: 1 new, 4 as they were", "it comes again"
 
 
@@ -85,7 +85,7 @@ def test_older_files_without_memory():
         program.write(b"other", b"mine\n")
     shutil.rmtree(os.environ["XDG_STATE_HOME"])
     status, out, _ = sync("--as", "t", "--newest", "1", "image", "top")
-    assert (status, out[0]) == (1, "sync:t: 1 taken out, 1 as they were") and sorted(held()) == ["new", "other"], out
+    assert (status, out[0]) == (1, "sync:t: 1 removed as older, 1 as they were") and sorted(held()) == ["new", "other"], out
     assert bytes_of("other") == b"mine\n", "nothing of somebody's is lost"
 
 
@@ -100,7 +100,7 @@ def test_since():
     assert sync("--as", "m", "--since", "2024", "image", "box")[:2] == (
         0, ["sync:m: 3 new, 0 as they were", "2 older files left out by --since or --newest"]), "since a year"
     assert sorted(re.sub("-[^-]*$", "", name) for name in held()) == ["new.txt", "subject-number1", "subject-number2"], "which they are"
-    assert sync("--as", "m", "--since", "2024-01-03", "image", "box")[1][0] == "sync:m: 1 taken out, 2 as they were", "since a day"
+    assert sync("--as", "m", "--since", "2024-01-03", "image", "box")[1][0] == "sync:m: 1 removed as older, 2 as they were", "since a day"
     # A Date in the future is none.
     dated("box/mail/cur/9:2,", 5, sent(9).replace(" 2024", " 2098"))
     assert sync("--as", "m", "--since", "2024", "image", "box")[1][1] == "3 older files left out by --since or --newest", "a date to come"
@@ -135,7 +135,7 @@ def test_no_room_for_files():
     assert sync("--as", "m", "image", "mail")[1][0] == "sync:m: nothing changed, 64 as they were", "newer ones have no room"
     # What is told helps.
     assert sync("--as", "m", "--newest", "64", "image", "mail") == (
-        0, ["sync:m: 10 new, 10 taken out, 54 as they were", "46 older files left out by --since or --newest"], ""), "and with it they have"
+        0, ["sync:m: 10 new, 10 removed as older, 54 as they were", "46 older files left out by --since or --newest"], ""), "and with it they have"
 
 
 def test_no_room_for_words():

@@ -246,7 +246,7 @@ class Carrying:
         if refusal is None:
             self.names.discard(name)
             self.plan.removed(name)
-            self.told(Done.OUT if name in self.plan.out else Done.GONE, name)
+            self.told(Done.OLD if name in self.plan.out else Done.GONE, name)
         else:
             self.failed(name.decode(), cause_of(refusal))
 

@@ -41,7 +41,7 @@ class Done(enum.Enum):
     MOVED = "moved"
     WORDS = "words"
     GONE = "gone"
-    OUT = "taken out"
+    OLD = "removed as older"
     SAME = "same"
 
 

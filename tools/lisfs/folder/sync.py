@@ -24,8 +24,8 @@ of its Message-ID, or of its path if it has none, and ends with `.eml`. So names
 folder. No symbolic link below the folder is followed.
 
 --since DATE takes the files from a day, a month or a year on (2024-06-03, 2024-06, 2024), and --newest N the N newest files. The date of a
-mail is that of its header, and of another file the time of its last change. An older file does not come in. If it is in the image it is taken
-out again, unless somebody edited or renamed it there or gave it a word.
+mail is that of its header, and of another file the time of its last change. An older file does not come in. If it is in the image it is
+removed from it, unless somebody edited or renamed it there or gave it a word.
 
 The newest files come in first, so if the image has no room for all, the oldest are left out. A line says which limit was reached, and what
 helps. --reserve says how many of the words of the image stay free for you: a number, or a part such as 1/10 or 0.1. Without it this is a
@@ -90,7 +90,7 @@ from lisfs.words import PLAIN_FORM, PLAIN_RUN
 STOPS = (signal.SIGTERM, signal.SIGHUP)
 # What is counted, and how that is told.
 COUNTED = {Done.NEW: "new", Done.CHANGED: "changed", Done.MOVED: "moved", Done.WORDS: "with other words", Done.GONE: "gone",
-           Done.OUT: "taken out"}
+           Done.OLD: "removed as older"}
 # So many conflicts are named in any case.
 NAMED = 10
 
@@ -277,7 +277,7 @@ class Sync:
         if older := plan.older + len(plan.out):
             tell(f"{counted(older, 'older file')} left out by --since or --newest")
         if plan.staying:
-            tell(f"{counted(plan.staying, 'older file')} changed in the image: not taken out")
+            tell(f"{counted(plan.staying, 'older file')} changed in the image: not removed")
         self.report_image(plan)
         left_out(tell, plan.beyond, plan.beyond_files, f"a file is given {MAX_ASSIGNED} at most")
         self.report_cut(plan)
