@@ -105,15 +105,17 @@ class Sender:
         while self._waiting:
             self._take()
 
-    def ask(self, *commands: Words) -> list[list[BodyLine]]:
-        """The lines that commands show at the root, when each job has come to its end. None of them may be refused."""
+    def ask(self, *commands: Words) -> Iterator[list[BodyLine]]:
+        """The lines that commands show at the root, when each job has come to its end. None of them may be refused, and all lines have to be
+        taken."""
         self.finish()
         if self._place != ROOT:
             self._program.cd(ROOT)
             self._place = ROOT
         for command in commands:
             self._program.send(*command)
-        return [self._program.received_lines().body for _ in commands]
+        for _ in commands:
+            yield self._program.received_lines().body
 
     def _go_on(self, job: Job, refusal: Refused | None) -> None:
         try:
@@ -229,7 +231,7 @@ class Carrying:
 
     def _measure(self) -> None:
         """Looks how much room there is now, and for which words, if that may be too little."""
-        counts = counts_in(self.sender.ask((b"stat",))[0])
+        counts, = map(counts_in, self.sender.ask((b"stat",)))
         if self.room.measure(counts, sum(map(most_words, self.plan.changes))):
             known = {text for lines in self.sender.ask(*((b"props", name) for name in sorted(self.names))) for _, text in lines}
             known |= {word for axiom in self.plan.dump.axioms for word in (axiom.left, head_of(axiom.left) or axiom.left)}
