@@ -71,7 +71,7 @@ def brought_in(*files):
     with session() as program:
         program.mkdir(b"mine")
         for name in files:
-            program.mv(name.encode(), b"mine")
+            program.mv(name.replace("/", "+").encode(), b"mine")
     return ended
 
 
