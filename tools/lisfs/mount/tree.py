@@ -35,7 +35,7 @@ ALL, BY = b":all", b":by"
 SHOWS = {BY: Shows.DERIVED, ALL: Shows.FILES}
 # Files that say to a program that looks into all folders, as one that makes an index, that it has no business here. They are empty, in the
 # mounted folder where the image has no file of the name, and in no listing.
-MARKERS = (b".metadata_never_index", b".nomedia", b".trackerignore")
+MARKERS = (b".metadata_never_index", b".noindex", b".nomedia", b".trackerignore")
 FOLDER_KIND, FILE_KIND = 4, 8
 # For so long the kernel may keep attributes, since it is told when they change.
 KEPT_SECONDS = 3_600
