@@ -1,4 +1,5 @@
-"""`tools/mount`: what its folders show to programs that walk all of them: each file, and so few folders that they come to an end."""
+"""`tools/mount`: what its folders show to programs that walk all of them: each file, and so few folders that they come to an end. Also what a
+mount asks the program for."""
 import itertools
 import os
 import shutil
@@ -77,13 +78,41 @@ def test_a_walk(image_of_mails, looks):
 def test_a_walk_of_derived_words(image_of_mails):
     with directly(image_of_mails) as ways:
         index = ways.tree.image.index
-        ways.ls("")
+        # It asks for the words that files have on their own.
+        ways.ls(":by")
         for top in ("", "in:Work"):
             walked = Walked(ways, f"{top}/:by".lstrip("/"), len(index.words()) + 1)
             assert walked.files == {name for name in names(MAILS) if not top or ways.exists(f"{top}/{name}")}, "each file"
             assert walked.entries <= len(index.words()) + sum(len(file.words) for file in index.files.values()), "what it was shown"
     with directly(image_of_mails, True) as ways:
         assert Walked(ways, "", 4_000).files == names(MAILS), "with --derived"
+
+
+def test_little_is_asked(image_of_mails):
+    """The words of each file are asked for where words that it has on its own matter, and not before."""
+    with directly(shutil.copy(image_of_mails, "copy")) as ways:
+        box = next(word for word in ways.tree.image.files[b"m0000.eml"].given if word.startswith(b"in:")).decode()
+        program, sent = ways.tree.image.program, []
+        send_bytes = program.send_bytes
+        program.send_bytes = lambda line, *more, **named: (sent.append(line.split()[0]), send_bytes(line, *more, **named))
+        for path in ("", "who:", "in:Work", "in:Work/who:p1", "!answered", ":all"):
+            assert ways.ls(path), path
+        assert sent.count(b"props") == 0 and len(sent) <= 4, sent
+        ways.put(f"{box}/m0000.eml", b"From: x@example.org\n\n")
+        assert "m0000.eml" in ways.ls(box) and sent.count(b"props") == 1, "one that was changed"
+        assert told_by(ways.ls, "from:x@example.org") == ["m0000.eml"] and sent.count(b"props") == MAILS, "all of them"
+        assert told_by(ways.ls, "from:x@example.org") == ["m0000.eml"] and sent.count(b"props") == MAILS, "only once"
+
+
+def test_words_by_axioms_and_tests(program):
+    """Where a word that files have on their own makes that they have a declared one, all are asked for at first."""
+    for name, line in (("axiom", b"axiom from:a@b own\n"), ("test", b"mkdir size>=30\naxiom size>=30 own\n")):
+        make(name, script=b"mkdir own\nmkdir other\nmkdir both\naxiom other both\n" + line + b"add x.eml 30 other\nFrom: a@b\nSubject: a word!\n\n!\n\n"
+             b"create y.eml other\ncreate z\n")
+        with directly(name) as ways:
+            assert told_by(ways.ls, "own") == ["x.eml"] and told_by(ways.ls, "both") == ["own/", "y.eml"], name
+    with directly(make("plain", script=b"mkdir other\nmkdir both\naxiom other both\ncreate y other\ncreate z\n")) as ways:
+        assert told_by(ways.ls, "") == ["both/", "z"] and told_by(ways.ls, "both") == ["y"] and ways.tree.image.unasked, "by an axiom"
 
 
 def test_values_stand_below_their_head(image_of_mails):
@@ -140,7 +169,7 @@ def test_few_files_with_derived_words():
     """The words that files have on their own are more, so that fewer files make an image large."""
     with directly(made_small(66, [b"v", b"w"])) as ways:
         assert told_by(ways.ls, ":by") == told_by(ways.ls, ""), "all files are alike"
-    for count, shown in ((99, ["k/", "size:empty/", "size:small/"]), (101, None)):
+    for count, shown in ((49, ["k/", "size:empty/", "size:small/"]), (51, None)):
         script = b"mkdir k\nmkdir l\n" + b"".join(b"add f%d %d %b\n%b\n" % (number, number % 2, b" ".join([b"k"] * (number % 3 > 0) + [b"l"] * (
             number % 5 > 0)), b"x" * (number % 2)) for number in range(count))
         make("few", ("256", "256", "256"), script)

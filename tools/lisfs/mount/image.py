@@ -1,7 +1,7 @@
 """An open image as a mount needs it: what folders show, what is in files, and the commands that change them.
 
 Each change is one command of the program, and is known here once its `ok` is there. The words of a file that was changed are asked for
-when somebody needs them, those of many files in one go.
+when somebody needs them, those of many files in one go, and the derived words of files that were there at the start too.
 
 A new file that somebody writes is known here before: it waits for its bytes, so that one `add` makes it whole, where `create` and `write`
 would be two changes. It waits only where nothing can keep the program from making it, and until anything else is to be changed or asked.
@@ -10,6 +10,7 @@ from __future__ import annotations
 
 import collections
 import errno
+import functools
 from collections.abc import Iterable
 from typing import NamedTuple
 
@@ -53,8 +54,9 @@ class Image(image.Image[File]):
         for left, right in dump.axioms:
             self.axioms.setdefault(left, set()).add(right)
             self.lefts.setdefault(right, set()).add(left)
-        # Those whose words are not known since they were changed.
-        self.stale = set(self.files.values())
+        # Those whose words are not known since they were changed, and those of which only the words are known that come from given ones.
+        self.stale, self.unasked = set(self.files.values()), set[File]()
+        self._know_given()
         # The declared words that lost their last file and were in no listing since.
         self.unseen: set[bytes] = set()
         self.contents: collections.OrderedDict[File, bytes] = collections.OrderedDict()
@@ -64,6 +66,16 @@ class Image(image.Image[File]):
         self.waiting: File | None = None
         self.brought: dict[tuple[tuple[bytes, ...] | None, bytes], int] = {}
         self.spare = 0
+
+    def _know_given(self) -> None:
+        """To ask for the words of each file takes long, and most folders need no derived ones. So files are known by their given words at
+        first, if no other word makes that a file has a declared one."""
+        if any(map(is_test, self.declared)) or any(map(self.is_derived, self.axioms)):
+            return
+        entailed = functools.cache(lambda word: frozenset(self.entailed([word])))
+        for file in self.stale:
+            self.index.describe(file, frozenset().union(*map(entailed, file.given)))
+        self.stale, self.unasked = self.unasked, self.stale
 
     def _number(self, file: File) -> None:
         self.numbers += 1
@@ -86,7 +98,7 @@ class Image(image.Image[File]):
         """Whether a formula may have it."""
         if is_plain(word) or word in self.declared:
             return word in self.declared
-        self._refresh()
+        self._refresh([word])
         return word in self.index.words() or word in self.axioms or any(head_of(left) == word for left in self.axioms)
 
     def entailed(self, words: Iterable[bytes]) -> set[bytes]:
@@ -119,36 +131,45 @@ class Image(image.Image[File]):
 
     # What is known of files.
 
-    def _refresh(self) -> None:
-        """Asks for the words of the files that were changed."""
+    def _refresh(self, words: Iterable[bytes] | None = None) -> None:
+        """Asks for the words of the files that were changed. If one of these words is derived, or if there is no matter of which words it is,
+        all words of all files are known then."""
         self.settle()
-        if not self.stale:
-            return
-        self.unseen |= self.describe(self.stale) & self.declared
-        self.stale.clear()
+        asked = self.stale
+        if self.unasked and (words is None or any(map(self.is_derived, words))):
+            asked = self.stale | self.unasked
+        if asked:
+            self.unseen |= self.describe(asked) & self.declared
+            self.unasked -= asked
+            self.stale.clear()
 
     def extension(self, place: Place) -> int:
         """The files of a place, as a row."""
-        self._refresh()
+        self._refresh(place.named)
         return place.row(self.index)
 
     def is_here(self, file: File, place: Place) -> bool:
         if place.words is not None and file.given.issuperset(place.words):
             return True
-        self._refresh()
+        self._refresh(place.named)
         return place.meets(file)
 
     def listing(self, place: Place, with_derived: bool = False) -> Listing:
         """The words and the files that a place shows: the words of the program's listing, or those of them that files were given; the
         declared words that no file has, where they belong; and the files that none of the shown words covers."""
-        here = self.extension(place)
+        here = self._extension(place, with_derived)
         return self._listing(place, here, self._increments(place, here), with_derived)
 
     def below(self, place: Place, word: bytes, with_derived: bool = False) -> Listing:
         """The same with no words but those that entail `word`, which all files of the place have: the most general ones of them that
         narrow it. The program is not asked."""
-        here = self.extension(place)
+        here = self._extension(place, with_derived)
         return self._listing(place, here, self._narrower(word, here), with_derived)
+
+    def _extension(self, place: Place, with_derived: bool) -> int:
+        if with_derived:
+            self._refresh()
+        return self.extension(place)
 
     def _listing(self, place: Place, here: int, found: list[bytes], with_derived: bool) -> Listing:
         words = [word for word in found if with_derived or not self.is_derived(word)]
@@ -341,6 +362,7 @@ class Image(image.Image[File]):
         self.unseen |= self.index.drop(file) & self.declared
         self._drop(file)
         self.stale.discard(file)
+        self.unasked.discard(file)
         file.is_gone = True
 
     def rename(self, file: File, name: bytes) -> None:

@@ -12,7 +12,7 @@ from lisfs.mount.nodes import Folder, Shows
 from lisfs.words import head_of, is_head
 
 # An image of at most so many files is small, and one of which derived words are shown too, since a file has more of them.
-SMALL = {Shows.GIVEN: 1_000, Shows.DERIVED: 100}
+SMALL = {Shows.GIVEN: 250, Shows.DERIVED: 50}
 # So many words are put together on a way from the beginning that listings show, in a small image and in any other.
 TOGETHER, TOGETHER_IF_LARGE = 2, 1
 

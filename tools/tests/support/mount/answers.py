@@ -199,7 +199,7 @@ DERIVED: Rows = (
     (None, "mkdir", "music"), (None, "put", "music/a.c", b"#include <stdio.h>\n"), (None, "put", "b.txt", b""),
     (None, "put", "c.eml", b"From: a@b\n\nhi\n"),
     (["music/", "b.txt", "c.eml"], "ls", ""), (None, "put", "plain", b""), (["b.txt", "plain"], "ls", "size<1"),
-    (["ext:c/", "ext:eml/", "ext:txt/", "from:/", "includes:/", "music/", "size:empty/", "size:small/"], "ls", ":by/ext:"),
+    (["ext:c/", "ext:eml/", "ext:txt/"], "ls", ":by/ext:"),
     (["ext:/", "from:/", "includes:/", "music/", "size:empty/", "size:small/"], "ls", ":by"),
     (["ext:c/", "ext:eml/", "from:/", "includes:/", "music/"], "ls", ":by/size:small"),
     (["a.c"], "ls", "ext:c"), (["c.eml"], "ls", "from:a@b"), (["a.c"], "ls", ":by/includes:/includes:stdio.h/:all"),
