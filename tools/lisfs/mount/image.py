@@ -220,17 +220,20 @@ class Image(image.Image[File]):
 
     def _unused(self, words: tuple[bytes, ...]) -> set[bytes]:
         """The declared words that no file has, and of these at most those that entail the last one of some words."""
-        if not words:
-            return self.declared - self.index.words()
+        found = self._declared_entailing(words[-1]) if words else self.declared
+        return {word for word in found if not self.index.having(word)}
+
+    def _declared_entailing(self, word: bytes) -> set[bytes]:
+        """The declared words that entail this one."""
         found: set[bytes] = set()
-        # Nothing that is declared entails a value or a head: the right side of an axiom is plain.
-        left = [] if head_of(words[-1]) else list(self._entailing(words[-1]))
+        left = [word]
         while left:
             word = left.pop()
-            if word not in found:
-                found.add(word)
-                left += () if head_of(word) else self._entailing(word)
-        return (found & self.declared) - self.index.words()
+            # Nothing that is declared entails a value or a head: the right side of an axiom is plain.
+            more = set() if head_of(word) else set(self._entailing(word)) - found
+            found |= more
+            left += more
+        return found & self.declared
 
     def counts(self) -> dict[str, int]:
         self.settle()
