@@ -234,6 +234,9 @@ def test_marks(request, way):
         assert ways.get(".nomedia") == b"mine" and told_by(ways.put, ".nomedia", b"more") is None and ways.get("music/.nomedia") == b"more"
         ways.unlink(".nomedia")
         assert ways.get(".nomedia") == b"", "the mark again"
+        ways.put("mark", b"")
+        ways.rename("mark", ".nomedia")
+        assert told_by(ways.ls, "") == ["music/", ".nomedia"], "one of one's own"
 
 
 # By the system.
