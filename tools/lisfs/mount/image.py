@@ -68,8 +68,8 @@ class Image(image.Image[File]):
         self.spare = 0
 
     def _know_given(self) -> None:
-        """To ask for the words of each file takes long, and most folders need no derived ones. So files are known by their given words at
-        first, if no other word makes that a file has a declared one."""
+        """At first files are known by the words that come from given ones, since it takes long to ask for all, and most folders need no derived
+        ones. All are asked for if a test, or an axiom over a derived word, may give a file a declared word."""
         if any(map(is_test, self.declared)) or any(map(self.is_derived, self.axioms)):
             return
         entailed = functools.cache(lambda word: frozenset(self.entailed([word])))
@@ -132,8 +132,8 @@ class Image(image.Image[File]):
     # What is known of files.
 
     def _refresh(self, words: Iterable[bytes] | None = None) -> None:
-        """Asks for the words of the files that were changed. If one of these words is derived, or if there is no matter of which words it is,
-        all words of all files are known then."""
+        """Asks for the words of the files that were changed. Without `words`, or if one of them is derived, all words of all files are known
+        then."""
         self.settle()
         asked = self.stale
         if self.unasked and (words is None or any(map(self.is_derived, words))):
