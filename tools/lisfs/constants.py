@@ -36,6 +36,8 @@ MAX_LINE = 1_024
 MAX_PAYLOAD = 1_048_576
 # The most bytes of an edited view.
 MAX_VIEW = 8_388_608
+# The most blocks of an image.
+MAX_IMAGE_BLOCKS = 34_771
 # The most digits of a count.
 MAX_DIGITS = 12
 # How many rooms there are.

@@ -183,7 +183,8 @@ def part(name: bytes) -> Formula:
 
 
 class Place:
-    """The steps of a path, the root without any. `words` are those of the place if it has only words, and else None."""
+    """The steps of a path, the root without any. `words` are those of the place if it has only words, and else None; `named` are those that
+    its formulas have."""
 
     def __init__(self, names: Iterable[bytes] = ()) -> None:
         self.names = tuple(names)
@@ -194,6 +195,7 @@ class Place:
             raise TooLarge(self.text)
         words = [step.word for step in self.steps if isinstance(step, Word)]
         self.words = tuple(dict.fromkeys(words)) if len(words) == len(self.steps) else None
+        self.named = [word for step in self.steps for word in step.words]
 
     def step(self, name: bytes) -> Place:
         return Place(self.names + (name,))

@@ -104,6 +104,11 @@ class Joined(Program):
         self._known = news.number
         return news if len(body) > 1 else None
 
+    def changes(self) -> int:
+        """How many changes there were, each of which the image has by now: the program runs commands one after the other."""
+        self.pwd()
+        return news_of(self.lines(b":since", b"%d" % self._known).body).number
+
     def guard(self) -> None:
         """From now on no file is changed that another client has changed after what is known: that is refused as `CHANGED`."""
         self.lines(b":guard", b"%d" % self._known)

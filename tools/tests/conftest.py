@@ -20,6 +20,7 @@ from lisfs.folder import music  # noqa: E402
 from lisfs.mount import attach  # noqa: E402
 from support.images import SMALL, make, usage  # noqa: E402
 from support.peers import Served  # noqa: E402
+from support.running import none_left  # noqa: E402
 from support.terminals import Terminal  # noqa: E402
 from support.waiting import hear, with_an_end  # noqa: E402
 from support.web import web_folder, web_mixed, web_program, web_reading, web_writing  # noqa: E402, F401
@@ -110,13 +111,9 @@ def mounts_below(top):
 
 @pytest.fixture(autouse=True)
 def an_end(folder):
-    """A test that has no end fails, and its servers end."""
-    with with_an_end():
+    """A test that has no end fails, and what it started ends."""
+    with none_left(), with_an_end():
         yield
-    for server in Served.started:
-        server.kill()
-        server.wait()
-    Served.started.clear()
 
 
 @pytest.fixture(scope="session")

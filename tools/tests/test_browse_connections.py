@@ -8,7 +8,7 @@ import pytest
 
 from lisfs.web import connections, site
 from support.waiting import LONG, until
-from support.web import raw, whole
+from support.web import connected, raw, whole
 
 
 class Still:
@@ -67,8 +67,7 @@ def test_who_takes_no_answer_is_closed(serving, monkeypatch):
     server, port = serving
     monkeypatch.setattr(connections, "ANSWER", 0.2)
     monkeypatch.setattr(connections, "END", 0.2)
-    with socket.create_connection(("127.0.0.1", port), LONG) as connection:
-        connection.sendall(b"large\r\n\r\n")
+    with connected(port, b"large\r\n\r\n"):
         assert until(lambda: len(server.site.asked) == 1 and not server.open), (server.site.asked, server.open)
 
 
@@ -84,17 +83,16 @@ def test_crowded(serving):
     """Where all connections are taken, one without an admitted request makes room, and none that is older and has one."""
     server, port = serving
     with contextlib.ExitStack() as opened:
-        def connected(data, wanted=lambda connection: True):
+        def taken_in(data, wanted=lambda connection: True):
             """A connection that the server has taken in as it is to be."""
-            one = opened.enter_context(socket.create_connection(("127.0.0.1", port), LONG))
-            one.sendall(data)
+            one = opened.enter_context(connected(port, data))
             assert until(lambda: any(is_of(known, one) and wanted(known) for known in list(server.open.values()))), data
             return one
 
-        slow = connected(b"body\r\n\r\nab", lambda connection: len(connection.given) == 2)
-        taking = connected(b"large\r\n\r\n", lambda connection: connection.unsent)
+        slow = taken_in(b"body\r\n\r\nab", lambda connection: len(connection.given) == 2)
+        taking = taken_in(b"large\r\n\r\n", lambda connection: connection.unsent)
         for data in [b"", b"GET / HTTP", b"wrong\r\n\r\n"] * 8:
-            connected(data)
+            taken_in(data)
             assert len(server.open) <= 8
         # Who asks beside them; a slow request that was admitted before them; an answer that is taken slowly.
         assert raw(port, b"x\r\n\r\n").rpartition(b"\r\n\r\n")[2] == b"x"

@@ -2,7 +2,6 @@
 nobody."""
 import contextlib
 import random
-import socket
 import urllib.parse
 
 import pytest
@@ -10,26 +9,21 @@ import pytest
 from lisfs.constants import MAX_PAYLOAD
 from support.costs import bounded, taken_by
 from support.visitors import Browsed
-from support.waiting import LONG
-from support.web import COST, MIXED, Visitor, good_request, make, raw, whole
-
-
-def token_of(browsed):
-    """The token of the printed address."""
-    return urllib.parse.parse_qs(urllib.parse.urlsplit(browsed.address).query)["token"][0]
+from support.waiting import threads_of
+from support.web import COST, MIXED, Visitor, connected, good_request, make, raw, whole
 
 
 def test_address(web_reading):
     browsed, _ = web_reading
-    assert urllib.parse.urlsplit(browsed.address).hostname == "127.0.0.1" and len(token_of(browsed)) >= 22
+    assert urllib.parse.urlsplit(browsed.address).hostname == "127.0.0.1" and len(browsed.token()) >= 22
 
 
 def test_the_token_becomes_a_cookie(web_reading):
     browsed, visitor = web_reading
-    entry = visitor.ask("GET", f"/?token={token_of(browsed)}", Cookie=None)
+    entry = visitor.ask("GET", f"/?token={browsed.token()}", Cookie=None)
     kept = entry.headers["Set-Cookie"]
     assert entry.status == 303 and "HttpOnly" in kept and "SameSite=Strict" in kept and f"Path={visitor.top}" in kept
-    assert token_of(browsed) not in kept + entry.headers["Location"] and len(visitor.top) >= 16
+    assert browsed.token() not in kept + entry.headers["Location"] and len(visitor.top) >= 16
 
 
 @pytest.mark.parametrize("status, method, path, headers", (
@@ -73,7 +67,7 @@ def test_the_token_becomes_a_cookie(web_reading):
     pytest.param(200, "GET", "{top}files?page=-1", {}, id="a page of words")))
 def test_who_may_ask(web_reading, web_writing, status, method, path, headers):
     browsed, visitor = web_reading
-    known = {"top": visitor.top, "rest": visitor.top[1:], "port": visitor.port, "cookie": visitor.cookie, "token": token_of(browsed),
+    known = {"top": visitor.top, "rest": visitor.top[1:], "port": visitor.port, "cookie": visitor.cookie, "token": browsed.token(),
              "other": web_writing[1].cookie}
     given = {name: value and value.format(**known) for name, value in headers.items()}
     answer = visitor.ask(method, path.format(**known), b"name=song1" if method == "POST" else None, **given)
@@ -184,14 +178,12 @@ def crowd(large):
     browsed, visitor = large
     good = good_request(visitor)
     with contextlib.ExitStack() as opened:
-        def connected(data=b""):
-            connection = opened.enter_context(socket.create_connection(("127.0.0.1", browsed.port), LONG))
-            connection.sendall(data)
-            return connection
+        def one(data=b""):
+            return opened.enter_context(connected(browsed.port, data))
 
         for data in [b""] * 25 + [good[:-2]] * 25 + [good.replace(b" HTTP", b"file?name=large HTTP")] * 20:
-            connected(data)
-        yield connected
+            one(data)
+        yield one
     assert visitor.get().status == 200
 
 
@@ -209,9 +201,7 @@ def test_a_page_beside_hundreds_that_wait(large, crowd):
     for _ in range(250):
         crowd()
     assert visitor.get().status == 200
-    with open(f"/proc/{browsed.tool.pid}/stat", encoding="ascii") as told:
-        # One thread.
-        assert int(told.read().rpartition(")")[2].split()[17]) == 1
+    assert threads_of(browsed.process.pid) == 1
 
 
 # Who asks beside an upload, or for what was uploaded, waits no longer than others may wait, whatever is in the file.
@@ -257,7 +247,7 @@ def beside(web_program, tmp_path_factory):
 def test_upload(beside, title):
     browsed, visitor = beside
     name, content = UPLOADS[title]
-    processes, token = (browsed.tool.pid, browsed.program()), visitor.token()
+    processes, token = (browsed.process.pid, browsed.program()), visitor.token()
 
     def uploaded():
         answers = visitor.upload({**token, "at": "/"}, content, name.encode()), visitor.get("file", name=name), visitor.get()

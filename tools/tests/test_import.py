@@ -1,9 +1,8 @@
-"""`tools/import` on folders, on maildirs and on music, with names that are no names, one name twice, a large file and a link."""
+"""`tools/import` on folders and on maildirs, with names that are no names, one name twice, a large file and a link."""
 import os
 import re
 import subprocess
 import sys
-import wave
 
 import pytest
 
@@ -131,10 +130,10 @@ def test_long_words(program):
 
 @pytest.fixture
 def shut(program, needs):
-    """Words of a user who may not read all of `closed` and of `shut`. Root may read all, so it becomes another user."""
-    for path in ("open", "shut/cur/1", "shut/new/2", "shut/.Box/cur/3", "closed/secret", "closed/in/f"):
+    """Words of a user who may not read all of `closed`. Root may read all, so it becomes another user."""
+    for path in ("open", "closed/secret", "closed/in/f"):
         written(path, b"x")
-    for path in ("shut/new", "shut/cur/1", "closed/secret", "closed/in"):
+    for path in ("closed/secret", "closed/in"):
         os.chmod(path, 0)
     other = NOBODY if os.getuid() == 0 else {}
     try:
@@ -154,14 +153,6 @@ def test_where_not_all_can_be_read(shut):
         "import: 0 files taken, 2 not taken, 0 named otherwise"])
 
 
-def test_a_maildir_where_not_all_can_be_read(shut):
-    brought = Brought("--verbose", "shut", more=shut)
-    assert brought.status == 1
-    assert brought.having("not taken") == sorted([
-        "import: not taken: shut/cur/1: Permission denied", "import: not taken: shut/new: Permission denied", "import: not taken: 2 Permission denied",
-        "import: 1 files taken, 2 not taken, 1 named otherwise"])
-
-
 def test_a_maildir(program):
     for box in ("mail", "mail/.Work.Plans"):
         for part in ("cur", "new"):
@@ -169,6 +160,8 @@ def test_a_maildir(program):
     for path, data in (("cur/100.M1.host:2,S", b"From: a@b\n\nhi\n"), ("new/101.M1.host", b"From: a@b\n\nhi\n"),
                        (".Work.Plans/cur/100.M1.host:2,RS", b"From: c@d\n\nhi\n"), ("tmp/102", b"half")):
         written(f"mail/{path}", data)
+    for number, path in enumerate((".Work.Plans/cur/100.M1.host:2,RS", "new/101.M1.host", "cur/100.M1.host:2,S")):
+        os.utime(f"mail/{path}", (number, number))
     brought = Brought("--by-folder", "mail")
     assert brought.status == 1
     assert [line.decode() for line in brought.session.split(b"\n") if line.startswith((b"add", b"mkdir"))] == [
@@ -195,32 +188,18 @@ def test_coded_headers(program):
     assert refused(brought.into("coded.lis", ("64", "128", "8"))) == []
 
 
-def wave_file(path):
-    os.makedirs(os.path.dirname(path), exist_ok=True)
-    with wave.open(path, "wb") as file:
-        file.setparams((1, 1, 8000, 0, "NONE", ""))
-        file.writeframes(bytes(800))
-
-
-def test_music(program):
-    wave_file("music/one.wav")
-    brought = Brought("music")
-    assert brought.status == 0
-    assert len(brought.lines(b"add one.wav")) == 1
-
-
-def test_words_of_tags(program, mutagen):
-    wave_file("music/one.wav")
-    from mutagen import id3
-    piece = mutagen.File("music/one.wav")
-    piece.add_tags()
-    piece.tags.add(id3.TPE1(text=["Die Ärzte"]))
-    piece.tags.add(id3.TDRC(text=["2003"]))
-    piece.save()
-    brought = Brought("music")
-    assert brought.status == 0
-    line, = brought.lines(b"add")
-    assert line.split(" ", 3)[3] == "artist:die-aerzte year:2003"
+def test_the_newest(sources):
+    """They come first in the session, and the oldest can be left out. Names go by the order in which files are found."""
+    for number, name in enumerate(("a/x y.txt", "a/x.txt", "a/x?y.txt", "b/empty")):
+        os.utime(f"src/{name}", (number * 86_400 + 43_200,) * 2)
+    whole = Brought("--without", "c d", "--without", "deep", "--without", "large*", "src")
+    assert [line.split()[1] for line in whole.lines(b"add")] == ["empty", "x_y-2.txt", "x.txt", "x_y.txt"]
+    brought = Brought("--without", "c d", "--without", "deep", "--without", "large*", "--newest", "2", "src")
+    assert [line.split()[1] for line in brought.lines(b"add")] == ["empty", "x_y.txt"]
+    assert "import: 2 older files left out by --since or --newest" in brought.told
+    brought = Brought("--without", "deep", "--since", "2020", "--newest", "9", "src")
+    assert sorted(line.split()[1] for line in brought.lines(b"add")) == [".hidden", "largest"]
+    assert Brought("--since", "tomorrow", "src").status == 2
 
 
 def test_a_built_in_head(sources):

@@ -365,6 +365,19 @@ def known_of(image):
     return files, {file.name: (file.size, file.words, bytes(image.content(file))) for file in image.files.values()}
 
 
+def agrees_below(name, image, place, used):
+    """What a folder shows that shows only words that entail its last one: those of the listing that do, and each file that they don't cover."""
+    last, here = place.words[-1], image.extension(place)
+    words, files = image.below(place, last, True)
+    found = [word for word in words if image.index.having(word)]
+    assert {word for word in used if last in image.entailed([word])} <= set(found), f"{name}: more specific words"
+    assert all(last in image.entailed([word]) and 0 < here & image.index.having(word) < here for word in found), f"{name}: only such words"
+    covered = 0
+    for word in found:
+        covered |= image.index.having(word)
+    assert {file.name for file in image.index.of(here & ~covered)} - image.declared == {file.name for file in files}, f"{name}: other files"
+
+
 def agrees(name, image, place):
     """A place's listing and files as the program tells them."""
     program, here = image.program, image.extension(place)
@@ -379,6 +392,8 @@ def agrees(name, image, place):
     assert [text for letter, text in body if letter == b"d"] == used, (f"{name}: words", (body, words))
     shown = {text for letter, text in body if letter == b"f"} - image.declared
     assert shown == {file.name for file in files}, (f"{name}: files", (body, files))
+    if place.words:
+        agrees_below(name, image, place, used)
     for file in image.files.values():
         try:
             told = frozenset(text for _, text in program.props(file.name).body)

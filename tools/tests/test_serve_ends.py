@@ -84,8 +84,8 @@ def test_signals(number):
         drive(peers, lambda: all(peer.got for peer in peers))
         served.finds(number)
         # The server ends its program after what was under way, and then waits for the client that has not read yet.
-        assert until(lambda served=served: not children(served.server.pid)), "its program ends"
-        assert rest(served.server.pid), "it waits for its clients"
+        assert until(lambda served=served: not children(served.process.pid)), "its program ends"
+        assert rest(served.process.pid), "it waits for its clients"
         *found, (larges, is_whole) = [replies_in(got) for got in drive(peers + [late])]
         assert served.ended() == (0, ""), f"{number.name}"
         assert not os.path.exists("socket"), "the socket is gone"
@@ -100,7 +100,7 @@ def test_early_signals(image, number):
     """A signal that comes before the image is open ends the server when it is."""
     with Served(wait=False, program=script("later", LATER), start_new_session=True) as served:
         assert until(lambda: os.path.exists("begun")), "its program begins"
-        os.killpg(served.server.pid, number)
+        os.killpg(served.process.pid, number)
         written("go", b"").close()
         assert served.ended() == (0, ""), f"{number.name} ahead of the image"
 
@@ -135,7 +135,7 @@ def test_the_end_while_the_program_does_not_answer(image, data):
         stop(program)
         peer.left = data
         drive([peer], lambda: not peer.left)
-        assert until(lambda: not_taken(program)) and rest(served.server.pid), "it is under way"
+        assert until(lambda: not_taken(program)) and rest(served.process.pid), "it is under way"
         assert served.end() == stuck_after(0.5), "the end"
         assert drive([peer])[0] == PWD, "the connection is closed"
         assert not os.path.exists("socket"), "the socket is gone"
@@ -251,9 +251,9 @@ def killed_beside(served, killed, data, wanted):
     peers = [Peer(part) for part in data]
     drive(peers, lambda: sum(len(peer.got) for peer in peers) >= wanted)
     program = served.program()
-    for process in [program] * (killed != "the server") + [served.server.pid] * (killed != "the program"):
+    for process in [program] * (killed != "the server") + [served.process.pid] * (killed != "the program"):
         os.kill(process, signal.SIGKILL)
-    served.server.wait(LONG)
+    served.process.wait(LONG)
     return drive(peers)
 
 

@@ -36,7 +36,7 @@ def test_sockets():
     """The socket is its owner's alone, and only that of a server that is gone is replaced."""
     served = Served("image0", wait=False, preexec_fn=lambda: os.umask(0))
     modes = set()
-    while served.server.poll() is None and not os.path.exists("socket"):
+    while served.process.poll() is None and not os.path.exists("socket"):
         modes |= modes_of("socket")
     assert answers("socket"), "it is served as soon as it is there"
     for _ in range(1_000):
@@ -99,10 +99,10 @@ def waiting_for_lock(image):
     """A server that waits for a lock which another one has."""
     waiting = Served(image, wait=False)
     # It has the lock file open for a moment at each look, which another process may never see: its program is there before the first one.
-    assert until(lambda: children(waiting.server.pid)), "it has come to the lock"
-    looks = until(lambda: waits_of(waiting.server.pid)) + 20
-    until(lambda: (waits_of(waiting.server.pid) or 0) > looks)
-    assert (waiting.server.poll(), os.path.exists("socket")) == (None, False), "while another one looks at the socket a server waits"
+    assert until(lambda: children(waiting.process.pid)), "it has come to the lock"
+    looks = until(lambda: waits_of(waiting.process.pid)) + 20
+    until(lambda: (waits_of(waiting.process.pid) or 0) > looks)
+    assert (waiting.process.poll(), os.path.exists("socket")) == (None, False), "while another one looks at the socket a server waits"
     return waiting
 
 
@@ -140,7 +140,7 @@ def test_two_that_wait_for_the_lock(lock):
     os.unlink("socket.lock")
     lock.close()
     assert until(lambda: answers("socket")), "of two that waited one serves"
-    assert until(lambda: [one.server.poll() for one in (waiting, other)].count(1) == 1), "and the other says so"
+    assert until(lambda: [one.process.poll() for one in (waiting, other)].count(1) == 1), "and the other says so"
     assert sorted(one.end() for one in (waiting, other)) == [(0, ""), (1, "serve: socket: a server is there\n")], "it says so"
     assert not os.path.exists("socket.lock"), "the lock file is gone"
 
@@ -170,7 +170,7 @@ def test_a_lock_file_that_a_killed_server_left():
 def test_at_once():
     """Of several servers that begin at once one finds the other."""
     several = [Served(f"image{k}", wait=False) for k in range(4)]
-    assert until(lambda: sum(one.server.poll() is None for one in several) == 1), "of several that begin at once one serves"
+    assert until(lambda: sum(one.process.poll() is None for one in several) == 1), "of several that begin at once one serves"
     assert talked(b"pwd\n") == (0, PWD, ""), "a client of it"
     ends = sorted(one.end() for one in several)
     assert ends == [(0, "")] + [(1, "serve: socket: a server is there\n")] * 3, "the others say so"

@@ -177,6 +177,17 @@ def test_a_folder_that_may_not_be_read_at_all(other):
     assert (status, out, error) == (2, [], "sync: closed: Permission denied\n"), "a folder that may not be read at all"
 
 
+def test_older_files_where_not_all_may_be_read(other):
+    """There may be fewer newer ones than it seems, so no older one is removed."""
+    os.chmod("closed/in", 0o755)
+    os.utime(written("closed/old", "o"), (1, 1))
+    assert sync("--as", "t", "shut", "closed", user=other["user"], python=other["python"])[0] == 1, "before"
+    assert "old" in held("shut")
+    os.chmod("closed/in", 0)
+    status, out, error = sync("--as", "t", "--newest", "1", "shut", "closed", **other)
+    assert (status, error, "old" in held("shut")) == (1, "", True) and "files not removed" in " ".join(out), out
+
+
 def test_files_that_may_be_read_again(closed):
     os.chmod("closed/in", 0o755)
     os.chmod("closed/g", 0o644)
@@ -194,26 +205,28 @@ def hundred(folder):
 def test_no_room_for_files(hundred):
     make("files", ("64", "1024", "512"))
     status, out, error = sync("--as", "m", "files", "mail")
-    assert (status, out, error) == (1, ["sync:m: 64 new, 0 as they were", "not taken: 36 no room for more files"], ""), "no room for files"
-    assert sync("--as", "m", "files", "mail")[1] == ["sync:m: nothing changed, 64 as they were", "not taken: 36 no room for more files"], "again"
+    told = ["not taken: 36 no room for more files",
+            "limit reached: 64 files: --newest 64 keeps the newest; a larger image has more room (docs/guide/backup.md)"]
+    assert (status, out, error) == (1, ["sync:m: 64 new, 0 as they were", *told], ""), "no room for files"
+    assert sync("--as", "m", "files", "mail")[1] == ["sync:m: nothing changed, 64 as they were", *told], "again"
 
 
 def test_no_room_for_words(hundred):
     make("words", ("128", "128", "512"))
-    status, out, error = sync("--as", "m", "words", "mail")
+    status, out, error = sync("--as", "m", "--reserve", "0", "words", "mail")
     assert (status, out[0], error) == (1, "sync:m: 100 new, 0 as they were", ""), "no room for words"
     assert (
-        len(out) == 3 and re.fullmatch(r"[0-9]+ words of [0-9]+ files left out: no room for more words", out[1])
-        and re.fullmatch(r"[0-9]+ mails named without \.eml: no room for the words that the program derives", out[2])), ("what is told", out)
+        len(out) == 4 and re.fullmatch(r"[0-9]+ words of [0-9]+ files left out: no room for more words", out[1])
+        and re.fullmatch(r"[0-9]+ files named as by --lean: no room for the words that the program derives", out[2])), ("what is told", out)
     now = held("words")
     left_out = 100 * 7 - sum(map(len, now.values()))
-    assert out[1].startswith(f"{left_out} words of ") and out[2].startswith(f"{len([name for name in now if not name.endswith('.eml')])} mails "), (
+    assert out[1].startswith(f"{left_out} words of ") and out[2].startswith(f"{len([name for name in now if not name.endswith('.eml')])} files "), (
         "and it is true", (left_out, out))
     with session("words") as program:
         counts = dict(text.split() for _, text in program.stat().body)
     assert counts[b"known"] == b"128", "each word that there was room for"
     before = dump("words")
-    status, out, error = sync("--as", "m", "words", "mail")
+    status, out, error = sync("--as", "m", "--reserve", "0", "words", "mail")
     assert status == 1 and out[0] == "sync:m: nothing changed, 100 as they were" and "no room for more words" in out[1], (
         "again", (status, out, error))
     assert dump("words") == before, "changes nothing at all"
@@ -242,9 +255,12 @@ def test_no_room_for_bytes(folder):
     make("blocks", ("64", "64", "4"))
     for number in range(6):
         written(f"top/f{number}", bytes(4_096 if number else 8_192))
-    assert sync("--as", "t", "blocks", "top")[:2] == (1, ["sync:t: 3 new, 0 as they were", "not taken: 3 no room for its bytes"]), "no room for bytes"
+    for number in range(6):
+        os.utime(f"top/f{number}", (100 - number, 100 - number))
+    status, out, _ = sync("--as", "t", "blocks", "top")
+    assert (status, out[:2]) == (1, ["sync:t: 3 new, 0 as they were", "not taken: 3 no room for its bytes"]), "no room for bytes"
     os.remove("top/f1")
-    assert sync("--as", "t", "blocks", "top")[1] == [
+    assert sync("--as", "t", "blocks", "top")[1][:2] == [
         "sync:t: 1 new, 1 gone, 2 as they were", "not taken: 2 no room for its bytes"], "what is gone makes room"
 
 

@@ -159,10 +159,11 @@ def test_not_moved():
     """A file that was in the folder before, and for which there was no room, has not moved there when another one with its bytes goes."""
     make(limits=("64", "64", "2"))
     for name, data in (("another", "other\n"), ("first", "the same\n"), ("second", "the same\n")):
-        written(f"top/{name}", data)
-    assert sync("--as", "t", "image", "top")[1] == ["sync:t: 2 new, 0 as they were", "not taken: 1 no room for its bytes"], "room for two"
+        os.utime(written(f"top/{name}", data), (1, 1))
+    assert sync("--as", "t", "image", "top")[1][:2] == ["sync:t: 2 new, 0 as they were", "not taken: 1 no room for its bytes"], "room for two"
     before = dump()
-    assert sync("--as", "t", "image", "top")[1] == ["sync:t: nothing changed, 2 as they were", "not taken: 1 no room for its bytes"], "and no more"
+    assert sync("--as", "t", "image", "top")[1][:2] == [
+        "sync:t: nothing changed, 2 as they were", "not taken: 1 no room for its bytes"], "and no more"
     assert dump() == before, "nothing is changed"
     with session() as program:
         program.mkdir(b"mine")
@@ -307,3 +308,87 @@ def test_plain_words():
     written("top/f", "changed\n")
     assert sync("--as", "t", "image", "top") == (0, ["sync:t: 1 changed, 1 as they were"], ""), "nor from a changed one"
     assert held() == wanted, "and each is there"
+
+
+def test_edited_and_renamed():
+    """In the image, between two runs: the file is found again by what it has, and is one that was edited and renamed."""
+    bring_in("a.txt", "b.c", "sub/c.txt", "d.txt", "e.txt")
+    with session() as program:
+        for name, other in ((b"a.txt", b"mine.txt"), (b"b.c", b"mine.c"), (b"sub+c.txt", b"another.txt")):
+            program.rename(name, other)
+            program.write(other, program.cat(other).body + b"the image's\n")
+        program.rm(b"e.txt")
+    told = ["3 files changed in the image: left as the image has them",
+            "1 file removed from the image: left out until changed in the folder, or --restore"]
+    for run in ("the first run", "a second one"):
+        assert sync("--as", "t", "image", "top") == (0, ["sync:t: nothing changed, 1 as they were", *told], ""), run
+    names = {"mine.txt", "mine.c", "another.txt", "d.txt"}
+    assert {name: content[1] for name, content in contents().items()} == dict.fromkeys(names, True), "none is lost, and none is there twice"
+    out = sync("--as", "t", "--verbose", "image", "top")[1]
+    assert not [line for line in out if "conflict" in line], out
+    # What was removed since stays away, whatever is new in the image.
+    for name in ("a.txt", "b.c", "sub/c.txt"):
+        written(f"top/{name}", "the folder's\n")
+    status, out, _ = sync("--as", "t", "image", "top")
+    assert (status, sorted(line for line in out if line.startswith("conflict"))) == (1, [
+        f"conflict: {name}: top/{path}: changed in the folder and in the image"
+        for name, path in (("another.txt", "sub/c.txt"), ("mine.c", "b.c"), ("mine.txt", "a.txt"))]), "each is the one of its file"
+    assert set(contents()) == names, "and none comes in a second time"
+    assert contents()["mine.c"] == ("b.c as it was\nthe image's\n", True), "nor is anything lost"
+    assert sync("--as", "t", "--theirs", "image", "top")[:2] == (
+        0, ["sync:t: 3 changed, 1 as they were", told[1]]), "settled by what the folder has"
+    assert contents()["mine.c"] == ("the folder's\n", True), "under the name that somebody gave"
+
+
+def test_edited_and_renamed_where_the_folder_changed():
+    """The same, where the folder's file has other bytes, moved, or is gone."""
+    bring_in("edit", "name", "gone")
+    with session() as program:
+        for name in (b"edit", b"name", b"gone"):
+            program.rename(name, name + b".mine")
+            program.write(name + b".mine", b"the image's\n")
+    written("top/edit", "the folder's\n")
+    os.makedirs("top/below")
+    os.rename("top/name", "top/below/name")
+    os.remove("top/gone")
+    told = [f"conflict: gone.mine: {'gone from the folder, and changed in the image'}",
+            "conflict: edit.mine: top/edit: changed in the folder and in the image"]
+    status, out, error = sync("--as", "t", "image", "top")
+    assert (status, out[0], sorted(line for line in out if line.startswith("conflict")), error) == (
+        1, "sync:t: 1 moved, 0 as they were", sorted(told), ""), out
+    assert contents() == {f"{name}.mine": ("the image's\n", True) for name in ("edit", "name", "gone")}, "each is there once"
+    assert held()["name.mine"] == {"sync:t", "mine", "in:below"}, "with the word of its folder now"
+
+
+def test_a_new_file_with_the_word_of_the_folder():
+    """It is none of those that were removed before."""
+    bring_in("a", "b")
+    with session() as program:
+        program.rm(b"a")
+    sync("--as", "t", "image", "top")
+    with session() as program:
+        program.add(b"own", b"somebody's own\n", b"sync:t")
+    status, out, _ = sync("--as", "t", "image", "top")
+    assert (status, out[1:3]) == (1, ["1 file removed from the image: left out until changed in the folder, or --restore",
+                                      "conflict: own: not in the folder"]), out
+    written("top/a", "changed\n")
+    assert sync("--as", "t", "image", "top")[1][0] == "sync:t: 1 new, 1 as they were", "what was removed comes in when it changes"
+    assert contents()["own"] == ("somebody's own\n", False), "and the other one stays"
+
+
+def test_edited_and_then_renamed():
+    """A file that was edited before the last run and renamed after it is found again by the bytes that it had then."""
+    bring_in("a", "b", "c")
+    with session() as program:
+        program.write(b"a", b"all is new\n")
+    assert sync("--as", "t", "image", "top")[1][0] == "sync:t: nothing changed, 2 as they were", "edited"
+    with session() as program:
+        program.rename(b"a", b"z")
+        for name in (b"b", b"c"):
+            program.rm(name)
+        program.add(b"own", b"b as it was c as it was\n", b"sync:t")
+    out = sync("--as", "t", "--verbose", "image", "top")[1]
+    assert "renamed in the image: z: it was a" in out, out
+    assert contents()["z"] == ("all is new\n", True), "with its bytes and its word"
+    written("top/a", "the folder's\n")
+    assert "conflict: z: top/a: changed in the folder and in the image" in sync("--as", "t", "image", "top")[1], "and it is that file"

@@ -128,7 +128,7 @@ def later(program):
         yield top, wanted
 
 
-@pytest.mark.parametrize("does, limit", (("kill", 900), ("kill", 30_000), ("die", 40_000), ("stop", 40)))
+@pytest.mark.parametrize("does, limit", (("kill", 900), ("kill", 30_000), ("die", 40_000), ("stop", 36)))
 def test_interrupted(first, does, limit):
     """It is stopped after so many bytes, and the next run goes on."""
     top, wanted = first

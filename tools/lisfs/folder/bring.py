@@ -1,6 +1,6 @@
 """Makes a session from a folder or a maildir: the words that are needed, and an `add` line with its bytes for each file.
 
-usage: tools/import [--word WORD].. [--by-folder] [--without PATTERN].. [--v2] [--verbose] FOLDER > session
+usage: tools/import [--word WORD].. [--by-folder] [--without PATTERN].. [--since DATE] [--newest N] [--v2] [--verbose] FOLDER > session
        ./lisfs run files.lis < session
        tools/talk files.lis < session      (if files.lis is served by `tools/serve files.lis`)
 
@@ -13,6 +13,10 @@ A folder that has `cur` and `new` in it is a maildir, and so is a folder below t
 folders named `.NAME.NAME`. Each mail is named after its file without the flags, and the name ends with `.eml`. Elsewhere a file named `.eml`
 is a mail. --without skips files and folders with such a name, as `.git` or `*.o`, and may be repeated. --v2 is for an image of version 2: it
 takes files of up to 1,048,576 bytes; without it 65,536 are the most.
+
+--since DATE takes the files from a day, a month or a year on (2024-06-03, 2024-06, 2024), and --newest N the N newest files. The date of a
+mail is that of its header, and of another file the time of its last change. The newest files come first in the session, so an image that has
+no room for all refuses the oldest.
 
 A name has 1 to 60 letters, digits and `_ - . + @`. Each other byte becomes `_`, and if two files would have the same name, the later one
 gets a number. A folder's word is made likewise, of at most 60 bytes and without leading full stops; letters that are not ASCII are written
@@ -39,8 +43,9 @@ from lisfs.constants import BLOCK_LEN, MAX_ASSIGNED, MAX_BLOCKS, MAX_FILES, MAX_
 from lisfs.endings import folder_fault, quiet
 from lisfs.folder import walk
 from lisfs.folder.carrying import ROOT, Job, Sender, Step, Words, fitting, session_word
-from lisfs.folder.entries import Entries
+from lisfs.folder.entries import Entries, Entry, newest_first
 from lisfs.folder.forms import folder_value
+from lisfs.folder.options import at_least_one, day
 from lisfs.folder.report import Telling, counted, left_out
 from lisfs.image import FILE_BYTES
 from lisfs.refusals import cause_of
@@ -57,6 +62,8 @@ class Options(argparse.Namespace):
     word: list[str]
     by_folder: bool
     without: list[str]
+    since: float | None
+    newest: int | None
     v2: bool
     verbose: bool
     folder: str
@@ -83,7 +90,7 @@ class Import:
         self.files: list[Taken] = []
         self.names: set[str] = set()
         self.declared: dict[bytes, None] = {}
-        self.taken = self.blocks = self.renamed = self.beyond = self.beyond_files = self.looked = 0
+        self.taken = self.blocks = self.renamed = self.beyond = self.beyond_files = self.looked = self.older = 0
         # The folders whose word is another than their name, or none, and the words that stand for two folders.
         self.odd_folders: set[str] = set()
         self.double_words: set[bytes] = set()
@@ -140,23 +147,32 @@ class Import:
         self.looked += 1
         self.telling.progress(lambda: f"{counted(self.looked, 'file')} looked at")
 
-    def read(self, folder: str, without: Sequence[str]) -> None:
-        """What there is to take, and the words that it needs."""
-        self.entries = entries = Entries(folder, self.largest, self.words_of, self.telling.leave, self.look, without)
+    def read(self, words: Options) -> None:
+        """What there is to take, the newest first, and the words that it needs."""
+        self.entries = entries = Entries(words.folder, self.largest, self.words_of, self.telling.leave, self.look, words.without)
         entries.read()
-        for entry in entries.all:
-            found = entry.found
-            if found.problem:
-                self.telling.leave(found.path, found.problem)
-                continue
-            words = list(entry.words[:MAX_ASSIGNED])
-            if len(entry.words) > MAX_ASSIGNED:
-                self.beyond += len(entry.words) - MAX_ASSIGNED
-                self.beyond_files += 1
-                self.telling.tell_file(f"left out: {harmless(found.path)}: {b' '.join(entry.words[MAX_ASSIGNED:]).decode()}")
-            name = self.name_for(os.path.basename(found.path) if found.base is None else found.base[-56:] + ".eml", found.path)
-            self.declared.update(dict.fromkeys(head_of(word) or word for word in words))
-            self.files.append(Taken(found, name, words))
+        entries.choose(words.since, words.newest)
+        # Names go by the order in which files are found.
+        taken = [(newest_first(entry), found) for entry in entries.all if (found := self.take(entry))]
+        self.files = [found for _, found in sorted(taken, key=lambda pair: pair[0])]
+
+    def take(self, entry: Entry) -> Taken | None:
+        """A file with its name and its words, or None if it is not taken."""
+        found = entry.found
+        if found.problem:
+            self.telling.leave(found.path, found.problem)
+            return None
+        if entry.is_older:
+            self.older += 1
+            return None
+        words = list(entry.words[:MAX_ASSIGNED])
+        if len(entry.words) > MAX_ASSIGNED:
+            self.beyond += len(entry.words) - MAX_ASSIGNED
+            self.beyond_files += 1
+            self.telling.tell_file(f"left out: {harmless(found.path)}: {b' '.join(entry.words[MAX_ASSIGNED:]).decode()}")
+        name = self.name_for(os.path.basename(found.path) if found.base is None else found.base[-56:] + ".eml", found.path)
+        self.declared.update(dict.fromkeys(head_of(word) or word for word in words))
+        return Taken(found, name, words)
 
     def commands(self) -> Iterator[Command]:
         """Each command of the session. A file that can't be read by now is left out."""
@@ -194,6 +210,8 @@ class Import:
         self.tell(f"{self.taken} files taken, {self.telling.not_taken.total()} not taken, {self.renamed} named otherwise")
         if self.telling.not_taken:
             self.tell(f"not taken: {self.telling.causes()}")
+        if self.older:
+            self.tell(f"{counted(self.older, 'older file')} left out by --since or --newest")
         if self.odd_folders:
             self.tell(f"{counted(len(self.odd_folders), 'folder')} with another word than the name, or with none")
         if self.double_words:
@@ -202,13 +220,15 @@ class Import:
         if self.entries:
             self.entries.tell_tags(self.tell)
         if files > MAX_FILES or self.blocks > MAX_BLOCKS:
-            self.tell(f"no image holds all of it: it takes {self.taken} of {MAX_FILES} files and {self.blocks} of {MAX_BLOCKS} blocks")
+            self.tell(f"no image holds all of it: it takes {self.taken} of {MAX_FILES} files and {self.blocks} of {MAX_BLOCKS} blocks; "
+                      "--newest N takes the newest files")
         elif largest.why:
             self.tell(f"the words that are derived from files are not counted, since {largest.why}")
         elif largest.refused:
             some = [f"{cause} ({count})" if count > 1 else cause for cause, count in largest.refused.most_common(SOME)]
             more = "; ..." if len(largest.refused) > SOME else ""
-            self.tell(f"no image holds all of it: the largest one refuses {counted(largest.refused.total(), 'line')}: {'; '.join(some)}{more}")
+            self.tell(f"no image holds all of it: the largest one refuses {counted(largest.refused.total(), 'line')}: {'; '.join(some)}{more}; "
+                      "--newest N takes the newest files")
         else:
             limits = [str(files), str(max(64, -(-largest.known // 64) * 64)), str(max(1, self.blocks))] + largest.version
             self.tell(f"an empty image has room for it from these limits on: {' '.join(limits)}")
@@ -284,6 +304,8 @@ def main() -> int:
     parser.add_argument("--word", action="append", default=[])
     parser.add_argument("--by-folder", action="store_true")
     parser.add_argument("--without", action="append", default=[])
+    parser.add_argument("--since", type=day)
+    parser.add_argument("--newest", type=at_least_one)
     parser.add_argument("--v2", action="store_true")
     parser.add_argument("--verbose", action="store_true")
     parser.add_argument("folder")
@@ -298,7 +320,7 @@ def main() -> int:
         write_line(sys.stderr, f"import: {fault}")
         return 2
     taking = Import(given, words.by_folder, 2 if words.v2 else 1, Telling("import", sys.stderr, words.verbose))
-    taking.read(words.folder, words.without)
+    taking.read(words)
     with tempfile.TemporaryDirectory() as folder:
         largest = Largest(folder, taking.version)
         taking.carry(sys.stdout.buffer, largest)

@@ -89,13 +89,7 @@ class Remembered:
 
     def _read(self) -> dict[str, Kept]:
         try:
-            descriptor = os.open(self.path, os.O_RDONLY | os.O_NOFOLLOW | os.O_NONBLOCK | os.O_CLOEXEC)
-            with open(descriptor, "rb") as file:
-                kind = os.fstat(descriptor)
-                # What somebody else could have written is not believed.
-                if not stat.S_ISREG(kind.st_mode) or kind.st_uid != os.geteuid() or kind.st_mode & 0o022 or kind.st_size > LARGEST:
-                    return {}
-                digest, _, body = file.read().partition(b"\n")
+            digest, _, body = read_own(self.path).partition(b"\n")
             if digest.decode() != hashlib.sha256(body).hexdigest():
                 return {}
             given = json.loads(body)
@@ -126,6 +120,15 @@ def folder_of(variable: str, usual: str) -> str:
     """The folder of this program's own files, where a variable of the environment says, or else at the usual place."""
     top = os.environ.get(variable, "")
     return os.path.join(top if os.path.isabs(top) else os.path.expanduser(usual), "lisfs")
+
+
+def read_own(path: str) -> bytes:
+    """The bytes of one of this program's own files. There are none if somebody else could have written it. Raises `OSError`."""
+    descriptor = os.open(path, os.O_RDONLY | os.O_NOFOLLOW | os.O_NONBLOCK | os.O_CLOEXEC)
+    with open(descriptor, "rb") as file:
+        kind = os.fstat(descriptor)
+        is_own = stat.S_ISREG(kind.st_mode) and kind.st_uid == os.geteuid() and not kind.st_mode & 0o022 and kind.st_size <= LARGEST
+        return file.read() if is_own else b""
 
 
 def write_whole(path: str, data: bytes, is_kept: bool = False) -> None:

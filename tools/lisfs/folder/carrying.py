@@ -8,18 +8,21 @@ from __future__ import annotations
 import collections
 import contextlib
 import fcntl
+import os
 import re
 import subprocess
 from collections.abc import Generator, Iterator, Sequence
 from typing import NamedTuple, Protocol, TypeAlias
 
-from lisfs.client import PROGRAM, ROOM_LINE, Program, Refused
-from lisfs.constants import LARGE_DESCRIPTION, MAX_PAYLOAD, NO_FILE_ROOM, NO_PROPERTY_ROOM
+from lisfs import derived
+from lisfs.client import PROGRAM, ROOM_LINE, BodyLine, Program, Refused, counts_in
+from lisfs.constants import LARGE_DESCRIPTION, MAX_DERIVED, MAX_PAYLOAD, NO_FILE_ROOM, NO_PROPERTY_ROOM, NO_SPACE
 from lisfs.folder import memory, names, walk
 from lisfs.folder.changes import MARKER, Change, Changes, Done
-from lisfs.folder.entries import Entry
+from lisfs.folder.entries import Entry, newest_first
+from lisfs.folder.room import Room, Short
 from lisfs.refusals import REFUSALS, cause_of, named
-from lisfs.words import stem_of
+from lisfs.words import head_of, stem_of
 
 # So many commands, and bytes of files, are under way at most.
 AHEAD, AHEAD_BYTES = 2_048, 4_194_304
@@ -28,7 +31,9 @@ PIPE = 1_048_576
 # So many words stand in one place at most.
 PLACED = 8
 ROOT = b"/"
-NO_MORE_FILES = REFUSALS[NO_FILE_ROOM].cause or ""
+NO_MORE_FILES, NO_MORE_WORDS = REFUSALS[NO_FILE_ROOM].cause or "", REFUSALS[NO_PROPERTY_ROOM].cause or ""
+# So many words, with their heads, a file gives the image by its name and its size at most, and so many heads more by its bytes.
+BY_NAME, HEADS_BY_BYTES = 4, len(derived.HEADS)
 FEWER_WORDS_HELP = (NO_PROPERTY_ROOM, LARGE_DESCRIPTION)
 
 
@@ -63,6 +68,13 @@ class Completed(NamedTuple):
     large: int
 
 
+class Half(NamedTuple):
+    """The name of a file of which a change is made by half, and what was done."""
+
+    name: bytes
+    done: list[str]
+
+
 class Told(Protocol):
     def __call__(self, what: Done, name: bytes, more: str = "") -> None: ...
 
@@ -92,6 +104,21 @@ class Sender:
         """Until each job has come to its end."""
         while self._waiting:
             self._take()
+
+    def ask(self, *commands: Words) -> Iterator[list[BodyLine]]:
+        """The lines that commands show at the root, when each job has come to its end; all of them have to be taken. One is refused only if
+        another client of a served image has just removed its file: it shows none."""
+        self.finish()
+        if self._place != ROOT:
+            self._program.cd(ROOT)
+            self._place = ROOT
+        for command in commands:
+            self._program.send(*command)
+        for _ in commands:
+            try:
+                yield self._program.received_lines().body
+            except Refused:
+                yield []
 
     def _go_on(self, job: Job, refusal: Refused | None) -> None:
         try:
@@ -134,22 +161,31 @@ class Carrying:
     """Carries changes into an image. `told` is called for each that was made, with what was done, a name and more; `failed` is
     called with a path and why. First come `declare` and `remember`, then `run`, and at the end `remember` again."""
 
-    def __init__(self, sender: Sender, plan: Changes, largest: int, told: Told, failed: walk.Leave) -> None:
-        self.sender, self.plan, self.largest, self.told, self.failed = sender, plan, largest, told, failed
-        self.place = ROOT + plan.marker
+    def __init__(self, sender: Sender, plan: Changes, room: Room, told: Told, failed: walk.Leave) -> None:
+        self.sender, self.plan, self.room, self.told, self.failed = sender, plan, room, told, failed
+        self.largest, self.place = room.limits.file_bytes, ROOT + plan.marker
         # Words of which a file can be given more without a further one becoming known.
         self.known = known_words(plan)
-        # Whether no word can become known any more, and no file be made.
-        self.is_full = self.has_no_file_room = False
-        # Words that there was no room for, the files that they belong to, and mails that are named so that the program derives none; and words
+        # Whether no word can become known any more.
+        self.is_full = False
+        # The names that files have in the image, and of each change of a file that is there its name and what was done so far.
+        self.names, self.halves = set(plan.dump.files), dict[str, Half]()
+        # Words that there was no room for, the files that they belong to, and files that are named so that the program derives fewer; and words
         # that would be too many for their files, with all that is entailed and derived.
         self.without = self.without_files = self.lean = self.too_many = self.too_many_files = 0
+        # The keys of files that there was not enough room for, and what there was not enough of.
+        self.short: set[str] = set()
+        self.lacks_files = self.lacks_words = self.lacks_blocks = False
         # The words of the image that name what was brought in, and whether there was no room for one.
         self.memories, self.is_forgetful = set(memory.words_of_memories(plan.marker, plan.dump.declared)), False
 
     def declare(self) -> None:
-        for head in self.plan.heads():
-            self.sender.start(self._declare(head))
+        if heads := self.plan.heads():
+            self._measure()
+        for head in heads:
+            # The marker is needed in any case, and the words of other heads may be left out.
+            if head == MARKER or self.room.take([head + b":"]):
+                self.sender.start(self._declare(head))
         self.sender.finish()
         if not self.plan.is_nothing() and MARKER + b":" not in self.known:
             raise NoRoom("the image has no room for a further word, and a folder's files need one of their own")
@@ -173,14 +209,39 @@ class Carrying:
         self.memories = set() if word is None or self.is_forgetful else {word}
 
     def run(self) -> None:
+        """First all that makes room, and the bytes of files that are there. Then the words of these and the new files, the newest first."""
         for name in self.plan.gone:
             self.sender.start(self._remove(name))
         for change in self.plan.changes:
-            if change.is_new and self.has_no_file_room:
-                self.failed(change.entry.found.path, NO_MORE_FILES)
-            else:
-                self.sender.start(self._add(change) if change.is_new else self._update(change))
+            if not change.is_new:
+                self.sender.start(self._prepare(change))
+        self._measure()
+        for change in self.plan.changes:
+            if change.is_new:
+                self._start_new(change)
+            elif change.key in self.halves:
+                self.sender.start(self._end(change, self.halves[change.key]))
         self.sender.finish()
+
+    def _start_new(self, change: Change) -> None:
+        if self.room.files <= 0:
+            # One that is under way may be refused.
+            self.sender.finish()
+        if self.room.files <= 0:
+            self._lacks(change, NO_FILE_ROOM)
+            self.failed(change.entry.found.path, NO_MORE_FILES)
+        else:
+            self.room.files -= 1
+            self.sender.start(self._add(change))
+
+    def _measure(self) -> None:
+        """Looks how much room there is now, and for which words, if that may be too little."""
+        counts, = map(counts_in, self.sender.ask((b"stat",)))
+        if self.room.measure(counts, sum(map(most_words, self.plan.changes))):
+            known = {text for lines in self.sender.ask(*((b"props", name) for name in sorted(self.names))) for _, text in lines}
+            known |= {word for axiom in self.plan.dump.axioms for word in (axiom.left, head_of(axiom.left) or axiom.left)}
+            self.room.learn(known | self.known | self.plan.dump.declared | self.memories)
+            self.room.force(self.plan.marker)
 
     def _declare(self, head: bytes) -> Job:
         refusal = yield Step(ROOT, (b"mkdir", head + b":"))
@@ -190,51 +251,65 @@ class Carrying:
     def _remove(self, name: bytes) -> Job:
         refusal = yield Step(self.place, (b"rm", name))
         if refusal is None:
+            self.names.discard(name)
             self.plan.removed(name)
-            self.told(Done.GONE, name)
+            self.told(Done.OLD if name in self.plan.out else Done.GONE, name)
         else:
             self.failed(name.decode(), cause_of(refusal, self.known))
 
     # A file that is new.
 
     def _add(self, change: Change) -> Job:
-        entry, gains, refusal = change.entry, self._declared(change.gains), None
-        all_names = [change.name]
-        if entry.is_mail and change.name.endswith(names.EML):
-            # Of a mail that isn't named so the program derives no words.
-            all_names.append(names.lean(change.name))
+        entry, refusal, is_large = change.entry, None, False
+        try:
+            content = self._content(entry)
+        except OSError as error:
+            self.room.files += 1
+            self.failed(entry.found.path, error.strerror or str(error))
+            return
+        for name, given in self._candidates(change, content):
+            line, rest = fitting(name, [self.plan.marker, *given])
+            refusal = yield Step(ROOT, (b"add", name, b"%d" % len(content), *line[1:]), content)
+            if refusal is None:
+                if name != change.name:
+                    self.lean += 1
+                    self._lacks(change, LARGE_DESCRIPTION if is_large else NO_PROPERTY_ROOM)
+                yield from self._added(change, name, [word for word in given if word not in rest])
+                return
+            is_large = is_large or refusal.number == LARGE_DESCRIPTION
+            if refusal.number not in FEWER_WORDS_HELP:
+                break
+        self.room.files += 1
+        self._lacks(change, refusal.number if refusal else NO_PROPERTY_ROOM)
+        self.failed(entry.found.path, cause_of(refusal, self.known) if refusal else NO_MORE_WORDS)
+
+    def _candidates(self, change: Change, content: bytes) -> Iterator[tuple[bytes, Sequence[bytes]]]:
+        """Names and words for which there is room, as far as is known, each to be tried if the one before was refused."""
+        gains, all_names = self._declared(change.gains), [change.name]
+        if derived.has_many(change.name) and (lean := names.lean(change.name, change.entry.is_mail)) not in self.plan.taken:
+            # Of a file that isn't named so the program derives fewer words.
+            all_names.append(lean)
         for name in all_names:
+            own = self.room.words_of(name, content)
             for given in self._tries(gains, name == all_names[-1]):
-                line, rest = fitting(name, [self.plan.marker, *given])
-                try:
-                    refusal = yield Step(ROOT, *self._added(entry, line))
-                except OSError as error:
-                    self.failed(entry.found.path, error.strerror or str(error))
-                    return
-                if refusal is None:
-                    given, large = yield from self._complete(ROOT, name, gains, [word for word in given if word not in rest])
-                    self._lacking(len(change.gains) - len(given), large)
-                    self.lean += name != change.name
-                    self.plan.done(change, name)
-                    self.told(Done.NEW, name, entry.found.path)
-                    return
-                if refusal.number not in FEWER_WORDS_HELP:
-                    self._refused_file(entry, refusal)
-                    return
-        # One was tried at least.
-        assert refusal
-        self._refused_file(entry, refusal)
+                if self.room.take([*own, self.plan.marker, *given]):
+                    yield name, given
 
-    def _refused_file(self, entry: Entry, refusal: Refused) -> None:
-        if refusal.number == NO_FILE_ROOM:
-            self.has_no_file_room = True
-        self.failed(entry.found.path, cause_of(refusal, self.known))
+    def _added(self, change: Change, name: bytes, given: list[bytes]) -> Job:
+        """A new file is there. It gets the words that did not fit its line, or for which there is room one by one."""
+        self.names.add(name)
+        given, large = yield from self._complete(ROOT, name, self._declared(change.gains), given)
+        self._lacking(change, len(change.gains) - len(given), large)
+        self.plan.done(change, name)
+        self.told(Done.NEW, name, change.entry.found.path)
 
-    def _added(self, entry: Entry, line: Sequence[bytes]) -> tuple[Words, bytes]:
-        """The line that makes a file, and its bytes as they are now."""
-        content = self._content(entry)
-        name, *words = line
-        return (b"add", name, b"%d" % len(content), *words), content
+    def _lacks(self, change: Change, number: int) -> None:
+        """Notes that there is not enough room for a file, if that is what a refusal means."""
+        self.lacks_files = self.lacks_files or number == NO_FILE_ROOM
+        self.lacks_words = self.lacks_words or number == NO_PROPERTY_ROOM
+        self.lacks_blocks = self.lacks_blocks or number == NO_SPACE
+        if number in (NO_FILE_ROOM, NO_PROPERTY_ROOM, NO_SPACE):
+            self.short.add(change.key)
 
     def _content(self, entry: Entry) -> bytes:
         content = walk.content(entry.found, self.largest)
@@ -246,11 +321,15 @@ class Carrying:
 
     # A file that is there.
 
-    def _update(self, change: Change) -> Job:
+    def _prepare(self, change: Change) -> Job:
+        """The first half of a change: the name, the words that go, and the bytes."""
         entry, name, refusal, done = change.entry, change.name, None, []
-        if change.was is not None and (yield Step(self.place, (b"rename", change.was, name))) is not None:
-            # It keeps its name.
-            name = change.was
+        if change.was is not None:
+            if (yield Step(self.place, (b"rename", change.was, name))) is not None:
+                # It keeps its name.
+                name = change.was
+            self.names.discard(change.was)
+            self.names.add(name)
         for begin in range(0, len(change.loses), PLACED):
             part = change.loses[begin:begin + PLACED]
             refusal = refusal or (yield Step(self.place + b"/" + b"/".join(part), (b"mv", name, self.place)))
@@ -261,17 +340,23 @@ class Carrying:
             except OSError as error:
                 self.failed(entry.found.path, error.strerror or str(error))
                 return
-        if refusal is not None:
+        if refusal is None:
+            self.halves[change.key] = Half(name, done)
+        else:
+            self._lacks(change, refusal.number)
             self.failed(entry.found.path, cause_of(refusal, self.known))
-            return
+
+    def _end(self, change: Change, half: Half) -> Job:
+        """The second half: the words that come."""
+        name, done = half
         given, large = yield from self._complete(self.place, name, self._declared(change.gains), [])
-        self._lacking(len(change.gains) - len(given), large)
+        self._lacking(change, len(change.gains) - len(given), large)
         done += ["+" + word.decode() for word in given]
         self.plan.done(change, name)
         if change.is_moved:
-            self.told(Done.MOVED, name, entry.found.path)
+            self.told(Done.MOVED, name, change.entry.found.path)
         elif change.has_other_bytes:
-            self.told(Done.CHANGED, name, entry.found.path)
+            self.told(Done.CHANGED, name, change.entry.found.path)
         else:
             self.told(Done.WORDS if done else Done.SAME, name, " ".join(done))
 
@@ -299,7 +384,7 @@ class Carrying:
         all that it has then, and how many would be too many for it."""
         self.known.update(given)
         large = 0
-        missing = [word for word in gains if word not in given]
+        missing = [word for word in gains if word not in given and self.room.take([word])]
         parts = [missing[begin:begin + PLACED] for begin in range(0, len(missing), PLACED)]
         while parts:
             part = [word for word in parts.pop(0) if not self.is_full or word in self.known]
@@ -319,13 +404,34 @@ class Carrying:
                 self.known.difference_update(part)
         return Completed(given, large)
 
-    def _lacking(self, count: int, large: int) -> None:
+    def _lacking(self, change: Change, count: int, large: int) -> None:
         if large:
             self.too_many += large
             self.too_many_files += 1
         if count > large:
             self.without += count - large
             self.without_files += 1
+            self._lacks(change, NO_PROPERTY_ROOM)
+
+    def advice(self) -> list[str]:
+        """What a person can do about each limit that was reached."""
+        newest, entries = 0, sorted(self.plan.keyed, key=lambda pair: newest_first(pair[1]))
+        for key, entry in entries:
+            if key in self.short:
+                break
+            newest += not entry.found.problem
+        others = len(self.plan.dump.files) - self.plan.own + self.plan.staying
+        short = Short(self.lacks_files, self.lacks_words, self.lacks_blocks)
+        can_be_lean = not self.plan.is_lean and any(entry.is_mail or derived.has_many(os.fsencode(entry.found.key)) for _, entry in entries)
+        return self.room.advice(short, self.room.limits.files - others, newest, can_be_lean)
+
+
+def most_words(change: Change) -> int:
+    """How many words can become known by a change at most."""
+    if not change.is_new:
+        return len(change.gains)
+    by_bytes = min(change.entry.derived or MAX_DERIVED, MAX_DERIVED) + HEADS_BY_BYTES if derived.has_many(change.name) else 0
+    return len(change.gains) + BY_NAME + by_bytes
 
 
 def fitting(name: bytes, words: Sequence[bytes]) -> tuple[list[bytes], Sequence[bytes]]:

@@ -9,20 +9,22 @@ from __future__ import annotations
 import enum
 import hashlib
 import os
-from collections.abc import Iterable, Sequence, Set
+from collections.abc import Callable, Iterable, Sequence, Set
 from typing import NamedTuple, TypeAlias
 
 from lisfs import derived
 from lisfs.constants import MAX_ASSIGNED, MAX_DERIVED, MAX_WORD
 from lisfs.dumps import Dump
 from lisfs.folder import mails, music, walk
-from lisfs.folder.entries import Entry
+from lisfs.folder.entries import Entry, newest_first
 from lisfs.folder.forms import folder_value
 from lisfs.folder.memory import REMOVAL, Record, Records, settled
 from lisfs.words import head_of, stem_of
 
 MARKER, FOLDER = b"sync", b"in"
 HEADS = frozenset(head + b":" for head in (FOLDER, *mails.HEADS, *music.HEADS))
+# So much more than a word of the folder, or a suffix, common bytes say of two files that they are one.
+SHARED, UNKNOWN_PART = 4, 0.3
 # The digest of no bytes, and what is no digest.
 NO_BYTES, NOTHING = hashlib.sha256().hexdigest(), ""
 
@@ -39,6 +41,7 @@ class Done(enum.Enum):
     MOVED = "moved"
     WORDS = "words"
     GONE = "gone"
+    OLD = "removed as older"
     SAME = "same"
 
 
@@ -107,10 +110,12 @@ class Changes:
 
     `conflicts` are left, `edited` are the names of files that stay as the image has them, `away` the paths of those that stay away from it, and
     `renamed` are those that have another name in the image. `unseen` counts files that are not removed, since not all of the folder was seen.
-    `records` say what is so before any change, and what was done after it."""
+    `older` counts files that are older than those that are wanted and don't come in, `out` has the names of those in `gone` that go for this
+    reason alone, and `staying` counts those that stay all the same, since somebody changed them in the image.
+    `records` say what is so before any change, and what was done after it. `bytes_of` gives the bytes of a file of the image."""
 
     def __init__(self, entries: Iterable[Entry], dump: Dump, marker: bytes, is_lean: bool = False, records: Records | None = None,
-                 wishes: Wishes = Wishes(), is_blind: bool = False) -> None:
+                 wishes: Wishes = Wishes(), is_blind: bool = False, bytes_of: Callable[[bytes], bytes] | None = None) -> None:
         self.marker, self.dump, self.is_lean, self.wishes, self.is_blind = marker, dump, is_lean, wishes, is_blind
         self.changes: list[Change] = []
         self.gone: list[bytes] = []
@@ -119,7 +124,8 @@ class Changes:
         self.edited: list[str] = []
         self.away: list[str] = []
         self.renamed: list[Renamed] = []
-        self.same = self.beyond = self.beyond_files = self.unseen = 0
+        self.out: set[bytes] = set()
+        self.same = self.beyond = self.beyond_files = self.unseen = self.older = self.staying = 0
         self.own_names = {name for name, (_, words) in dump.files.items() if marker in words}
         self.own = len(self.own_names)
         # Names in the image that a file of the folder has, and those that no new one can have.
@@ -128,10 +134,11 @@ class Changes:
         # The key of the record of each that is gone, or None.
         self.gone_keys: dict[bytes, str | None] = {}
         self.records = settled(records or {}, self._digest)
-        self._find_renamed()
         self.keyed = keyed = [(key_of(entry, marker), entry) for entry in entries]
+        self._find_renamed()
         self.waiting: set[str] = set()
         self.moved = self._find_moved(keyed)
+        self._find_edited(dict(keyed), bytes_of)
         self._tell_mails_apart(keyed)
         # Those of files that were only seen have served.
         self.records = {key: record for key, record in self.records.items() if (record.folder, record.image) != (None, None)}
@@ -141,7 +148,7 @@ class Changes:
             self._fresh(key, entry)
         self._left({key for key, _ in keyed})
         self.gone.sort()
-        self.changes.sort(key=lambda change: (change.is_new, change.name))
+        self.changes.sort(key=lambda change: newest_first(change.entry))
 
     def _digest(self, name: str) -> str | None:
         """The digest of one of the folder's files in the image, or None where it is not there."""
@@ -150,14 +157,52 @@ class Changes:
     # Files with another name than before.
 
     def _find_renamed(self) -> None:
-        """Files that somebody renamed in the image are found again by their bytes."""
+        """Files that somebody renamed in the image are found again by their bytes: those that they had at the last run, or had before."""
         free: dict[str | None, list[str]] = {}
-        for name in sorted(self.own_names - {record.name.encode() for record in self.records.values()}):
-            free.setdefault(self._digest(name.decode()), []).append(name.decode())
+        for name in sorted(self._unnamed()):
+            free.setdefault(self._digest(name), []).append(name)
         for key, record in sorted(self.records.items()):
-            if self._digest(record.name) is None and (names := free.get(record.image)):
-                self.records[key] = record._replace(name=names.pop(0))
-                self.renamed.append(Renamed(record.name, self.records[key].name))
+            digests = [digest for digest in (record.seen, record.image, record.folder) if free.get(digest)]
+            if self._digest(record.name) is None and digests:
+                self._rename(key, free[digests[0]].pop(0))
+
+    def _unnamed(self) -> set[str]:
+        """The names of the folder's files in the image that no record has."""
+        return {name.decode() for name in self.own_names} - {record.name for record in self.records.values()}
+
+    def _find_edited(self, entries: dict[str, Entry], bytes_of: Callable[[bytes], bytes] | None) -> None:
+        """Files that somebody edited and renamed in the image are found again by what they have in common with before. Each file with the
+        folder's word was one of its files, so one that no record names is one of those that are lost since the last run."""
+        lost = {key for key, record in self.records.items() if record.image is not None and self._digest(record.name) is None}
+        left = self._unnamed() - self._expected(entries) if lost else set()
+        parts, parts_in = dict[str, set[bytes]](), dict[str, set[bytes]]()
+        if bytes_of and len(lost) * len(left) > 1:
+            parts_in = {name: parts_of(bytes_of(name.encode())) for name in left}
+            parts = {key: parts_of(content_of(entries[key])) for key in lost if key in entries}
+        alike = [(shared(parts.get(key), parts_in.get(name)) + self._likeness(key, entries.get(key), name), key, name) for key in lost for name in left]
+        for _, key, name in sorted(alike, key=lambda pair: (-pair[0], *pair[1:])):
+            if key in lost and name in left:
+                lost.remove(key)
+                left.remove(name)
+                self._rename(key, name)
+
+    def _expected(self, entries: dict[str, Entry]) -> set[str]:
+        """The names that files of the folder would have which did not come in, as far as is known. A run that was stopped may have brought them in."""
+        new = [entry for key, entry in entries.items() if (record := self.records.get(key)) is None or (record.folder, record.image) == (None, None)]
+        return {name.decode() for entry in new for name in entry.names(self.marker, True)}
+
+    def _rename(self, key: str, name: str) -> None:
+        self.renamed.append(Renamed(self.records[key].name, name))
+        self.records[key] = self.records[key]._replace(name=name)
+
+    def _likeness(self, key: str, entry: Entry | None, name: str) -> float:
+        """How likely a file of the image, with other bytes and another name, is the one of a record, beside what their bytes say: by the words
+        that the folder gave it, by its suffix, and by what the two names have in common."""
+        was, words = self.records[key].name, {word for word in self.dump.files[name.encode()].words if head_of(word) in HEADS}
+        alike = len(words & set(entry.words)) - len(words ^ set(entry.words)) / 2 if entry else 0.0
+        ends = os.path.splitext(was)[1] == os.path.splitext(name)[1]
+        common = len(os.path.commonprefix([was, name])) + len(os.path.commonprefix([was[::-1], name[::-1]]))
+        return alike + ends + common / (len(was) + len(name))
 
     def _find_moved(self, keyed: Keyed) -> dict[str, str]:
         """Files that were renamed or moved in the folder are found again by their bytes: first those whose own name is the same, and then all
@@ -228,9 +273,28 @@ class Changes:
             self.refused.append(entry)
         elif name is None:
             return self._stays_away(key, entry, folder)
-        else:
+        elif not self._is_out(key, entry, name, folder):
             self._judge(key, entry, name, folder)
         return True
+
+    def _is_out(self, key: str, entry: Entry, name: str, folder: str) -> bool:
+        """Whether a file goes since it is older than what is wanted. One that somebody edited, renamed or gave words to stays."""
+        if not entry.is_older:
+            return False
+        record, image, words = self.records.get(key), self._digest(name), self.dump.files[name.encode()].words
+        is_named = record.name == record.made if record else name.encode() in entry.names(self.marker, False)
+        is_read = image == folder or record is not None and image == record.image
+        if not (is_named and is_read and all(word == self.marker or head_of(word) in HEADS for word in words)):
+            self.staying += 1
+        elif self.is_blind:
+            # There may be newer ones that were not seen, or fewer.
+            self.unseen += 1
+        else:
+            self.gone.append(name.encode())
+            self.gone_keys[name.encode()] = key
+            self.out.add(name.encode())
+            return True
+        return False
 
     def _name_in_image(self, key: str, entry: Entry) -> str | None:
         """The name of a file in the image, by its record, or else the first of those that it may have."""
@@ -252,11 +316,13 @@ class Changes:
         if self.records[key].folder != folder or self.wishes.restore:
             del self.records[key]
             return False
+        # A file that the image gets later is another one.
+        self.records[key] = self.records[key]._replace(image=None, seen=None)
         self.away.append(entry.found.path)
         return True
 
     def _judge(self, key: str, entry: Entry, name: str, folder: str) -> None:
-        record, image = self.records.get(key), self._digest(name)
+        record, image = self._looked_at(key, name), self._digest(name)
         made = record.made if record else name
         if record is None:
             self.records.pop("image:" + name, None)
@@ -271,11 +337,19 @@ class Changes:
         else:
             if self.wishes.ours:
                 # That the folder has other bytes was seen, and the image has others than were brought in as before.
-                self.records[key] = Record(name, made, folder, NOTHING)
+                self.records[key] = Record(name, made, folder, NOTHING, seen=image)
                 self.edited.append(name)
             else:
                 self.conflicts.append(Conflict(f"{name}: {entry.found.path}", BOTH if record else UNKNOWN))
             self._change(key, entry, name)
+
+    def _looked_at(self, key: str | None, name: str) -> Record | None:
+        """The record of a file, which then says which bytes the image has of it, if these are others than were brought in."""
+        if key is None or key not in self.records:
+            return None
+        record, image = self.records[key], self._digest(name)
+        self.records[key] = record = record._replace(seen=None if image == record.image else image)
+        return record
 
     def _change(self, key: str, entry: Entry, name: str, has_other_bytes: bool = False, is_same: bool = False) -> None:
         """Notes what a file gets that the image has: bytes, words, and a name where it moved in the folder and nobody gave it one."""
@@ -296,7 +370,9 @@ class Changes:
         record = self.records.get(key)
         if record is None or key not in self.moved or record.name != record.made:
             return None
-        names = entry.names(self.marker, self.is_lean)
+        all_names = entry.names(self.marker, True)
+        # One whose name is lean stays so, since the program may have no room for its words.
+        names = entry.names(self.marker, self.is_lean or derived.has_many(all_names[-1]) and not derived.has_many(record.made.encode()))
         if record.made.encode() in names:
             return None
         other = next((name for name in names[:2] if name not in self.taken), None)
@@ -311,6 +387,9 @@ class Changes:
         if key in self.waiting:
             entry.found.problem = "it may have moved, and not all of the folder could be read"
             self.refused.append(entry)
+            return
+        if entry.is_older:
+            self.older += 1
             return
         all_names = entry.names(self.marker, self.is_lean)
         name = next((name for name in all_names[:2] if name not in self.taken), None)
@@ -335,7 +414,7 @@ class Changes:
     def _left(self, present: Set[str]) -> None:
         if self.is_blind:
             # They may be where nothing was seen, and so their records stay.
-            self.unseen = len(self.own_names - self.kept)
+            self.unseen += len(self.own_names - self.kept)
             return
         keys = {record.name: key for key, record in self.records.items() if key not in present}
         for name in sorted(self.own_names - self.kept):
@@ -344,7 +423,7 @@ class Changes:
             del self.records[key]
 
     def _judge_left(self, key: str | None, name: str) -> None:
-        record = self.records.get(key) if key else None
+        record = self._looked_at(key, name)
         if record and record.folder is None:
             self.edited.append(name)
         elif record and record.image == self._digest(name) or self.wishes.theirs:
@@ -352,7 +431,7 @@ class Changes:
             self.gone_keys[name.encode()] = key
         elif self.wishes.ours:
             # Where it is not known what was brought in, no bytes are those.
-            self.records[key or "image:" + name] = Record(name, name, None, record.image if record else NOTHING)
+            self.records[key or "image:" + name] = Record(name, name, None, record.image if record else NOTHING, seen=self._digest(name))
             self.edited.append(name)
         else:
             self.conflicts.append(Conflict(name, GONE if record else UNKNOWN_GONE))
@@ -405,7 +484,9 @@ class Changes:
         if before is not None:
             is_made = before.name == before.made or name in change.entry.names(self.marker, self.is_lean)
             made = name.decode() if is_made else before.made
-            self.records[change.key] = Record(name.decode(), made, digest or before.folder, digest or before.image)
+            self.records[change.key] = before._replace(name=name.decode(), made=made)
+            if digest is not None:
+                self.records[change.key] = Record(name.decode(), made, digest, digest)
         elif digest is not None:
             self.records[change.key] = Record(name.decode(), name.decode(), digest, digest)
         # Else only words changed of a file in conflict, of which nothing is known.
@@ -418,6 +499,26 @@ class Changes:
         """The heads that have to be declared, in the order of their importance."""
         wanted = dict.fromkeys(stem_of(word) for change in self.changes for word in change.gains)
         return [head for head in [MARKER, *wanted] if head + b":" not in self.dump.declared] if self.changes else []
+
+
+def parts_of(content: bytes) -> set[bytes]:
+    """What of some bytes can be found again after an edit: what stands between blanks."""
+    return set(content.split())
+
+
+def shared(some: Set[bytes] | None, others: Set[bytes] | None) -> float:
+    """How much two contents have in common. Of unknown ones this is less than of those that are alike, and more than of others."""
+    if some is None or others is None:
+        return SHARED * UNKNOWN_PART
+    return SHARED * len(some & others) / len(some | others) if some and others else 0.0
+
+
+def content_of(entry: Entry) -> bytes:
+    """The bytes of a file of the folder, or none where it can't be read."""
+    try:
+        return walk.content(entry.found, entry.found.size or 0)
+    except OSError:
+        return b""
 
 
 def digest_of(entry: Entry) -> bytes:

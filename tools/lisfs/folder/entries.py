@@ -4,6 +4,7 @@ from __future__ import annotations
 import dataclasses
 import hashlib
 import os
+import time
 from collections.abc import Callable, Sequence
 from typing import NamedTuple
 
@@ -13,17 +14,19 @@ from lisfs.folder.report import counted
 
 # What the records of files are of.
 MAIL, MUSIC = "mail", "music"
+DAY = 86_400
 
 
 class MailRecord(NamedTuple):
-    """What a mail gives: the digest of its bytes, or None if they are too many, its Message-ID or None, its subject, its words, and how many
-    words the program would derive of it."""
+    """What a mail gives: the digest of its bytes, or None if they are too many, its Message-ID or None, its subject, its words, how many words
+    the program would derive of it, and when it was sent or None."""
 
     digest: str | None
     message_id: str | None
     subject: str
     words: list[str]
     derived: int
+    sent: int | None
 
 
 class MusicRecord(NamedTuple):
@@ -46,6 +49,9 @@ class Entry:
     unread: tuple[bytes, ...] = ()
     # How many words the program would derive of its bytes, where they were looked at and it derives some.
     derived: int = 0
+    # When it was sent, or else changed, in seconds since 1970; and whether it is older than what is wanted of the folder.
+    date: float = 0.0
+    is_older: bool = False
 
     def read_from(self, content: bytes) -> bytes:
         """Notes what its bytes give. Their digest."""
@@ -60,12 +66,20 @@ class Entry:
         return self.found.base is not None
 
     def names(self, marker: bytes, is_lean: bool) -> list[bytes]:
-        """The names that it may have in an image, the first of them where that is free."""
-        if not self.is_mail:
-            return [names.of_path(self.found.key), names.digested(self.found.key, names.digest_of(marker, *self.ident))]
-        full = [names.of_mail(self.subject, digest) for digest in (names.digest_of(*self.ident), names.digest_of(marker, *self.ident))]
-        lean = [names.lean(name) for name in full]
+        """The names that it may have in an image, the first of them where that is free. Of a lean one the program derives fewer words."""
+        if self.is_mail:
+            full = [names.of_mail(self.subject, digest) for digest in (names.digest_of(*self.ident), names.digest_of(marker, *self.ident))]
+        else:
+            full = [names.of_path(self.found.key), names.digested(self.found.key, names.digest_of(marker, *self.ident))]
+        if not derived.has_many(full[0]):
+            return full
+        lean = [names.lean(name, self.is_mail) for name in full]
         return lean + full if is_lean else full + lean
+
+
+def newest_first(entry: Entry) -> tuple[float, str]:
+    """By this files are in the order in which they come in."""
+    return -entry.date, entry.found.key
 
 
 class Entries:
@@ -81,6 +95,8 @@ class Entries:
         self.tagless, self.is_deaf = 0, False
         self._reader: music.Mutagen | None = None
         self._words: dict[bytes, bytes] = {}
+        # A later Date than tomorrow is not believed, since such a mail would always be the newest.
+        self.latest = time.time() + DAY
         self._remembered: cache.Cache = remembered or cache.Nothing()
 
     def read(self) -> None:
@@ -90,7 +106,7 @@ class Entries:
         self._tell_apart()
 
     def entry(self, found: walk.Found) -> Entry:
-        entry = Entry(found)
+        entry = Entry(found, date=found.kind.st_mtime if found.kind else 0.0)
         if found.size is not None and found.size > self.largest:
             found.problem = f"{found.size} bytes; a file has at most {self.largest}"
         given = self.folder_words(found.folders)
@@ -112,6 +128,8 @@ class Entries:
             self.walk.is_blind = self.walk.is_blind or entry.is_mail
             return []
         entry.derived = record.derived
+        if record.sent is not None and record.sent <= self.latest:
+            entry.date = float(record.sent)
         if entry.is_mail:
             entry.subject = record.subject
         if entry.is_mail and record.message_id:
@@ -132,7 +150,7 @@ class Entries:
         mail, digest, count = mails.Mail(content), None, 0
         if not found.problem:
             found.size, digest, count = len(content), hashlib.sha256(content).hexdigest(), len(derived.derived_words(b"x.eml", content))
-        record = MailRecord(digest, mail.message_id, mail.subject, [word.decode() for word in mail.words()], count)
+        record = MailRecord(digest, mail.message_id, mail.subject, [word.decode() for word in mail.words()], count, mail.sent())
         self._remembered.keep(found, times, MAIL, record)
         return record
 
@@ -162,6 +180,12 @@ class Entries:
         record = MusicRecord(hashlib.sha256(content).hexdigest(), None if given is None else [word.decode() for word in given])
         self._remembered.keep(found, times, rules, record)
         return record
+
+    def choose(self, since: float | None, newest: int | None) -> None:
+        """Notes which files are older than those that are wanted: those from a time on, and so many at most."""
+        taken = sorted((entry for entry in self.all if not entry.found.problem), key=newest_first)
+        for place, entry in enumerate(taken):
+            entry.is_older = newest is not None and place >= newest or since is not None and entry.date < since
 
     def tell_tags(self, tell: Callable[[str], None]) -> None:
         """What is amiss with the tags of music, in a line."""

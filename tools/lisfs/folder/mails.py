@@ -8,12 +8,16 @@
 A mail is anybody's, so what it costs is bounded: of a header so many bytes, lines and letters of a field are looked at, each a few times, and
 no more than so many go to Python's own `email` package, which takes time with the square of what it is given.
 """
+from __future__ import annotations
+
+import calendar
 import email.header
 import email.policy
 import email.utils
 import functools
 import itertools
 import re
+from collections.abc import Sequence
 
 from lisfs.constants import MAX_WORD
 from lisfs.folder import addresses
@@ -70,12 +74,26 @@ class Mail:
                  people(self._raw("Cc"))]
         return list(dict.fromkeys(word for words in found for word in words))
 
-    def _date(self) -> list[bytes]:
+    @functools.cached_property
+    def _date_parts(self) -> Sequence[int]:
+        """The parts of its Date, with the seconds east of Greenwich at the end, or none."""
         try:
             date = email.utils.parsedate_tz(self._raw("Date")[:SHORT])
         except Exception:
             date = None
-        return [b"date:%04d-%02d" % date[:2]] if date and 1970 <= date[0] <= 2099 and 1 <= date[1] <= 12 else []
+        return [part or 0 for part in date] if date and 1970 <= date[0] <= 2099 and 1 <= date[1] <= 12 else []
+
+    def sent(self) -> int | None:
+        """When it was sent by its Date, in seconds since 1970, or None."""
+        if not self._date_parts:
+            return None
+        year, month, day, hour, minute, second, *_, zone = self._date_parts
+        if not (1 <= day <= 31 and 0 <= hour <= 24 and 0 <= minute < 60 and 0 <= second <= 60 and abs(zone) <= 86_400):
+            return None
+        return calendar.timegm((year, month, 1, hour, minute, second)) + (day - 1) * 86_400 - zone
+
+    def _date(self) -> list[bytes]:
+        return [b"date:%04d-%02d" % (self._date_parts[0], self._date_parts[1])] if self._date_parts else []
 
     def _list(self) -> list[bytes]:
         found = LIST_ID.search(self._raw("List-Id"))

@@ -4,7 +4,8 @@
 2. The key is the path below the folder; of a mail of a maildir, which may move, it is the name that its Message-ID gives it.
 3. `folder` is the digest of the bytes that the folder had when both sides were last settled, and `image` that of the bytes which were brought
    in. None says that there was no file, and None twice that a file was seen in the folder and did not come in. A side has changed if it has
-   other bytes than its digest says, or no file, or one that was not.
+   other bytes than its digest says, or no file, or one that was not. `seen` is the digest of the bytes that the image had at the last run, if
+   these are others than were brought in.
 4. Words that somebody gave stand in the image alone. They stay on the file, also when it is renamed, so no record has them.
 5. A file that somebody removed from the image keeps its record, and so it stays away. Both sides gone, the record goes.
 6. All records of a folder are one memory: a text, named after its own digest, in `$XDG_STATE_HOME/lisfs`, or in `~/.local/state/lisfs`.
@@ -15,6 +16,10 @@
 9. Without its memory, as after a run of an older `tools/sync`, nothing is written over and nothing is removed: what both sides have alike is
    recorded, and each difference is a conflict.
 10. A memory that can't be written, or for whose word the image has no room, is told; the next run then is one without a memory.
+11. Beside the memories there is a list for each image and folder, named after the path of the image. It names the memory that the last run left
+   and those of earlier runs, which copies and backups of the image may name. A run adds to the list of its own image alone.
+12. A memory is removed in two cases: `KEPT` later ones are in each list that has it, or it was not used for a year and is in no list of an
+   image that is still at its path. So a run over one image never removes the memory of another one.
 """
 from __future__ import annotations
 
@@ -23,17 +28,19 @@ import hashlib
 import json
 import os
 import re
-import stat
-from collections.abc import Callable, Set
+import time
+from collections.abc import Callable, Sequence, Set
 from typing import NamedTuple, TypeAlias
 
 from lisfs.constants import MAX_WORD
-from lisfs.folder.cache import LARGEST, folder_of, write_whole
+from lisfs.folder.cache import folder_of, read_own, write_whole
 
 FORM, WORD, DIGITS = 1, b"synced-", 20
-# So many memories are kept, those that were used last. Older ones are those of copies and backups.
-KEPT = 64
-NAMED = re.compile(r"synced-[0-9a-f]{64}\.json")
+# So many memories of an image and a folder are kept: the one that a run writes, and those of runs before, which copies and backups may name.
+KEPT = 16
+# How long a memory is kept without use if no image is known to name it, in seconds.
+YEAR = 366 * 86_400
+NAMED, LIST = re.compile(r"synced-[0-9a-f]{64}\.json"), re.compile(r"image-[0-9a-f]{32}\.json")
 # What is coming where a file is to be removed. No digest is empty.
 REMOVAL = ""
 
@@ -46,6 +53,7 @@ class Record(NamedTuple):
     folder: str | None
     image: str | None
     coming: str | None = None
+    seen: str | None = None
 
 
 # By the keys of the files.
@@ -66,11 +74,20 @@ def words_of_memories(marker: bytes, declared: Set[bytes]) -> list[bytes]:
     return sorted(word for word in declared if word.startswith(begin) and re.fullmatch(rb"[0-9a-f]{%d}" % DIGITS, word[len(begin):]))
 
 
-class Memory:
-    """The memories of one folder, by its marker."""
+class Listed(NamedTuple):
+    """The list of an image and a folder: the path of the image, and the names of memories, the last one at the end."""
 
-    def __init__(self, marker: bytes) -> None:
-        self.marker, self.top = marker, folder_of("XDG_STATE_HOME", "~/.local/state")
+    image: str
+    memories: list[str]
+
+
+class Memory:
+    """The memories of one folder, by its marker, in one image, by its path."""
+
+    def __init__(self, marker: bytes, image: str) -> None:
+        self.marker, self.image, self.top = marker, os.path.realpath(image), folder_of("XDG_STATE_HOME", "~/.local/state")
+        digest = hashlib.sha256(os.fsencode(self.image) + b"\0" + marker).hexdigest()[:32]
+        self.list = os.path.join(self.top, f"image-{digest}.json")
 
     def read(self, declared: Set[bytes]) -> Records | None:
         """The records that belong to an image with these words, or None where they are not known."""
@@ -78,24 +95,29 @@ class Memory:
         # Of two the one with nothing coming was written after all changes of its run.
         return min(found, key=lambda records: any(record.coming is not None for record in records.values())) if found else None
 
+    def word(self, records: Records) -> bytes:
+        """The word by which an image names records."""
+        return begin_of_word(self.marker) + hashlib.sha256(self._body(records)).hexdigest()[:DIGITS].encode()
+
     def write(self, records: Records) -> bytes:
         """Keeps records, and returns the word by which an image names them. Raises `OSError`."""
         body = self._body(records)
-        digest = hashlib.sha256(body).hexdigest()
-        path = os.path.join(self.top, f"synced-{digest}.json")
-        write_whole(path, body, is_kept=True)
-        self._forget_old(os.path.basename(path))
-        return begin_of_word(self.marker) + digest[:DIGITS].encode()
+        name = f"synced-{hashlib.sha256(body).hexdigest()}.json"
+        write_whole(os.path.join(self.top, name), body, is_kept=True)
+        memories = [*(other for other in read_list(self.list).memories if other != name), name]
+        self._write_list(memories[-KEPT:])
+        self._clean(memories[:-KEPT])
+        return self.word(records)
 
     def forget(self, word: bytes) -> None:
         """Removes the memory of this word, which no image names any more."""
         with contextlib.suppress(OSError):
-            for name in os.listdir(self.top):
-                if NAMED.fullmatch(name) and name.startswith(f"synced-{word[-DIGITS:].decode()}"):
-                    os.unlink(os.path.join(self.top, name))
+            forgotten = [name for name in os.listdir(self.top) if NAMED.fullmatch(name) and name.startswith(f"synced-{word[-DIGITS:].decode()}")]
+            self._write_list([name for name in read_list(self.list).memories if name not in forgotten])
+            self._clean(forgotten)
 
     def _body(self, records: Records) -> bytes:
-        files = {key: list(record[:4]) + ([] if record.coming is None else [record.coming]) for key, record in records.items()}
+        files = {key: [*record[:4], *filter_end(record[4:])] for key, record in records.items()}
         # The same records give the same text, and so the same word.
         return json.dumps({"form": FORM, "marker": self.marker.decode(), "files": files}, sort_keys=True).encode()
 
@@ -109,13 +131,7 @@ class Memory:
 
     def _records(self, name: str) -> Records | None:
         path = os.path.join(self.top, name)
-        descriptor = os.open(path, os.O_RDONLY | os.O_NOFOLLOW | os.O_NONBLOCK | os.O_CLOEXEC)
-        with open(descriptor, "rb") as file:
-            kind = os.fstat(descriptor)
-            # What somebody else could have written is not believed.
-            if not stat.S_ISREG(kind.st_mode) or kind.st_uid != os.geteuid() or kind.st_mode & 0o022 or kind.st_size > LARGEST:
-                return None
-            body = file.read()
+        body = read_own(path)
         given = json.loads(body)
         if f"synced-{hashlib.sha256(body).hexdigest()}.json" != name or (given["form"], given["marker"]) != (FORM, self.marker.decode()):
             return None
@@ -123,13 +139,56 @@ class Memory:
             os.utime(path)
         return {key: Record(*record) for key, record in given["files"].items()}
 
-    def _forget_old(self, name: str) -> None:
-        """Removes the memories that were used long ago, and never the one of this name."""
+    def _write_list(self, memories: list[str]) -> None:
+        body = json.dumps({"form": FORM, "image": self.image, "marker": self.marker.decode(), "memories": memories})
+        write_whole(self.list, body.encode(), is_kept=True)
+
+    def _clean(self, dropped: list[str]) -> None:
+        """Removes those of some memories that no list names, and all that the rule above lets go."""
         with contextlib.suppress(OSError):
-            others = [other for other in os.listdir(self.top) if NAMED.fullmatch(other) and other != name]
-            others.sort(key=lambda other: os.lstat(os.path.join(self.top, other)).st_mtime_ns, reverse=True)
-            for other in others[KEPT - 1:]:
-                os.unlink(os.path.join(self.top, other))
+            names, listed = os.listdir(self.top), set()
+            for name in filter(LIST.fullmatch, names):
+                path = os.path.join(self.top, name)
+                found = read_list(path)
+                if path == self.list or is_there(found.image) or any(not self._is_old(memory) for memory in (name, *found.memories)):
+                    listed.update(found.memories)
+                else:
+                    os.unlink(path)
+            for name in filter(NAMED.fullmatch, names):
+                if name not in listed and (name in dropped or self._is_old(name)):
+                    os.unlink(os.path.join(self.top, name))
+
+    def _is_old(self, name: str) -> bool:
+        """Whether a file of the folder was not used for a year, or is not there."""
+        try:
+            return os.lstat(os.path.join(self.top, name)).st_mtime < time.time() - YEAR
+        except FileNotFoundError:
+            return True
+
+
+def filter_end(parts: Sequence[str | None]) -> Sequence[str | None]:
+    """Parts of a record up to the last that is known."""
+    return parts if not parts or parts[-1] is not None else filter_end(parts[:-1])
+
+
+def read_list(path: str) -> Listed:
+    """A list of memories. One that can't be read names none."""
+    with contextlib.suppress(OSError, ValueError, LookupError, TypeError, RecursionError):
+        given = json.loads(read_own(path))
+        if given["form"] == FORM:
+            return Listed(str(given["image"]), [str(name) for name in given["memories"]])
+    return Listed("", [])
+
+
+def is_there(path: str) -> bool:
+    """Whether a file is at a path, or may be: what can't be looked at may be there."""
+    try:
+        os.lstat(path)
+    except (FileNotFoundError, NotADirectoryError):
+        return False
+    except OSError:
+        pass
+    return True
 
 
 def settled(records: Records, digest_in: Callable[[str], str | None]) -> Records:

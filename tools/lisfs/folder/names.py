@@ -17,7 +17,7 @@ DIGITS = 10
 CLEAR = re.compile(rb"[A-Za-z0-9_.@-]+(?:/[A-Za-z0-9_.@-]+)*")
 DIGESTED = re.compile(rb"-[0-9a-f]{10}(?:\.[A-Za-z0-9_@-]{1,12})?$")
 SUFFIX = re.compile(rb"(?<=[^.+])\.[A-Za-z0-9_@-]{1,12}$")
-EML = b".eml"
+EML, LEAN = b".eml", b"_"
 
 
 def digest_of(*parts: bytes) -> bytes:
@@ -47,6 +47,7 @@ def of_mail(subject: str, digest: bytes) -> bytes:
     return (joined(subject, MAX_WORD - len(b"-" + digest + EML)) or b"mail") + b"-" + digest + EML
 
 
-def lean(name: bytes) -> bytes:
-    """The name of a mail of which the program derives no words, and which has none itself."""
-    return name.removesuffix(EML)
+def lean(name: bytes, is_mail: bool) -> bytes:
+    """The name of a file of which the program derives only words of its name and its size: that of a mail without its suffix, and any other
+    with another suffix, so that `ext:c_` finds the sources of C."""
+    return name.removesuffix(EML) if is_mail else name[-(MAX_WORD - len(LEAN)):] + LEAN

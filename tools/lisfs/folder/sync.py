@@ -1,6 +1,6 @@
 """Brings a folder or a maildir into an image, again and again: what is new, what has changed, and what is gone.
 
-usage: tools/sync [--as NAME] [--without PATTERN].. [--flat] [--lean] [--dry-run] [--verbose] [--all-gone] [--no-cache] [--ours | --theirs] [--restore] IMAGE FOLDER
+usage: tools/sync [--as NAME] [--without PATTERN].. [--since DATE] [--newest N] [--reserve NUMBER] [--flat] [--lean] [--dry-run] [--verbose] [--all-gone] [--no-cache] [--ours | --theirs] [--restore] IMAGE FOLDER
 
 The folder's own files have the word `sync:NAME` in the image. --as says which NAME, of at most 55 letters, digits and `_ - . + @`. Without it
 NAME is the folder's name and four digits that depend on its path. Only files with this word are written, given other words or removed: what
@@ -9,9 +9,9 @@ which are the folder's.
 
 What was changed in the image is never overwritten and never removed. A file that has other bytes only in the image keeps them. A file that
 has other bytes both there and in the folder, or is gone from the folder, is a conflict: it is named, and left. --ours settles conflicts by
-what the image has, and --theirs by what the folder has. A file that was renamed in the image keeps that name. One that was removed from it
-stays away until it changes in the folder; --restore brings such files back. A file that was renamed or moved in the folder is found again by
-its bytes, and keeps the words that it was given.
+what the image has, and --theirs by what the folder has. A file that was renamed in the image keeps that name, also if it was edited there too.
+One that was removed from it stays away until it changes in the folder; --restore brings such files back. A file that was renamed or moved in
+the folder is found again by its bytes, and keeps the words that it was given.
 
 What was brought in is kept in `$XDG_STATE_HOME/lisfs`, or in `~/.local/state/lisfs`, and a plain word `synced-NAME-DIGEST` of the image names
 it. If that is missing, for example after an older `tools/sync`, each difference is a conflict.
@@ -24,6 +24,14 @@ of its Message-ID, or of its path if it has none, and ends with `.eml`. So names
 folder, and its socket if it is served. No symbolic link below the folder is followed. Over a served image `sync` is a client of its server, and
 what another client changes during the run is left as it is.
 
+--since DATE takes the files from a day, a month or a year on (2024-06-03, 2024-06, 2024), and --newest N the N newest files. The date of a
+mail is that of its header, and of another file the time of its last change. An older file does not come in. If it is in the image it is
+removed from it, unless somebody edited or renamed it there or gave it a word.
+
+The newest files come in first, so if the image has no room for all, the oldest are left out. A line says which limit was reached, and what
+helps. --reserve says how many of the words of the image stay free for you: a number, or a part such as 1/10 or 0.1. Without it this is a
+twentieth.
+
 What a mail or a piece of music gave is kept in `$XDG_CACHE_HOME/lisfs`, or in `~/.cache/lisfs`, so that the next run reads only those whose
 size or times have changed. --no-cache reads all of them, and keeps nothing.
 
@@ -35,15 +43,17 @@ Files get words in this order, at most 15 beside `sync:NAME`:
   about:          the words of its Subject that carry meaning
   who:            those who got it
   artist:, album:, genre:, year:  of a piece of music, by its tags, which needs Debian's python3-mutagen
-If the image has no room for more words, a file goes in with fewer, and a mail if necessary without `.eml` in its name, so that the
-program derives no words of it. --lean names new mails so from the start: an image then has room for the words of more mails.
+If the image has no room for more words, a file goes in with fewer. If necessary a mail of a maildir has no `.eml` in its name, and the name of
+a `.eml`, `.c` or `.h` file gets `_` at its end, so that the program derives no words of its bytes. --lean names new files so from the start: an
+image then has room for more mails and sources.
 
 Words that do not fit are counted: those beyond the 16 that a file is given, the 128 that it has in all, and the 48 that the program derives
 for it. A search by a derived word can miss a file whose words are cut.
 
---dry-run says what it would do, one line a file, and does nothing. --verbose says what is done in the same way. The counts come at the end,
-and on a terminal there is a line of progress. If none of its files is in the folder any more, for example because a disk is not mounted,
-nothing is done, except with --all-gone. If some of the folder could not be read, nothing is removed.
+--dry-run says what it would do, one line a file. It works on a copy of the image below the temporary folder, and no byte of the image
+changes. --verbose says what is done in the same way. The counts come at the end, and on a terminal there is a line of progress. If none of its
+files is in the folder any more, for example because a disk is not mounted, nothing is done, except with --all-gone. If some of the folder could
+not be read, nothing is removed.
 
 The status is 0 if all was taken, 1 if something was not, and 2 for wrong use. It can be stopped at any point: the next run goes on. Nothing
 of it is proved. It uses the word `load` of the program if that has it, and otherwise `run`.
@@ -58,6 +68,7 @@ import signal
 import struct
 import sys
 from collections.abc import Sequence
+from fractions import Fraction
 from typing import NoReturn
 
 from lisfs import opening
@@ -71,7 +82,10 @@ from lisfs.folder.changes import MARKER, Changes, Done, Wishes, folder_words
 from lisfs.folder.entries import Entries
 from lisfs.folder.forms import folder_value
 from lisfs.folder.memory import Memory, Records
+from lisfs.folder.options import at_least_one, day, part_or_number
+from lisfs.folder.private import private_copy
 from lisfs.folder.report import Telling, counted, left_out
+from lisfs.folder.room import RESERVE, Room, kept_free
 from lisfs.image import limits_of
 from lisfs.served import Joined, socket_of
 from lisfs.showing import harmless, write_line
@@ -79,7 +93,8 @@ from lisfs.words import PLAIN_FORM, PLAIN_RUN
 
 STOPS = (signal.SIGTERM, signal.SIGHUP)
 # What is counted, and how that is told.
-COUNTED = {Done.NEW: "new", Done.CHANGED: "changed", Done.MOVED: "moved", Done.WORDS: "with other words", Done.GONE: "gone"}
+COUNTED = {Done.NEW: "new", Done.CHANGED: "changed", Done.MOVED: "moved", Done.WORDS: "with other words", Done.GONE: "gone",
+           Done.OLD: "removed as older"}
 # So many conflicts are named in any case.
 NAMED = 10
 
@@ -104,6 +119,9 @@ class Options(argparse.Namespace):
 
     name: str | None
     without: list[str]
+    since: float | None
+    newest: int | None
+    reserve: Fraction
     flat: bool
     lean: bool
     dry_run: bool
@@ -120,9 +138,11 @@ class Options(argparse.Namespace):
 class Sync:
     def __init__(self, words: Options, telling: Telling) -> None:
         self.image, self.folder, self.words, self.telling = words.image, words.folder, words, telling
+        # What is opened: the image, or a copy of it.
+        self.path = words.image
         name = os.fsencode(words.name) if words.name is not None else default_name(words.folder)
         self.marker = MARKER + b":" + name
-        self.memory = Memory(self.marker)
+        self.memory = Memory(self.marker, words.image)
         # Why what was brought in could not be kept, and what earlier runs brought in, if it is known.
         self.unkept: str | None = None
         self.known: Records | None = None
@@ -134,7 +154,38 @@ class Sync:
         self.carrying: Carrying | None = None
 
     def run(self) -> None:
-        largest = self.look()
+        with contextlib.ExitStack() as stack:
+            if self.words.dry_run:
+                self.telling.clear()
+                self.path = stack.enter_context(private_copy(self.image))
+            room = self.look()
+            entries, remembered = self.read(room.limits.file_bytes)
+            if not self.words.dry_run:
+                remembered.save()
+            self.telling.clear()
+            program, dump = opening.opened("sync", self.path, session_word(), with_digests=True)
+            with program:
+                if isinstance(program, Joined):
+                    # What another client changes from now on is not written over.
+                    program.guard()
+                self.carry(program, self.make_plan(entries, dump, program), room)
+
+    def look(self) -> Room:
+        """Whether the image can be opened, before anything takes long, and what there is room for in it."""
+        if what := missing():
+            raise Failed(what)
+        opening.tried("sync", self.path)
+        try:
+            limits = limits_of(self.path)
+        except (OSError, struct.error) as error:
+            raise Failed(f"{self.image}: {error}") from None
+        reserve = kept_free(self.words.reserve, limits.words)
+        if reserve >= limits.words:
+            raise Failed(f"--reserve {reserve}: {self.image} has room for {limits.words} known words in all")
+        return Room(limits, reserve)
+
+    def read(self, largest: int) -> tuple[Entries, Cache]:
+        """Looks at the files of the folder."""
         looked = 0
 
         def look() -> None:
@@ -142,40 +193,19 @@ class Sync:
             looked += 1
             self.telling.progress(lambda: f"{counted(looked, 'file')} looked at")
 
-        words = no_words if self.words.flat else folder_words
         remembered: Cache = Nothing()
         if not self.words.no_cache:
             remembered = Remembered(self.folder)
-        self.entries = entries = Entries(self.folder, largest, words, self.telling.leave, look, self.words.without, own_files(self.image), remembered)
+        folders = no_words if self.words.flat else folder_words
+        self.entries = entries = Entries(self.folder, largest, folders, self.telling.leave, look, self.words.without, own_files(self.image), remembered)
         entries.read()
-        if self.words.dry_run:
-            self.telling.clear()
-            with opening.looked("sync", self.image) as dump:
-                self.would(self.make_plan(entries, dump))
-        else:
-            remembered.save()
-            self.telling.clear()
-            program, dump = opening.opened("sync", self.image, session_word(), with_digests=True)
-            with program:
-                if isinstance(program, Joined):
-                    # What another client changes from now on is not written over.
-                    program.guard()
-                self.carry(program, self.make_plan(entries, dump), largest)
+        entries.choose(self.words.since, self.words.newest)
+        return entries, remembered
 
-    def look(self) -> int:
-        """Whether the image can be opened, before anything takes long, and the most bytes that a file of it may have."""
-        if what := missing():
-            raise Failed(what)
-        opening.tried("sync", self.image)
-        try:
-            return limits_of(self.image).file_bytes
-        except (OSError, struct.error) as error:
-            raise Failed(f"{self.image}: {error}") from None
-
-    def make_plan(self, entries: Entries, dump: Dump) -> Changes:
+    def make_plan(self, entries: Entries, dump: Dump, program: Program) -> Changes:
         wishes = Wishes(self.words.ours, self.words.theirs, self.words.restore)
         self.known = self.memory.read(dump.declared)
-        plan = Changes(entries.all, dump, self.marker, self.words.lean, self.known, wishes, entries.walk.is_blind)
+        plan = Changes(entries.all, dump, self.marker, self.words.lean, self.known, wishes, entries.walk.is_blind, lambda name: program.cat(name).body)
         if plan.own and not plan.kept and not plan.is_blind and not self.words.all_gone:
             raise Failed(f"nothing was done: none of the {counted(plan.own, 'file')} of {self.marker.decode()} is in {self.folder} any "
                          "more; --all-gone removes them anyway")
@@ -184,8 +214,8 @@ class Sync:
             self.telling.leave(entry.found.path, entry.found.problem or "")
         return plan
 
-    def carry(self, program: Program, plan: Changes, largest: int) -> None:
-        self.carrying = carrying = Carrying(Sender(program), plan, largest, self.told, self.failed)
+    def carry(self, program: Program, plan: Changes, room: Room) -> None:
+        self.carrying = carrying = Carrying(Sender(program), plan, room, self.told, self.failed)
         carrying.declare()
         before, coming = set(carrying.memories), None
         if not plan.is_nothing():
@@ -193,7 +223,8 @@ class Sync:
         carrying.run()
         # Where nothing is known and nothing was brought in, another one's memory stays.
         if plan.records or self.known is not None:
-            if self.remember(carrying, plan.seen()) != coming and coming is not None and coming not in before:
+            is_other = self.remember(carrying, plan.seen()) != coming and coming is not None and coming not in before
+            if is_other and coming is not None and not self.words.dry_run:
                 self.memory.forget(coming)
 
     def remember(self, carrying: Carrying, records: Records) -> bytes | None:
@@ -201,26 +232,11 @@ class Sync:
         word = None
         try:
             if records:
-                word = self.memory.write(records)
+                word = self.memory.word(records) if self.words.dry_run else self.memory.write(records)
         except OSError as error:
             self.unkept = f"{error.filename or self.memory.top}: {error.strerror}"
         carrying.remember(word)
         return word
-
-    def would(self, plan: Changes) -> None:
-        for name in plan.gone:
-            self.told(Done.GONE, name)
-        for change in plan.changes:
-            path = change.entry.found.path
-            if change.is_new:
-                self.told(Done.NEW, change.name, path)
-            elif change.is_moved:
-                self.told(Done.MOVED, change.name, path)
-            elif change.has_other_bytes:
-                self.told(Done.CHANGED, change.name, path)
-            else:
-                given = ["-" + word.decode() for word in change.loses] + ["+" + word.decode() for word in change.gains]
-                self.told(Done.WORDS, change.name, " ".join(given))
 
     def told(self, what: Done, name: bytes, more: str = "") -> None:
         self.count()
@@ -251,6 +267,8 @@ class Sync:
             self.entries.tell_tags(tell)
         if self.telling.not_taken:
             tell(f"not taken: {self.telling.causes()}")
+        for line in self.carrying.advice() if self.carrying is not None else ():
+            tell(line)
         if self.plan is not None and self.plan.unseen:
             tell(f"{counted(self.plan.unseen, 'file')} not removed, since not all of the folder could be read")
         if self.unkept is not None:
@@ -265,6 +283,10 @@ class Sync:
             tell(f"{marker}: {'would be ' if self.words.dry_run else ''}{', '.join(parts)}, {same}")
         else:
             tell(f"{marker}: nothing changed, {same}")
+        if older := plan.older + len(plan.out):
+            tell(f"{counted(older, 'older file')} left out by --since or --newest")
+        if plan.staying:
+            tell(f"{counted(plan.staying, 'older file')} changed in the image: not removed")
         self.report_image(plan)
         left_out(tell, plan.beyond, plan.beyond_files, f"a file is given {MAX_ASSIGNED} at most")
         self.report_cut(plan)
@@ -275,7 +297,7 @@ class Sync:
         left_out(tell, carrying.too_many, carrying.too_many_files, f"a file has {MAX_DESCRIPTION} at most, with those that it has on its own")
         left_out(tell, carrying.without, carrying.without_files, "no room for more words")
         if carrying.lean:
-            tell(f"{counted(carrying.lean, 'mail')} named without .eml: no room for the words that the program derives")
+            tell(f"{counted(carrying.lean, 'file')} named as by --lean: no room for the words that the program derives")
 
     def report_cut(self, plan: Changes) -> None:
         """What the program derives no words of, since there are too many."""
@@ -328,7 +350,7 @@ def no_words(_: Sequence[str]) -> list[bytes]:
 
 
 def cause(error: BaseException, image: str) -> str:
-    """What is amiss, in one line."""
+    """What is wrong, in one line."""
     if isinstance(error, Locked):
         return f"{image} is in use by another lisfs"
     if isinstance(error, Ended):
@@ -337,6 +359,8 @@ def cause(error: BaseException, image: str) -> str:
         return f"{PROGRAM} does not reply as it should: {error}"
     if isinstance(error, (KeyboardInterrupt, Stopped)):
         return "stopped"
+    if isinstance(error, OSError) and error.strerror:
+        return f"{os.fsdecode(error.filename or image)}: {error.strerror}"
     return str(error)
 
 
@@ -349,6 +373,9 @@ def options() -> Options:
     parser = argparse.ArgumentParser(usage=__doc__.split("usage: ", 1)[1])
     parser.add_argument("--as", dest="name")
     parser.add_argument("--without", action="append", default=[])
+    parser.add_argument("--since", type=day)
+    parser.add_argument("--newest", type=at_least_one)
+    parser.add_argument("--reserve", type=part_or_number, default=RESERVE)
     parser.add_argument("--flat", action="store_true")
     parser.add_argument("--lean", action="store_true")
     parser.add_argument("--dry-run", action="store_true")
@@ -386,7 +413,8 @@ def main() -> int:
     except BrokenPipeError:
         raise
     except (Ended, Failed, NoRoom, NotADump, NotAReply, OSError, RuntimeError, KeyboardInterrupt, Stopped) as error:
-        amiss = cause(error, words.image) + ("; the next run goes on" if syncing.carrying else "")
+        amiss = cause(error, words.image).replace(syncing.path, words.image)
+        amiss += "; the next run goes on" if syncing.carrying and not words.dry_run else ""
     telling.clear()
     syncing.report()
     sys.stdout.flush()

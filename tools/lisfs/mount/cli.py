@@ -5,6 +5,7 @@ usage: tools/mount [--derived] [--allow-other] IMAGE DIR
 It goes on until `umount DIR`, Ctrl-C or a SIGTERM, and says on standard error when DIR can be used. What was written by then and not closed
 is stored, or named if that fails. --derived also shows as folders the words that files have automatically; without it they are below `:by`.
 --allow-other lets other users look, if the modes allow it: files begin as 0600 and folders as 0700.
+A listing shows folders of two words, and of one word if the image has more than 250 files, so that `find` ends. Others open by their names.
 
 One `lisfs run IMAGE` runs each change, and an answer comes after its `ok`. If the image is served (`tools/serve IMAGE`), the mount is a client of
 its server, and shows what other clients change. What is between a program and these commands is not proved.

@@ -1,7 +1,7 @@
 """An open image as a mount needs it: what folders show, what is in files, and the commands that change them.
 
 Each change is one command of the program, and is known here once its `ok` is there. The words of a file that was changed are asked for
-when somebody needs them, those of many files in one go.
+when somebody needs them, those of many files in one go, and the derived words of files that were there at the start too.
 
 A new file that somebody writes is known here before: it waits for its bytes, so that one `add` makes it whole, where `create` and `write`
 would be two changes. It waits only where nothing can keep the program from making it, and until anything else is to be changed or asked.
@@ -10,6 +10,7 @@ from __future__ import annotations
 
 import collections
 import errno
+import functools
 from collections.abc import Iterable
 from typing import NamedTuple
 
@@ -21,7 +22,7 @@ from lisfs.formulas import Place
 from lisfs.image import Limits
 from lisfs.mount.nodes import File
 from lisfs.served import Joined, News
-from lisfs.words import TEST, head_of, is_head, is_plain, is_word
+from lisfs.words import TEST, head_of, is_head, is_plain, is_test, is_word
 
 # So many bytes of files are kept in memory, those that were looked at last.
 KEPT = 32 * 1_048_576
@@ -34,18 +35,29 @@ class Listing(NamedTuple):
     files: list[File]
 
 
+def is_stronger(test: bytes, other: bytes) -> bool:
+    """Whether a word is a test that says more than another one, and all that it says."""
+    one, two = TEST.fullmatch(test), TEST.fullmatch(other)
+    if not one or not two or one[1] != two[1]:
+        return False
+    return int(one[2]) > int(two[2]) if one[1] == b">=" else int(one[2]) < int(two[2])
+
+
 class Image(image.Image[File]):
     def __init__(self, program: Program, dump: Dump, limits: Limits) -> None:
         super().__init__(program, dump, limits, File)
         self.files, self.numbers = self.index.files, 0
         for file in self.files.values():
             self._number(file)
-        # What entails what by axioms: of each left side the right ones.
+        # What entails what by axioms: of each left side the right ones, and of each right side the left ones.
         self.axioms: dict[bytes, set[bytes]] = {}
+        self.lefts: dict[bytes, set[bytes]] = {}
         for left, right in dump.axioms:
             self.axioms.setdefault(left, set()).add(right)
-        # Those whose words are not known since they were changed.
-        self.stale = set(self.files.values())
+            self.lefts.setdefault(right, set()).add(left)
+        # Those whose words are not known since they were changed, and those of which only the words are known that come from given ones.
+        self.stale, self.unasked = set(self.files.values()), set[File]()
+        self._know_given()
         # The declared words that lost their last file and were in no listing since.
         self.unseen: set[bytes] = set()
         self.contents: collections.OrderedDict[File, bytes] = collections.OrderedDict()
@@ -57,6 +69,16 @@ class Image(image.Image[File]):
         self.fresh: list[File] = []
         self.brought: dict[tuple[tuple[bytes, ...] | None, bytes], int] = {}
         self.spare = 0
+
+    def _know_given(self) -> None:
+        """At first files are known by the words that come from given ones, since it takes long to ask for all, and most folders need no derived
+        ones. All are asked for if a test, or an axiom over a derived word, may give a file a declared word."""
+        if any(map(is_test, self.declared)) or any(map(self.is_derived, self.axioms)):
+            return
+        entailed = functools.cache(lambda word: frozenset(self.entailed([word])))
+        for file in self.stale:
+            self.index.describe(file, frozenset().union(*map(entailed, file.given)))
+        self.stale, self.unasked = self.unasked, self.stale
 
     def _number(self, file: File) -> None:
         self.numbers += 1
@@ -88,10 +110,18 @@ class Image(image.Image[File]):
             self.axioms.setdefault(left, set()).add(right)
         for left, right in news.unaxioms:
             self.axioms.get(left, set()).discard(right)
+        self.lefts.clear()
+        for left, rights in self.axioms.items():
+            for right in rights:
+                self.lefts.setdefault(right, set()).add(left)
         self.brought.clear()
 
     def _is_stale(self, files: set[File]) -> None:
+        if any(map(is_test, self.declared)) or any(map(self.is_derived, self.axioms)):
+            # A derived word, or a size, may bring a declared one.
+            files = files | self.unasked
         self.stale |= files
+        self.unasked -= files
 
     def catch_up(self) -> News | None:
         if news := super().catch_up():
@@ -110,7 +140,7 @@ class Image(image.Image[File]):
         """Whether a formula may have it."""
         if is_plain(word) or word in self.declared:
             return word in self.declared
-        self._refresh()
+        self._refresh([word])
         return word in self.index.words() or word in self.axioms or any(head_of(left) == word for left in self.axioms)
 
     def entailed(self, words: Iterable[bytes]) -> set[bytes]:
@@ -127,43 +157,63 @@ class Image(image.Image[File]):
 
     def _by_itself(self, word: bytes) -> list[bytes]:
         """What a word entails without an axiom: a value its head, and a declared test the weaker ones."""
-        test = TEST.fullmatch(word)
-        if not test:
-            head = head_of(word)
-            return [head] if head else []
-        weaker = []
-        for other in self.declared:
-            of = TEST.fullmatch(other)
-            if of and of[1] == test[1] and (int(of[2]) < int(test[2]) if of[1] == b">=" else int(of[2]) > int(test[2])):
-                weaker.append(other)
-        return weaker
+        if is_test(word):
+            return [other for other in self.declared if is_stronger(word, other)]
+        head = head_of(word)
+        return [head] if head else []
+
+    def _entailing(self, word: bytes) -> Iterable[bytes]:
+        """The words that entail this one, without a third between them: the left sides of its axioms, the values of a head that files have,
+        and the stronger ones of a declared test."""
+        if is_head(word):
+            return [value for value in self.index.words() if value.startswith(word) and value != word]
+        if is_test(word):
+            return [other for other in self.declared if is_stronger(other, word)]
+        return self.lefts.get(word, ())
 
     # What is known of files.
 
-    def _refresh(self) -> None:
-        """Asks for the words of the files that were changed."""
+    def _refresh(self, words: Iterable[bytes] | None = None) -> None:
+        """Asks for the words of the files that were changed. Without `words`, or if one of them is derived, all words of all files are known
+        then."""
         self.settle()
-        if not self.stale:
-            return
-        self.unseen |= self.describe(self.stale) & self.declared
-        self.stale.clear()
+        asked = self.stale
+        if self.unasked and (words is None or any(map(self.is_derived, words))):
+            asked = self.stale | self.unasked
+        if asked:
+            self.unseen |= self.describe(asked) & self.declared
+            self.unasked -= asked
+            self.stale.clear()
 
     def extension(self, place: Place) -> int:
         """The files of a place, as a row."""
-        self._refresh()
+        self._refresh(place.named)
         return place.row(self.index)
 
     def is_here(self, file: File, place: Place) -> bool:
         if place.words is not None and file.given.issuperset(place.words):
             return True
-        self._refresh()
+        self._refresh(place.named)
         return place.meets(file)
 
     def listing(self, place: Place, with_derived: bool = False) -> Listing:
         """The words and the files that a place shows: the words of the program's listing, or those of them that files were given; the
         declared words that no file has, where they belong; and the files that none of the shown words covers."""
-        here = self.extension(place)
-        found = self._increments(place, here)
+        here = self._extension(place, with_derived)
+        return self._listing(place, here, self._increments(place, here), with_derived)
+
+    def below(self, place: Place, word: bytes, with_derived: bool = False) -> Listing:
+        """The same with no words but those that entail `word`, which all files of the place have: the most general ones of them that
+        narrow it. The program is not asked."""
+        here = self._extension(place, with_derived)
+        return self._listing(place, here, self._narrower(word, here), with_derived)
+
+    def _extension(self, place: Place, with_derived: bool) -> int:
+        if with_derived:
+            self._refresh()
+        return self.extension(place)
+
+    def _listing(self, place: Place, here: int, found: list[bytes], with_derived: bool) -> Listing:
         words = [word for word in found if with_derived or not self.is_derived(word)]
         covered = 0
         for word in words:
@@ -173,6 +223,22 @@ class Image(image.Image[File]):
         unused = self._unused_at(place, found)
         self.unseen.difference_update(unused)
         return Listing(sorted(words + unused), files)
+
+    def _narrower(self, word: bytes, here: int) -> list[bytes]:
+        """The most general of the words that entail this one and that some of these files have and some lack."""
+        found: set[bytes] = set()
+        left, seen = list(self._entailing(word)), set()
+        while left:
+            other = left.pop()
+            row = here & self.index.having(other)
+            if other in seen or not row:
+                continue
+            seen.add(other)
+            if row == here:
+                left += self._entailing(other)
+            else:
+                found.add(other)
+        return [other for other in found if found.isdisjoint(self.entailed([other]) - {other})]
 
     def _increments(self, place: Place, here: int) -> list[bytes]:
         if not here:
@@ -188,11 +254,28 @@ class Image(image.Image[File]):
         there. So a listing would show them if a file had each, and steps along listings lead to each."""
         if place.words is None:
             return []
-        said, unused = self.entailed(place.words), self.declared - self.index.words()
+        said, unused = self.entailed(place.words), self._unused(place.words)
         entailed = {word: self.entailed([word]) for word in unused - said}
         found = {word for word, entails in entailed.items() if entails.issuperset(place.words)}
         covers = found.union(shown)
         return [word for word in found if entailed[word].isdisjoint(covers - {word})]
+
+    def _unused(self, words: tuple[bytes, ...]) -> set[bytes]:
+        """The declared words that no file has, and of these at most those that entail the last one of some words."""
+        found = self._declared_entailing(words[-1]) if words else self.declared
+        return {word for word in found if not self.index.having(word)}
+
+    def _declared_entailing(self, word: bytes) -> set[bytes]:
+        """The declared words that entail this one."""
+        found: set[bytes] = set()
+        left = [word]
+        while left:
+            word = left.pop()
+            # Nothing that is declared entails a value or a head: the right side of an axiom is plain.
+            more = set() if head_of(word) else set(self._entailing(word)) - found
+            found |= more
+            left += more
+        return found & self.declared
 
     def counts(self) -> dict[str, int]:
         self.settle()
@@ -327,6 +410,7 @@ class Image(image.Image[File]):
         self.unseen |= self.index.drop(file) & self.declared
         self._drop(file)
         self.stale.discard(file)
+        self.unasked.discard(file)
         file.is_gone = True
 
     def rename(self, file: File, name: bytes) -> None:
@@ -373,6 +457,8 @@ class Image(image.Image[File]):
         self.brought.clear()
         if place.words:
             self.axioms[word] = set(place.words)
+            for right in place.words:
+                self.lefts.setdefault(right, set()).add(word)
 
     def take_back(self, word: bytes, place: Place) -> None:
         """Declares a word no more that no file has, and that belongs to a place. Another one that nothing here has is left as it is.
@@ -386,7 +472,7 @@ class Image(image.Image[File]):
         below = self._unused_at(inner, ())
         if not self.unseen.issuperset(below):
             raise OSError(errno.ENOTEMPTY, "words are here")
-        if word not in self._unused_at(place, self._increments(place, self.extension(place))):
+        if word not in self._unused_at(place, ()):
             return
         for other in below:
             self.take_back(other, inner)
@@ -396,6 +482,7 @@ class Image(image.Image[File]):
         for right in sorted(self.axioms.get(word, ())):
             self.program.unaxiom(word, right)
             self.axioms[word].discard(right)
+            self.lefts[right].discard(word)
         self.program.rmdir(word)
         self.axioms.pop(word, None)
         self.declared.discard(word)

@@ -76,10 +76,11 @@ class Shows(enum.Enum):
 
 
 class Folder:
-    """A place under one path. `:by/music` and `music/:by` show the same, and are two: a folder stands in one other."""
+    """A place under one path. `:by/music` and `music/:by` are two folders, since a folder stands in one other. `begin` is how many names of
+    the place lead to the mounted folder or to the last `:by` of the path."""
 
-    def __init__(self, number: int, path: bytes, place: Place, shows: Shows) -> None:
-        self.number, self.key, self.place, self.shows, self.lookups = number, path, place, shows, 0
+    def __init__(self, number: int, path: bytes, place: Place, shows: Shows, begin: int = 0) -> None:
+        self.number, self.key, self.place, self.shows, self.begin, self.lookups = number, path, place, shows, begin, 0
         self.inode = inode_of(path)
 
 

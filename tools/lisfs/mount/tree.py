@@ -25,6 +25,7 @@ from lisfs.formulas import PART_LIMIT, ROOT, NotAFormula, Place, TooLarge, Word,
 from lisfs.mount.image import Image
 from lisfs.mount.kernel import KEEP_CACHE, NO_FLUSH, Attributes, Caller, Changed, Changes, Created, Entry, Opened, Space
 from lisfs.mount.nodes import Draft, File, Folder, Handle, Leaf, Listed, Looks, Node, Shelf, Shows, inode_of, leaf_inode
+from lisfs.mount.shown import shown
 from lisfs.refusals import error_of
 from lisfs.served import Joined
 from lisfs.words import FILE_NAME, head_of
@@ -32,10 +33,13 @@ from lisfs.words import FILE_NAME, head_of
 ALL, BY = b":all", b":by"
 # What a folder of such a name shows.
 SHOWS = {BY: Shows.DERIVED, ALL: Shows.FILES}
+# Files that say to a program that looks into all folders, as one that makes an index, that it has no business here. They are empty, in the
+# mounted folder where the image has no file of the name, and in no listing.
+MARKERS = (b".metadata_never_index", b".noindex", b".nomedia", b".trackerignore")
 FOLDER_KIND, FILE_KIND = 4, 8
 # For so long the kernel may keep attributes, since it is told when they change; and none at all of a served image, which others change too.
 KEPT_SECONDS = 3_600
-NO_REPLACEMENT = 1
+ROOT_NUMBER, NO_REPLACEMENT = 1, 1
 LINKS, FOLDER_LINKS = 2, 1
 P = ParamSpec("P")
 R = TypeVar("R")
@@ -67,6 +71,11 @@ def answering(call: Callable[Concatenate[Tree, P], R]) -> Callable[Concatenate[T
     return answer
 
 
+def writes(flags: int) -> bool:
+    """Whether who opens a file so may write to it, or empties it."""
+    return flags & os.O_ACCMODE != os.O_RDONLY or bool(flags & os.O_TRUNC)
+
+
 def is_open_in(process: int, inode: int) -> bool:
     """Whether a process has a file of this inode open to write. It is asked by the numbers alone: a look at the file would be a question to
     us."""
@@ -96,18 +105,23 @@ class Tree:
         self.folder_mode, self.file_mode = (0o700, 0o600) if others else (0o755, 0o644)
         self.touched = now or time.time_ns()
         self.kept_seconds = 0 if isinstance(image.program, Joined) else KEPT_SECONDS
-        root = Folder(1, b"", ROOT, Shows.DERIVED if with_derived else Shows.GIVEN)
+        root = Folder(ROOT_NUMBER, b"", ROOT, Shows.DERIVED if with_derived else Shows.GIVEN)
         root.lookups = 1
         # By their numbers; and the folders by their paths, and the files by a path and the file.
-        self.nodes: dict[int, Node] = {1: root}
+        self.nodes: dict[int, Node] = {ROOT_NUMBER: root}
         self.folders: dict[bytes, Folder] = {root.key: root}
         self.leaves: dict[tuple[bytes, File], Leaf] = {}
         # How folders look, by their paths.
         self.looks: dict[bytes, Looks] = {}
         self.handles: dict[int, Handle | Shelf] = {}
-        self.numbers = 1
+        self.numbers = ROOT_NUMBER
         for file in image.files.values():
             self._begin(file, self.file_mode, self.user, self.group)
+        # No file of the image has a number below 1.
+        self.markers = {name: File(name, 0, (), 0) for name in MARKERS}
+        for number, file in enumerate(self.markers.values(), 1):
+            file.number = -number
+            self._begin(file, self.file_mode & ~0o222, self.user, self.group)
         # Is told the number of each node whose attributes are others than those that were handed out.
         self.changed: Changed = lambda number: None
         # The thread that asks, where it is known, and of each folder whose attributes were handed out since the last change the thread
@@ -159,9 +173,9 @@ class Tree:
         node = self.folders.get(path)
         if node is None:
             if name in SHOWS:
-                node = Folder(self._number(), path, folder.place, SHOWS[name])
+                node = Folder(self._number(), path, folder.place, SHOWS[name], len(folder.place.names))
             else:
-                node = Folder(self._number(), path, folder.place.step(name), folder.shows)
+                node = Folder(self._number(), path, folder.place.step(name), folder.shows, folder.begin)
             self.folders[node.key] = self.nodes[node.number] = node
         node.lookups += 1
         return node
@@ -180,7 +194,7 @@ class Tree:
         if node is None:
             return
         node.lookups -= count
-        if node.lookups <= 0 and number != 1:
+        if node.lookups <= 0 and number != ROOT_NUMBER:
             del self.nodes[number]
             if isinstance(node, Leaf):
                 del self.leaves[node.key]
@@ -194,6 +208,12 @@ class Tree:
             return None
         file = self.image.files.get(name)
         return file if file and self.image.is_here(file, folder.place) else None
+
+    def _marker_at(self, folder: Folder, name: bytes) -> File | None:
+        return self.markers.get(name) if folder.number == ROOT_NUMBER else None
+
+    def _is_marker(self, file: File) -> bool:
+        return self.markers.get(file.name) is file
 
     def _is_folder(self, folder: Folder, name: bytes) -> bool:
         """Whether a folder opens under this name: a formula of words that are known, or a value of a declared head."""
@@ -245,7 +265,7 @@ class Tree:
     @answering
     def lookup(self, number: int, name: bytes) -> Entry:
         folder = self._folder(number)
-        if file := self._file_at(folder, name):
+        if file := self._file_at(folder, name) or self._marker_at(folder, name):
             return self._entry(self._leaf(folder, file))
         if self._is_folder(folder, name):
             return self._entry(self._enter(folder, name))
@@ -320,7 +340,7 @@ class Tree:
             words: list[bytes] = []
             files = self.image.index.of(self.image.extension(folder.place))
         else:
-            words, files = self.image.listing(folder.place, folder.shows is Shows.DERIVED)
+            words, files = shown(self.image, folder)
         entries: list[Listed] = [(folder.inode, FOLDER_KIND, b"."), (inode_of(folder.key.rpartition(b"/")[0]), FOLDER_KIND, b"..")]
         entries += [(inode_of(folder.key + b"/" + word), FOLDER_KIND, word) for word in words]
         return entries + [(leaf_inode(folder, file), FILE_KIND, file.name) for file in files]
@@ -407,8 +427,8 @@ class Tree:
     def _found(self, folder: Folder, name: bytes) -> File:
         file = self._file_at(folder, name)
         if file is None:
-            is_folder = self._is_folder(folder, name)
-            raise fault(errno.EPERM if is_folder else errno.ENOENT, "a folder" if is_folder else "no such file")
+            stays = self._is_folder(folder, name) or self._marker_at(folder, name) is not None
+            raise fault(errno.EPERM if stays else errno.ENOENT, "a folder, or no file of the image" if stays else "no such file")
         return file
 
     def _kept(self, file: File) -> bytes:
@@ -466,7 +486,7 @@ class Tree:
     def link(self, number: int, target_number: int, name: bytes) -> Entry:
         """A second folder of a file is more words."""
         file, target = self._node_of_file(number).file, self._folder(target_number)
-        if name != file.name:
+        if name != file.name or self._is_marker(file):
             raise fault(errno.EPERM, "a file has one name")
         if self.image.is_here(file, target.place):
             raise fault(errno.EEXIST, "it is here already")
@@ -482,12 +502,18 @@ class Tree:
         node = self._node_of_file(number)
         if node.file.is_gone:
             raise fault(errno.ENOENT, "it was removed")
+        if writes(flags):
+            self._may_change(node.file)
         handle = self._opened(node, flags)
         if self._open_file(handle).writes:
             return Opened(handle, 0)
         is_kept = node.version == node.file.version and not node.writers
         node.version = node.file.version
         return Opened(handle, NO_FLUSH | (KEEP_CACHE if is_kept else 0))
+
+    def _may_change(self, file: File) -> None:
+        if self._is_marker(file):
+            raise fault(errno.EPERM, "no file of the image")
 
     def _open_file(self, handle: int) -> Handle:
         found = self.handles[handle]
@@ -497,11 +523,10 @@ class Tree:
 
     def _opened(self, node: Leaf, flags: int) -> int:
         handle = self._number()
-        writes = bool(flags & os.O_ACCMODE != os.O_RDONLY or flags & os.O_TRUNC)
         file = node.file
-        self.handles[handle] = Handle(node, writes)
+        self.handles[handle] = Handle(node, writes(flags))
         file.handles += 1
-        if writes:
+        if writes(flags):
             file.draft = file.draft or Draft()
             file.draft.writers += 1
             node.writers += 1
@@ -552,14 +577,18 @@ class Tree:
         self._must_be_here(file)
         if draft and draft.content is not None:
             return draft.content
-        return file.kept if file.is_gone else self.image.content(file)
+        return self._stored(file)
+
+    def _stored(self, file: File) -> bytes:
+        """The bytes of a file without what is written to it and not stored. A marker has none."""
+        return file.kept if file.is_gone or self._is_marker(file) else self.image.content(file)
 
     def _drafted(self, file: File) -> bytearray:
         """The bytes that are written to."""
         self._must_be_here(file)
         draft = draft_to_write(file)
         if draft.content is None:
-            draft.content = bytearray(file.kept if file.is_gone else self.image.content(file))
+            draft.content = bytearray(self._stored(file))
         return draft.content
 
     @answering
@@ -589,6 +618,7 @@ class Tree:
         written to it."""
         if not isinstance(node, Leaf):
             raise fault(errno.EISDIR, "a folder")
+        self._may_change(node.file)
         self._fits(size)
         if handle is not None and self._open_file(handle).writes:
             self._cut(node, size)

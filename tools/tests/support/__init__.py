@@ -2,6 +2,7 @@
 `bench/` on the path. `conftest.py` does so for tests. Scripts in `bench/`, `.ci/` and `docs/` reach it by a module of this name beside them.
 
 - `waiting`: waits for what must come, from processes, pipes and sockets.
+- `running`: a tool that runs beside a test.
 - `costs`: processor time beside a yardstick.
 - `inputs`: random inputs, and how the client and the program differ over them.
 - `peers`: a server and its clients.
@@ -26,11 +27,11 @@ TOP = os.path.dirname(TOOLS)
 sys.path[:0] = [TOOLS, os.path.join(TOP, "bench")]
 
 
-def tool(name):
+def tool(name: str) -> str:
     """The path of a tool."""
     return os.path.join(TOOLS, name)
 
 
-def with_package(**more):
+def with_package(**more: str) -> dict[str, str]:
     """The environment in which a Python program of a test finds the package."""
     return {**os.environ, "PYTHONPATH": TOOLS, **more}

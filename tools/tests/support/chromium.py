@@ -1,4 +1,6 @@
 """A headless Chromium, by Selenium: pages are opened, clicked and typed at as a person does. For tests and pictures alone."""
+from __future__ import annotations
+
 import json
 import os
 import shutil
@@ -17,8 +19,9 @@ try:
     from selenium.webdriver.common.keys import Keys
     from selenium.webdriver.remote.remote_connection import RemoteConnection
     from selenium.webdriver.remote.webelement import WebElement
+    HAS_SELENIUM = True
 except ModuleNotFoundError:
-    webdriver = None
+    HAS_SELENIUM = False
 
 BROWSERS, DRIVERS = ("chromium", "chromium-browser", "google-chrome"), ("chromedriver",)
 # No sandbox, since tests may run as root, and nothing of its own from elsewhere.
@@ -42,7 +45,7 @@ def found(names: tuple[str, ...]) -> str | None:
 
 def missing() -> str | None:
     """What is missing for a browser, by Debian's packages, or None."""
-    lacking = [package for is_there, package in ((webdriver, "python3-selenium"), (found(BROWSERS), "chromium"), (found(DRIVERS), "chromium-driver"))
+    lacking = [package for is_there, package in ((HAS_SELENIUM, "python3-selenium"), (found(BROWSERS), "chromium"), (found(DRIVERS), "chromium-driver"))
                if not is_there]
     return f"there is no {' and no '.join(lacking)} (apt-get install {' '.join(lacking)})" if lacking else None
 
@@ -69,13 +72,17 @@ class Chromium:
         self.driver.set_script_timeout(LONG)
         self.ask("Log.enable")
 
-    def __enter__(self) -> "Chromium":
+    def __enter__(self) -> Chromium:
         return self
 
     def __exit__(self, *_: object) -> None:
         self.driver.quit()
         # What it has started ends after it, and may still write.
-        until(lambda: shutil.rmtree(self.folder, ignore_errors=True) or not os.path.exists(self.folder))
+        until(self._is_removed)
+
+    def _is_removed(self) -> bool:
+        shutil.rmtree(self.folder, ignore_errors=True)
+        return not os.path.exists(self.folder)
 
     def ask(self, call: str, **given: Any) -> Any:
         """The result of a call of the browser's own protocol."""
@@ -85,9 +92,9 @@ class Chromium:
         """What the browser has told by itself since it was last asked: of requests, and of what it complains of."""
         return [json.loads(row["message"])["message"] for row in self.driver.get_log("performance")]
 
-    def complaints(self) -> list[Any]:
+    def complaints(self) -> list[dict[str, Any]]:
         """What it complains of in its console since it was last asked."""
-        return self.driver.get_log("browser")
+        return list(self.driver.get_log("browser"))
 
     def value(self, script: str) -> Any:
         """What a script in the page gives."""
@@ -111,9 +118,10 @@ class Chromium:
         assert got, f"it never comes: {what}"
         return got
 
-    def element(self, chooser: str, text: str | None = None) -> "WebElement":
+    def element(self, chooser: str, text: str | None = None) -> WebElement:
         """The first element that a chooser finds, and that has this text, or this label, once it is there and can be seen."""
-        return self._wait(lambda: self.driver.execute_script(SPOT, chooser, text), f"{chooser} {text}")
+        found: WebElement = self._wait(lambda: self.driver.execute_script(SPOT, chooser, text), f"{chooser} {text}")
+        return found
 
     def _lead(self, act: Callable[[], None], leads: bool) -> None:
         """Does what leads to the next page, and waits for that."""

@@ -6,15 +6,20 @@ the same factor: so no verdict counts on how quick a machine is, or on what else
 import os
 import re
 import time
+from collections.abc import Callable
+from typing import NamedTuple, TypeVar
 
+from support.waiting import fields_of
+
+T = TypeVar("T")
 # How many seconds of processor the yardstick takes on that machine.
 YARD = 0.0100
 WORD = re.compile(r"[a-z]+([0-9]*)")
 
 
-def yardstick():
+def yardstick() -> int:
     """Some work on texts and tables."""
-    found = {}
+    found: dict[str, str] = {}
     for number in range(1_000):
         text = f"From: p{number} <word{number}@example.org>".lower()
         for word in text.split():
@@ -22,31 +27,33 @@ def yardstick():
     return len(found)
 
 
-def taken_by(*processes):
+def taken_by(*processes: int) -> float:
     """How many seconds of processor these processes have taken so far."""
-    ticks = 0
-    for process in processes:
-        with open(f"/proc/{process}/stat", encoding="ascii", errors="replace") as told:
-            ticks += sum(map(int, told.read().rpartition(")")[2].split()[11:13]))
-    return ticks / os.sysconf("SC_CLK_TCK")
+    return sum(int(ticks) for process in processes for ticks in fields_of(process)[11:13]) / os.sysconf("SC_CLK_TCK")
 
 
-def spent_by(call, clock=time.process_time):
+def spent_by(call: Callable[[], T], clock: Callable[[], float] = time.process_time) -> tuple[T, float]:
     """What a call gives, and how many seconds of processor it took."""
     begun = clock()
     given = call()
     return given, clock() - begun
 
 
-def bounded(call, most, clock=time.process_time, tries=3):
-    """What a call gives, whether it took at most so many seconds, and of each try the seconds and how much slower this machine is. Other work
-    may make one try longer, and not all of them."""
-    told = []
+class Try(NamedTuple):
+    """The seconds that a call took, and how much slower this machine is."""
+
+    seconds: float
+    slower: float
+
+
+def bounded(call: Callable[[], T], most: float, clock: Callable[[], float] = time.process_time, tries: int = 3) -> tuple[T, bool, list[Try]]:
+    """What a call gives, whether it took at most so many seconds, and each try. Other work may make one try longer, and not all of them."""
+    told: list[Try] = []
     for _ in range(tries):
         before = spent_by(yardstick)[1]
         given, spent = spent_by(call, clock)
-        slower = max(1, before / YARD, spent_by(yardstick)[1] / YARD)
-        told.append((spent, slower))
+        slower = max(1.0, before / YARD, spent_by(yardstick)[1] / YARD)
+        told.append(Try(spent, slower))
         if spent <= most * slower:
             return given, True, told
     return given, False, told

@@ -1,6 +1,7 @@
 """Images for tests, files beside them, and what an image holds. For tests alone."""
 import os
 import subprocess
+from collections.abc import Sequence
 
 from lisfs.client import PROGRAM, Program
 from support.waiting import LONG
@@ -8,7 +9,7 @@ from support.waiting import LONG
 SMALL = ("64", "64", "8")
 
 
-def make(image="image", limits=SMALL, script=b""):
+def make(image: str = "image", limits: Sequence[str] = SMALL, script: bytes = b"") -> str:
     """Makes an image on which these lines were run. Its name."""
     Program([PROGRAM, "make", image, *limits]).close()
     if script:
@@ -16,28 +17,28 @@ def make(image="image", limits=SMALL, script=b""):
     return image
 
 
-def session(image="image"):
+def session(image: str = "image") -> Program:
     """A session over an image, in a `with` block."""
     return Program([PROGRAM, "run", image])
 
 
-def usage(program, *words):
+def usage(program: str, *words: str) -> bytes:
     """What a program says to wrong words: those that it has."""
     return subprocess.run([program, *words], stdin=subprocess.DEVNULL, capture_output=True, check=False).stderr
 
 
-def dump(image="image"):
+def dump(image: str = "image") -> bytes:
     """The dump of an image."""
     return subprocess.run([PROGRAM, "dump", image], stdin=subprocess.DEVNULL, capture_output=True, check=True).stdout
 
 
-def bytes_of(name, image="image"):
+def bytes_of(name: str, image: str = "image") -> bytes:
     """The bytes of a file in an image."""
     with session(image) as program:
         return program.cat(name.encode()).body
 
 
-def written(path, data=b"", mode=None):
+def written(path: str, data: bytes | str = b"", mode: int | None = None) -> str:
     """Writes a file, in a folder that is made if it isn't there. Its path."""
     os.makedirs(os.path.dirname(os.path.abspath(path)), exist_ok=True)
     with open(path, "wb") as file:
@@ -47,7 +48,7 @@ def written(path, data=b"", mode=None):
     return path
 
 
-def content(path):
+def content(path: str) -> bytes:
     """The bytes of a file."""
     with open(path, "rb") as file:
         return file.read()

@@ -6,12 +6,16 @@ import itertools
 import random
 import re
 import shutil
+from collections.abc import Iterator
+from typing import TypeAlias
 
 import runs
 import sessions
-from lisfs.client import PROGRAM, ROOM_LINE, Ended, Items, NotAReply, Program, Replies, shown_by, words_of
+from lisfs.client import PROGRAM, ROOM_LINE, Ended, Item, Items, NotAReply, Program, Replies, shown_by, words_of
 from lisfs.constants import MAX_LINE, MAX_PAYLOAD
 
+# What came instead of each command: its reply, or at the end what was no reply.
+Got: TypeAlias = list[bytes | NotAReply]
 NAMES, WORDS = (b"a", b"b", b"c.txt"), (b"w", b"v", b"y:1")
 COMMANDS = (b"ls", b"pwd", b"cat N", b"cat N", b"props N", b"rm N", b"create N W", b"cd W", b"cd /", b"cd ..", b"mkdir W", b"rename N N", b"stat",
             b"frob", b"add", b"write N", b"ok", b"@1 ls", b"no 01 bad line", b"\0", b"\xff\xfe", b"")
@@ -26,14 +30,14 @@ SIZES = (0, 0, 1, 2, 3, 7, 40, 300, 5_000)
 LARGE = (65_536, 65_537, MAX_PAYLOAD, MAX_PAYLOAD + 1, MAX_PAYLOAD + 2, MAX_PAYLOAD + 70_000)
 
 
-def filled(chance, form, said=b""):
+def filled(chance: random.Random, form: bytes, said: bytes = b"") -> bytes:
     """A form with a name for each `N`, a word for each `W`, and this in place of `S`."""
-    for letter, choices in ((rb"\bN\b", NAMES), (rb"\bW\b", WORDS)):
-        form = re.sub(letter, lambda _, choices=choices: chance.choice(choices), form)
+    form = re.sub(rb"\bN\b", lambda _: chance.choice(NAMES), form)
+    form = re.sub(rb"\bW\b", lambda _: chance.choice(WORDS), form)
     return form.replace(b"S", said)
 
 
-def spaced(chance, line):
+def spaced(chance: random.Random, line: bytes) -> bytes:
     """The same words with other blanks between and around them, and with CRs at the end, of which one is no part of the line."""
     if chance.random() < 0.3:
         between = chance.choice((b"\t", b"  ", b" \t ", b"\t\t"))
@@ -41,7 +45,7 @@ def spaced(chance, line):
     return line + chance.choice((b"",) * 6 + (b"\r", b"\r", b"\r", b"\r\r", b"\r\r\r", b" \r", b"\r ", b"\r\0"))
 
 
-def lengthened(chance, line):
+def lengthened(chance: random.Random, line: bytes) -> bytes:
     """A line of about as many bytes as it may have, by blanks or by a word, and with a CR or without one."""
     size = chance.choice((MAX_LINE, ROOM_LINE)) + chance.randrange(-2, 4)
     end = chance.choice((b"", b"\r", b"\r\r", b" x"))
@@ -49,13 +53,13 @@ def lengthened(chance, line):
     return line + (fill * size)[:max(0, size - len(line) - len(end))] + end
 
 
-def random_content(chance, size):
+def random_content(chance: random.Random, size: int) -> bytes:
     """So many bytes, some of which look like lines of a session or of a reply."""
     pieces = chance.choice((b"\0", b"\n", b"\r\n", b"\r", b"ok\n", b"ls\nrm a\n", b"add b 3\r\r\n", b"\xff\xc3x", chance.randbytes(max(1, size))))
     return (pieces * (size // len(pieces) + 1))[:size]
 
 
-def with_payload(chance):
+def with_payload(chance: random.Random) -> bytes:
     """A line that asks for a payload, or nearly does, and bytes behind it: the right number of them, or others."""
     size = chance.choice(SIZES) if chance.random() < 0.98 else chance.choice(LARGE)
     said = chance.choice((b"%d", b"%d", b"%d", b"0%d", b"%012d")) % size
@@ -67,14 +71,14 @@ def with_payload(chance):
     return line + b"\n" + content + chance.choice(BEHIND)
 
 
-def random_part(chance):
+def random_part(chance: random.Random) -> bytes:
     if chance.random() < 0.45:
         return with_payload(chance)
     line = filled(chance, chance.choice(COMMANDS))
     return (lengthened(chance, line) if chance.random() < 0.15 else spaced(chance, line)) + b"\n"
 
 
-def random_input(chance):
+def random_input(chance: random.Random) -> bytes:
     """An input of some lines and payloads, which may end anywhere in the last one."""
     parts = [random_part(chance) for _ in range(chance.randrange(1, 25))]
     if chance.random() < 0.4:
@@ -89,12 +93,13 @@ CUT = b"no 03 cut payload\n"
 ROOMS_BY_TURNS = (0, 0, 5, 2)
 
 
-def differences(number):
+def differences(number: int) -> list[tuple[object, ...]]:
     """In what the client and the program differ over the session of this number. It makes its images in the folder in which it is called."""
     chance, limits = random.Random(number), ("64", "64", "40", "v2") if number % 2 else ("64", "64", "8")
     Program([PROGRAM, "make", "image", *limits]).close()
     shown_by([PROGRAM, "run", "image"], BEFORE)
-    data, found = random_input(chance), []
+    data = random_input(chance)
+    found: list[tuple[object, ...]] = []
     for name, by_the_client, by_itself in (("run", in_commands, as_it_is), ("rooms", in_rooms, tagged)):
         images = [shutil.copy("image", f"{name}{k}") for k in range(2)]
         got, wanted = by_the_client(images[0], data, chance), by_itself(images[1], data)
@@ -106,7 +111,7 @@ def differences(number):
     return found
 
 
-def taken_in_pieces(items, data, chance):
+def taken_in_pieces(items: Items, data: bytes, chance: random.Random) -> Iterator[Item]:
     """The commands of an input that comes in pieces."""
     most = chance.choice((5, 1_000, 70_000)) if len(data) < 20_000 else 300_000
     while data:
@@ -117,22 +122,22 @@ def taken_in_pieces(items, data, chance):
             yield taken
 
 
-def as_it_is(image, data):
-    return sessions.replies_of(shown_by([PROGRAM, "run", image], data))
+def as_it_is(image: str, data: bytes) -> Got:
+    return list(sessions.replies_of(shown_by([PROGRAM, "run", image], data)))
 
 
-def in_commands(image, data, chance):
+def in_commands(image: str, data: bytes, chance: random.Random) -> Got:
     """The replies to what the client makes of an input, whose last line and last payload may lack their line feeds."""
     with Program([PROGRAM, "run", image]) as program:
         items = Items(MAX_LINE)
         for taken in itertools.chain(taken_in_pieces(items, data, chance), at_the_end(items)):
             program.send_bytes(*taken)
-    return received(program) + [CUT] * items.is_cut()
+    return [*received(program), *[CUT] * items.is_cut()]
 
 
-def received(program):
+def received(program: Program) -> Got:
     """All replies of a program that has ended. Of one that took other commands than it was sent there are fewer, or others, or more."""
-    replies = []
+    replies: Got = []
     try:
         while True:
             replies.append(program.receive_bytes())
@@ -142,14 +147,14 @@ def received(program):
         return [*replies, error]
 
 
-def at_the_end(items):
+def at_the_end(items: Items) -> Iterator[Item]:
     while items.lacks_feed():
         items.feed(b"\n")
         while taken := items.take():
             yield taken
 
 
-def in_rooms(image, data, chance):
+def in_rooms(image: str, data: bytes, chance: random.Random) -> Got:
     """The replies to the commands that come whole, in rooms by turns."""
     with Program([PROGRAM, "rooms", image], rooms=True) as program:
         for taken, room in zip(taken_in_pieces(Items(ROOM_LINE), data, chance), itertools.cycle(ROOMS_BY_TURNS)):
@@ -157,14 +162,15 @@ def in_rooms(image, data, chance):
     return received(program)
 
 
-def tagged(image, data):
+def tagged(image: str, data: bytes) -> Got:
     """The same of a program that is given the input as it is, but for lines without words, and with a tag ahead of each command."""
     ends, given = sessions.ends_of(data, ROOM_LINE), b""
     for (begin, end), room in zip(itertools.pairwise([0, *ends]), itertools.cycle(ROOMS_BY_TURNS)):
         while (feed := data.index(b"\n", begin)) - begin <= ROOM_LINE and not words_of(data[begin:feed]):
             begin = feed + 1
         given += b"@%d " % room + data[begin:end]
-    replies, found = Replies(has_tags=True), []
+    replies = Replies(has_tags=True)
+    found: Got = []
     replies.shown += shown_by([PROGRAM, "rooms", image], given)
     while taken := replies.take():
         found.append(taken[0])

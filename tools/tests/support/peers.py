@@ -1,16 +1,21 @@
 """A server that listens at a Unix socket (`tools/serve`), its clients, and what they send by chance. For tests alone."""
+from __future__ import annotations
+
 import os
+import random
 import select
 import signal
 import socket
 import subprocess
-import tempfile
 import time
+from collections.abc import Callable, Sequence
+from typing import IO, Any, NamedTuple
 
-from lisfs.client import PROGRAM, Replies
+from lisfs.client import PROGRAM, End, Replies, shown_by
 from lisfs.constants import MAX_PAYLOAD
 from support import images, tool
-from support.waiting import LONG, children, is_running, stop, until
+from support.running import Running
+from support.waiting import LONG, is_running, stop, until
 
 SERVE, TALK = tool("serve"), tool("talk")
 LIMITS = ("1024", "512", "2048", "v2")
@@ -19,27 +24,27 @@ PWD = b"w /\nok\n"
 ENDED = "talk: socket: the server ended before all was replied to\n"
 
 
-def make(image="image", limits=LIMITS):
+def make(image: str = "image", limits: Sequence[str] = LIMITS) -> str:
     """Makes an image for a server. Its name."""
     return images.make(image, limits)
 
 
-def ran(image, data):
+def ran(image: str, data: bytes) -> bytes:
     """What `run` shows."""
-    return subprocess.run([PROGRAM, "run", image], input=data, stdout=subprocess.PIPE, timeout=LONG, check=True).stdout
+    return shown_by([PROGRAM, "run", image], data)
 
 
-def written(name, data):
+def written(name: str, data: bytes) -> IO[bytes]:
     """A file of these bytes, opened."""
     return open(images.written(name, data), "rb")
 
 
-def script(name, text):
+def script(name: str, text: str) -> str:
     """The path of a script that runs the program, which is its `$REAL`."""
     return os.path.abspath(images.written(name, text, 0o700))
 
 
-def answers(path):
+def answers(path: str) -> bool:
     """Whether a server listens. It is asked with a connection, which is gone again."""
     try:
         connected(path).close()
@@ -48,7 +53,7 @@ def answers(path):
         return False
 
 
-def connected(path="socket"):
+def connected(path: str = "socket") -> socket.socket:
     connection = socket.socket(socket.AF_UNIX)
     connection.connect(path)
     connection.settimeout(LONG)
@@ -58,16 +63,16 @@ def connected(path="socket"):
 class Peer:
     """A client that sends these bytes in pieces, and ends then, or where `ends` is false waits for the server to do so."""
 
-    def __init__(self, data, path="socket", ends=True, piece=65_536):
+    def __init__(self, data: bytes, path: str = "socket", ends: bool = True, piece: int = 65_536) -> None:
         self.connection, self.left, self.ends, self.piece, self.got, self.is_over = connected(path), data, ends, piece, b"", False
         self.connection.setblocking(False)
         if not data and ends:
             self.connection.shutdown(socket.SHUT_WR)
 
-    def fileno(self):
+    def fileno(self) -> int:
         return self.connection.fileno()
 
-    def send(self):
+    def send(self) -> None:
         try:
             self.left = self.left[self.connection.send(self.left[:self.piece]):]
             if not self.left and self.ends:
@@ -77,7 +82,7 @@ class Peer:
         except OSError:
             self.left = b""
 
-    def read(self):
+    def read(self) -> None:
         try:
             data = self.connection.recv(self.piece)
         except BlockingIOError:
@@ -87,12 +92,12 @@ class Peer:
         self.got += data
         self.is_over = not data
 
-    def close(self):
+    def close(self) -> None:
         self.is_over = True
         self.connection.close()
 
 
-def drive(peers, is_enough=lambda: False):
+def drive(peers: Sequence[Peer], is_enough: Callable[[], bool] = lambda: False) -> list[bytes]:
     """Lets clients send and read until their connections are closed by the server, or it is enough. What each of them got."""
     limit = time.monotonic() + LONG
     while (open_ones := [peer for peer in peers if not peer.is_over]) and not is_enough():
@@ -106,16 +111,22 @@ def drive(peers, is_enough=lambda: False):
     return [peer.got for peer in peers]
 
 
-def replies_in(shown):
+class Shown(NamedTuple):
     """The whole replies among some bytes, in order, and whether nothing else is there."""
+
+    replies: list[bytes]
+    is_all: bool
+
+
+def replies_in(shown: bytes) -> Shown:
     cut, found = Replies(), []
     cut.shown += shown
     while taken := cut.take():
-        found.append(taken[0])
-    return found, not cut.shown
+        found.append(taken.whole)
+    return Shown(found, not cut.shown)
 
 
-def asked(connection, data, wanted):
+def asked(connection: socket.socket, data: bytes, wanted: int) -> bytes:
     """Sends bytes and takes in as many as are wanted, or fewer where the server closes."""
     connection.sendall(data)
     got = b""
@@ -124,69 +135,43 @@ def asked(connection, data, wanted):
     return got
 
 
-def talked(data, path="socket", **more):
+class Talked(NamedTuple):
     """The status of a talk, what it showed and what it said."""
+
+    status: int
+    shown: bytes
+    said: str
+
+
+def talked(data: bytes, path: str = "socket", **more: Any) -> Talked:
     talk = subprocess.run([TALK, path], input=data, capture_output=True, timeout=LONG, check=False, **more)
-    return talk.returncode, talk.stdout, talk.stderr.decode()
+    return Talked(talk.returncode, talk.stdout, talk.stderr.decode())
 
 
-class Served:
-    """A server that runs, in a `with` block, at whose end it is ended. It waits for clients and for other servers as long as the test does. Without
-    a path it listens beside its image."""
+class Served(Running):
+    """`tools/serve` over an image, at a socket: without a path it is the one beside the image."""
 
-    started = []
-
-    def __init__(self, image="image", path="socket", wait=True, patience=LONG, program=PROGRAM, command=(SERVE,), **more):
-        self.said = tempfile.TemporaryFile()
-        words = {**os.environ, "REAL": PROGRAM, "LISFS_PROGRAM": program, "LISFS_PATIENCE": str(patience)}
-        self.server = subprocess.Popen([*command, image, *([path] if path else [])], stdin=subprocess.DEVNULL, stdout=subprocess.DEVNULL,
-                                       stderr=self.said, env=words, **more)
-        self.started.append(self.server)
+    def __init__(self, image: str = "image", path: str | None = "socket", wait: bool = True, patience: float | str = LONG, program: str = PROGRAM,
+                 command: Sequence[str] = (SERVE,), **more: Any) -> None:
+        super().__init__([*command, image, *([path] if path else [])], program, patience, **more)
         at = path or f"{image}.socket"
-        if wait and not until(lambda: answers(at) or self.server.poll() is not None):
+        if wait and not until(lambda: answers(at) or self.process.poll() is not None):
             raise TimeoutError("no server")
 
-    def __enter__(self):
-        return self
-
-    def __exit__(self, *_):
-        self.end()
-
-    def end(self, number=signal.SIGTERM):
-        """Ends it. The status and what it said."""
-        if self.server.poll() is None:
-            self.server.send_signal(number)
-        return self.ended()
-
-    def ended(self):
-        """The status and what it said, where it ends by itself."""
-        status = self.server.wait(LONG)
-        self.said.seek(0)
-        return status, self.said.read().decode()
-
-    def program(self):
-        """The number of the program's process."""
-        return children(self.server.pid)[0]
-
-    def finds(self, number):
+    def finds(self, number: int) -> None:
         """Sends it a signal, and to its program too as a terminal does, which it finds before all that comes from now on."""
-        stop(self.server.pid)
-        os.killpg(self.server.pid, number)
-        self.server.send_signal(signal.SIGCONT)
+        stop(self.process.pid)
+        os.killpg(self.process.pid, number)
+        self.process.send_signal(signal.SIGCONT)
 
-    def killed(self):
+    def killed(self) -> bool:
         """Kills it, and waits until its program has found that out too, and has the image no more."""
         program = self.program()
         self.end(signal.SIGKILL)
         return until(lambda: not is_running(program))
 
-    def memory(self):
-        """How many MiB the server has taken at most."""
-        with open(f"/proc/{self.server.pid}/status", encoding="ascii") as lines:
-            return next(int(line.split()[1]) for line in lines if line.startswith("VmHWM")) // 1_024
 
-
-def refusing(image, path="socket", **more):
+def refusing(image: str, path: str = "socket", **more: Any) -> End:
     """The status of a server that does not begin, and what it says."""
     return Served(image, path, wait=False, **more).ended()
 
@@ -202,17 +187,17 @@ AT_THE_END = (b"", b"", b"ls", b" ", b"add N 0", b"add N 0\n", b"add N 3\nab", b
               b"rm N", b"x" * 1_025, b"\r")
 
 
-def random_bytes(chance, sizes=(0, 1, 2, 5, 40, 300, 5_000, 70_000)):
+def random_bytes(chance: random.Random, sizes: Sequence[int] = (0, 1, 2, 5, 40, 300, 5_000, 70_000)) -> bytes:
     size = chance.choice(sizes)
     return chance.choice((chance.randbytes(size), b"ok\n" * (size // 3), b"\n" * size, b"\r\nls\n" * (size // 5)))
 
 
-def random_input(chance, ends):
+def random_input(chance: random.Random, ends: Sequence[bytes]) -> bytes:
     """Lines, some of them with payloads, and one of these ends."""
-    def line(forms):
+    def line(forms: Sequence[bytes]) -> bytes:
         return chance.choice(forms).replace(b"N", b"n%d" % chance.randrange(9))
 
-    def part():
+    def part() -> bytes:
         if chance.random() < 0.5:
             return line(LINES) + b"\n"
         content = bytes(MAX_PAYLOAD + chance.randrange(3)) if chance.random() < 0.1 else random_bytes(chance)
@@ -221,12 +206,12 @@ def random_input(chance, ends):
     return b"".join(part() for _ in range(chance.randrange(12))) + line(ends)
 
 
-def random_session(chance, own, length):
+def random_session(chance: random.Random, own: bytes, length: int) -> bytes:
     """The commands of a client that has words and files of its own, below a place of its own."""
     words = [own + b"a", own + b"b", own + b"c", own + b"y:1", own + b"y:2"]
     begin = b"mkdir %b\ncd %b\n" % (own, own) + b"".join(b"mkdir %b%b\n" % (own, word) for word in (b"a", b"b", b"c", b"y:"))
 
-    def command():
+    def command() -> bytes:
         one, two = (own + b"f%d.%b" % (chance.randrange(12), own) for _ in range(2))
         some = b" ".join(chance.sample(words, chance.randrange(3)))
         content = random_bytes(chance, (0, 1, 30, 2_000, 9_000))

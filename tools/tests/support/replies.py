@@ -1,8 +1,11 @@
 """What calls of the client answer. For tests alone."""
-from lisfs.client import LINES, Ended, NotAReply, NotSent, Refused
+from collections.abc import Callable
+from typing import Any
+
+from lisfs.client import LINES, Ended, Lines, NotAReply, NotSent, Refused
 from lisfs.constants import MAX_PAYLOAD
 
-DONE = (LINES, [])
+DONE = Lines(LINES, [])
 CONTENTS = {
     "empty": b"",
     "a line feed": b"\n",
@@ -12,7 +15,7 @@ CONTENTS = {
 }
 
 
-def told_by(call, *words, **more):
+def told_by(call: Callable[..., Any], *words: Any, **more: Any) -> Any:
     """What a call answers: the kind and the body of a reply, or the error with what it tells."""
     try:
         return call(*words, **more)

@@ -130,9 +130,10 @@ PLACES = (b"/", b"/w1", b"/w0/w5", b"/!w1", b"/w2|w3|year:1991", b"/ext:", b"/fr
           b"/w4/!w4", b"/old")
 
 
-def library(count=60):
+def library(count: int = 60) -> bytes:
     """Lines that make an image of so many files with given words, a taxonomy, mails, sources and declared tests."""
-    rng, lines = random.Random(11), []
+    rng = random.Random(11)
+    lines: list[bytes] = []
     words = [f"w{k}" for k in range(12)]
     for word in words + ["year:", "size>=40", "size<500", "old"]:
         lines.append(f"mkdir {word}\n".encode())

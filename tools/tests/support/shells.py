@@ -2,28 +2,37 @@
 import contextlib
 import signal
 import subprocess
+from collections.abc import Iterator
+from typing import Any, NamedTuple
 
 from lisfs.dumps import opened
 from lisfs.image import limits_of
 from lisfs.shell.running import Shell, as_a_script
 from lisfs.shell.session import Session
-from lisfs.shell.terminal import Interrupts, Screen
+from lisfs.shell.terminal import OUTPUT, Interrupts, Screen
 from support import tool
 from support.waiting import LONG
 
 SHELL = tool("shell")
 
 
-def shell(script, image="image", **more):
+class Told(NamedTuple):
     """The status of a script, what it showed and what it said."""
+
+    status: int
+    shown: bytes
+    said: str
+
+
+def shell(script: bytes, image: str = "image", **more: Any) -> Told:
     ran = subprocess.run([SHELL, image], input=script, capture_output=True, timeout=LONG, check=False, **more)
-    return ran.returncode, ran.stdout, ran.stderr.decode()
+    return Told(ran.returncode, ran.stdout, ran.stderr.decode())
 
 
 class Kept(Screen):
     """Keeps what is shown and what is said."""
 
-    def __init__(self):
+    def __init__(self) -> None:
         before = signal.getsignal(signal.SIGINT)
         super().__init__(Interrupts())
         # Ctrl-C is for the test.
@@ -31,28 +40,31 @@ class Kept(Screen):
         self.is_terminal = self.asks = False
         self.shown, self.said = b"", ""
 
-    def coloured(self, text, *_):
+    def coloured(self, text: str, *_: object) -> str:
         return text
 
-    def put(self, data):
+    def put(self, data: bytes, stream: int = OUTPUT) -> None:
         self.shown += data
 
-    def fault(self, line):
+    def fault(self, line: str) -> None:
         self.said += line + "\n"
 
 
+class Within:
+    """A shell in this process. A call says what a script is answered there, as `shell` does."""
+
+    def __init__(self, session: Session) -> None:
+        self.screen, self.session = Kept(), session
+        self._shell = Shell(session, self.screen)
+
+    def __call__(self, script: bytes) -> Told:
+        self.screen.shown, self.screen.said, pieces = b"", "", [script[:5], script[5:], b""]
+        is_fine = as_a_script(self._shell, lambda: pieces.pop(0) if len(pieces) > 1 else b"")
+        return Told(0 if is_fine else 1, self.screen.shown, self.screen.said)
+
+
 @contextlib.contextmanager
-def within(image="image"):
-    """A shell in this process: what a script is answered there, as `shell` tells it."""
+def within(image: str = "image") -> Iterator[Within]:
     program, dump = opened(image)
     with program:
-        screen = Kept()
-        inside = Shell(Session(program, dump, limits_of(image)), screen)
-
-        def answer(script):
-            screen.shown, screen.said, pieces = b"", "", [script[:5], script[5:], b""]
-            is_fine = as_a_script(inside, lambda: pieces.pop(0) if len(pieces) > 1 else b"")
-            return 0 if is_fine else 1, screen.shown, screen.said
-
-        answer.session = inside.session
-        yield answer
+        yield Within(Session(program, dump, limits_of(image)))

@@ -4,6 +4,8 @@ import fcntl
 import os
 import subprocess
 import sys
+from collections.abc import Sequence
+from typing import Any, NamedTuple
 
 from lisfs.client import PROGRAM
 from lisfs.dumps import dumped
@@ -15,54 +17,67 @@ SYNC, PROGRAM = tool("sync"), os.path.abspath(PROGRAM)
 LIMITS = ("256", "1024", "512")
 
 
-def make(image="image", limits=LIMITS):
+def make(image: str = "image", limits: Sequence[str] = LIMITS) -> str:
     """Makes an image. Its name."""
     return images.make(image, limits)
 
 
-def sync(*words, program=PROGRAM, python=sys.executable, user=None, **environment):
+class Synced(NamedTuple):
     """The status, the lines without the tool's name, and what is said on standard error."""
+
+    status: int
+    lines: list[str]
+    said: str
+
+
+def sync(*words: str, program: str = PROGRAM, python: str = sys.executable, user: int | None = None, **environment: str) -> Synced:
     if user is not None:
         # Each user has memories of their own.
         environment["XDG_STATE_HOME"] = os.path.abspath(f"state-{user}")
         os.makedirs(environment["XDG_STATE_HOME"], exist_ok=True)
         os.chmod(environment["XDG_STATE_HOME"], 0o777)
-    user = {} if user is None else {"user": user, "group": user, "extra_groups": []}
     ran = subprocess.run([python, SYNC, *words], stdin=subprocess.DEVNULL, capture_output=True, timeout=LONG, check=False,
-                         env={**os.environ, "LISFS_PROGRAM": program, **environment}, **user)
+                         env={**os.environ, "LISFS_PROGRAM": program, **environment}, **as_user(user))
     out = [line.removeprefix("sync: ") for line in ran.stdout.decode(errors="replace").splitlines()]
-    return ran.returncode, out, ran.stderr.decode(errors="replace")
+    return Synced(ran.returncode, out, ran.stderr.decode(errors="replace"))
 
 
-def held(image="image"):
+def as_user(user: int | None) -> dict[str, Any]:
+    """The words for `subprocess` by which a user runs a program. None is who runs the tests."""
+    return {} if user is None else {"user": user, "group": user, "extra_groups": []}
+
+
+def held(image: str = "image") -> dict[str, set[str]]:
     """The words that each file of an image was given."""
     return {name.decode(): {word.decode() for word in words} for name, (_, words) in dumped(image).files.items()}
 
 
-def mail(subject="Hello there", sender="Alice Adams <alice@example.org>", to="bob@example.org", number=1, more="", body="Text.\n"):
-    number = "" if number is None else f"Message-ID: <{number}@example.org>\n"
-    return f"From: {sender}\nTo: {to}\nSubject: {subject}\nDate: Mon, 3 Jun 2024 10:00:00 +0200\n{number}{more}\n{body}"
+def mail(subject: str = "Hello there", sender: str = "Alice Adams <alice@example.org>", to: str = "bob@example.org", number: object = 1,
+         more: str = "", body: str = "Text.\n") -> str:
+    """A mail, without a Message-ID if `number` is None."""
+    message_id = "" if number is None else f"Message-ID: <{number}@example.org>\n"
+    return f"From: {sender}\nTo: {to}\nSubject: {subject}\nDate: Mon, 3 Jun 2024 10:00:00 +0200\n{message_id}{more}\n{body}"
 
 
-def maildir(top, *boxes):
+def maildir(top: str, *boxes: str) -> None:
     for box in ("", *boxes):
         for part in ("cur", "new", "tmp"):
             os.makedirs(os.path.join(top, box, part), exist_ok=True)
 
 
-def contents(image="image"):
+def contents(image: str = "image") -> dict[str, tuple[str, bool]]:
     """The bytes of each file of an image, and whether it has the word that somebody gave it."""
     words = held(image)
     with session(image) as program:
         return {name: (program.cat(name.encode()).body.decode(), "mine" in words[name]) for name in words}
 
 
-def memory_words(image="image"):
+def memory_words(image: str = "image") -> list[bytes]:
     """The words by which an image names memories."""
     return sorted(word for word in dumped(image).declared if word.startswith(b"synced-"))
 
 
-def brought_in(*files):
+def brought_in(*files: str) -> Synced:
     """Makes an image with these files of a folder, each with a word that somebody gave it. How the run ended."""
     make()
     for name in files:
@@ -71,11 +86,11 @@ def brought_in(*files):
     with session() as program:
         program.mkdir(b"mine")
         for name in files:
-            program.mv(name.encode(), b"mine")
+            program.mv(name.replace("/", "+").encode(), b"mine")
     return ended
 
 
-def is_free(image):
+def is_free(image: str) -> bool:
     """Whether no program has the lock of an image."""
     with open(image, "rb") as file, contextlib.suppress(BlockingIOError):
         fcntl.flock(file, fcntl.LOCK_EX | fcntl.LOCK_NB)
@@ -83,13 +98,12 @@ def is_free(image):
     return False
 
 
-def who_may_not_read(path):
+def who_may_not_read(path: str) -> dict[str, Any] | None:
     """By which user, and which Python, the tool can be run so that it can't read a file, or None. Root may read all."""
     for user in (None, 65_534):
         for python in (sys.executable, "/usr/bin/python3"):
-            more = {} if user is None else {"user": user, "group": user, "extra_groups": []}
             with contextlib.suppress(OSError, subprocess.SubprocessError):
                 look = f"import os; print(os.access({path!r}, os.R_OK), os.access({SYNC!r}, os.R_OK), os.access({PROGRAM!r}, os.X_OK))"
-                if subprocess.run([python, "-c", look], capture_output=True, check=False, **more).stdout == b"False True True\n":
+                if subprocess.run([python, "-c", look], capture_output=True, check=False, **as_user(user)).stdout == b"False True True\n":
                     return {"python": python, "user": user}
     return None

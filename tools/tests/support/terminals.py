@@ -8,6 +8,7 @@ import signal
 import struct
 import subprocess
 import termios
+from typing import Self
 
 from support.waiting import LONG, until
 
@@ -17,15 +18,16 @@ ROWS, COLUMNS = 30, 100
 KEYS = ("Enter", "Tab", "Up", "C-a", "C-c", "C-d")
 
 
-def environment(**more):
+def environment(**more: str) -> dict[str, str]:
     return {key: value for key, value in os.environ.items() if key not in OTHERS} | {"INPUTRC": "/dev/null"} | more
 
 
 class Terminal:
     """A program at a terminal, in a `with` block, at whose end it has ended. What it shows is kept."""
 
-    def __init__(self, command, **more):
-        self.shown, self.status, self._at = b"", None, 0
+    def __init__(self, command: list[str], **more: str) -> None:
+        self.shown, self._at = b"", 0
+        self.status: int | None = None
         words = environment(**{"TERM": "xterm", "XDG_STATE_HOME": os.path.abspath("state")} | more)
         self.process, self._side = pty.fork()
         if not self.process:
@@ -34,20 +36,20 @@ class Terminal:
             os._exit(127)
         fcntl.ioctl(self._side, termios.TIOCSWINSZ, struct.pack("HHHH", ROWS, COLUMNS, 0, 0))
 
-    def __enter__(self):
+    def __enter__(self) -> Self:
         return self
 
-    def __exit__(self, *_):
+    def __exit__(self, *_: object) -> None:
         if self.status is None:
             os.kill(self.process, signal.SIGKILL)
             os.waitpid(self.process, 0)
         os.close(self._side)
 
-    def types(self, text):
+    def types(self, text: bytes) -> Self:
         os.write(self._side, text)
         return self
 
-    def _read(self):
+    def _read(self) -> bool:
         """Takes in what is shown, after waiting for it. Whether there was more than the end."""
         if not select.select([self._side], [], [], LONG)[0]:
             return False
@@ -58,7 +60,7 @@ class Terminal:
         self.shown += data
         return bool(data)
 
-    def sees(self, text):
+    def sees(self, text: bytes) -> bytes | None:
         """What is shown up to a text, from behind the last one that was waited for. None where it does not come."""
         while (found := self.shown.find(text, self._at)) < 0:
             if not self._read():
@@ -66,13 +68,13 @@ class Terminal:
         begin, self._at = self._at, found + len(text)
         return self.shown[begin:self._at]
 
-    def _has_ended(self):
+    def _has_ended(self) -> int:
         number, ended = os.waitpid(self.process, os.WNOHANG)
         if number:
             self.status = os.waitstatus_to_exitcode(ended)
         return number
 
-    def ends(self):
+    def ends(self) -> int | None:
         """The status with which it ends, or None where it does not."""
         while self._read():
             pass
@@ -83,7 +85,7 @@ class Terminal:
 class Person:
     """Somebody at a real terminal, in a `with` block. The server of `tmux` is one of its own, and ends with it."""
 
-    def __init__(self, command):
+    def __init__(self, command: str) -> None:
         with open("tmux.conf", "w", encoding="ascii") as file:
             file.write("set -s escape-time 0\nset -s exit-empty off\n")
         self._socket = os.path.abspath("tmux.socket")
@@ -95,35 +97,35 @@ class Person:
             self._end()
             raise
 
-    def _words(self, *words):
+    def _words(self, *words: str) -> list[str]:
         return ["tmux", "-u", "-S", self._socket, *words]
 
-    def __enter__(self):
+    def __enter__(self) -> Self:
         return self
 
-    def __exit__(self, *_):
+    def __exit__(self, *_: object) -> None:
         self._end()
 
-    def _end(self):
+    def _end(self) -> None:
         subprocess.run(self._words("kill-server"), stderr=subprocess.DEVNULL, timeout=LONG, check=False)
 
-    def asks(self, *words):
+    def asks(self, *words: str) -> str:
         """What `tmux` answers to a command of its own."""
         return subprocess.run(self._words(*words), stdout=subprocess.PIPE, timeout=LONG, check=True).stdout.decode()
 
-    def types(self, *keys):
+    def types(self, *keys: str) -> None:
         """Each a text, or the name of a key."""
         for key in keys:
             self.asks("send-keys", *(() if key in KEYS else ("-l",)), key)
 
-    def pastes(self, text):
+    def pastes(self, text: str) -> None:
         self.asks("set-buffer", text)
         self.asks("paste-buffer", "-p")
 
-    def screen(self):
+    def screen(self) -> str:
         """The lines that are there, without blanks at their ends, and a line feed ahead of each."""
         return "".join("\n" + line for line in self.asks("capture-pane", "-p").rstrip().splitlines())
 
-    def sees(self, text):
+    def sees(self, text: str) -> bool:
         """Whether the screen ends with a text as soon as it does, or does not get so."""
         return until(lambda: self.screen().endswith(text))

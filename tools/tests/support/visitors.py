@@ -1,85 +1,81 @@
 """Who asks `tools/browse` for pages, as a browser does, and what a page has. For tests and measures alone."""
+from __future__ import annotations
+
 import html.parser
 import http.client
-import os
 import re
-import signal
 import subprocess
 import sys
-import tempfile
 import urllib.parse
+from collections.abc import Mapping, Sequence
+from typing import NamedTuple
 
 from lisfs.client import PROGRAM
 from support import tool
-from support.waiting import LONG, children
+from support.running import Running
+from support.waiting import LONG
 
 BROWSE = tool("browse")
 TAGS = set("html head meta title link script body a header form label input button main footer p h1 h2 h3 div section nav ol ul li span table thead "
            "tbody tr th td dl dt dd pre article details summary code".split())
 
 
-class Browsed:
-    """A tool that runs, in a `with` block, at whose end it is ended."""
+class Browsed(Running):
+    """`tools/browse` over an image, with the address that it printed."""
 
-    started = []
-
-    def __init__(self, *words, program=PROGRAM, wait=True):
-        self.said = tempfile.TemporaryFile()
-        self.tool = subprocess.Popen([sys.executable, BROWSE, *words], stdin=subprocess.DEVNULL, stdout=subprocess.PIPE, stderr=self.said,
-                                     env={**os.environ, "LISFS_PROGRAM": program, "LISFS_PATIENCE": str(LONG)})
-        self.started.append(self.tool)
-        self.address = self.tool.stdout.readline().decode().strip()
-        self.port = urllib.parse.urlsplit(self.address).port
+    def __init__(self, *words: str, program: str = PROGRAM, wait: bool = True) -> None:
+        super().__init__([sys.executable, BROWSE, *words], program, output=subprocess.PIPE)
+        assert self.process.stdout
+        self.address = self.process.stdout.readline().decode().strip()
+        self.port = urllib.parse.urlsplit(self.address).port or 0
         if wait and not self.port:
             raise TimeoutError(self.ended())
 
-    def __enter__(self):
-        return self
+    def token(self) -> str:
+        """The token of the address."""
+        return urllib.parse.parse_qs(urllib.parse.urlsplit(self.address).query)["token"][0]
 
-    def __exit__(self, *_):
-        self.end()
 
-    def end(self, number=signal.SIGTERM):
-        if self.tool.poll() is None:
-            self.tool.send_signal(number)
-        return self.ended()
+class Link(NamedTuple):
+    """A link of a page: where it leads, its text, and its label or None."""
 
-    def ended(self):
-        """The status and what it said, where it ends by itself."""
-        status = self.tool.wait(LONG)
-        self.tool.stdout.close()
-        self.said.seek(0)
-        return status, self.said.read().decode()
+    href: str
+    text: str
+    label: str | None
 
-    def program(self):
-        return children(self.tool.pid)[0]
 
-    def memory(self):
-        """How many MiB it has taken at most."""
-        with open(f"/proc/{self.tool.pid}/status", encoding="ascii") as lines:
-            return next(int(line.split()[1]) for line in lines if line.startswith("VmHWM")) // 1_024
+class Answer(NamedTuple):
+    """What comes for a request, with its whole body."""
+
+    status: int
+    headers: http.client.HTTPMessage
+    data: bytes
 
 
 class Seen(html.parser.HTMLParser):
     """What a page has: its links, its forms with their fields, and its text. `wrong` is what no page has."""
 
-    def __init__(self, text):
+    def __init__(self, text: str) -> None:
         super().__init__()
-        self.links, self.forms, self.text, self.labels, self.wrong, self._link, self.scripts = [], [], "", {}, [], None, 0
+        self.links: list[Link] = []
+        self.forms: list[tuple[str, dict[str, str]]] = []
+        self.wrong: list[str] = []
+        self.text, self.scripts, self._is_in_link = "", 0, False
         # The files that can be chosen, and the other actions of buttons.
-        self.boxes, self.actions = [], []
+        self.boxes: list[tuple[str, str, str]] = []
+        self.actions: list[str] = []
         self.feed(text)
         if self.scripts != 1:
             self.wrong.append(f"{self.scripts} scripts")
 
-    def handle_starttag(self, tag, attributes):
-        given = dict(attributes)
+    def handle_starttag(self, tag: str, attrs: list[tuple[str, str | None]]) -> None:
+        given = {name: value or "" for name, value in attrs}
         self.wrong += [tag] * (tag not in TAGS) + [name for name in given if name.startswith("on") or name == "style"]
-        self.wrong += [value for name, value in attributes if name in ("href", "src", "action", "formaction") and re.match(r"[a-z]+:|//", value)]
+        self.wrong += [value for name, value in given.items() if name in ("href", "src", "action", "formaction") and re.match(r"[a-z]+:|//", value)]
         self.scripts += tag == "script" and given.get("src") == "script.js"
         if tag == "a":
-            self.links.append([given["href"], "", given.get("aria-label")])
-            self._link = self.links[-1]
+            self.links.append(Link(given["href"], "", given.get("aria-label")))
+            self._is_in_link = True
         elif tag == "form":
             self.forms.append((given["action"], {}))
         elif tag == "button" and "formaction" in given:
@@ -89,20 +85,20 @@ class Seen(html.parser.HTMLParser):
         elif tag == "input" and "name" in given:
             self.forms[-1][1][given["name"]] = given.get("value", "")
 
-    def handle_endtag(self, tag):
-        self._link = None if tag == "a" else self._link
+    def handle_endtag(self, tag: str) -> None:
+        self._is_in_link = self._is_in_link and tag != "a"
 
-    def handle_data(self, data):
+    def handle_data(self, data: str) -> None:
         self.text += data
-        if self._link:
-            self._link[1] += data
+        if self._is_in_link:
+            self.links[-1] = self.links[-1]._replace(text=self.links[-1].text + data)
 
-    def counts(self):
+    def counts(self) -> dict[bytes, int]:
         """Of each word of the page the number of files that it is said to leave."""
-        told = [re.fullmatch(r"(.+), ([0-9,]+) files?", label) for _, _, label in self.links if label]
+        told = [re.fullmatch(r"(.+), ([0-9,]+) files?", link.label) for link in self.links if link.label]
         return {found[1].encode(): int(found[2].replace(",", "")) for found in told if found}
 
-    def form(self, action, **values):
+    def form(self, action: str, **values: str) -> dict[str, str]:
         """The fields of the first form of an action in which these have these values."""
         return dict(next(fields for name, fields in self.forms if name == action and values.items() <= fields.items()))
 
@@ -110,37 +106,37 @@ class Seen(html.parser.HTMLParser):
 class Visitor:
     """Asks a tool as a browser does that has come by the printed address."""
 
-    def __init__(self, browsed):
-        self.port, self.host, self.cookie, self.top = browsed.port, f"127.0.0.1:{browsed.port}", None, "/"
+    def __init__(self, browsed: Browsed) -> None:
+        self.port, self.host, self.top = browsed.port, f"127.0.0.1:{browsed.port}", "/"
+        self.cookie: str | None = None
         answer = self.ask("GET", browsed.address.partition(self.host)[2])
         self.cookie, self.top = answer.headers["Set-Cookie"].partition(";")[0], answer.headers["Location"]
 
-    def ask(self, method, path, body=None, **headers):
-        """An answer, with its body as `data`."""
+    def ask(self, method: str, path: str, body: bytes | None = None, **headers: str | None) -> Answer:
         given = {"Host": self.host, "Cookie": self.cookie, **({"Origin": f"http://{self.host}"} if method == "POST" else {}),
-                 **{name.replace("_", "-"): value for name, value in headers.items()}}
+                 **{name.replace("_", "-"): value for name, value in headers.items()},
+                 **({} if body is None else {"Content-Length": str(len(body))})}
         connection = http.client.HTTPConnection("127.0.0.1", self.port, timeout=LONG)
         try:
             connection.putrequest(method, path, skip_host=True, skip_accept_encoding=True)
-            for name, value in {**given, **({"Content-Length": str(len(body))} if body is not None else {})}.items():
+            for name, value in given.items():
                 if value is not None:
                     connection.putheader(name, value)
             connection.endheaders(body)
             answer = connection.getresponse()
-            answer.data = answer.read()
+            return Answer(answer.status, answer.headers, answer.read())
         finally:
             connection.close()
-        return answer
 
-    def get(self, page="", /, **given):
+    def get(self, page: str = "", /, **given: str | bytes | int) -> Answer:
         query = urllib.parse.urlencode({name.rstrip("_"): value for name, value in given.items()})
         return self.ask("GET", f"{self.top}{page}?{query}")
 
-    def post(self, page, given):
+    def post(self, page: str, given: Mapping[str, str | bytes | Sequence[str]]) -> Answer:
         body = urllib.parse.urlencode(given, doseq=True).encode()
         return self.ask("POST", self.top + page, body, Content_Type="application/x-www-form-urlencoded")
 
-    def upload(self, given, content, filename):
+    def upload(self, given: Mapping[str, str], content: bytes, filename: bytes) -> Answer:
         rows = [f'--edge\r\nContent-Disposition: form-data; name="{name}"\r\n\r\n{value}\r\n'.encode() for name, value in given.items()]
         rows.append(b'--edge\r\nContent-Disposition: form-data; name="file"; filename="%s"\r\nContent-Type: text/plain\r\n\r\n%s\r\n--edge--\r\n' %
                     (filename, content))

@@ -8,10 +8,14 @@ import fcntl
 import os
 import select
 import signal
-import struct
+import socket
+import sys
 import termios
 import time
+from collections.abc import Callable, Iterator
+from typing import NamedTuple, TypeVar
 
+T = TypeVar("T")
 LONG = 900
 # How long a group of checks may take, in seconds.
 LONGEST = 4 * LONG
@@ -21,7 +25,7 @@ class TooLong(BaseException):
     """A group of checks had no end. It is no `Exception`, since a test may take the system's errors for answers."""
 
 
-def until(is_so):
+def until(is_so: Callable[[], T]) -> T:
     """What something is as soon as it is true, or, where it does not get so, what it is at last."""
     limit = time.monotonic() + LONG
     while not (found := is_so()) and time.monotonic() < limit:
@@ -30,9 +34,9 @@ def until(is_so):
 
 
 @contextlib.contextmanager
-def with_an_end():
+def with_an_end() -> Iterator[None]:
     """Raises `TooLong` where the block has no end."""
-    def too_long(*_):
+    def too_long(*_: object) -> None:
         raise TooLong
 
     before = signal.signal(signal.SIGALRM, too_long)
@@ -44,7 +48,7 @@ def with_an_end():
         signal.signal(signal.SIGALRM, before)
 
 
-def hear(*numbers):
+def hear(*numbers: signal.Signals) -> None:
     """From now on what is started gets these signals, also where this was started by what ignores them, as `nohup` or a shell's `&` does."""
     for number in numbers:
         if signal.getsignal(number) == signal.SIG_IGN:
@@ -54,28 +58,45 @@ def hear(*numbers):
 
 # Processes.
 
-def state_of(process):
-    """The letter of a process's state and the number of its parent, or None where there is no such process."""
+class State(NamedTuple):
+    """The letter of a process's state, and the number of its parent."""
+
+    letter: str
+    parent: int
+
+
+def fields_of(process: int) -> list[str]:
+    """What the system says of a process, from its state on: the fields of proc_pid_stat(5) from the third on."""
+    with open(f"/proc/{process}/stat", encoding="ascii", errors="replace") as told:
+        return told.read().rpartition(")")[2].split()
+
+
+def state_of(process: int) -> State | None:
+    """None where there is no such process."""
     try:
-        with open(f"/proc/{process}/stat", encoding="ascii", errors="replace") as told:
-            state, parent = told.read().rpartition(")")[2].split()[:2]
+        letter, parent = fields_of(process)[:2]
     except OSError:
         return None
-    return state, int(parent)
+    return State(letter, int(parent))
 
 
-def children(process):
+def threads_of(process: int) -> int:
+    """How many threads it has."""
+    return int(fields_of(process)[17])
+
+
+def children(process: int) -> list[int]:
     """The processes that this one has started."""
-    states = {int(name): state_of(name) for name in os.listdir("/proc") if name.isdigit()}
-    return sorted(number for number, state in states.items() if state and state[1] == process)
+    states = {number: state_of(number) for number in map(int, filter(str.isdigit, os.listdir("/proc")))}
+    return sorted(number for number, state in states.items() if state and state.parent == process)
 
 
-def is_running(process):
+def is_running(process: int) -> bool:
     state = state_of(process)
-    return state is not None and state[0] not in "ZX"
+    return state is not None and state.letter not in "ZX"
 
 
-def waits_of(process):
+def waits_of(process: int) -> int | None:
     """How often a process waited so far, where it waits now, and neither for a processor nor for a disk, and has found all signals; else None."""
     try:
         with open(f"/proc/{process}/status", encoding="ascii", errors="replace") as told:
@@ -86,21 +107,21 @@ def waits_of(process):
     return int(rows["voluntary_ctxt_switches"]) if rows["State"].split()[0] == "S" and not to_be_found else None
 
 
-def rest(*processes):
+def rest(*processes: int) -> bool:
     """Waits until all of these do nothing any more before something comes from elsewhere. Whether they do: one that has ended never will."""
-    looks = [[None]]
+    looks: list[list[int | None]] = [[None]]
 
-    def is_so():
+    def is_so() -> bool:
         looks.append([waits_of(process) for process in processes])
         return None not in looks[-1] and looks[-1] == looks[-2]
 
-    def are_there():
+    def are_there() -> bool:
         return all(map(is_running, processes))
 
     return until(lambda: is_so() or not are_there()) and are_there()
 
 
-def stop(process):
+def stop(process: int) -> bool:
     """Stops a process until it is killed or goes on. It takes nothing in from now on."""
     os.kill(process, signal.SIGSTOP)
     return until(lambda: (state_of(process) or "T")[0] == "T")
@@ -108,13 +129,13 @@ def stop(process):
 
 # Pipes and sockets.
 
-def unread(descriptor):
+def unread(descriptor: int | socket.socket) -> int:
     """How many bytes can be read there now."""
-    return struct.unpack("i", fcntl.ioctl(descriptor, termios.FIONREAD, bytes(4)))[0]
+    return int.from_bytes(fcntl.ioctl(descriptor, termios.FIONREAD, bytes(4)), sys.byteorder)
 
 
 @contextlib.contextmanager
-def input_of(process, flags):
+def input_of(process: int, flags: int) -> Iterator[int]:
     """The pipe from which a process takes its input."""
     pipe = os.open(f"/proc/{process}/fd/0", flags | os.O_NONBLOCK)
     try:
@@ -123,14 +144,14 @@ def input_of(process, flags):
         os.close(pipe)
 
 
-def not_taken(process):
+def not_taken(process: int) -> int:
     """How many bytes of its input a process has not taken, or none where it has no such pipe yet, or no more."""
     with contextlib.suppress(OSError), input_of(process, os.O_RDONLY) as pipe:
         return unread(pipe)
     return 0
 
 
-def is_full(process):
+def is_full(process: int) -> bool:
     """Whether the pipe from which a process takes its input takes no more."""
     poll = select.poll()
     with contextlib.suppress(OSError), input_of(process, os.O_WRONLY) as pipe:

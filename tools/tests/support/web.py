@@ -13,7 +13,7 @@ import pytest
 from lisfs.client import PROGRAM, Program, Refused, shown_by
 from support import visitors
 from support.visitors import Browsed, Seen
-from support.waiting import LONG, with_an_end
+from support.waiting import LONG
 
 # So many seconds of processor a page takes at most, since others wait for it, on the machine of `costs`.
 COST = 0.5
@@ -135,9 +135,16 @@ def whole(connection: socket.socket) -> bytes:
     return got
 
 
+def connected(port: int, data: bytes = b"") -> socket.socket:
+    """A connection over which these bytes were sent."""
+    connection = socket.create_connection(("127.0.0.1", port), LONG)
+    connection.sendall(data)
+    return connection
+
+
 def raw(port: int, data: bytes, ends: bool = False) -> bytes:
     """What comes for some bytes."""
-    with socket.create_connection(("127.0.0.1", port), LONG) as connection:
+    with connected(port) as connection:
         with contextlib.suppress(OSError):
             connection.sendall(data)
             if ends:
@@ -193,18 +200,6 @@ def web_writing(web_program: str) -> Iterator[tuple[Browsed, Visitor]]:
 
 @pytest.fixture
 def web_folder(web_program: str) -> Iterator[str]:
-    """An empty folder, where the test runs. What it has started ends with it, and it has an end."""
-    before = os.getcwd()
-    with in_memory() as folder:
-        os.chdir(folder)
-        running = set(Browsed.started)
-        try:
-            with with_an_end():
-                yield folder
-        finally:
-            os.chdir(before)
-            for tool in Browsed.started:
-                if tool not in running:
-                    # Of a test that was broken off.
-                    tool.kill()
-                    tool.wait()
+    """An empty folder in memory, where the test runs."""
+    with in_memory() as folder, contextlib.chdir(folder):
+        yield folder

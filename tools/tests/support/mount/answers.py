@@ -1,4 +1,6 @@
 """What a mount answers: tables, and mounts to be asked in any of the ways of `asking`. For tests alone."""
+from __future__ import annotations
+
 import contextlib
 import os
 import signal
@@ -8,8 +10,10 @@ import subprocess
 import sys
 import tempfile
 import threading
+from collections.abc import Callable, Iterator
+from typing import Any, TypeAlias
 
-from lisfs.client import Ended
+from lisfs.client import Ended, End
 from lisfs.dumps import NotADump, opened
 from lisfs.formulas import NotAFormula, TooLarge
 from lisfs.image import limits_of
@@ -25,7 +29,7 @@ from support.waiting import LONG
 MOUNT = tool("mount")
 
 
-def told_by(call, *given):
+def told_by(call: Callable[..., Any], *given: Any) -> Any:
     """What a call answers: its result, the name of the system's error, or another error."""
     try:
         return asking.told_by(call, *given)
@@ -33,30 +37,30 @@ def told_by(call, *given):
         return type(error)
 
 
-def make(image, *limits):
+def make(image: str, *limits: str) -> None:
     images.make(image, limits)
 
 
-def has_inodes():
+def has_inodes() -> bool:
     """Whether this system tells the inodes of open files."""
     with open("/proc/self/stat", encoding="ascii") as file, open(f"/proc/self/fdinfo/{file.fileno()}", encoding="ascii") as info:
         return "ino:" in info.read()
 
 
 @contextlib.contextmanager
-def directly(image, with_derived=False):
+def directly(image: str, with_derived: bool = False) -> Iterator[Direct]:
     program, dump = opened(image)
     with program:
         yield Direct(Tree(Image(program, dump, limits_of(image)), with_derived))
 
 
 @contextlib.contextmanager
-def by_messages(image, with_derived=False):
+def by_messages(image: str, with_derived: bool = False) -> Iterator[Direct]:
     program, dump = opened(image)
     ours, theirs = socket.socketpair(socket.AF_UNIX, socket.SOCK_SEQPACKET)
     connection = Connection(theirs.fileno(), Tree(Image(program, dump, limits_of(image)), with_derived))
 
-    def serve():
+    def serve() -> None:
         with contextlib.suppress(kernel.Unmounted):
             while True:
                 connection.serve()
@@ -73,7 +77,7 @@ def by_messages(image, with_derived=False):
 
 
 @contextlib.contextmanager
-def really(image, with_derived=False):
+def really(image: str, with_derived: bool = False) -> Iterator[Real]:
     folder = tempfile.mkdtemp(dir=".")
     mount = Mount(image, folder, *(["--derived"] if with_derived else []))
     try:
@@ -86,18 +90,19 @@ def really(image, with_derived=False):
 class Mount:
     """A run of `tools/mount`, which is waited for until the folder can be used."""
 
-    def __init__(self, image, folder, *more):
+    def __init__(self, image: str, folder: str, *more: str) -> None:
         self.folder = os.path.abspath(folder)
         self.child = subprocess.Popen([sys.executable, MOUNT, *more, image, folder], stdin=subprocess.DEVNULL, stdout=subprocess.DEVNULL,
                                       stderr=subprocess.PIPE)
+        assert self.child.stderr
         line = self.child.stderr.readline()
         assert line == f"mount: {image} is at {folder}\n".encode(), "what a mount says"
 
-    def stop(self, number=signal.SIGTERM):
+    def stop(self, number: int = signal.SIGTERM) -> End:
         self.child.send_signal(number)
         return self.ended()
 
-    def ended(self):
+    def ended(self) -> End:
         """The status, and what else was said."""
         try:
             said = self.child.communicate(timeout=LONG)[1].decode()
@@ -108,11 +113,12 @@ class Mount:
             attach.detach(self.folder)
             said += "still mounted"
         assert not said or self.child.returncode, ("what a mount says at its end", said)
-        return self.child.returncode, said
+        return End(self.child.returncode, said)
 
 
 # What a program finds and what it gets, each row in turn over one image: the answer, the call, and what it is given.
-FOLDERS = (
+Rows: TypeAlias = tuple[tuple[object, ...], ...]
+FOLDERS: Rows = (
     ([], "ls", ""),
     (None, "mkdir", "music"),
     (["music/"], "ls", ""),
@@ -153,7 +159,7 @@ FOLDERS = (
     ("ENOTDIR", "ls", "gig"), ("ENOTDIR", "get", "gig/x"), ("EISDIR", "put", "music", b""), ("EISDIR", "put", "!live", b""),
     ("ENAMETOOLONG", "ls", "/".join(["music"] * 33)),
 )
-TAKING_BACK = (
+TAKING_BACK: Rows = (
     (None, "mkdir", "music"), (None, "mkdir", "live"), (None, "mkdir", "music/jazz"), (None, "mkdir", "music/jazz/bop"),
     (None, "put", "music/live/gig", b""), (None, "put", "todo", b""),
     ("ENOTEMPTY", "rmdir", "music"), ("ENOTEMPTY", "rmdir", "music/jazz"), ("ENOTEMPTY", "rmdir", "live"), ("ENOENT", "rmdir", "nosuch"),
@@ -189,11 +195,11 @@ TAKING_BACK = (
     ("EEXIST", "mkdir", "size>=5"), (["x"], "ls", "size>=5"), ("ENOTEMPTY", "rmdir", "size>=5"), (None, "unlink", "x"),
     (None, "rmdir", "size>=5"), (["music/", "todo"], "ls", ""),
 )
-DERIVED = (
+DERIVED: Rows = (
     (None, "mkdir", "music"), (None, "put", "music/a.c", b"#include <stdio.h>\n"), (None, "put", "b.txt", b""),
     (None, "put", "c.eml", b"From: a@b\n\nhi\n"),
     (["music/", "b.txt", "c.eml"], "ls", ""), (None, "put", "plain", b""), (["b.txt", "plain"], "ls", "size<1"),
-    (["ext:c/", "ext:eml/", "ext:txt/", "from:/", "includes:/", "music/", "size:empty/", "size:small/"], "ls", ":by/ext:"),
+    (["ext:c/", "ext:eml/", "ext:txt/"], "ls", ":by/ext:"),
     (["ext:/", "from:/", "includes:/", "music/", "size:empty/", "size:small/"], "ls", ":by"),
     (["ext:c/", "ext:eml/", "from:/", "includes:/", "music/"], "ls", ":by/size:small"),
     (["a.c"], "ls", "ext:c"), (["c.eml"], "ls", "from:a@b"), (["a.c"], "ls", ":by/includes:/includes:stdio.h/:all"),
@@ -205,7 +211,7 @@ DERIVED = (
     (None, "put", "ext:c/d.c", b""), ("EPERM", "put", "ext:c/d.h", b""), ("ENOENT", "stat", "d.h"), ("EPERM", "rename", "b.h", "ext:c/b.h"),
     ("EPERM", "put", "size<1/x", b""),
 )
-NAMES = (
+NAMES: Rows = (
     (None, "mkdir", "music"), (None, "mkdir", "live"), (None, "mkdir", "year:"), (None, "put", "music/gig", b"gig"),
     (None, "put", "todo", b"todo"),
     # Names are global.

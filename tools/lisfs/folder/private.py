@@ -1,0 +1,64 @@
+"""A private copy of an image, on which a dry run works. Opening an image may replay its journal, so the program never opens the image itself."""
+from __future__ import annotations
+
+import contextlib
+import errno
+import os
+import stat
+import tempfile
+from collections.abc import Iterator
+
+from lisfs.client import held
+from lisfs.constants import BLOCK_LEN, MAX_IMAGE_BLOCKS
+from lisfs.dumps import NotADump
+from lisfs.opening import joined
+
+# So often the copy of a served image is made again, if another client has changed the image meanwhile.
+TRIES = 8
+# So many bytes are copied at a time. Those that are all zero are left out, so that the copy takes no more room than the image.
+PIECE = 65_536
+
+
+@contextlib.contextmanager
+def private_copy(image: str) -> Iterator[str]:
+    """The path of a copy of an image, which is removed at the end. Raises `OSError`, and `Locked` if another program has the image."""
+    with tempfile.TemporaryDirectory(prefix="lisfs-") as folder:
+        path = os.path.join(folder, "image")
+        try:
+            copy_image(image, path)
+        except OSError as error:
+            if error.errno != errno.ENOSPC:
+                raise
+            raise OSError(errno.ENOSPC, "no space for a copy of the image: TMPDIR says where it is made", tempfile.gettempdir()) from None
+        yield path
+
+
+def copy_image(image: str, path: str) -> None:
+    """Copies an image while nobody else can change it. Of a longer device it copies as much as an image has at most."""
+    kind = os.stat(image).st_mode
+    if not (stat.S_ISREG(kind) or stat.S_ISBLK(kind) or stat.S_ISDIR(kind)):
+        # A pipe would be waited for. Of a folder the system says what is wrong.
+        raise OSError(errno.EINVAL, "not a file or a block device", image)
+    session = joined("sync", image)
+    if session is None:
+        with held(image):
+            copy_bytes(image, path)
+        return
+    with session.program:
+        for _ in range(TRIES):
+            before = session.program.changes()
+            copy_bytes(image, path)
+            if session.program.changes() == before:
+                return
+    raise NotADump(f"{image} changes all the time")
+
+
+def copy_bytes(image: str, path: str) -> None:
+    with open(image, "rb", buffering=0) as source, open(path, "wb") as copy:
+        size = min(source.seek(0, os.SEEK_END), MAX_IMAGE_BLOCKS * BLOCK_LEN)
+        copy.truncate(size)
+        for at in range(0, size, PIECE):
+            piece = os.pread(source.fileno(), min(PIECE, size - at), at)
+            if piece.count(0) < len(piece):
+                copy.seek(at)
+                copy.write(piece)

@@ -1,0 +1,70 @@
+"""A tool that runs beside a test: how it is started, how it ends, and what it said. For tests and measures alone."""
+from __future__ import annotations
+
+import contextlib
+import os
+import signal
+import subprocess
+import tempfile
+from collections.abc import Iterator, Sequence
+from typing import Any, Self
+
+from lisfs.client import PROGRAM, End
+from support.waiting import LONG, children
+
+# Those that were started and not ended for sure.
+STARTED: list[subprocess.Popen[bytes]] = []
+
+
+class Running:
+    """A tool that runs, in a `with` block, at whose end it is ended. It waits for others as long as the test does. What it shows goes to
+    `output`; `more` is for `Popen`."""
+
+    def __init__(self, command: Sequence[str], program: str = PROGRAM, patience: float | str = LONG, output: int = subprocess.DEVNULL,
+                 **more: Any) -> None:
+        self.said = tempfile.TemporaryFile()
+        words = {**os.environ, "REAL": PROGRAM, "LISFS_PROGRAM": program, "LISFS_PATIENCE": str(patience)}
+        self.process: subprocess.Popen[bytes] = subprocess.Popen(command, stdin=subprocess.DEVNULL, stdout=output, stderr=self.said, env=words, **more)
+        STARTED.append(self.process)
+
+    def __enter__(self) -> Self:
+        return self
+
+    def __exit__(self, *_: object) -> None:
+        self.end()
+
+    def end(self, number: int = signal.SIGTERM) -> End:
+        """Ends it by a signal."""
+        if self.process.poll() is None:
+            self.process.send_signal(number)
+        return self.ended()
+
+    def ended(self) -> End:
+        """The same of one that ends by itself."""
+        status = self.process.wait(LONG)
+        if self.process.stdout:
+            self.process.stdout.close()
+        self.said.seek(0)
+        return End(status, self.said.read().decode())
+
+    def program(self) -> int:
+        """The number of the program's process."""
+        return children(self.process.pid)[0]
+
+    def memory(self) -> int:
+        """How many MiB it has taken at most."""
+        with open(f"/proc/{self.process.pid}/status", encoding="ascii") as lines:
+            return next(int(line.split()[1]) for line in lines if line.startswith("VmHWM")) // 1_024
+
+
+@contextlib.contextmanager
+def none_left() -> Iterator[None]:
+    """What is started in the block has ended after it, also where the block was broken off."""
+    before = len(STARTED)
+    try:
+        yield
+    finally:
+        for process in STARTED[before:]:
+            process.kill()
+            process.wait()
+        del STARTED[before:]

@@ -1,0 +1,257 @@
+"""`tools/sync`: a folder with more files or words than an image has room for. The newest come in first."""
+import os
+import re
+import shutil
+
+import pytest
+
+from lisfs.constants import MAX_PROPS
+from lisfs.folder.options import day, part_or_number
+from lisfs.folder.room import kept_free
+from support.images import bytes_of, dump, session, written
+from support.syncing import held, mail, maildir, make, sync
+
+pytestmark = pytest.mark.usefixtures("program")
+LARGER = "a larger image has more room (docs/guide/backup.md)"
+DAY = 86_400
+
+
+def dated(path, number, data=None):
+    """Writes a file that was changed on this day."""
+    written(path, f"{path} {number}\n" if data is None else data)
+    os.utime(path, (number * DAY, number * DAY))
+
+
+def sent(number, subject=None, **more):
+    """A mail that was sent on this day of the year 2024 or later."""
+    text = mail(subject or f"Subject number{number}", number=number, **more)
+    return text.replace("Mon, 3 Jun 2024", f"{number % 28 + 1} {('Jan', 'Feb', 'Mar', 'Apr')[number // 28 % 4]} {2024 + number // 112}")
+
+
+def known(image="image"):
+    with session(image) as program:
+        return int(dict(text.split() for _, text in program.stat().body)[b"known"])
+
+
+def test_newest():
+    make()
+    for number in range(6):
+        dated(f"top/f{number}", number + 1)
+    assert sync("--as", "t", "--newest", "3", "image", "top") == (
+        0, ["sync:t: 3 new, 0 as they were", "3 older files left out by --since or --newest"], ""), "the newest come in"
+    assert sorted(held()) == ["f3", "f4", "f5"], "which they are"
+    before = dump()
+    assert sync("--as", "t", "--newest", "3", "image", "top")[1][0] == "sync:t: nothing changed, 3 as they were", "again"
+    assert dump() == before, "changes nothing"
+    dated("top/f6", 7)
+    assert sync("--as", "t", "--newest", "3", "image", "top")[:2] == (
+        0, ["sync:t: 1 new, 1 removed as older, 2 as they were", "4 older files left out by --since or --newest"]), "a newer one comes in"
+    assert sorted(held()) == ["f4", "f5", "f6"], "and the oldest goes"
+    assert sync("--as", "t", "image", "top")[:2] == (0, ["sync:t: 4 new, 3 as they were"]), "without the option all are there"
+
+
+def test_older_files_that_somebody_changed():
+    """They stay, whatever is wanted of the folder, and are brought up to date as others are."""
+    make()
+    for name in ("word", "edited", "name", "plain", "both"):
+        dated(f"top/{name}", 1)
+    dated("top/new", 9)
+    sync("--as", "t", "image", "top")
+    with session() as program:
+        program.mkdir(b"mine")
+        for name in (b"word", b"both"):
+            program.mv(name, b"mine")
+        program.write(b"edited", b"mine\n")
+        program.rename(b"name", b"other")
+    dated("top/both", 1, "the folder's\n")
+    assert sync("--as", "t", "--newest", "1", "--dry-run", "image", "top")[1][0] == "removed as older: plain", "a dry run tells it"
+    assert sync("--as", "t", "--newest", "1", "image", "top") == (
+        0, ["sync:t: 1 changed, 1 removed as older, 3 as they were", "1 older file left out by --since or --newest",
+            "4 older files changed in the image: not removed", "1 file changed in the image: left as the image has it"], ""), "what is told"
+    assert {name: "mine" in words for name, words in held().items()} == {
+        "word": True, "both": True, "edited": False, "other": False, "new": False}, "what is there"
+    assert bytes_of("both") == b"the folder's\n", "what changed in the folder comes in"
+    # What was removed for its age was not removed by somebody.
+    assert sync("--as", "t", "image", "top")[1][0] == "sync:t: 1 new, 4 as they were", "it comes again"
+
+
+def test_older_files_without_memory():
+    """What is alike on both sides can go too, and what is not is a conflict."""
+    make()
+    for name in ("same", "other", "new"):
+        dated(f"top/{name}", 9 if name == "new" else 1)
+    sync("--as", "t", "image", "top")
+    with session() as program:
+        program.write(b"other", b"mine\n")
+    shutil.rmtree(os.environ["XDG_STATE_HOME"])
+    status, out, _ = sync("--as", "t", "--newest", "1", "image", "top")
+    assert (status, out[0]) == (1, "sync:t: 1 removed as older, 1 as they were") and sorted(held()) == ["new", "other"], out
+    assert bytes_of("other") == b"mine\n", "nothing of somebody's is lost"
+
+
+def test_since():
+    """By the Date of a mail, and else by the time of the last change."""
+    make()
+    maildir("box/mail")
+    for number, when in ((1, 20_000), (2, 1), (3, 20_000)):
+        dated(f"box/mail/cur/{number}:2,", when, sent(number).replace(" 2024", " 1999" if number == 3 else " 2024"))
+    dated("box/old.txt", 10_000)
+    dated("box/new.txt", 19_800)
+    assert sync("--as", "m", "--since", "2024", "image", "box")[:2] == (
+        0, ["sync:m: 3 new, 0 as they were", "2 older files left out by --since or --newest"]), "since a year"
+    assert sorted(re.sub("-[^-]*$", "", name) for name in held()) == ["new.txt", "subject-number1", "subject-number2"], "which they are"
+    assert sync("--as", "m", "--since", "2024-01-03", "image", "box")[1][0] == "sync:m: 1 removed as older, 2 as they were", "since a day"
+    # A Date in the future is none.
+    dated("box/mail/cur/9:2,", 5, sent(9).replace(" 2024", " 2098"))
+    assert sync("--as", "m", "--since", "2024", "image", "box")[1][1] == "3 older files left out by --since or --newest", "a date to come"
+
+
+@pytest.mark.parametrize("words", (["--since", "yesterday"], ["--since", "2024-13"], ["--since", "2024-02-30"], ["--since", "2999"],
+                                   ["--newest", "0"], ["--newest", "-1"], ["--newest", "x"], ["--reserve", "3/2"], ["--reserve", "-1"],
+                                   ["--reserve", "1/0"], ["--reserve", "1.5"], ["--reserve", ""]))
+def test_wrong_numbers(image, words):
+    written("top/f")
+    status, _, error = sync(*words, "image", "top")
+    assert status == 2 and words[0] in error, (words, error)
+
+
+def test_numbers():
+    assert [kept_free(part_or_number(text), MAX_PROPS) for text in ("0", "7", "1/10", "0.1", ".5", "0.0")] == [0, 7, 819, 819, 4_096, 0]
+    assert day("2024-06-03") > day("2024-06") > day("2024") > day("2023-12-31")
+
+
+def test_no_room_for_files():
+    """The newest come in, by the Date of mails, whatever their names and the order in which they are found."""
+    make("image", ("64", "8192", "512"))
+    maildir("mail")
+    for number in range(100):
+        written(f"mail/cur/{number * 37 % 100}:2,", sent(number))
+    told = ["not taken: 36 no room for more files", f"limit reached: 64 files: --newest 64 keeps the newest; {LARGER}"]
+    assert sync("--as", "m", "image", "mail") == (1, ["sync:m: 64 new, 0 as they were", *told], ""), "what is told"
+    wanted = {f"subject-number{number}" for number in range(36, 100)}
+    assert {name.rpartition("-")[0] for name in held()} == wanted, "the newest"
+    for number in range(100, 110):
+        written(f"mail/cur/{number}:2,", sent(number))
+    assert sync("--as", "m", "image", "mail")[1][0] == "sync:m: nothing changed, 64 as they were", "newer ones have no room"
+    # What is told helps.
+    assert sync("--as", "m", "--newest", "64", "image", "mail") == (
+        0, ["sync:m: 10 new, 10 removed as older, 54 as they were", "46 older files left out by --since or --newest"], ""), "and with it they have"
+
+
+def test_no_room_for_words():
+    """The newest have all their words, a twentieth of the words stays free, and a line says how many files have all."""
+    make("image", ("256", "512", "512"))
+    maildir("mail")
+    for number in range(100):
+        written(f"mail/cur/{number}:2,", sent(number, f"Subject one{number} two{number}", sender=f"Person P{number} <p{number}@example.org>"))
+    status, out, error = sync("--as", "m", "image", "mail")
+    assert (status, out[0], error) == (1, "sync:m: 100 new, 0 as they were", ""), "all come in"
+    limit = re.fullmatch(r"limit reached: 512 known words, 25 of them kept free: --lean takes fewer words for each new mail and source; "
+                         r"--newest ([0-9]+) keeps the newest; --reserve 0 keeps none free; a larger image .*", out[-1])
+    assert limit, out
+    assert known() == 512 - 25, "each word that there is room for"
+    whole = int(limit[1])
+    numbers = {int(re.search("one([0-9]+)", name)[1]): words for name, words in held().items() if name.endswith(".eml")}
+    own = [len([word for word in numbers.get(number, ()) if word.startswith("about:")]) for number in range(99, -1, -1)]
+    assert own[:whole] == [3] * whole and own[whole] < 3 and max(own[whole + 1:]) <= 1, ("the newest have all words", whole, own)
+    # What is told helps: without --lean, and with it.
+    assert sync("--as", "m", "--newest", str(whole), "image", "mail")[0] == 0, "a few of them"
+    # Words that files have on their own by now are not counted again.
+    assert sync("--as", "m", "--newest", str(whole + 5), "image", "mail")[1][0] == f"sync:m: 5 new, {whole} as they were", "some more"
+    assert known() == 512 - 25, "each word that there is room for"
+    make("lean", ("256", "512", "512"))
+    assert sync("--as", "m", "--lean", "lean", "mail") == (0, ["sync:m: 100 new, 0 as they were"], ""), "all of them"
+    # And somebody can use what is kept free.
+    make("mine", ("256", "512", "512"))
+    sync("--as", "m", "mine", "mail")
+    with session("mine") as program:
+        for number in range(25):
+            program.mkdir(b"mine%d" % number)
+
+
+def test_reserve():
+    make("image", ("64", "64", "64"))
+    for number in range(40):
+        dated(f"top/{number}/f", number + 1)
+    status, out, _ = sync("--as", "t", "--reserve", "1/2", "image", "top")
+    assert status == 1 and known() == 32 and "limit reached: 64 known words, 32 of them kept free: " in out[-1], (out, known())
+    assert "--lean" not in out[-1], "which no file here needs"
+    assert held()["39+f"] == {"sync:t", "in:39"} and held()["0+f"] == {"sync:t"}, "the newest have their words"
+    assert sync("--as", "t", "--reserve", "0", "image", "top")[:2] == (0, ["sync:t: 14 with other words, 26 as they were"]), "and then all"
+    assert sync("--as", "t", "--reserve", "64", "image", "top") == (
+        1, [], "sync: --reserve 64: image has room for 64 known words in all\n"), "too many"
+
+
+def test_words_of_somebody_else():
+    """Words that the reserve is for are known words too. So no more become known when they are used, and the folder's word has room."""
+    make("image", ("64", "64", "64"))
+    with session() as program:
+        for number in range(58):
+            program.mkdir(b"mine%d" % number)
+    written("top/sub/f", "x")
+    status, out, error = sync("--as", "t", "--reserve", "2", "image", "top")
+    assert (status, out[:2], error) == (1, ["sync:t: nothing changed, 0 as they were", "not taken: 1 no room for more words"], ""), "no room for its size"
+    status, out, error = sync("--as", "t", "--reserve", "0", "image", "top")
+    assert (status, out[:2], held()) == (
+        1, ["sync:t: 1 new, 0 as they were", "1 word of 1 file left out: no room for more words"], {"sub+f": {"sync:t"}}), (out, error)
+
+
+def test_lean_sources():
+    """Their names are such that the program derives no words of their bytes."""
+    for name in ("a.c", "sub/a.h", "notes.eml", "long-" * 11 + "name.c", "plain.txt", "a.c_"):
+        written(f"top/{name}", "int main(void) { }\n" if name != "notes.eml" else mail())
+    make()
+    assert sync("--as", "t", "--lean", "image", "top")[0] == 0, "lean ones"
+    names = sorted(held())
+    assert names[:2] == ["a-" + names[0][2:], "a.c_"] and "sub+a.h_" in names and "notes.eml_" in names and "plain.txt" in names, names
+    assert all(len(name) <= 60 for name in names), names
+    with session() as program:
+        words = {text.decode() for name in names for _, text in program.props(name.encode()).body}
+    assert {"ext:c_", "ext:h_", "ext:eml_", "ext:txt"} <= words and not [word for word in words if word.startswith(("defines:", "includes:", "from:"))]
+    for words in ([], ["--lean"]):
+        assert sync("--as", "t", *words, "image", "top")[1] == ["sync:t: nothing changed, 6 as they were"], "they stay so"
+    # One that moves stays lean, and keeps the word that it was given.
+    with session() as program:
+        program.mkdir(b"mine")
+        program.mv(b"sub+a.h_", b"mine")
+    os.makedirs("top/other")
+    os.rename("top/sub/a.h", "top/other/b.h")
+    assert sync("--as", "t", "image", "top")[1] == ["sync:t: 1 moved, 5 as they were"], "moved"
+    assert held()["other+b.h_"] == {"sync:t", "in:other", "mine"}, "its name and words"
+
+
+def test_sources_without_room():
+    """A source for whose words there is no room comes in with a lean name, and the newest have theirs."""
+    make("image", ("64", "64", "64"))
+    for number in range(4):
+        dated(f"top/f{number}.c", number + 1, "".join(f"int f{number}{letter}(void) {{ }}\n" for letter in "abcdefghijklmnopqr"))
+    status, out, error = sync("--as", "t", "image", "top")
+    assert (status, out[:2], error) == (
+        1, ["sync:t: 4 new, 0 as they were", "2 files named as by --lean: no room for the words that the program derives"], ""), "what is told"
+    assert "--newest 2 keeps the newest" in out[-1], out
+    assert sorted(held()) == ["f0.c_", "f1.c_", "f2.c", "f3.c"], "the newest have all"
+
+
+def test_room_and_bytes():
+    """Where blocks are full smaller files may come in after a larger one that has no room."""
+    make("image", ("64", "64", "4"))
+    for number, size in ((4, 8_192), (3, 12_288), (2, 4_096), (1, 4_096), (0, 4_096)):
+        dated(f"top/f{number}", number + 1, bytes(size))
+    assert sync("--as", "t", "image", "top")[:2] == (
+        1, ["sync:t: 3 new, 0 as they were", "not taken: 2 no room for its bytes",
+            f"limit reached: 4 blocks: --newest 1 keeps the newest; {LARGER}"]), "what is told"
+    assert sorted(held()) == ["f1", "f2", "f4"], "which come in"
+
+
+def test_dry_run_tells_what_has_no_room():
+    make("image", ("64", "64", "64"))
+    for number in range(70):
+        dated(f"top/f{number}", number + 1)
+    with open("image", "rb") as file:
+        before = file.read()
+    status, out, _ = sync("--as", "t", "--dry-run", "image", "top")
+    assert (status, out[-3:]) == (1, [
+        "sync:t: would be 64 new, 0 as they were", "not taken: 6 no room for more files",
+        f"limit reached: 64 files: --newest 64 keeps the newest; {LARGER}"]), "the same as a run"
+    with open("image", "rb") as file:
+        assert file.read() == before, "and no byte changes"
