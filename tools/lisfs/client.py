@@ -38,6 +38,7 @@ import collections
 import contextlib
 import enum
 import fcntl
+import functools
 import os
 import re
 import select
@@ -46,7 +47,7 @@ import subprocess
 import tempfile
 import threading
 from collections.abc import Callable, Collection, Iterable, Iterator, Mapping, Sequence
-from typing import IO, Literal, NamedTuple, TypeAlias, overload
+from typing import IO, Literal, NamedTuple, Protocol, TypeAlias, overload
 
 from lisfs.constants import MAX_DIGITS, MAX_LINE, MAX_PAYLOAD, ROOMS
 from lisfs.words import is_word
@@ -144,8 +145,9 @@ class Refused(Exception):
 
     def __init__(self, number: int, words: str) -> None:
         super().__init__(f"no {number:02} {words}")
-        # `command` is noted if several were sent ahead of their replies.
+        # `command`, and the words behind it, are noted if several were sent ahead of their replies.
         self.number, self.words, self.command = number, words, ""
+        self.given: tuple[bytes, ...] = ()
 
 
 class Ended(Exception):
@@ -373,6 +375,30 @@ class Commands:
     def stat(self) -> Lines: return self.lines(b"stat")
 
 
+class Stream(Protocol):
+    """Where commands go, or where replies come from."""
+
+    def fileno(self) -> int: ...
+    def close(self) -> None: ...
+
+
+def begun(command: Sequence[Word], given: int, said: IO[bytes], unheard: Collection[signal.Signals], buffer: int) -> subprocess.Popen[bytes]:
+    """A program that has begun. What it says on standard error is kept in a file, which never fills up as a pipe would. The signals `unheard`
+    never reach it."""
+    # They are held back while it begins, so that none that is ours is lost, as where they were ignored here meanwhile.
+    before = signal.pthread_sigmask(signal.SIG_BLOCK, unheard)
+
+    def begin() -> None:
+        for number in unheard:
+            signal.signal(number, signal.SIG_IGN)
+        signal.pthread_sigmask(signal.SIG_SETMASK, before)
+
+    try:
+        return subprocess.Popen(command, stdin=given, stdout=subprocess.PIPE, stderr=said, bufsize=buffer, preexec_fn=begin if unheard else None)
+    finally:
+        signal.pthread_sigmask(signal.SIG_SETMASK, before)
+
+
 class Program(Commands):
     """A program that runs. `command` is its path and its words, and `rooms` says that it serves rooms. The signals `unheard` never reach it,
     so that who gets them with it, as from a terminal, can let it come to its end. Where it can't be started, the `OSError` of that is raised.
@@ -381,24 +407,15 @@ class Program(Commands):
     """
 
     def __init__(self, command: Sequence[Word], rooms: bool = False, unheard: Collection[signal.Signals] = ()) -> None:
-        # What it says is kept in a file, which never fills up as a pipe would.
         self._said = tempfile.TemporaryFile()
-        # They are held back while it begins, so that none that is ours is lost, as where they were ignored here meanwhile.
-        before = signal.pthread_sigmask(signal.SIG_BLOCK, unheard)
-
-        def begin() -> None:
-            for number in unheard:
-                signal.signal(number, signal.SIG_IGN)
-            signal.pthread_sigmask(signal.SIG_SETMASK, before)
-
-        try:
-            self._child = subprocess.Popen(command, stdin=subprocess.PIPE, stdout=subprocess.PIPE, stderr=self._said, bufsize=0,
-                                           preexec_fn=begin if unheard else None)
-        finally:
-            signal.pthread_sigmask(signal.SIG_SETMASK, before)
+        self._child = begun(command, subprocess.PIPE, self._said, unheard, 0)
         assert self._child.stdin and self._child.stdout
-        self._input, self._output = self._child.stdin, self._child.stdout
-        os.set_blocking(self._input.fileno(), False)
+        os.set_blocking(self._child.stdin.fileno(), False)
+        self._begin(self._child.stdin, self._child.stdout, ROOM_LINE if rooms else MAX_LINE, rooms)
+
+    def _begin(self, given: Stream, shown: Stream, longest: int, rooms: bool = False) -> None:
+        """Nothing was sent, and nothing has come. `longest` is how many bytes a line may have."""
+        self._input, self._output, self.longest = given, shown, longest
         self._has_rooms, self._replies, self._is_cut = rooms, Replies(rooms), False
         self._end: End | None = None
         # The parts that were not written yet, and the tag that is to stand behind each reply that was not received.
@@ -417,6 +434,10 @@ class Program(Commands):
         """The room of this number, which can be asked commands."""
         return Room(self, number)
 
+    def first(self) -> Commands:
+        """What can be asked commands: this, or the first of its rooms."""
+        return self.room(0) if self._has_rooms else self
+
     def ask(self, *words: bytes, payload: bytes | None = None, room: int | None = None) -> Reply:
         """Sends a command and receives its reply. The words are bytes, and so is the payload."""
         if self._awaited and not self._end:
@@ -428,7 +449,7 @@ class Program(Commands):
         """Sends a command ahead. Its reply is received later, behind those of the commands before it, of whatever rooms."""
         if self._has_rooms and room is None:
             raise NotSent("a command of no room")
-        self.send_bytes(*item(words, payload, ROOM_LINE if self._has_rooms else MAX_LINE), room)
+        self.send_bytes(*item(words, payload, self.longest), room)
 
     def receive(self) -> Reply:
         """Waits for the next reply. Raises `Refused` where it is a refusal."""
@@ -464,10 +485,10 @@ class Program(Commands):
             raise self._ending()
         while self._unsent:
             try:
-                taken = os.write(self._input.fileno(), self._unsent[0])
+                taken = self._write(self._unsent[0])
             except BlockingIOError:
                 return True
-            except BrokenPipeError:
+            except (BrokenPipeError, ConnectionResetError):
                 raise self._ending() from None
             if taken < len(self._unsent[0]):
                 self._unsent[0] = memoryview(self._unsent[0])[taken:]
@@ -521,9 +542,7 @@ class Program(Commands):
 
     def kill_after(self, seconds: float) -> None:
         """From now on the program has so long to end, whatever is waited for meanwhile, and is killed then. What it has replied to is kept."""
-        timer = threading.Timer(seconds, self._child.kill)
-        timer.daemon = True
-        timer.start()
+        kill_after(self._child, seconds)
 
     def _make_way(self) -> None:
         """Waits until the program takes more. It may do so only when somebody reads what it shows."""
@@ -532,11 +551,16 @@ class Program(Commands):
 
     def _is_readable(self, seconds: float | None, or_writable: bool = False) -> bool:
         """Whether there is something to read, or the end. Waits so long for it, or until something can be written."""
-        poll = select.poll()
-        poll.register(self._output, select.POLLIN)
+        poll, given, shown = select.poll(), self._input.fileno(), self._output.fileno()
         if or_writable:
-            poll.register(self._input, select.POLLOUT)
-        return self._output.fileno() in dict(poll.poll(None if seconds is None else seconds * 1_000))
+            poll.register(given, select.POLLOUT)
+        # They may be one.
+        poll.register(shown, select.POLLIN | (select.POLLOUT if or_writable and given == shown else 0))
+        return bool(dict(poll.poll(None if seconds is None else seconds * 1_000)).get(shown, 0) & ~select.POLLOUT)
+
+    def _write(self, data: bytes | memoryview) -> int:
+        """Sends what is taken now. How many bytes that is."""
+        return os.write(self._input.fileno(), data)
 
     def _read(self) -> bool:
         """Takes in what is shown, after waiting for it. Whether there was more than the end."""
@@ -547,18 +571,23 @@ class Program(Commands):
     def _ending(self) -> Ended:
         """The error that tells the end of the program, which is waited for where it has not come."""
         if not self._end:
-            self._input.close()
-            while self._read():
-                pass
-            try:
-                self._child.wait(PATIENCE)
-            except subprocess.TimeoutExpired:
-                self._child.kill()
-            self._said.seek(0)
-            self._end = End(self._child.wait(), self._said.read().decode(errors="backslashreplace"))
-            self._output.close()
-            self._said.close()
+            self._end = self._finished()
         return ended(*self._end)
+
+    def _finished(self) -> End:
+        """Ends the input, and waits for the end."""
+        self._input.close()
+        while self._read():
+            pass
+        try:
+            self._child.wait(PATIENCE)
+        except subprocess.TimeoutExpired:
+            self._child.kill()
+        self._said.seek(0)
+        end = End(self._child.wait(), self._said.read().decode(errors="backslashreplace"))
+        self._output.close()
+        self._said.close()
+        return end
 
 
 class Room(Commands):
@@ -712,12 +741,28 @@ def held(image: str) -> Iterator[None]:
         yield
 
 
+def kill_after(child: subprocess.Popen[bytes], seconds: float) -> None:
+    """From now on a program has so long to end, whatever is waited for meanwhile, and is killed then."""
+    timer = threading.Timer(seconds, child.kill)
+    timer.daemon = True
+    timer.start()
+
+
+# What is given a call by which a program that was begun has so many seconds to end.
+Heed: TypeAlias = Callable[[Callable[[float], None]], None]
+
+
+def no_heed(_: Callable[[float], None]) -> None:
+    pass
+
+
 @contextlib.contextmanager
-def shown(command: Sequence[Word]) -> Iterator[IO[bytes]]:
+def shown(command: Sequence[Word], unheard: Collection[signal.Signals] = (), heed: Heed = no_heed) -> Iterator[IO[bytes]]:
     """What a program shows that takes no commands, as `lisfs dump IMAGE`: a binary stream, to be read in the block. Raises `Ended` where its
     status is not 0, also in the place of an error of the block, since what was shown is then cut off."""
-    with tempfile.TemporaryFile() as said, subprocess.Popen(command, stdin=subprocess.DEVNULL, stdout=subprocess.PIPE, stderr=said) as child:
+    with tempfile.TemporaryFile() as said, begun(command, subprocess.DEVNULL, said, unheard, -1) as child:
         assert child.stdout
+        heed(functools.partial(kill_after, child))
         try:
             yield child.stdout
         finally:

@@ -5,12 +5,15 @@ import hashlib
 import os
 import signal
 import time
+from collections.abc import Callable, Collection
 from typing import IO, NamedTuple, Protocol
 
-from lisfs.client import PROGRAM, Program, counts_in, shown
+from lisfs.client import PROGRAM, Heed, Program, counts_in, no_heed, shown
 
 # The clock by which changes are noted goes on in steps of so many nanoseconds at most, and of two seconds where it knows whole ones alone.
 STEP, WHOLE = 20_000_000, 2 * 10**9
+# By what a tool is stopped.
+STOPS = (signal.SIGINT, signal.SIGTERM, signal.SIGHUP)
 
 
 class NotADump(ValueError):
@@ -98,9 +101,9 @@ def pass_over(stream: IO[bytes], size: int, digest: Digest | None = None) -> Non
         raise NotADump("a byte other than a line feed after the bytes of a file")
 
 
-def dumped(image: str, with_digests: bool = False) -> Dump:
+def dumped(image: str, with_digests: bool = False, unheard: Collection[signal.Signals] = (), heed: Heed = no_heed) -> Dump:
     """What an image holds."""
-    with shown([PROGRAM, "dump", image]) as stream:
+    with shown([PROGRAM, "dump", image], unheard, heed) as stream:
         return read_dump(stream, with_digests)
 
 
@@ -125,14 +128,19 @@ def settled(image: str) -> Times | None:
 
 
 def opened(image: str, tries: int = 8, word: str = "run", with_digests: bool = False) -> tuple[Program, Dump]:
-    """A session that runs over an image, by this word of the program, and what the image holds.
+    """A session that runs over an image, by this word of the program, and what the image holds. See `opened_by`."""
+    return opened_by(lambda: dumped(image, with_digests), lambda: started(image, word), image, tries)
+
+
+def opened_by(look: Callable[[], Dump], start: Callable[[], Program], image: str, tries: int = 8) -> tuple[Program, Dump]:
+    """What an image holds, and a program that runs over it, by these calls.
 
     Nobody has the lock between the end of the dump and the session's first reply. So the image's time of change tells whether anybody
     wrote it since the dump began; it is then dumped again. The first opening itself may write, where it ends what a stop left in the middle.
     """
     for _ in range(tries):
-        before, dump, program = settled(image), dumped(image, with_digests), started(image, word)
-        if before == times_of(image) and counts_in(program.stat().body)["files"] == len(dump.files):
+        before, dump, program = settled(image), look(), start()
+        if before == times_of(image) and counts_in(program.first().stat().body)["files"] == len(dump.files):
             return program, dump
         program.close()
     raise NotADump(f"{image} changes all the time")
@@ -140,4 +148,4 @@ def opened(image: str, tries: int = 8, word: str = "run", with_digests: bool = F
 
 def started(image: str, word: str = "run") -> Program:
     """A stop of all that was started together is for the tool, which then lets the program come to its end."""
-    return Program([PROGRAM, word, image], unheard=(signal.SIGINT, signal.SIGTERM, signal.SIGHUP))
+    return Program([PROGRAM, word, image], word == "rooms", STOPS)

@@ -4,7 +4,8 @@ usage: tools/edit IMAGE NAME F
 
 The editor is the command in `$VISUAL`, otherwise in `$EDITOR`, otherwise `vi`. It opens a file with what `lisfs view IMAGE NAME F` shows;
 the name of that file ends with NAME. If the file was changed when the editor ends, `lisfs put IMAGE NAME F` writes it. While the editor is
-open the image is not locked. So `edit` looks at the view once more before it writes. If the view differs by then, nothing is written.
+open the image is not locked. So `edit` looks at the view once more before it writes. If the view differs by then, nothing is written. If the
+image is served (`tools/serve IMAGE`), `edit` is a client of its server.
 
 The status is 0 if the file was written, or if nothing was changed, which one line says. The status is 1 if something is wrong, which one line
 on standard error says: the editor failed, the view has changed in the meantime, it is refused, the image is in use. If the editor leaves an
@@ -30,8 +31,11 @@ from collections.abc import Callable
 from types import FrameType
 from typing import TypeVar
 
-from lisfs.client import Ended, Locked, NotAReply, Refused, missing, put, view
+from lisfs.client import Ended, Locked, NotAReply, Refused, missing
 from lisfs.constants import MAX_VIEW
+from lisfs.endings import quiet
+from lisfs.parts import Changed, put, view
+from lisfs.served import NotJoined
 from lisfs.showing import harmless
 
 # How the program ends where it has certainly written nothing, beside being locked out: wrong words, no image, a fault of the input, no memory,
@@ -101,6 +105,8 @@ def cause_of(error: Exception, image: str, name: str, formula: str) -> str:
         return f"{name}: {error}"
     if isinstance(error, Locked):
         return f"{image}: in use by another lisfs"
+    if isinstance(error, NotJoined):
+        return str(error)
     if isinstance(error, Ended) and error.status == 1:
         return wrong_word(image, name, formula) if "lisfs view " in error.text else "the program has no word `view`: build it again"
     if isinstance(error, Ended):
@@ -178,7 +184,10 @@ def written(stops: Stops, image: str, name: str, formula: str, shown: bytes, tex
     except (Refused, Ended, NotAReply, OSError) as error:
         raise Failed(cause_of(error, image, name, formula)) from None
     stops.ask()
-    put(image, name, formula, text)
+    try:
+        put(image, name, formula, shown, text)
+    except Changed:
+        raise Failed(f"{name}: its view has changed in the meantime") from None
 
 
 def was_maybe_written(error: Exception) -> bool:
@@ -217,6 +226,7 @@ def edit(stops: Stops, image: str, name: str, formula: str) -> None:
     shutil.rmtree(os.path.dirname(path), ignore_errors=True)
 
 
+@quiet
 def main() -> int:
     if len(sys.argv) != 4:
         sys.exit(__doc__)

@@ -1,13 +1,69 @@
-"""How a tool ends that serves an image until it is told to end."""
+"""How tools end: what one line says of an error, and nothing is said if nobody reads what a tool shows."""
+import contextlib
+import functools
+import os
+import signal
+import sys
+from collections.abc import Callable
+from typing import NoReturn
+
 from lisfs.client import Ended, Locked
+from lisfs.served import NotJoined
+from lisfs.showing import harmless, write_line
 
 
 def cause_of(error: BaseException, image: str) -> str:
     """What one line says of an error that has ended it."""
     if isinstance(error, Locked):
         return f"{image}: in use by another lisfs"
+    if isinstance(error, NotJoined):
+        return error.cause
     if isinstance(error, Ended):
         return ": ".join(error.text.splitlines()) or str(error)
     if isinstance(error, OSError):
         return f"{error.filename or image}: {error.strerror}"
     return "stopped before it began" if isinstance(error, KeyboardInterrupt) else str(error)
+
+
+def quiet(main: Callable[[], int]) -> Callable[[], int]:
+    """A tool, or one that ends as others do where nobody reads what it shows any more (`tool | head -1`): by SIGPIPE, without a word. A
+    `BrokenPipeError` that `main` raises is of standard output or standard error: other pipes have errors of their own."""
+    @functools.wraps(main)
+    def run() -> int:
+        try:
+            try:
+                return main()
+            finally:
+                # Not at the very end, where Python would complain.
+                if sys.stdout:
+                    sys.stdout.flush()
+        except BrokenPipeError:
+            end_by_pipe()
+
+    return run
+
+
+def end_by_pipe() -> NoReturn:
+    signal.signal(signal.SIGPIPE, signal.SIG_DFL)
+    signal.pthread_sigmask(signal.SIG_UNBLOCK, [signal.SIGPIPE])
+    os.kill(os.getpid(), signal.SIGPIPE)
+    os._exit(128 + signal.SIGPIPE)
+
+
+def say(line: str, kept: str = "") -> None:
+    """A line on standard error of a tool that goes on, also if nobody reads it."""
+    with contextlib.suppress(BrokenPipeError):
+        write_line(sys.stderr, line, kept)
+        sys.stderr.flush()
+
+
+def folder_fault(folder: str) -> str | None:
+    """What is wrong with a folder that a tool is to read, or None."""
+    shown = harmless(folder)
+    try:
+        with os.scandir(folder):
+            return None
+    except NotADirectoryError:
+        return f"{shown}: not a folder"
+    except OSError as error:
+        return f"{shown}: {error.strerror}"

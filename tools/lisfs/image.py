@@ -1,6 +1,7 @@
 """An open image: the session that runs over it, and what is known of it beside, in step with the commands that were run.
 
-The image is locked by the session, so nobody else changes it. Between two calls the session's place is the root, where all files are.
+The image is locked by the session, so nobody else changes it; or it is served, and then `catch_up` takes in what others have changed. Between two
+calls the session's place is the root, where all files are.
 """
 from __future__ import annotations
 
@@ -10,9 +11,11 @@ from collections.abc import Iterable, Iterator, Sequence
 from typing import Generic, NamedTuple, TypeAlias, cast, overload
 
 from lisfs.client import BodyLine, Program, Refused, Reply, as_lines, counts_in, item
-from lisfs.constants import MAX_FILE, MAX_LARGE_FILE
+from lisfs.constants import MAX_FILE, MAX_LARGE_FILE, NO_FILE_HERE
 from lisfs.dumps import Dump
 from lisfs.index import F, File, Index, Kind
+from lisfs.served import Joined, News, news_of_others
+from lisfs.words import is_test
 
 # The most bytes of a file, by the version of the image.
 FILE_BYTES = {1: MAX_FILE, 2: MAX_LARGE_FILE}
@@ -39,9 +42,62 @@ def limits_of(path: str) -> Limits:
     return Limits(files, words, blocks, FILE_BYTES[2 if head[24] == 2 else 1])
 
 
-class Image(Generic[F]):
-    """`index` has the files, each with the words that were asked for last."""
+class Following(Generic[F]):
+    """What is known of an image over which a session runs: `index` has the files, each with the words that were asked for last."""
 
+    program: Program
+    index: Index[F]
+    declared: set[bytes]
+
+    def catch_up(self) -> News | None:
+        """Takes in what other clients of a served image have changed since the last time, or returns None if that is nothing."""
+        if news := news_of_others(self.program):
+            self._take_names(news)
+            self._take_words(news)
+        return news
+
+    def _take_names(self, news: News) -> None:
+        for old, new in news.renamed:
+            if file := self.index.files.get(old):
+                if new in self.index.files:
+                    self._is_removed(self.index.files[new])
+                self.index.rename(file, new)
+        gone = self.index.files.keys() - news.files.keys() if news.whole else self.index.files.keys() & news.gone
+        for name in gone:
+            self._is_removed(self.index.files[name])
+
+    def _take_words(self, news: News) -> None:
+        """Takes in the words that files were given, the declared words and the axioms. Whatever these may touch is asked for again."""
+        stale = {self._is_there(name, size, words) for name, (size, words) in news.files.items()}
+        if news.whole or any(map(is_test, news.declared | news.undeclared)):
+            stale.update(self.index.files.values())
+        for left, _ in news.axioms | news.unaxioms:
+            stale.update(self.index.of(self.index.having(left)))
+        self.declared = set(news.declared) if news.whole else self.declared - news.undeclared | news.declared
+        self._take_axioms(news)
+        self._is_stale(stale)
+
+    def _is_there(self, name: bytes, size: int, words: frozenset[bytes]) -> F:
+        """A file that another client has made, or changed."""
+        file = self.index.files.get(name)
+        if file is None:
+            return self.index.add(name, size, words)
+        file.size, file.given = size, words
+        return file
+
+    def _is_removed(self, file: F) -> None:
+        """That another client has removed a file."""
+        self.index.drop(file)
+
+    def _take_axioms(self, news: News) -> None:
+        """Takes in the axioms that others have added and removed."""
+
+    def _is_stale(self, files: set[F]) -> None:
+        """That the words of files may be others than those that are known."""
+        raise NotImplementedError
+
+
+class Image(Following[F]):
     @overload
     def __init__(self: Image[File], program: Program, dump: Dump, limits: Limits) -> None: ...
 
@@ -51,7 +107,7 @@ class Image(Generic[F]):
     def __init__(self, program: Program, dump: Dump, limits: Limits, kind: Kind[File] = File) -> None:
         self.program, self.limits, self.declared = program, limits, set(dump.declared)
         # Without a kind F is `File`.
-        self.index: Index[F] = Index(cast(Kind[F], kind))
+        self.index = Index(cast(Kind[F], kind))
         for name, (size, words) in dump.files.items():
             self.index.add(name, size, words)
 
@@ -61,29 +117,41 @@ class Image(Generic[F]):
 
     def asked(self, *commands: Words) -> list[Reply]:
         """The replies to commands that change no place, or go to one and back, sent ahead of each other. Raises the first refusal."""
+        found = self._answers(commands)
+        for answer in found:
+            if isinstance(answer, Refused):
+                raise answer
+        return [answer for answer in found if not isinstance(answer, Refused)]
+
+    def _answers(self, commands: Sequence[Words]) -> list[Reply | Refused]:
+        """The replies and the refusals, in order."""
         for command in commands:
             # Nothing is sent if one of them can't be.
-            item(command)
+            item(command, None, self.program.longest)
         for command in commands:
             self.program.send(*command)
-        replies: list[Reply] = []
-        refusal: Refused | None = None
+        found: list[Reply | Refused] = []
         for command in commands:
             try:
-                replies.append(self.program.receive())
+                found.append(self.program.receive())
             except Refused as refused:
-                refused.command = command[0].decode()
-                refusal = refusal or refused
-        if refusal:
-            raise refusal
-        return replies
+                refused.command, refused.given = command[0].decode(), tuple(command[1:])
+                found.append(refused)
+        return found
 
     def describe(self, files: Iterable[F]) -> set[bytes]:
         """Asks for the words of files. The words that no file has any more."""
         files, lost = list(files), set()
-        for file, words in zip(files, self.told(*((b"props", file.name) for file in files))):
-            lost |= self.index.describe(file, frozenset(text for _, text in words))
+        for file, answer in zip(files, self._answers([(b"props", file.name) for file in files])):
+            if not isinstance(answer, Refused):
+                lost |= self.index.describe(file, frozenset(text for _, text in as_lines(answer).body))
+            elif not (isinstance(self.program, Joined) and answer.number == NO_FILE_HERE):
+                raise answer
+            # Else another client has just removed or renamed it, as the next news say.
         return {word for word in lost if not self.index.having(word)}
+
+    def _is_stale(self, files: set[F]) -> None:
+        self.describe(files)
 
     def counts(self) -> dict[str, int]:
         """The counts of `stat`, by their names."""

@@ -48,6 +48,8 @@ class Index(Generic[F]):
         self._free: list[int] = []
 
     def add(self, name: bytes, size: int, given: Iterable[bytes]) -> F:
+        """A file of this name, where there was none, or where another client of the image has just removed it."""
+        self._make_way(name)
         if not self._free:
             self._free.append(len(self._of_bits))
             self._of_bits.append(None)
@@ -67,12 +69,19 @@ class Index(Generic[F]):
         return lost
 
     def rename(self, file: F, name: bytes) -> None:
+        self._make_way(name)
         del self.files[file.name]
         file.name = name
         self.files[name] = file
 
+    def _make_way(self, name: bytes) -> None:
+        if name in self.files:
+            self.drop(self.files[name])
+
     def describe(self, file: F, words: frozenset[bytes]) -> set[bytes]:
-        """From now on the file has these words. The words that no file has any more."""
+        """From now on the file has these words. The words that no file has any more. One that was removed has none."""
+        if self.files.get(file.name) is not file:
+            return set()
         lost = set()
         for word in file.words - words:
             if left := self._rows[word] & ~file.bit:

@@ -7,6 +7,7 @@
 from __future__ import annotations
 
 import errno
+from collections.abc import Container, Sequence
 from typing import NamedTuple, Protocol
 
 from lisfs.constants import (
@@ -14,7 +15,8 @@ from lisfs.constants import (
     LARGE_FORMULA, LONG_LINE, MAX_ASSIGNED, MAX_DESCRIPTION, MAX_FILE, MAX_FORMULA, MAX_LARGE_FILE, MAX_LINE, MAX_NODES, NAME_TAKEN, NO_AXIOM,
     NO_AXIOM_ROOM, NO_FILE_HERE, NO_FILE_ROOM, NO_PROPERTY_ROOM, NO_SPACE, NOT_A_PLACE, NOT_ASSIGNABLE, NOT_DECLARED, NOT_IN_FORM, OTHER_MARKS,
     PAYLOAD_END, TOO_MANY_ASSIGNED, UNKNOWN_PROPERTY)
-from lisfs.words import NAME_FORM
+from lisfs.formulas import words_in
+from lisfs.words import NAME_FORM, head_of, is_file_name, is_plain, is_test, is_word
 
 
 class Refusal(NamedTuple):
@@ -27,9 +29,11 @@ class Refusal(NamedTuple):
 
 
 class Numbered(Protocol):
-    """A refusal of the program, as `client.Refused` is."""
+    """A refusal of the program, as `client.Refused` is: of this command, with the words behind its name."""
 
     number: int
+    command: str
+    given: tuple[bytes, ...]
 
 
 class OfCommand(NamedTuple):
@@ -39,6 +43,8 @@ class OfCommand(NamedTuple):
     sentence: str | None = None
 
 
+# By this number a server refuses to change a file that another client has changed. The program has no such number.
+CHANGED = 0
 *HEADS, LAST_HEAD = (head.decode() for head in BUILT_IN_HEADS)
 NO_WORDS = "has `|`, `!` or a test in it, and so no words of its own"
 REFUSALS = {
@@ -140,12 +146,71 @@ def sentence(number: int, command: str | None = None) -> str:
             or f"The program refuses it, by number {number}.")
 
 
+# So many words after these commands are names of files, and so many more are no words of files.
+NAMES = {"create": 1, "add": 1, "write": 1, "cat": 1, "mv": 1, "rename": 2, "rm": 1, "props": 1, "way": 1}
+OTHERS = {"add": 1, "write": 1}
+FORMULAS = ("cd", "mv")
+
+
+def about(refusal: Numbered, known: Container[bytes]) -> list[bytes]:
+    """The words of a command that a refusal as `no 01` or `no 06` is about; none of another refusal. `known` has the words that are declared, and
+    for `cd` all that are known. If these don't show which it is, it may be any."""
+    names = NAMES.get(refusal.command, 0)
+    behind = list(refusal.given[names + OTHERS.get(refusal.command, 0):])
+    if refusal.number == BAD_LINE:
+        bad = [word for word in behind if not is_word(word) and not is_test(word) and refusal.command not in FORMULAS]
+        return [word for word in refusal.given[:names] if not is_file_name(word)] + bad
+    if refusal.number != UNKNOWN_PROPERTY:
+        return []
+    if refusal.command in FORMULAS:
+        behind = words_in(behind[0])
+    elif refusal.command == "axiom":
+        # The right side is looked at first.
+        behind = [word for word in behind[1:] if word not in known] or behind[:1]
+    unknown = [word for word in behind if word not in known and (refusal.command == "cd" or not is_value_of(word, known))]
+    return unknown or behind
+
+
+def is_value_of(word: bytes, known: Container[bytes]) -> bool:
+    """Whether a word is a value of a known head."""
+    head = head_of(word)
+    return head is not None and head != word and head in known
+
+
+def named(refusal: Numbered, known: Container[bytes] = frozenset()) -> str:
+    """A refusal as it is shown, with the words that it is about."""
+    words = about(refusal, known)
+    return f"{refusal}: {said(words)}" if words else str(refusal)
+
+
+def said(words: Sequence[bytes]) -> str:
+    """Words, one after the other."""
+    return ", ".join(word.decode(errors="backslashreplace") for word in words)
+
+
+def sentence_about(number: int, command: str | None, words: Sequence[bytes]) -> str:
+    """The sentence of a refusal, which names the words that it is about."""
+    if not words or number not in (BAD_LINE, UNKNOWN_PROPERTY):
+        return sentence(number, command)
+    this, are, them = ("this word", "is", "it") if len(words) == 1 else ("these words", "are", "them")
+    if number == BAD_LINE:
+        return f"{said(words)}: {'no word or name' if len(words) == 1 else 'no words or names'}. {sentence(number, command)}"
+    if command == "mkdir":
+        return f"{said(words)}: {this} of the place {are} not declared, so nothing can be declared under {them}."
+    if command in ("create", "add", "mv"):
+        needed = list(dict.fromkeys(word if is_plain(word) else head_of(word) or word for word in words))
+        return f"{said(words)}: not declared. Declare {said(needed)} first."
+    return f"{said(words)}: not known here. No file has {them}, and nobody has declared {them}."
+
+
 def error_of(number: int) -> int:
     """The error of a file system that a refusal is."""
     return number in REFUSALS and REFUSALS[number].error or errno.EIO
 
 
-def cause_of(refusal: Numbered) -> str:
-    """The cause in some words, or else the refusal as it is shown."""
+def cause_of(refusal: Numbered, known: Container[bytes] = frozenset()) -> str:
+    """The cause in some words, or else the refusal as it is shown, with the words that it is about."""
+    if refusal.number == CHANGED:
+        return "another client has changed it meanwhile"
     row = REFUSALS.get(refusal.number)
-    return row and row.cause or str(refusal)
+    return row and row.cause or named(refusal, known)

@@ -1,14 +1,18 @@
 """Serves an image to up to eight clients at a time over a Unix socket, each as if it had `lisfs run IMAGE` for itself.
 
-usage: tools/serve IMAGE SOCKET
-       tools/talk SOCKET < session
+usage: tools/serve IMAGE [SOCKET]
+       tools/talk IMAGE < session
+
+Without SOCKET the socket is IMAGE.socket, beside the image. There `tools/shell`, `tools/sync`, `tools/browse`, `tools/mount`, `tools/edit` and
+`tools/talk` find it: given IMAGE, they are clients of the server, and each sees what the others change.
 
 A client is a connection to the socket. It sends what it would give to `run`, and gets the replies of `run`. It begins at the root and has
-its own place; the files are the same for all. It differs from `run` in two things:
+its own place; the files are the same for all. It differs from `run` in three things:
 
 - A line has at most 1,021 bytes before its line feed. A longer one is refused as 2.
 - A command runs when it is complete, with its line feeds. If a client ends, its half command does nothing. If the client was cut off within
   a payload and still reads, it gets `no 03 cut payload`; a last line without a line feed has no reply.
+- Lines that begin with `:` are for the server: by them the tools learn what others have changed (`lisfs/history.py` has them).
 
 Of each client one command runs at a time, and the server looks at the next one when the reply has gone out. So a client waits for at most
 seven others, and one that does not read delays nobody. A ninth client gets one line that says so, and its connection is closed.
@@ -39,16 +43,20 @@ import socket
 import stat
 import sys
 import time
-from collections.abc import Callable, Iterator
+from collections.abc import Callable, Iterator, Sequence
 from typing import NamedTuple, NoReturn, Protocol, TypeAlias
 
-from lisfs.client import FULL, PROGRAM, ROOM_LINE, Ended, Items, NotAReply, Program, item, missing
+from lisfs.client import FULL, ROOM_LINE, Ended, Item, Items, NotAReply, Program, item, missing, words_of
 from lisfs.constants import CUT_PAYLOAD, REFUSAL_WORDS, ROOMS
+from lisfs.dumps import STOPS, NotADump, dumped, opened_by, started
+from lisfs.endings import quiet
+from lisfs.history import OK, PLACED, History
+from lisfs.opening import waiting
+from lisfs.served import socket_of
 from lisfs.showing import harmless
 
 READ, WRITE = selectors.EVENT_READ, selectors.EVENT_WRITE
-ENDING = (signal.SIGTERM, signal.SIGINT, signal.SIGHUP)
-ROOT = item([b"cd", b"/"])
+ROOT, PLACE = item([b"cd", b"/"]), item([b"pwd"])
 # What `run` shows where its input ends within a payload. The program can't be told of such an end, since its own input goes on.
 CUT = f"no {CUT_PAYLOAD:02} {REFUSAL_WORDS[CUT_PAYLOAD]}\n".encode()
 # How many bytes are read at once.
@@ -78,28 +86,28 @@ class Signals:
 
     def __init__(self) -> None:
         self.has_come = False
-        self._program: Program | None = None
-        # What is ignored, as by `nohup`, stays so.
-        self.numbers = [number for number in ENDING if signal.getsignal(number) != signal.SIG_IGN]
+        self._kill_after: Callable[[float], None] | None = None
         self._come, sent = os.pipe()
         os.set_blocking(sent, False)
         signal.set_wakeup_fd(sent, warn_on_full_buffer=False)
-        for number in self.numbers:
-            signal.signal(number, self._hear)
+        for number in STOPS:
+            # What is ignored, as by `nohup`, stays so.
+            if signal.getsignal(number) != signal.SIG_IGN:
+                signal.signal(number, self._hear)
 
     def fileno(self) -> int:
         return self._come
 
     def _hear(self, *_: object) -> None:
-        if self._program and not self.has_come:
-            self._program.kill_after(PATIENCE)
+        if self._kill_after and not self.has_come:
+            self._kill_after(PATIENCE)
         self.has_come = True
 
-    def end(self, program: Program) -> None:
-        """From now on they end this program too."""
-        self._program = program
+    def end(self, kill_after: Callable[[float], None]) -> None:
+        """From now on they end this program too, by this call."""
+        self._kill_after = kill_after
         if self.has_come:
-            program.kill_after(PATIENCE)
+            kill_after(PATIENCE)
 
     def wait(self, seconds: float) -> None:
         """Waits so long for one, and ends the server where one has come."""
@@ -108,10 +116,11 @@ class Signals:
 
 
 class Client:
-    """A connection, with what came and was not carried out, and what is to be sent."""
+    """A connection, with what came and was not carried out, and what is to be sent. No other one ever has its number."""
 
-    def __init__(self, connection: socket.socket) -> None:
+    def __init__(self, connection: socket.socket, number: int) -> None:
         self.connection, self.items, self.unsent, self.has_ended = connection, Items(ROOM_LINE), memoryview(b""), False
+        self.number = number
 
     def send(self) -> bool:
         """Sends what the client takes now. Whether it is still there."""
@@ -136,13 +145,19 @@ class Room:
     def __init__(self, number: int) -> None:
         self.number, self.is_fresh, self.is_awaiting = number, True, False
         self.client: Client | None = None
+        # Its place, where that is known, and a command that waits until it is.
+        self.place: bytes | None = None
+        self.held: Item | None = None
 
 
 class Awaited(NamedTuple):
-    """The room of a command that was sent and not replied to, and its client, or None where the reply goes to nobody."""
+    """The room of a command that was sent and not replied to, and its client, or None where the reply goes to nobody; its words, and the place
+    at which it runs, if that matters."""
 
     room: Room
     client: Client | None
+    words: Sequence[bytes]
+    place: bytes
 
 
 class HasFileno(Protocol):
@@ -154,8 +169,9 @@ Watched: TypeAlias = int | HasFileno
 
 
 class Server:
-    def __init__(self, program: Program, listener: socket.socket) -> None:
-        self.program, self.listener, self.is_ending, self.has_more = program, listener, False, False
+    def __init__(self, program: Program, listener: socket.socket, history: History) -> None:
+        self.program, self.listener, self.history, self.is_ending, self.has_more = program, listener, history, False, False
+        self.clients = 0
         self.rooms = [Room(number) for number in range(ROOMS)]
         # In the order of the commands.
         self.awaited: collections.deque[Awaited] = collections.deque()
@@ -203,7 +219,8 @@ class Server:
         connection.setblocking(False)
         if free:
             room = min(free, key=lambda room: room.is_awaiting)
-            room.client, room.is_fresh = Client(connection), False
+            self.clients += 1
+            room.client, room.is_fresh, room.held = Client(connection, self.clients), False, None
             self.go_on(room)
         else:
             with contextlib.suppress(OSError):
@@ -214,6 +231,7 @@ class Server:
         """Closes the connection of a room. The reply that it may await goes to nobody."""
         self.watch(client.connection, 0, None)
         client.connection.close()
+        self.history.leave(client.number)
         room.client = None
         if not self.is_ending:
             self.watch(self.listener, READ, self.take_client)
@@ -240,11 +258,24 @@ class Server:
             self.has_more = reply is not None
             if reply is None:
                 return
-            room, client = self.awaited.popleft()
+            awaited = self.awaited.popleft()
+            room, client = awaited.room, awaited.client
             room.is_awaiting = False
+            self.note(awaited, reply)
             if client and room.client is client:
                 client.unsent = memoryview(reply)
             self.go_on(room)
+
+    def note(self, awaited: Awaited, reply: bytes) -> None:
+        """Keeps in mind what a command has changed."""
+        room, client, words, place = awaited
+        if client is None:
+            # What the server asked itself: to go to the root, or which place it is.
+            room.place = b"/" if reply == OK else reply.partition(b"\n")[0].removeprefix(b"w ")
+        elif reply == OK and words[0] == b"cd":
+            room.place = None
+        elif reply == OK:
+            self.history.note(client.number, place, words)
 
     def go_on(self, room: Room) -> None:
         """Does what can be done in a room: sends what is unsent, then the next command, and closes it behind the last one."""
@@ -270,16 +301,29 @@ class Server:
     def begin_next(self, room: Room, client: Client) -> None:
         if not room.is_fresh:
             room.is_fresh = True
-            self.ask(room, None, *ROOT)
-        elif taken := client.items.take():
-            self.ask(room, client, *taken)
+            self.ask(room, None, ROOT)
+        elif taken := room.held or client.items.take():
+            room.held = None
+            self.begin(room, client, taken)
         elif client.has_ended:
             self.leave(room, client)
 
-    def ask(self, room: Room, client: Client | None, line: bytes, payload: bytes) -> None:
-        self.program.send_bytes(line, payload, room.number, wait=False)
+    def begin(self, room: Room, client: Client, taken: Item) -> None:
+        """Begins with a command: it is for the server itself, or for the program."""
+        # A line that is too long is refused, whatever it holds.
+        words = words_of(taken.line[:-1]) if len(taken.line) <= ROOM_LINE + 1 else []
+        if words and (reply := self.history.answer(client.number, words)) is not None:
+            client.unsent = memoryview(reply)
+        elif words and words[0] in PLACED and room.place is None:
+            room.held = taken
+            self.ask(room, None, PLACE)
+        else:
+            self.ask(room, client, taken, words)
+
+    def ask(self, room: Room, client: Client | None, taken: Item, words: Sequence[bytes] = ()) -> None:
+        self.program.send_bytes(*taken, room.number, wait=False)
         room.is_awaiting = True
-        self.awaited.append(Awaited(room, client))
+        self.awaited.append(Awaited(room, client, words, room.place or b"/"))
         self.push()
 
     def push(self) -> None:
@@ -419,14 +463,24 @@ def listening(path: str, signals: Signals) -> Iterator[socket.socket]:
         listener.close()
 
 
+def opened(image: str, signals: Signals) -> tuple[Program, History]:
+    """The program that serves an image, once that is open, and what the image holds. It gets none of the signals, also where a terminal sends
+    them to all: it ends with its input."""
+    def start() -> Program:
+        program = started(image, "rooms")
+        signals.end(program.kill_after)
+        return program
+
+    with waiting("serve", image):
+        program, dump = opened_by(lambda: dumped(image, False, STOPS, signals.end), start, image)
+    return program, History(dump, image)
+
+
 def serve(image: str, path: str, signals: Signals) -> None:
-    # The program gets none of the signals, also where a terminal sends them to all: it ends with its input.
-    with Program([PROGRAM, "rooms", image], rooms=True, unheard=signals.numbers) as program:
-        signals.end(program)
-        # Clients come when the image is open.
-        program.room(0).cd(b"/")
+    program, history = opened(image, signals)
+    with program:
         with listening(path, signals) as listener:
-            server = Server(program, listener)
+            server = Server(program, listener, history)
             server.watch(signals, READ, functools.partial(server.end, signals))
             try:
                 server.serve()
@@ -446,12 +500,13 @@ def cause_of(end: Ended, image: str, signals: Signals) -> str:
     return end.text or f"serve: {end}\n"
 
 
+@quiet
 def main() -> int:
-    if len(sys.argv) != 3 or sys.argv[1].startswith("-"):
+    if len(sys.argv) not in (2, 3) or sys.argv[1].startswith("-"):
         sys.exit(__doc__)
     if what := missing():
         fail(what)
-    image, path = sys.argv[1:]
+    image, path = sys.argv[1], (sys.argv[2:] or [socket_of(sys.argv[1])])[0]
     signals = Signals()
     try:
         serve(image, path, signals)
@@ -460,6 +515,8 @@ def main() -> int:
         return end.status if end.status >= 0 else 128 - end.status
     except NotAReply as error:
         fail(f"the program does not reply as lisfs does: {error}")
+    except NotADump as error:
+        fail(error)
     except OSError as error:
         fail(f"{error.filename or path}: {error.strerror or error}")
     return 0

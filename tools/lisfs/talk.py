@@ -1,19 +1,24 @@
 """Gives standard input to a server (`tools/serve`), and shows its replies, as `lisfs run` does with an image.
 
-usage: tools/talk SOCKET < session
+usage: tools/talk IMAGE < session
+       tools/talk SOCKET < session
 
-It exits with 0 when its input has ended and all replies were shown. A last line may lack its line feed, and so may a last payload. If
-there is no server, if it already has eight clients, or if it ends early, a line on standard error says so, and the status is 1. On a terminal,
-what is not text is shown as `^X`, `\\xNN` or `\\uNNNN`; elsewhere replies are written as they are.
+Given an image, it goes to the socket that `tools/serve IMAGE` has beside it. It exits with 0 when its input has ended and all replies were
+shown. A last line may lack its line feed, and so may a last payload. If there is no server, if it already has eight clients, or if it ends early,
+a line on standard error says so, and the status is 1. On a terminal, what is not text is shown as `^X`, `\\xNN` or `\\uNNNN`; elsewhere replies
+are written as they are.
 """
 import os
 import select
 import signal
 import socket
+import stat
 import sys
 from typing import NoReturn
 
 from lisfs.client import FULL, ROOM_LINE, Items, NotAReply, Replies
+from lisfs.endings import quiet
+from lisfs.served import socket_of
 from lisfs.showing import harmless
 
 INPUT, OUTPUT, PIECE = 0, 1, 65_536
@@ -94,7 +99,17 @@ class Talk:
         return harmless(reply, "\n\t").encode(sys.stdout.encoding, "backslashreplace") if self.is_terminal else reply
 
 
+def is_file(path: str) -> bool:
+    """Whether there is something that can be an image."""
+    try:
+        kind = os.stat(path).st_mode
+    except OSError:
+        return False
+    return stat.S_ISREG(kind) or stat.S_ISBLK(kind)
+
+
 def talk(path: str) -> None:
+    path = socket_of(path) if is_file(path) else path
     connection = socket.socket(socket.AF_UNIX)
     try:
         connection.connect(path)
@@ -109,12 +124,15 @@ def talk(path: str) -> None:
         fail(path, FULL.decode().rstrip() if talking.replies.shown == FULL else error)
 
 
+@quiet
 def main() -> int:
     if len(sys.argv) != 2 or sys.argv[1].startswith("-"):
         sys.exit(__doc__)
     signal.signal(signal.SIGINT, signal.SIG_DFL)
     try:
         talk(sys.argv[1])
+    except BrokenPipeError:
+        raise
     except OSError as error:
         sys.exit(f"talk: {error.strerror or error}")
     return 0

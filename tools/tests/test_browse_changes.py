@@ -74,7 +74,7 @@ def test_changes(small):
         assert answer.status == 303 and visitor.get("bytes", name=wanted).data == content, answer.data[:300]
     assert visitor.page().counts()[b"size>=1"] == 3
     all_of(AFTER)
-    assert "Nothing brings them back" in visitor.page("remove", name="todo").text and visitor.get("file", name="todo").status == 200
+    assert "come back only if you undo it" in visitor.page("remove", name="todo").text and visitor.get("file", name="todo").status == 200
     visitor.does("remove", {**token, "name": "todo", "at": "/"}, True, "The file is removed")
     assert visitor.get("file", name="todo").status == 404
     assert browsed.end(signal.SIGINT)[0] == 0

@@ -172,6 +172,33 @@ def test_a_word_given_and_taken(page):
     assert page.value(GIVEN) == "music" and "no more" in page.value("document.querySelector('.done').textContent")
 
 
+CHOSEN = "document.querySelectorAll('td.choice input:checked').length"
+
+
+def test_files_chosen(page):
+    """One box chooses all files of a page, also of one that a filter has found; they are tagged, and that is undone."""
+    page.click(".card a", "music")
+    page.click("main h1 + p a")
+    count = page.value("document.querySelectorAll('td.choice input').length")
+    page.click("th.choice input", leads=False)
+    assert page.value(CHOSEN) == count > 10
+    page.click("th.choice input", leads=False)
+    assert page.value(CHOSEN) == 0
+    page.click("#q", leads=False)
+    page.type("song1")
+    page.wait_for("document.querySelectorAll('td.choice input').length < 12")
+    page.click("th.choice input", leads=False)
+    page.click("td.choice input", leads=False)
+    chosen = page.value(CHOSEN)
+    page.click("#several input[name=word]", leads=False)
+    page.type("year:2050")
+    page.click("#several button", "Tag")
+    assert f"The word was given to {chosen} files." in page.value("document.querySelector('.done').textContent")
+    page.click(".undo button")
+    assert "The last change is undone" in page.value("document.querySelector('.done').textContent")
+    assert page.value("document.querySelectorAll('.undo').length") == 0
+
+
 def test_a_file_removed(page):
     show(page, "song39")
     page.click("main a", "Remove this file")

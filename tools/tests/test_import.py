@@ -2,11 +2,13 @@
 import os
 import re
 import subprocess
+import sys
 
 import pytest
 
 import support
 from lisfs.client import PROGRAM
+from lisfs.folder import bring
 from support import images
 from support.images import bytes_of, content, written
 from support.waiting import LONG
@@ -138,7 +140,7 @@ def shut(program, needs):
         told = Brought("open", more=other)
     except OSError as error:
         pytest.skip(f"no other user can be taken on: {error} (only root can)")
-    if told.status != 2 or "open is no folder" not in "\n".join(told.told):
+    if told.status != 2 or "open: not a folder" not in "\n".join(told.told):
         pytest.skip("no other user can run the tool here (it needs root, and a python3 for all users)")
     return other
 
@@ -215,3 +217,14 @@ def test_without_a_program(sources):
 
 def test_no_folder():
     assert Brought("nosuch").status == 2
+
+
+def test_refusals_are_named(program, monkeypatch, capsys):
+    """Of what no image holds it is said why, with the words that a refusal is about."""
+    for number in range(70):
+        written(f"top/d{number:02}/f", b"x")
+    monkeypatch.setattr(bring, "MAX_PROPS", 64)
+    monkeypatch.setattr(sys, "argv", ["import", "--by-folder", "top"])
+    assert bring.main() == 0
+    said = capsys.readouterr().err
+    assert re.search(r"the largest one refuses [0-9]+ lines: no room for more words \([0-9]+\); no 06 unknown property: d[0-9]{2}; ", said), said

@@ -189,7 +189,8 @@ def between_those():
     """How many commands of others were carried out between each two of those that came at once."""
     with open("notes", "rb") as notes:
         lines = notes.read().split(b"\n")
-    places = [number for number, line in enumerate(lines) if line.endswith(b" stat")]
+    # The first one is the server's own.
+    places = [number for number, line in enumerate(lines) if line.endswith(b" stat")][1:]
     return [later - earlier - 1 for number, (earlier, later) in enumerate(zip(places, places[1:])) if number % 20 != 19]
 
 

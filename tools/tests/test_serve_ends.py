@@ -22,6 +22,7 @@ until [ -e go ]; do sleep 0.01; done
 exec "$REAL" "$@"
 """
 LASTING = """#!/bin/sh
+[ "$1" = rooms ] || exec "$REAL" "$@"
 "$REAL" "$@"
 exec sleep 7200
 """

@@ -62,7 +62,7 @@ def test_sockets():
 def test_a_plain_file():
     written("plain", b"x").close()
     assert refusing("image1", "plain") == (1, "serve: plain: it is there, and no socket\n"), "a plain file"
-    assert talked(b"pwd\n", "plain") == (1, b"", "talk: plain: no server is there: Connection refused\n"), "no socket"
+    assert talked(b"pwd\n", "plain") == (1, b"", "talk: plain.socket: no server is there: No such file or directory\n"), "no socket"
     with open("plain", "rb") as plain:
         assert plain.read() == b"x", "it is as it was"
 
@@ -88,7 +88,7 @@ def test_a_wrong_patience(wrong):
     assert refusing("image1", patience=wrong) == (1, f"serve: LISFS_PATIENCE: no number of seconds: {wrong}\n"), f"a patience of {wrong}"
 
 
-@pytest.mark.parametrize("words", ([SERVE], [SERVE, "image"], [SERVE, "-h", "socket"], [SERVE, "a", "b", "c"], [TALK], [TALK, "-h"], [TALK, "a", "b"]),
+@pytest.mark.parametrize("words", ([SERVE], [SERVE, "-h"], [SERVE, "-h", "socket"], [SERVE, "a", "b", "c"], [TALK], [TALK, "-h"], [TALK, "a", "b"]),
                          ids=lambda words: " ".join([os.path.basename(words[0]), *words[1:]]))
 def test_wrong_use(words):
     told = subprocess.run(words, stdin=subprocess.DEVNULL, capture_output=True, check=False)

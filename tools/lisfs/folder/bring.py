@@ -2,6 +2,7 @@
 
 usage: tools/import [--word WORD].. [--by-folder] [--without PATTERN].. [--since DATE] [--newest N] [--v2] [--verbose] FOLDER > session
        ./lisfs run files.lis < session
+       tools/talk files.lis < session      (if files.lis is served by `tools/serve files.lis`)
 
 --word gives each file this word, and may be repeated. --by-folder gives a file a word for each folder below FOLDER that it is in. A mail
 gets words of its header (`date:2024-06`, `list:`, `who:`, `about:`). A piece of music gets those of its tags (`artist:`, `album:`, `genre:`,
@@ -30,6 +31,7 @@ The status is 0 if all was taken, 1 if something was not, and 2 for wrong use.
 from __future__ import annotations
 
 import argparse
+import collections
 import os
 import sys
 import tempfile
@@ -38,6 +40,7 @@ from typing import BinaryIO, NamedTuple
 
 from lisfs.client import PROGRAM, Ended, NotAReply, Program, counts_in
 from lisfs.constants import BLOCK_LEN, MAX_ASSIGNED, MAX_BLOCKS, MAX_FILES, MAX_PROPS, MAX_WORD, SLOT_BLOCKS
+from lisfs.endings import folder_fault, quiet
 from lisfs.folder import walk
 from lisfs.folder.carrying import ROOT, Job, Sender, Step, Words, fitting, session_word
 from lisfs.folder.entries import Entries, Entry, newest_first
@@ -45,8 +48,12 @@ from lisfs.folder.forms import folder_value
 from lisfs.folder.options import at_least_one, day
 from lisfs.folder.report import Telling, counted, left_out
 from lisfs.image import FILE_BYTES
-from lisfs.showing import harmless
+from lisfs.refusals import cause_of
+from lisfs.showing import harmless, write_line
 from lisfs.words import head_of, is_assignable, mapped
+
+# So many causes of refusals are named.
+SOME = 3
 
 
 class Options(argparse.Namespace):
@@ -218,8 +225,10 @@ class Import:
         elif largest.why:
             self.tell(f"the words that are derived from files are not counted, since {largest.why}")
         elif largest.refused:
-            self.tell(f"no image holds all of it: the largest one refuses {counted(largest.refused, 'line')}; --newest N takes the "
-                      "newest files")
+            some = [f"{cause} ({count})" if count > 1 else cause for cause, count in largest.refused.most_common(SOME)]
+            more = "; ..." if len(largest.refused) > SOME else ""
+            self.tell(f"no image holds all of it: the largest one refuses {counted(largest.refused.total(), 'line')}: {'; '.join(some)}{more}; "
+                      "--newest N takes the newest files")
         else:
             limits = [str(files), str(max(64, -(-largest.known // 64) * 64)), str(max(1, self.blocks))] + largest.version
             self.tell(f"an empty image has room for it from these limits on: {' '.join(limits)}")
@@ -237,7 +246,10 @@ class Largest:
     them, and `refused` how many lines it refused. `why` says why it can't tell."""
 
     def __init__(self, folder: str, version: int) -> None:
-        self.version, self.known, self.refused = ["v2"] if version == 2 else [], 0, 0
+        self.version, self.known = ["v2"] if version == 2 else [], 0
+        # How many lines it refused by each cause, and the words that it has declared.
+        self.refused: collections.Counter[str] = collections.Counter()
+        self._declared: set[bytes] = set()
         self.why: str | None = None
         self._image = os.path.join(folder, "image")
         self._session: Session | None = None
@@ -270,7 +282,10 @@ class Largest:
 
     def _job(self, words: Words, payload: bytes | None) -> Job:
         refusal = yield Step(ROOT, words, payload)
-        self.refused += refusal is not None
+        if refusal is not None:
+            self.refused[cause_of(refusal, self._declared)] += 1
+        elif words[0] == b"mkdir":
+            self._declared.add(words[1])
 
     def _sum_up(self, session: Session) -> None:
         session.sender.finish()
@@ -283,6 +298,7 @@ def blocks_of(size: int) -> int:
     return needed + 1 if needed > SLOT_BLOCKS else needed
 
 
+@quiet
 def main() -> int:
     parser = argparse.ArgumentParser(usage=__doc__.split("usage: ", 1)[1])
     parser.add_argument("--word", action="append", default=[])
@@ -300,8 +316,9 @@ def main() -> int:
             parser.error(f"{harmless(word)} can't be given to a file")
     if len(given) > MAX_ASSIGNED:
         parser.error(f"a file is given {MAX_ASSIGNED} words at most")
-    if not os.path.isdir(words.folder):
-        parser.error(f"{harmless(words.folder)} is no folder")
+    if fault := folder_fault(words.folder):
+        write_line(sys.stderr, f"import: {fault}")
+        return 2
     taking = Import(given, words.by_folder, 2 if words.v2 else 1, Telling("import", sys.stderr, words.verbose))
     taking.read(words)
     with tempfile.TemporaryDirectory() as folder:

@@ -15,13 +15,13 @@ from collections.abc import Generator, Iterator, Sequence
 from typing import NamedTuple, Protocol, TypeAlias
 
 from lisfs import derived
-from lisfs.client import PROGRAM, BodyLine, Program, Refused, counts_in
-from lisfs.constants import LARGE_DESCRIPTION, MAX_DERIVED, MAX_LINE, MAX_PAYLOAD, NO_FILE_ROOM, NO_PROPERTY_ROOM, NO_SPACE
+from lisfs.client import PROGRAM, ROOM_LINE, BodyLine, Program, Refused, counts_in
+from lisfs.constants import LARGE_DESCRIPTION, MAX_DERIVED, MAX_PAYLOAD, NO_FILE_ROOM, NO_PROPERTY_ROOM, NO_SPACE
 from lisfs.folder import memory, names, walk
 from lisfs.folder.changes import MARKER, Change, Changes, Done
 from lisfs.folder.entries import Entry, newest_first
 from lisfs.folder.room import Room, Short
-from lisfs.refusals import REFUSALS, cause_of
+from lisfs.refusals import REFUSALS, cause_of, named
 from lisfs.words import head_of, stem_of
 
 # So many commands, and bytes of files, are under way at most.
@@ -57,7 +57,7 @@ class Pending(NamedTuple):
     """A command that was sent, and how many bytes with it. The job is None if the command leads to the place of the next one."""
 
     job: Job | None
-    command: bytes
+    words: Words
     size: int
 
 
@@ -106,8 +106,8 @@ class Sender:
             self._take()
 
     def ask(self, *commands: Words) -> Iterator[list[BodyLine]]:
-        """The lines that commands show at the root, when each job has come to its end. None of them may be refused, and all lines have to be
-        taken."""
+        """The lines that commands show at the root, when each job has come to its end; all of them have to be taken. One is refused only if
+        another client of a served image has just removed its file: it shows none."""
         self.finish()
         if self._place != ROOT:
             self._program.cd(ROOT)
@@ -115,7 +115,10 @@ class Sender:
         for command in commands:
             self._program.send(*command)
         for _ in commands:
-            yield self._program.received_lines().body
+            try:
+                yield self._program.received_lines().body
+            except Refused:
+                yield []
 
     def _go_on(self, job: Job, refusal: Refused | None) -> None:
         try:
@@ -131,21 +134,23 @@ class Sender:
         self._program.send(*words, payload=payload)
         size = len(payload or b"")
         self._bytes += size
-        self._waiting.append(Pending(job, words[0], size))
+        self._waiting.append(Pending(job, words, size))
 
     def _take(self) -> None:
-        job, command, size = self._waiting.popleft()
+        job, words, size = self._waiting.popleft()
         self._bytes -= size
         refusal: Refused | None = None
         try:
             self._program.receive()
         except Refused as error:
             refusal = error
+            refusal.command, refusal.given = words[0].decode(), tuple(words[1:])
         if job is not None:
             self._go_on(job, refusal)
         elif refusal is not None:
-            # All that is under way would be done elsewhere. A place of words that files have is never refused.
-            raise RuntimeError(f"{command.decode()}: {refusal}")
+            # All that is under way would be done elsewhere. A place of words that files have is never refused, unless another client of a
+            # served image takes the last file from it.
+            raise RuntimeError(f"{refusal.command}: {named(refusal)}")
 
 
 class NoRoom(Exception):
@@ -250,7 +255,7 @@ class Carrying:
             self.plan.removed(name)
             self.told(Done.OLD if name in self.plan.out else Done.GONE, name)
         else:
-            self.failed(name.decode(), cause_of(refusal))
+            self.failed(name.decode(), cause_of(refusal, self.known))
 
     # A file that is new.
 
@@ -276,7 +281,7 @@ class Carrying:
                 break
         self.room.files += 1
         self._lacks(change, refusal.number if refusal else NO_PROPERTY_ROOM)
-        self.failed(entry.found.path, cause_of(refusal) if refusal else NO_MORE_WORDS)
+        self.failed(entry.found.path, cause_of(refusal, self.known) if refusal else NO_MORE_WORDS)
 
     def _candidates(self, change: Change, content: bytes) -> Iterator[tuple[bytes, Sequence[bytes]]]:
         """Names and words for which there is room, as far as is known, each to be tried if the one before was refused."""
@@ -339,7 +344,7 @@ class Carrying:
             self.halves[change.key] = Half(name, done)
         else:
             self._lacks(change, refusal.number)
-            self.failed(entry.found.path, cause_of(refusal))
+            self.failed(entry.found.path, cause_of(refusal, self.known))
 
     def _end(self, change: Change, half: Half) -> Job:
         """The second half: the words that come."""
@@ -430,8 +435,8 @@ def most_words(change: Change) -> int:
 
 
 def fitting(name: bytes, words: Sequence[bytes]) -> tuple[list[bytes], Sequence[bytes]]:
-    """A name and as many words as fit the line that makes a file, and the words that don't."""
-    room, line = MAX_LINE - len(b"add  %d" % MAX_PAYLOAD) - len(name), [name]
+    """A name and as many words as fit the line that makes a file, also one of a served image, and the words that don't."""
+    room, line = ROOM_LINE - len(b"add  %d" % MAX_PAYLOAD) - len(name), [name]
     for number, word in enumerate(words):
         room -= len(word) + 1
         if room < 0:

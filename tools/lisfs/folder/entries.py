@@ -89,7 +89,7 @@ class Entries:
     is asked of `remembered` first."""
 
     def __init__(self, top: str, largest: int, folder_words: Callable[[walk.Parts], list[bytes]], leave: walk.Leave, look: Callable[[], None],
-                 without: Sequence[str] = (), passed: os.stat_result | None = None, remembered: cache.Cache | None = None) -> None:
+                 without: Sequence[str] = (), passed: Sequence[os.stat_result] = (), remembered: cache.Cache | None = None) -> None:
         self.walk, self.largest, self.folder_words, self.look = walk.Walk(top, leave, without, passed), largest, folder_words, look
         self.all: list[Entry] = []
         self.tagless, self.is_deaf = 0, False

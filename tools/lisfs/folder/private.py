@@ -10,7 +10,11 @@ from collections.abc import Iterator
 
 from lisfs.client import held
 from lisfs.constants import BLOCK_LEN, MAX_IMAGE_BLOCKS
+from lisfs.dumps import NotADump
+from lisfs.opening import joined
 
+# So often the copy of a served image is made again, if another client has changed the image meanwhile.
+TRIES = 8
 # So many bytes are copied at a time. Those that are all zero are left out, so that the copy takes no more room than the image.
 PIECE = 65_536
 
@@ -35,7 +39,22 @@ def copy_image(image: str, path: str) -> None:
     if not (stat.S_ISREG(kind) or stat.S_ISBLK(kind) or stat.S_ISDIR(kind)):
         # A pipe would be waited for. Of a folder the system says what is wrong.
         raise OSError(errno.EINVAL, "not a file or a block device", image)
-    with held(image), open(image, "rb", buffering=0) as source, open(path, "xb") as copy:
+    session = joined("sync", image)
+    if session is None:
+        with held(image):
+            copy_bytes(image, path)
+        return
+    with session.program:
+        for _ in range(TRIES):
+            before = session.program.changes()
+            copy_bytes(image, path)
+            if session.program.changes() == before:
+                return
+    raise NotADump(f"{image} changes all the time")
+
+
+def copy_bytes(image: str, path: str) -> None:
+    with open(image, "rb", buffering=0) as source, open(path, "wb") as copy:
         size = min(source.seek(0, os.SEEK_END), MAX_IMAGE_BLOCKS * BLOCK_LEN)
         copy.truncate(size)
         for at in range(0, size, PIECE):

@@ -21,7 +21,8 @@ A file is named after its path below the folder, with `+` instead of `/`. If tha
 of its Message-ID, or of its path if it has none, and ends with `.eml`. So names are the same at each run.
 
 --without skips files and folders with such a name, as `.git` or `*.o`, and may be repeated. The image itself is skipped too, if it is in the
-folder. No symbolic link below the folder is followed.
+folder, and its socket if it is served. No symbolic link below the folder is followed. Over a served image `sync` is a client of its server, and
+what another client changes during the run is left as it is.
 
 --since DATE takes the files from a day, a month or a year on (2024-06-03, 2024-06, 2024), and --newest N the N newest files. The date of a
 mail is that of its header, and of another file the time of its last change. An older file does not come in. If it is in the image it is
@@ -70,9 +71,11 @@ from collections.abc import Sequence
 from fractions import Fraction
 from typing import NoReturn
 
+from lisfs import opening
 from lisfs.client import PROGRAM, Ended, Locked, NotAReply, Program, missing
 from lisfs.constants import MAX_ASSIGNED, MAX_DERIVED, MAX_DESCRIPTION, MAX_WORD
-from lisfs.dumps import Dump, NotADump, opened
+from lisfs.dumps import Dump, NotADump
+from lisfs.endings import folder_fault, quiet
 from lisfs.folder.cache import Cache, Nothing, Remembered
 from lisfs.folder.carrying import Carrying, NoRoom, Sender, session_word
 from lisfs.folder.changes import MARKER, Changes, Done, Wishes, folder_words
@@ -84,6 +87,7 @@ from lisfs.folder.private import private_copy
 from lisfs.folder.report import Telling, counted, left_out
 from lisfs.folder.room import RESERVE, Room, kept_free
 from lisfs.image import limits_of
+from lisfs.served import Joined, socket_of
 from lisfs.showing import harmless, write_line
 from lisfs.words import PLAIN_FORM, PLAIN_RUN
 
@@ -152,20 +156,25 @@ class Sync:
     def run(self) -> None:
         with contextlib.ExitStack() as stack:
             if self.words.dry_run:
+                self.telling.clear()
                 self.path = stack.enter_context(private_copy(self.image))
             room = self.look()
             entries, remembered = self.read(room.limits.file_bytes)
             if not self.words.dry_run:
                 remembered.save()
-            program, dump = opened(self.path, word=session_word(), with_digests=True)
+            self.telling.clear()
+            program, dump = opening.opened("sync", self.path, session_word(), with_digests=True)
             with program:
+                if isinstance(program, Joined):
+                    # What another client changes from now on is not written over.
+                    program.guard()
                 self.carry(program, self.make_plan(entries, dump, program), room)
 
     def look(self) -> Room:
         """Whether the image can be opened, before anything takes long, and what there is room for in it."""
         if what := missing():
             raise Failed(what)
-        Program([PROGRAM, "run", self.path]).close()
+        opening.tried("sync", self.path)
         try:
             limits = limits_of(self.path)
         except (OSError, struct.error) as error:
@@ -188,7 +197,7 @@ class Sync:
         if not self.words.no_cache:
             remembered = Remembered(self.folder)
         folders = no_words if self.words.flat else folder_words
-        self.entries = entries = Entries(self.folder, largest, folders, self.telling.leave, look, self.words.without, os.stat(self.image), remembered)
+        self.entries = entries = Entries(self.folder, largest, folders, self.telling.leave, look, self.words.without, own_files(self.image), remembered)
         entries.read()
         entries.choose(self.words.since, self.words.newest)
         return entries, remembered
@@ -328,6 +337,14 @@ class Sync:
         return not (carrying and (carrying.without or carrying.too_many or carrying.lean or carrying.is_forgetful))
 
 
+def own_files(image: str) -> list[os.stat_result]:
+    """The image, and the socket beside it if it is served: neither is one of the folder's files."""
+    found = [os.stat(image)]
+    with contextlib.suppress(OSError):
+        found.append(os.lstat(socket_of(image)))
+    return found
+
+
 def no_words(_: Sequence[str]) -> list[bytes]:
     return []
 
@@ -375,13 +392,15 @@ def options() -> Options:
     longest = MAX_WORD - len(MARKER + b":")
     if words.name is not None and not (PLAIN_RUN.fullmatch(os.fsencode(words.name)) and len(words.name) <= longest):
         parser.error(f"{harmless(words.name)} is no name: it has 1 to {longest} {PLAIN_FORM}")
-    if not os.path.isdir(words.folder):
-        parser.error(f"{harmless(words.folder)} is no folder")
     return words
 
 
+@quiet
 def main() -> int:
     words = options()
+    if fault := folder_fault(words.folder):
+        write_line(sys.stderr, f"sync: {fault}")
+        return 2
     for number in STOPS:
         # What is ignored, as by `nohup`, stays so.
         if signal.getsignal(number) == signal.SIG_DFL:
@@ -391,13 +410,14 @@ def main() -> int:
     amiss: str | None = None
     try:
         syncing.run()
+    except BrokenPipeError:
+        raise
     except (Ended, Failed, NoRoom, NotADump, NotAReply, OSError, RuntimeError, KeyboardInterrupt, Stopped) as error:
         amiss = cause(error, words.image).replace(syncing.path, words.image)
         amiss += "; the next run goes on" if syncing.carrying and not words.dry_run else ""
     telling.clear()
-    with contextlib.suppress(BrokenPipeError):
-        syncing.report()
-        sys.stdout.flush()
+    syncing.report()
+    sys.stdout.flush()
     if amiss:
         write_line(sys.stderr, f"sync: {amiss}")
     return 0 if amiss is None and syncing.is_whole() else 1

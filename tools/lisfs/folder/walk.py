@@ -68,9 +68,9 @@ class Waiting(NamedTuple):
 
 class Walk:
     """Walks through a folder. What is no file to take is told by `leave(path, why)`. What has a name as one of `without`, patterns of a
-    shell, is passed over, and so is the file that `passed` describes. `is_blind` says whether there may be files that were not seen."""
+    shell, is passed over, and so are the files that `passed` describes. `is_blind` says whether there may be files that were not seen."""
 
-    def __init__(self, top: str, leave: Leave, without: Sequence[str] = (), passed: os.stat_result | None = None) -> None:
+    def __init__(self, top: str, leave: Leave, without: Sequence[str] = (), passed: Sequence[os.stat_result] = ()) -> None:
         self.top, self.leave, self.without, self.passed, self.is_blind = top, leave, without, passed, False
 
     def files(self) -> Iterator[Found]:
@@ -106,10 +106,10 @@ class Walk:
         if isinstance(kind, OSError):
             # It may be a folder.
             found.problem, self.is_blind = kind.strerror, True
+        elif any(os.path.samestat(kind, passed) for passed in self.passed):
+            return
         elif not stat.S_ISREG(kind.st_mode):
             self.leave(found.path, NO_FILE)
-            return
-        elif self.passed and os.path.samestat(kind, self.passed):
             return
         else:
             found.kind, found.size = kind, kind.st_size

@@ -7,23 +7,24 @@ is stored, or named if that fails. --derived also shows as folders the words tha
 --allow-other lets other users look, if the modes allow it: files begin as 0600 and folders as 0700.
 A listing shows folders of two words, and of one word if the image has more than 250 files, so that `find` ends. Others open by their names.
 
-One `lisfs run IMAGE` runs each change, and an answer comes after its `ok`. What is between a program and these commands is not proved.
+One `lisfs run IMAGE` runs each change, and an answer comes after its `ok`. If the image is served (`tools/serve IMAGE`), the mount is a client of
+its server, and shows what other clients change. What is between a program and these commands is not proved.
 
 The status is 0 after a requested end if the image has all that was written, 1 if something is wrong, which a line says, and 2 for wrong use.
 """
 import argparse
 import os
-import sys
 
 from lisfs.client import Ended, NotAReply, missing
-from lisfs.dumps import NotADump, opened
-from lisfs.endings import cause_of
+from lisfs.dumps import NotADump
+from lisfs.endings import cause_of, folder_fault, quiet, say
 from lisfs.image import limits_of
 from lisfs.mount.attach import NotMounted, answered, mounted, stops
 from lisfs.mount.image import Image
 from lisfs.mount.kernel import Connection
 from lisfs.mount.tree import Tree
-from lisfs.showing import write_line
+from lisfs.opening import opened
+from lisfs.served import Joined
 
 
 class Options(argparse.Namespace):
@@ -36,17 +37,16 @@ class Options(argparse.Namespace):
 
 
 def tell(line: str) -> None:
-    write_line(sys.stderr, f"mount: {line}")
+    say(f"mount: {line}")
 
 
 def run(image: str, folder: str, with_derived: bool, others: bool) -> int:
     """The status."""
     if what := missing():
         raise NotMounted(what)
-    if not os.path.isdir(folder):
-        os.stat(folder)
-        raise NotMounted(f"{folder}: not a folder")
-    program, dump = opened(image)
+    if fault := folder_fault(folder):
+        raise NotMounted(fault)
+    program, dump = opened("mount", image)
     # However it goes, nobody has the image any more at the end.
     with stops() as stop, program:
         tree = Tree(Image(program, dump, limits_of(image)), with_derived, os.stat(image).st_mtime_ns, others)
@@ -59,10 +59,11 @@ def run(image: str, folder: str, with_derived: bool, others: bool) -> int:
         finally:
             tree.finish()
     if not is_wanted:
-        tell(f"{image}: the program has ended")
+        tell(f"{image}: the {'server' if isinstance(program, Joined) else 'program'} has ended")
     return 0 if is_wanted and not tree.has_lost else 1
 
 
+@quiet
 def main() -> int:
     parser = argparse.ArgumentParser(usage=__doc__.split("usage: ", 1)[1])
     parser.add_argument("--derived", action="store_true")

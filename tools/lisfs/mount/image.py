@@ -21,6 +21,7 @@ from lisfs.dumps import Dump
 from lisfs.formulas import Place
 from lisfs.image import Limits
 from lisfs.mount.nodes import File
+from lisfs.served import Joined, News
 from lisfs.words import TEST, head_of, is_head, is_plain, is_test, is_word
 
 # So many bytes of files are kept in memory, those that were looked at last.
@@ -64,6 +65,8 @@ class Image(image.Image[File]):
         # The file that waits, or None. How many words a new file at a place may bring, by the words of the place and the ending of the name,
         # and how many more there surely is room for.
         self.waiting: File | None = None
+        # Those that another client has made, until somebody says how they look.
+        self.fresh: list[File] = []
         self.brought: dict[tuple[tuple[bytes, ...] | None, bytes], int] = {}
         self.spare = 0
 
@@ -86,6 +89,45 @@ class Image(image.Image[File]):
         self._number(file)
         self.stale.add(file)
         return file
+
+    # What others change.
+
+    def _is_there(self, name: bytes, size: int, words: frozenset[bytes]) -> File:
+        if name in self.files:
+            return super()._is_there(name, size, words)
+        file = self._take(name, size, words)
+        self.fresh.append(file)
+        return file
+
+    def _is_removed(self, file: File) -> None:
+        self._forget(file)
+        file.is_lost = True
+
+    def _take_axioms(self, news: News) -> None:
+        if news.whole:
+            self.axioms.clear()
+        for left, right in news.axioms:
+            self.axioms.setdefault(left, set()).add(right)
+        for left, right in news.unaxioms:
+            self.axioms.get(left, set()).discard(right)
+        self.lefts.clear()
+        for left, rights in self.axioms.items():
+            for right in rights:
+                self.lefts.setdefault(right, set()).add(left)
+        self.brought.clear()
+
+    def _is_stale(self, files: set[File]) -> None:
+        if any(map(is_test, self.declared)) or any(map(self.is_derived, self.axioms)):
+            # A derived word, or a size, may bring a declared one.
+            files = files | self.unasked
+        self.stale |= files
+        self.unasked -= files
+
+    def catch_up(self) -> News | None:
+        if news := super().catch_up():
+            for name in self.files.keys() if news.whole else news.written & self.files.keys():
+                self._drop(self.files[name])
+        return news
 
     # What is known of words.
 
@@ -298,6 +340,9 @@ class Image(image.Image[File]):
     def _is_sure(self, name: bytes, place: Place, given: list[bytes]) -> bool:
         """Whether the program would make an empty file with these words, by `create` or by `add`."""
         if name in self.files or len(self.files) >= self.limits.files or not len(place.words or ()) == len(given) <= MAX_ASSIGNED:
+            return False
+        if isinstance(self.program, Joined):
+            # Another client may make a file of this name, or take the room.
             return False
         if len(b" ".join((b"add", name, b"%d" % self.limits.file_bytes, *given))) > MAX_LINE:
             return False

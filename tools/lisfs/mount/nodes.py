@@ -57,6 +57,8 @@ class File(index.File):
         super().__init__(name, size, given, bit)
         self.number, self.is_gone = 0, False
         self.refusal: Refused | None = None
+        # Whether it is another client of a served image that removed it.
+        self.is_lost = False
         # The tree says how it looks. How often it is open, and where the kernel knows it.
         self.looks, self.handles = Looks(0, 0, 0, 0), 0
         self.draft: Draft | None = None

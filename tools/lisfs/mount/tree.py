@@ -14,20 +14,20 @@ import errno
 import functools
 import os
 import stat
-import sys
 import time
 from collections.abc import Callable
 from typing import Concatenate, ParamSpec, TypeVar
 
 from lisfs.client import Ended, NotAReply, NotSent, Refused
 from lisfs.constants import BLOCK_LEN, MAX_WORD
+from lisfs.endings import say
 from lisfs.formulas import PART_LIMIT, ROOT, NotAFormula, Place, TooLarge, Word, part
 from lisfs.mount.image import Image
 from lisfs.mount.kernel import KEEP_CACHE, NO_FLUSH, Attributes, Caller, Changed, Changes, Created, Entry, Opened, Space
 from lisfs.mount.nodes import Draft, File, Folder, Handle, Leaf, Listed, Looks, Node, Shelf, Shows, inode_of, leaf_inode
 from lisfs.mount.shown import shown
 from lisfs.refusals import error_of
-from lisfs.showing import write_line
+from lisfs.served import Joined
 from lisfs.words import FILE_NAME, head_of
 
 ALL, BY = b":all", b":by"
@@ -37,7 +37,7 @@ SHOWS = {BY: Shows.DERIVED, ALL: Shows.FILES}
 # mounted folder where the image has no file of the name, and in no listing.
 MARKERS = (b".metadata_never_index", b".noindex", b".nomedia", b".trackerignore")
 FOLDER_KIND, FILE_KIND = 4, 8
-# For so long the kernel may keep attributes, since it is told when they change.
+# For so long the kernel may keep attributes, since it is told when they change; and none at all of a served image, which others change too.
 KEPT_SECONDS = 3_600
 ROOT_NUMBER, NO_REPLACEMENT = 1, 1
 LINKS, FOLDER_LINKS = 2, 1
@@ -54,6 +54,7 @@ def answering(call: Callable[Concatenate[Tree, P], R]) -> Callable[Concatenate[T
     @functools.wraps(call)
     def answer(tree: Tree, /, *given: P.args, **named: P.kwargs) -> R:
         try:
+            tree.catch_up()
             return call(tree, *given, **named)
         except Refused as refused:
             raise fault(error_of(refused.number), str(refused)) from None
@@ -103,6 +104,7 @@ class Tree:
         self.image, self.user, self.group = image, os.getuid(), os.getgid()
         self.folder_mode, self.file_mode = (0o700, 0o600) if others else (0o755, 0o644)
         self.touched = now or time.time_ns()
+        self.kept_seconds = 0 if isinstance(image.program, Joined) else KEPT_SECONDS
         root = Folder(ROOT_NUMBER, b"", ROOT, Shows.DERIVED if with_derived else Shows.GIVEN)
         root.lookups = 1
         # By their numbers; and the folders by their paths, and the files by a path and the file.
@@ -131,6 +133,21 @@ class Tree:
 
     def _begin(self, file: File, mode: int, user: int, group: int) -> None:
         file.looks = Looks(mode, user, group, self.touched)
+
+    def catch_up(self) -> None:
+        """Takes in what other clients of a served image have changed. The kernel keeps no attributes then, and opens a file anew."""
+        news = self.image.catch_up()
+        if not news:
+            return
+        self.touched = time.time_ns()
+        while self.image.fresh:
+            self._begin(self.image.fresh.pop(), self.file_mode, self.user, self.group)
+        for name in self.image.files.keys() if news.whole else news.written & self.image.files.keys():
+            file = self.image.files[name]
+            file.version += 1
+            file.looks.modified = file.looks.changed = self.touched
+            if file.draft and not file.draft.is_dirty:
+                file.draft.content = None
 
     # Nodes.
 
@@ -223,14 +240,14 @@ class Tree:
             found = Attributes(node.inode, 0, 0, looks.accessed, looks.modified, looks.changed, stat.S_IFDIR | looks.mode, FOLDER_LINKS,
                                looks.user, looks.group)
             self.handed[node.number] = self.asker if self.handed.get(node.number, self.asker) == self.asker else 0
-            return Entry(node.number, found, KEPT_SECONDS)
+            return Entry(node.number, found, self.kept_seconds)
         file, looks, draft = node.file, node.file.looks, self._draft_of(node)
         size = file.size if draft is None or draft.content is None else len(draft.content)
         modified = looks.modified if draft is None or draft.modified is None else draft.modified
         found = Attributes(node.inode, size, -(-size // BLOCK_LEN) * 8, looks.accessed, modified, max(looks.changed, modified),
                            stat.S_IFREG | looks.mode, 0 if file.is_gone else LINKS, looks.user, looks.group)
         # What writers at other paths do to a draft is not told write by write.
-        return Entry(node.number, found, KEPT_SECONDS if draft is None or draft.writers == node.writers else 0)
+        return Entry(node.number, found, self.kept_seconds if draft is None or draft.writers == node.writers else 0)
 
     def _looks_of(self, node: Node) -> Looks:
         """Of a file, or of a folder, whose time may be set, and is another one with the next change: any may be one of what it shows."""
@@ -546,10 +563,18 @@ class Tree:
                 file.draft.is_refused = True
             raise file.refusal
 
+    def _must_be_here(self, file: File) -> None:
+        """Raises also that another client has removed the file."""
+        self._must_be_made(file)
+        if file.is_lost:
+            if file.draft:
+                file.draft.is_refused = True
+            raise fault(errno.ESTALE, "another client has removed it")
+
     def _content(self, node: Leaf) -> bytes | bytearray:
         """The bytes as they are seen at this path."""
         draft, file = self._draft_of(node), node.file
-        self._must_be_made(file)
+        self._must_be_here(file)
         if draft and draft.content is not None:
             return draft.content
         return self._stored(file)
@@ -560,7 +585,7 @@ class Tree:
 
     def _drafted(self, file: File) -> bytearray:
         """The bytes that are written to."""
-        self._must_be_made(file)
+        self._must_be_here(file)
         draft = draft_to_write(file)
         if draft.content is None:
             draft.content = bytearray(self._stored(file))
@@ -640,7 +665,7 @@ class Tree:
     def _commit(self, node: Leaf) -> None:
         """Stores the draft whole. Where it is refused it stays, and can be tried again."""
         file = node.file
-        self._must_be_made(file)
+        self._must_be_here(file)
         if not file.is_gone:
             draft = draft_to_write(file)
             try:
@@ -681,8 +706,8 @@ class Tree:
             # What was written through memory, behind the last close. What a close was refused is dropped: its caller was told.
             if self._is_unstored(file) and not draft.is_refused:
                 self._commit(node)
-        except Refused as refused:
-            self._lose(file, f"what was written after the last close is lost: {refused}")
+        except (Refused, OSError) as error:
+            self._lose(file, f"what was written after the last close is lost: {error}")
         finally:
             if file.is_gone and draft.content is not None:
                 file.kept = bytes(draft.content)
@@ -693,14 +718,14 @@ class Tree:
 
     def _lose(self, file: File, why: str) -> None:
         self.has_lost = True
-        write_line(sys.stderr, f"mount: {file.name.decode()}: {why}")
+        say(f"mount: {file.name.decode()}: {why}")
 
     def finish(self) -> None:
         """Stores what was written and not closed, when nobody asks any more, as a close would. Tells each file that can't be stored."""
         self.changed = lambda number: None
         written = {handle.file: handle.node for handle in self.handles.values() if isinstance(handle, Handle) and handle.writes}
         for file, node in written.items():
-            if file.refusal or not file.is_gone and self._is_unstored(file):
+            if file.refusal or (file.is_lost or not file.is_gone) and self._is_unstored(file):
                 try:
                     self._store(node)
                 except OSError as error:

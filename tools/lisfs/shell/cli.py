@@ -7,6 +7,8 @@ several files, `undo`, `find`, `grep` and `less`. `ls` lists other places too, a
 prompt. What is longer than the terminal is shown by `$PAGER`, or `less`; an empty `$PAGER`, or `cat`, turns this off. The lines that you
 type are kept in `$XDG_STATE_HOME/lisfs/shell_history`, or below `~/.local/state`. If `$NO_COLOR` is set there are no colours.
 
+If the image is served (`tools/serve IMAGE`), the prompt is a client of its server, and sees what other clients change.
+
 If standard input or output is not a terminal, the lines of the input run without a prompt, with bytes after `add` and `write` lines as
 `lisfs run` takes them. Standard error says what is refused, and the lines after it still run.
 
@@ -19,8 +21,10 @@ import os
 import sys
 
 from lisfs.client import Ended, Locked, NotAReply, missing
-from lisfs.dumps import NotADump, opened
+from lisfs.dumps import NotADump
+from lisfs.endings import quiet
 from lisfs.image import limits_of
+from lisfs.opening import opened
 from lisfs.shell.completing import Completer
 from lisfs.shell.running import Shell, as_a_script, at_a_prompt
 from lisfs.shell.session import Session
@@ -32,7 +36,7 @@ STOPPED = 130
 
 def run(image: str, screen: Screen) -> int:
     """The status."""
-    program, dump = opened(image)
+    program, dump = opened("shell", image)
     # Ctrl-C is for the shell alone, and the program comes to its end.
     with program:
         session = Session(program, dump, limits_of(image), screen.interrupts.ask)
@@ -61,6 +65,7 @@ def status_of(end: Ended) -> int:
     return 128 - end.status if end.status < 0 else end.status or 1
 
 
+@quiet
 def main() -> int:
     if len(sys.argv) != 2 or sys.argv[1].startswith("-"):
         sys.exit(__doc__)
@@ -77,8 +82,8 @@ def main() -> int:
     try:
         status = run(image, screen)
     except Locked as end:
-        others = "another `tools/shell`, `tools/mount` or `tools/serve`"
-        status, cause = status_of(end), f"{shown}: another program has it open, as {others}: end that first"
+        others = "another `tools/shell` or `tools/mount`"
+        status, cause = status_of(end), f"{shown}: another program has it open, as {others}: end that first; `tools/serve` lets several have it"
     except Ended as end:
         # Ctrl-C ends what reads the image at the beginning.
         status, cause = (STOPPED, "stopped") if screen.interrupts.has_come else (status_of(end), cause_of(end))
@@ -88,6 +93,8 @@ def main() -> int:
         status, cause = STOPPED, "stopped"
     except NotADump as error:
         status, cause = 1, str(error)
+    except BrokenPipeError:
+        raise
     except OSError as error:
         status, cause = 1, f"{error.filename or shown}: {error.strerror}"
     if cause:

@@ -68,6 +68,7 @@ class Completer:
             line = os.fsencode(readline.get_line_buffer())
             with self.interrupts.working():
                 try:
+                    self.session.catch_up()
                     found = self.candidates(line[:readline.get_endidx()], readline.get_begidx())
                 except (Stopped, Ended, NotAReply, NotSent, OSError):
                     # What it is the next command tells.

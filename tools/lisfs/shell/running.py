@@ -46,6 +46,7 @@ class Shell:
         if not words:
             return
         try:
+            self.session.catch_up()
             self.run(line, words, payload)
         except Refused as refused:
             self.tell_misses(words)

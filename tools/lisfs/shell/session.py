@@ -13,12 +13,13 @@ from typing import NamedTuple
 
 from lisfs import client
 from lisfs.client import GoOn, NotSent, Program, Refused, Reply, Retag, Retagged, as_content, words_of
-from lisfs.constants import MAX_LINE, UNKNOWN_PROPERTY
+from lisfs.constants import UNKNOWN_PROPERTY
 from lisfs.dumps import Axiom, Dump
 from lisfs.formulas import formula as read_formula
 from lisfs.formulas import words_in
-from lisfs.image import Limits
+from lisfs.image import Following, Limits
 from lisfs.index import File, Index
+from lisfs.served import News
 from lisfs.shell.undoing import UNDOABLE, Change, moving, tags_of, undoing
 from lisfs.words import head_of, is_plain, is_test
 
@@ -66,13 +67,13 @@ class Offered(NamedTuple):
     words: list[bytes]
 
 
-class Session:
+class Session(Following[File]):
     """`ask_stop` is called now and then in the middle of longer work, and may raise an error that ends it."""
 
     def __init__(self, program: Program, dump: Dump, limits: Limits, ask_stop: Callable[[], None] = lambda: None) -> None:
         self.program, self.limits, self.ask_stop = program, limits, ask_stop
         self.declared, self.axioms = set(dump.declared), set(dump.axioms)
-        self.index: Index[File] = Index()
+        self.index = Index()
         for name, (size, words) in dump.files.items():
             self.index.add(name, size, words)
         self.place = self._asked_place()
@@ -164,6 +165,8 @@ class Session:
             self.place = self._asked_place()
         elif command not in LOOKS:
             self.changes += 1
+            # Another client may have changed something just before.
+            self.catch_up()
             if command in (b"mkdir", b"rmdir", b"axiom", b"unaxiom"):
                 self._note_word(command, given)
             else:
@@ -188,14 +191,19 @@ class Session:
 
     def _note_file(self, command: bytes, given: Sequence[bytes]) -> None:
         name, files = given[0], self.index.files
-        if command == b"rm":
-            self._stale.discard(files[name])
-            self.index.drop(files[name])
-            return
+        new = given[1] if command == b"rename" and name in files else name if command in (b"create", b"add") else None
+        if new in files:
+            # What was there has gone, or it is the same, if the news have said so already.
+            self._is_removed(files[new])
         if command in (b"create", b"add"):
             words = given[2:] if command == b"add" else given[1:]
             self.index.add(name, int(given[1]) if command == b"add" else 0, {*(tags_of(self.place) or ()), *words})
-        file = files[name]
+        if not (file := files.get(name)):
+            # Another client has removed it since.
+            return
+        if command == b"rm":
+            self._is_removed(file)
+            return
         if command == b"write":
             file.size = int(given[1])
         elif command == b"mv" and (change := moving(name, self.place, given[1], files)):
@@ -207,9 +215,27 @@ class Session:
     def _note_retags(self, changes: Sequence[Retag]) -> None:
         self.changes += len(changes)
         for change in changes:
-            file = self.index.files[change.name]
+            if not (file := self.index.files.get(change.name)):
+                continue
             file.given = file.given - set(change.loses) | set(change.gains)
             self._stale.add(file)
+
+    # What others change.
+
+    def catch_up(self) -> News | None:
+        if news := super().catch_up():
+            self.changes += 1
+        return news
+
+    def _is_removed(self, file: File) -> None:
+        self._stale.discard(file)
+        self.index.drop(file)
+
+    def _take_axioms(self, news: News) -> None:
+        self.axioms = set(news.axioms) if news.whole else self.axioms - news.unaxioms | news.axioms
+
+    def _is_stale(self, files: set[File]) -> None:
+        self._stale |= files
 
     # Places.
 
@@ -224,7 +250,7 @@ class Session:
         way_back = here if here == ROOT else b"/" + here
         if not is_onward:
             try:
-                if len(b"cd " + way_back) > MAX_LINE:
+                if len(b"cd " + way_back) > self.program.longest:
                     raise NoWayBack
                 self.program.cd(way_back)
             except Refused:
@@ -247,7 +273,7 @@ class Session:
         """Goes to the root for changes, and behind the block back to this place; it stays there if the place has a word that nothing has any
         more. Raises `NoWayBack` if the place is too long for a line."""
         here, way_back = self.place, self.place if self.place == ROOT else b"/" + self.place
-        if len(b"cd " + way_back) > MAX_LINE:
+        if len(b"cd " + way_back) > self.program.longest:
             raise NoWayBack
         self.program.cd(ROOT)
         self.place = ROOT

@@ -9,7 +9,8 @@ things.
 A request must come within 20 seconds, and its answer be taken within 60, or each within the seconds in `$LISFS_PATIENCE`. At most 200
 connections are open. When one more comes, one that has not sent an admitted request is closed first.
 
-One `lisfs run IMAGE` runs each question and each change. It holds the image's lock all the time. A page shows a change as done after its
+One `lisfs run IMAGE` runs each question and each change. It holds the image's lock all the time. If the image is served (`tools/serve IMAGE`),
+the pages are a client of its server, and each shows what other clients have changed. A page shows a change as done after its
 `ok`. What is between a browser and these commands is not proved.
 
 The status is 0 after a requested end, 1 if something is wrong, which one line says, and 2 for wrong use.
@@ -23,10 +24,10 @@ import sys
 from types import FrameType
 
 from lisfs.client import Ended, NotAReply, missing
-from lisfs.dumps import NotADump, opened
-from lisfs.endings import cause_of
+from lisfs.dumps import NotADump
+from lisfs.endings import cause_of, quiet, say
 from lisfs.image import limits_of
-from lisfs.showing import write_line
+from lisfs.opening import opened
 from lisfs.web.image import Image
 
 PACKAGES = {"jinja2": "python3-jinja2", "markupsafe": "python3-markupsafe"}
@@ -44,7 +45,7 @@ class NotServed(Exception):
 
 
 def tell(line: str) -> None:
-    write_line(sys.stderr, f"browse: {line}")
+    say(f"browse: {line}")
 
 
 def heard(number: int, frame: FrameType | None) -> None:
@@ -73,7 +74,7 @@ def listening(port: int) -> socket.socket:
 def serve(path: str, port: int, can_write: bool) -> int:
     """The status."""
     with listening(port) as listener:
-        program, dump = opened(path)
+        program, dump = opened("browse", path)
         site = None
         try:
             # However it goes, nobody has the image any more at the end.
@@ -97,6 +98,7 @@ def port_of(text: str) -> int:
     return port
 
 
+@quiet
 def main() -> int:
     parser = argparse.ArgumentParser(usage=(__doc__ or "").split("usage: ", 1)[1])
     parser.add_argument("--port", type=port_of, default=0)
@@ -108,6 +110,8 @@ def main() -> int:
             tell(what)
             return 1
         return serve(words.image, words.port, words.write)
+    except BrokenPipeError:
+        raise
     except (Ended, NotServed, NotADump, NotAReply, OSError, KeyboardInterrupt) as error:
         tell(cause_of(error, words.image))
     return 1

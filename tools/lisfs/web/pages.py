@@ -5,10 +5,12 @@ from collections.abc import Iterable
 from typing import NamedTuple
 
 from lisfs import derived
+from lisfs.client import Retagged
 from lisfs.constants import MAX_FORMULA
 from lisfs.formulas import words_in
 from lisfs.index import File
 from lisfs.listings import TITLES, groups_of, within
+from lisfs.refusals import sentence_about
 
 from lisfs.web.contents import SHOWN, Mail, cut, mail_of, text_of
 from lisfs.web.image import Image, View
@@ -24,6 +26,8 @@ DONE = {
     "still": "The file still has the word: it comes with another word that it has.", "renamed": "The file has another name now.",
     "removed": "The file is removed.", "added": "The file is in the image.", "declared": "The word is declared.",
     "undeclared": "The word is declared no more.", "axiom": "The axiom holds from now on.", "unaxiom": "The axiom holds no more.",
+    "tagged": "The word was given to {}.", "untagged": "The word was taken from {}.", "unchanged": "No file was changed.",
+    "undone": "The last change is undone.",
 }
 
 
@@ -152,19 +156,28 @@ class Pages:
 
     def whole(self, template: str, title: str | bytes, /, place: Place | None = None, typed: bytes | None = None, done: str | None = None,
               **given: object) -> str:
-        """A page. `typed` is what stands in the field for a formula, and `done` the name of a change that was done."""
+        """A page. `typed` is what stands in the field for a formula, and `done` says that a change was done."""
         at = typed if typed is not None else place.text if place else b"/"
-        return rendered(template, title=title, site=self.name, at=at, done=DONE.get(done or ""), can_write=self.can_write, token=self.token,
-                        place=place, steps=steps_of(place) if place else [], **given)
+        last = self.image.last
+        return rendered(template, title=title, site=self.name, at=at, done=done, can_write=self.can_write, token=self.token,
+                        undo=last.told if last else None, place=place, steps=steps_of(place) if place else [], **given)
 
     def told(self, title: str, sentence: str, back: Link | None = None, meant: Iterable[bytes] = ()) -> str:
         """A page with one sentence, and what it is about."""
         return self.whole("told.html", title, sentence=sentence, meant=list(meant), is_back=back is not None,
                           back=address(back.page, **back.given) if back else address(""))
 
-    def missing(self, words: Iterable[bytes]) -> str | None:
+    def refused(self, made: Retagged, back: Link) -> str:
+        """A page that says of which files a change was refused."""
+        done = f"{counted(len(made.done), 'file')} changed. " if made.done else ""
+        rows = [(change.name, sentence_about(refused.number, "mv", self.image.about(refused))) for change, refused in made.refused]
+        return self.whole("refused.html", "Refused", told=f"{done}Refused: {counted(len(rows), 'file')}.", rows=rows, back=address(back.page, **back.given))
+
+    def missing(self, words: list[bytes]) -> str | None:
         """That a search by these words can miss a file, where it can."""
-        return derived.told_of_misses(words, ((file.name, file.words) for file in self.image.index.files.values()))
+        files = self.image.index.files.values()
+        return joined(derived.told_of_misses(words, ((file.name, file.words) for file in files)),
+                      derived.told_of_left_out(filter(self.image.is_assignable, words), ((file.given, file.words) for file in files)))
 
     def wrong_place(self, typed: bytes, sentence: str) -> str:
         return self.whole("wrong_place.html", "No such place", typed=typed, sentence=sentence, missing=self.missing(words_in(typed)))
@@ -192,7 +205,7 @@ class Pages:
         at = min(at, max(0, (len(found) - 1) // FILES))
         told = f"{number(len(found))} of {counted(len(files), 'file')}" if wanted else counted(len(files), "file")
         return self.whole("files.html", title, place=view.place, page=page, wanted=wanted, told=told, files=found[at * FILES:][:FILES],
-                          turns=turns(at, FILES, len(found), page, at=view.place.text, q=wanted or None))
+                          missing=self.missing(words_in(view.place.text)), turns=turns(at, FILES, len(found), page, at=view.place.text, q=wanted or None))
 
     def files(self, view: View, wanted: bytes, at: int) -> str:
         return self.listed(view, "files", self.image.index.of(view.here), "All files of this place", wanted, at)
@@ -205,7 +218,7 @@ class Pages:
         words = dict(groups_of(view.words, wanted)).get(group, [])
         at = min(at, max(0, (len(words) - 1) // WORDS))
         return self.whole(
-            "words.html", title_of(group), place=view.place, group=group, wanted=wanted,
+            "words.html", title_of(group), place=view.place, group=group, wanted=wanted, missing=self.missing(words_in(view.place.text)),
             told=f"{counted(len(words), 'word')}, the most frequent first", words=entries(view.place, group, words[at * WORDS:][:WORDS]),
             turns=turns(at, WORDS, len(words), "words", q=wanted or None, at=view.place.text, group=group))
 
@@ -215,8 +228,9 @@ class Pages:
         return self.whole(
             "file.html", file.name, place=place, done=done, file=file, file_size=len(content), groups=described(file),
             route=[(word, b"/" + b"/".join(way[:step + 1])) for step, word in enumerate(way)],
-            # How many words it would have, where the program keeps no more of them.
-            cut=derived.told_of_cut(file.name, content) if derived.is_full(file.words) else None,
+            # How many words it would have, where the program keeps no more of them, or that it can have no more.
+            cut=joined(derived.told_of_cut(file.name, content) if derived.is_full(file.words) else None,
+                       derived.told_of_no_room(file.given, file.words)),
             content=content_of(file, content, as_text))
 
     def removing(self, file: File, place: Place) -> str:
@@ -239,6 +253,11 @@ class Pages:
             words=[word_of(word, count=image.index.having(word).bit_count()) for word in words[at * WORDS:][:WORDS]],
             axioms=[(word_of(left), word_of(right)) for left, right in axioms[at * WORDS:][:WORDS]],
             turns=turns(at, WORDS, last, "declared", q=wanted or None))
+
+
+def joined(*sentences: str | None) -> str | None:
+    """Those of some sentences that there are, as one text without a full stop at its end."""
+    return ". ".join(filter(None, sentences)) or None
 
 
 def place_of(text: bytes) -> Place:

@@ -1,6 +1,20 @@
-// Makes the pages smoother, and nothing needs it: a filter finds while one types, `/` goes to it, and a file that is too large is told before it
-// is sent.
+// Makes the pages smoother, and nothing needs it: a filter finds while one types, `/` goes to it, a box chooses all files of a page, and a file
+// that is too large is told before it is sent.
 "use strict";
+
+const chooseAll = () => {
+    for (const head of document.querySelectorAll("th.choice")) {
+        const all = document.createElement("input"), label = document.createElement("label"), text = document.createElement("span");
+        all.type = "checkbox";
+        text.textContent = "Choose all of this page";
+        label.append(all, text);
+        all.addEventListener("change", () => {
+            for (const box of head.closest("table").querySelectorAll("td.choice input")) box.checked = all.checked;
+        });
+        head.replaceChildren(label);
+    }
+};
+chooseAll();
 
 const filter = document.querySelector("form.filter");
 if (filter) {
@@ -20,6 +34,7 @@ if (filter) {
         const found = page.getElementById("found");
         if (!found || mine !== asked) return;
         document.getElementById("found").replaceWith(document.adoptNode(found));
+        chooseAll();
         document.getElementById("told").textContent = page.getElementById("told").textContent;
         history.replaceState(null, "", address);
     };

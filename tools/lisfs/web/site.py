@@ -13,33 +13,33 @@ import io
 import os
 import re
 import secrets
-import sys
 import traceback
 import urllib.parse
 from collections.abc import Callable
 from typing import NamedTuple
 
-from lisfs.client import Ended, NotAReply, NotSent, Refused
+from lisfs.client import Ended, NotAReply, NotSent, Refused, Retagged
 from lisfs.constants import BAD_FORMULA, BAD_LINE, LARGE_FILE, LARGE_FORMULA, MAX_FORMULA, MAX_LINE, MAX_WORD, NO_FILE_HERE, NOT_A_PLACE
-from lisfs.refusals import sentence
-from lisfs.showing import write_line
+from lisfs.endings import say
+from lisfs.refusals import sentence, sentence_about
 
-from lisfs.web.image import Differs, Image, View, WrongWord
-from lisfs.web.markup import address
-from lisfs.web.pages import DONE, Link, Pages, place_of
+from lisfs.web.image import Differs, Image, NothingToUndo, OtherBytes, View, WrongWord
+from lisfs.web.markup import address, counted
+from lisfs.web.pages import DONE, FILES, Link, Pages, place_of
 from lisfs.words import FILE_NAME, mapped
 
-# The most bytes of a request before its body; of a body without a file, and with one beside the file's own; the most fields of either.
+# The most bytes of a request before its body; of a body without a file, and with one beside the file's own; the most fields of either, beside
+# the files that are chosen on a page.
 HEAD, BODY, BESIDE, FIELDS = 16_384, 65_536, 65_536, 64
 HTML, TEXT, BYTES = "text/html; charset=utf-8", "text/plain; charset=utf-8", "application/octet-stream"
 STATIC = {"style.css": "text/css; charset=utf-8", "script.js": "text/javascript; charset=utf-8", "icon.svg": "image/svg+xml"}
 POLICY = ("default-src 'none'; style-src 'self'; script-src 'self'; img-src 'self'; connect-src 'self'; form-action 'self'; base-uri 'none'; "
           "frame-ancestors 'none'")
 ONCE = ("Host", "Origin", "Content-Length", "Content-Type", "Cookie", "Sec-Fetch-Site")
-COOKIE = "lisfs"
+COOKIE, CHOSEN = "lisfs", "chosen"
 TITLES = {404: "Not here", 409: "Refused", 500: "A mistake"}
 # What a page names that tells of a refusal.
-MEANT = ("name", "other", "word", "words", "left", "right")
+MEANT = ("name", "other", "word", "words", "left", "right", CHOSEN)
 
 # The fields of an address or a form.
 Fields = dict[str, bytes]
@@ -84,15 +84,19 @@ class Request(http.server.BaseHTTPRequestHandler):
         return found[0] if found else None
 
 
-def fields(text: str) -> Fields:
-    """The fields of an address or a form, each as bytes, the first of each name."""
+def fields(text: str, most: int = FIELDS) -> Fields:
+    """The fields of an address or a form, each as bytes, the first of each name; of the files that are chosen all names, with a blank between."""
     try:
-        pairs = urllib.parse.parse_qsl(text, keep_blank_values=True, encoding="utf-8", errors="surrogateescape", max_num_fields=FIELDS)
+        pairs = urllib.parse.parse_qsl(text, keep_blank_values=True, encoding="utf-8", errors="surrogateescape", max_num_fields=most)
     except ValueError:
         raise Wrong(400, "There are too many fields.") from None
     found: Fields = {}
     for name, value in pairs:
-        found.setdefault(name, value.encode("utf-8", "surrogateescape"))
+        data = value.encode("utf-8", "surrogateescape")
+        if name == CHOSEN and name in found:
+            found[name] += b" " + data
+        else:
+            found.setdefault(name, data)
     return found
 
 
@@ -151,7 +155,8 @@ class Site:
             "remove": self.removing, "declared": self.declared}
         self.changed: dict[str, Callable[[Fields], Answer]] = {
             "give": self.give, "take": self.take, "rename": self.rename, "remove": self.remove, "upload": self.upload,
-            "declare": self.declare, "undeclare": self.undeclare, "axiom": self.axiom, "unaxiom": self.unaxiom}
+            "declare": self.declare, "undeclare": self.undeclare, "axiom": self.axiom, "unaxiom": self.unaxiom,
+            "tag": self.tag, "untag": self.untag, "undo": self.undo}
 
     # Who may ask.
 
@@ -224,9 +229,13 @@ class Site:
             wrong.is_known = True
             return self.refused(wrong)
         except Refused as refused:
-            told, status = sentence(refused.number, getattr(refused, "command", None)), 404 if refused.number == NO_FILE_HERE else 409
-        except WrongWord:
-            told, status = sentence(BAD_LINE), 409
+            told, status = self._told_of(refused), 404 if refused.number == NO_FILE_HERE else 409
+        except WrongWord as wrong_word:
+            told, status = sentence_about(BAD_LINE, None, [word for word in wrong_word.args if word]), 409
+        except NothingToUndo:
+            told, status = "There is no change to undo.", 409
+        except OtherBytes:
+            told, status = "The file has other bytes by now, which nothing would bring back. Remove it on its own page if you want to.", 409
         except NotSent:
             told, status = f"This can't be said in one line: a word has no blanks, and a line has {MAX_LINE:,} bytes.", 409
         except Differs:
@@ -239,11 +248,15 @@ class Site:
             return self._over(": ".join(end.text.splitlines()) or str(end))
         except Exception:
             # A mistake of these pages ends one of them, and not the session.
-            write_line(sys.stderr, traceback.format_exc().rstrip("\n"), "\n")
+            say(traceback.format_exc().rstrip("\n"), "\n")
             told, status = "These pages have a mistake here, which standard error shows. It affects nothing else.", 500
         given = self._given(request, body)
         meant = [given[name] for name in MEANT if given.get(name)]
         return Answer(status, HTML, self.pages.told(TITLES[status], told, self._back(given), meant).encode())
+
+    def _told_of(self, refused: Refused) -> str:
+        """The sentence of a refusal, with the words that it is about."""
+        return sentence_about(refused.number, refused.command or None, self.image.about(refused))
 
     def refused(self, wrong: Wrong) -> Answer:
         """The answer to a request that is refused. To who is not known it says nothing that not everybody may know."""
@@ -254,7 +267,7 @@ class Site:
     def _over(self, cause: str) -> Answer:
         if not self.end:
             self.end = cause
-            write_line(sys.stderr, f"browse: the program has ended: {cause}")
+            say(f"browse: the program has ended: {cause}")
         return Answer(503, HTML, self.pages.told(
             "The program has ended",
             f"The program that holds the image has ended: {self.end}. Each change that was done is kept. Of one under way it is "
@@ -262,6 +275,7 @@ class Site:
 
     def _found(self, request: Request, page: str, body: bytes) -> Answer:
         given = fields(request.query)
+        self.image.catch_up()
         if request.command == "GET":
             if page not in self.shown:
                 raise Wrong(404, "There is no such page.")
@@ -279,7 +293,7 @@ class Site:
             return parts(body, kind)
         if kind != "application/x-www-form-urlencoded":
             raise Wrong(415, "This is no form.")
-        return fields(body.decode("latin-1"))
+        return fields(body.decode("latin-1"), FIELDS + FILES)
 
     def _given(self, request: Request, body: bytes) -> Fields:
         """The fields of a request that was looked at before."""
@@ -297,7 +311,7 @@ class Site:
     def _page(self, text: str, status: int = 200) -> Answer:
         return Answer(status, HTML, text.encode())
 
-    def _done(self, page: str, done: str, **given: bytes | None) -> Answer:
+    def _done(self, page: str, done: str, **given: bytes | int | None) -> Answer:
         return Answer(303, TEXT, b"", (("Location", self.top + address(page, done=done, **given).removeprefix("./")),))
 
     # Pages.
@@ -309,13 +323,16 @@ class Site:
         try:
             view = self._look(given)
         except (Refused, NotSent) as error:
-            told = sentence(error.number if isinstance(error, Refused) else LARGE_FORMULA if len(given["at"]) > MAX_FORMULA else BAD_FORMULA)
+            told = self._told_of(error) if isinstance(error, Refused) else sentence(
+                LARGE_FORMULA if len(given["at"]) > MAX_FORMULA else BAD_FORMULA)
             return self._page(self.pages.wrong_place(given.get("at", b""), told), 404)
         return self._page(self.pages.place(view, given.get("q", b""), self._told(given)))
 
     def _told(self, given: Fields) -> str | None:
-        done = given.get("done", b"").decode("latin-1")
-        return done if done in DONE else None
+        """The sentence of a change that was done, and of how many files, if an address says so."""
+        told = DONE.get(given.get("done", b"").decode("latin-1"))
+        count = given.get("count", b"")
+        return told and told.format(counted(int(count) if re.fullmatch(rb"[0-9]{1,6}", count) else 1, "file"))
 
     def words(self, given: Fields) -> Answer:
         return self._page(self.pages.words(self._look(given), given.get("group", b"words"), given.get("q", b""), number_in(given, "page")))
@@ -362,6 +379,26 @@ class Site:
     def remove(self, given: Fields) -> Answer:
         self.image.remove(given.get("name", b""))
         return self._done("", "removed", at=given.get("at"))
+
+    def tag(self, given: Fields) -> Answer:
+        return self._several(given, self.image.give_all, "tagged")
+
+    def untag(self, given: Fields) -> Answer:
+        return self._several(given, self.image.take_all, "untagged")
+
+    def _several(self, given: Fields, change: Callable[[list[bytes], bytes], Retagged], done: str) -> Answer:
+        """Changes the words of the files that were chosen."""
+        names = list(dict.fromkeys(given.get(CHOSEN, b"").split()))
+        if not names:
+            raise Wrong(409, "No file is chosen: tick some, and say a word.")
+        made, back = change(names, given.get("word", b"")), place_of(given.get("at", b"/")).text
+        if not made.refused:
+            return self._done("", done if made.done else "unchanged", at=back, count=len(made.done))
+        return Answer(409, HTML, self.pages.refused(made, Link("", {"at": back})).encode())
+
+    def undo(self, given: Fields) -> Answer:
+        self.image.undo()
+        return self._done("", "undone", at=place_of(given.get("at", b"/")).text)
 
     def upload(self, given: Fields) -> Answer:
         name, content = given.get("name") or name_for(given.get("filename", b"")), given.get("file", b"")

@@ -149,12 +149,13 @@ def talked(data: bytes, path: str = "socket", **more: Any) -> Talked:
 
 
 class Served(Running):
-    """`tools/serve` over an image, at a socket."""
+    """`tools/serve` over an image, at a socket: without a path it is the one beside the image."""
 
-    def __init__(self, image: str = "image", path: str = "socket", wait: bool = True, patience: float | str = LONG, program: str = PROGRAM,
+    def __init__(self, image: str = "image", path: str | None = "socket", wait: bool = True, patience: float | str = LONG, program: str = PROGRAM,
                  command: Sequence[str] = (SERVE,), **more: Any) -> None:
-        super().__init__([*command, image, path], program, patience, **more)
-        if wait and not until(lambda: answers(path) or self.process.poll() is not None):
+        super().__init__([*command, image, *([path] if path else [])], program, patience, **more)
+        at = path or f"{image}.socket"
+        if wait and not until(lambda: answers(at) or self.process.poll() is not None):
             raise TimeoutError("no server")
 
     def finds(self, number: int) -> None:

@@ -7,7 +7,7 @@ import re
 import subprocess
 import sys
 import urllib.parse
-from collections.abc import Mapping
+from collections.abc import Mapping, Sequence
 from typing import NamedTuple
 
 from lisfs.client import PROGRAM
@@ -61,6 +61,9 @@ class Seen(html.parser.HTMLParser):
         self.forms: list[tuple[str, dict[str, str]]] = []
         self.wrong: list[str] = []
         self.text, self.scripts, self._is_in_link = "", 0, False
+        # The files that can be chosen, and the other actions of buttons.
+        self.boxes: list[tuple[str, str, str]] = []
+        self.actions: list[str] = []
         self.feed(text)
         if self.scripts != 1:
             self.wrong.append(f"{self.scripts} scripts")
@@ -68,13 +71,17 @@ class Seen(html.parser.HTMLParser):
     def handle_starttag(self, tag: str, attrs: list[tuple[str, str | None]]) -> None:
         given = {name: value or "" for name, value in attrs}
         self.wrong += [tag] * (tag not in TAGS) + [name for name in given if name.startswith("on") or name == "style"]
-        self.wrong += [value for name, value in given.items() if name in ("href", "src", "action") and re.match(r"[a-z]+:|//", value)]
+        self.wrong += [value for name, value in given.items() if name in ("href", "src", "action", "formaction") and re.match(r"[a-z]+:|//", value)]
         self.scripts += tag == "script" and given.get("src") == "script.js"
         if tag == "a":
             self.links.append(Link(given["href"], "", given.get("aria-label")))
             self._is_in_link = True
         elif tag == "form":
             self.forms.append((given["action"], {}))
+        elif tag == "button" and "formaction" in given:
+            self.actions.append(given["formaction"])
+        elif tag == "input" and given.get("type") == "checkbox":
+            self.boxes.append((given["name"], given["value"], given["form"]))
         elif tag == "input" and "name" in given:
             self.forms[-1][1][given["name"]] = given.get("value", "")
 
@@ -125,8 +132,8 @@ class Visitor:
         query = urllib.parse.urlencode({name.rstrip("_"): value for name, value in given.items()})
         return self.ask("GET", f"{self.top}{page}?{query}")
 
-    def post(self, page: str, given: Mapping[str, str | bytes]) -> Answer:
-        body = urllib.parse.urlencode(given).encode()
+    def post(self, page: str, given: Mapping[str, str | bytes | Sequence[str]]) -> Answer:
+        body = urllib.parse.urlencode(given, doseq=True).encode()
         return self.ask("POST", self.top + page, body, Content_Type="application/x-www-form-urlencoded")
 
     def upload(self, given: Mapping[str, str], content: bytes, filename: bytes) -> Answer:
