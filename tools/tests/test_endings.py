@@ -105,7 +105,8 @@ def slow(program):
     return {"REAL": program, "LISFS_PROGRAM": os.path.abspath(images.written("slow", SLOW, 0o700)), "LISFS_PATIENCE": str(LONG)}
 
 
-OPENING = ((["shell", "image"], b"Ctrl-D ends", b"\4"), (["sync", "image", "top"], b"as they were", None), (["browse", "image"], b"http://", b"\3"),
+# Ctrl-D counts once the prompt is there: before, it may come while the terminal changes to single keys, and get lost.
+OPENING = ((["shell", "image"], b"> ", b"\4"), (["sync", "image", "top"], b"as they were", None), (["browse", "image"], b"http://", b"\3"),
            (["edit", "image", "notes.txt", "word:a"], b"no 10 no such file here", None), (["serve", "image"], None, b"\3"))
 
 
