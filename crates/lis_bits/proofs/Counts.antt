@@ -76,10 +76,3 @@ count_row (w ∷ ws) fit =
     let rest = count_same (64 * length ws) (λ k. words_bit (w ∷ ws) (64 + k)) (words_bit ws) (λ k l. next_word w ws k) in
     let more = count_row ws (λ i. rw add-one at (fit (i + 1))) in
     ap (λ m. count_to m (words_bit (w ∷ ws))) long ∙ omega (arith, sum_by-cons count_ones w ws)
-
--- the true bits of a row, after those of one more word
-pub count_more_words : (i word : ℕ) (f : ℕ → Bool) → word < 2 ^ 64 → ((bit : ℕ) → bit < 64 → word_bit word bit ≡ f (64 * i + bit)) → count_by (λ v. v) (row_of (64 * (i + 1)) f) ≡ count_by (λ v. v) (row_of (64 * i) f) + count_ones word
-unfolding count_to
-count_more_words i word f fits same =
-    let long : 64 * (i + 1) ≡ 64 * i + 64 = omega arith in
-    rw long (count_both (64 * i) 64 f ∙ ap (λ n. count_to (64 * i) f + n) (sym (count_same 64 (word_bit word) (λ k. f (64 * i + k)) same) ∙ count_word 64 word fits))

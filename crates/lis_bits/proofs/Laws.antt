@@ -31,9 +31,6 @@ get-empty_rows rows bits row bit = go (cases_lt row rows)
     go (inl lt) = rw (get_or-replicate rows row (replicate bits false) [] lt) (all_false bits bit)
     go (inr ge) = rw (get_or_past (replicate rows (replicate bits false)) row [] (omega (arith, length-replicate rows (replicate bits false))))
 
-pub length-empty_rows : (rows bits : ℕ) → length (empty_rows rows bits).rows ≡ rows
-length-empty_rows rows bits = length-replicate rows (replicate bits false)
-
 -- other truth values that are the same at each bit of a row
 pub with_row_same : (r : Rows) (row : ℕ) (f g : ℕ → Bool) → ((bit : ℕ) → bit < r.bits → f bit ≡ g bit) → with_row r row f ≡ with_row r row g
 with_row_same r row f g same = ap (λ values. record { bits = r.bits; rows = set r.rows row values; edits = one_more r.edits }) (row_same r.bits f g same)

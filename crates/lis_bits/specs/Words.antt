@@ -1,6 +1,5 @@
 -- What the loops over the words of rows do. No public clause cites this module.
 use Rattle.std.specs.Prelude.{◌≡◌, ℕ, ◌+◌, ◌*◌, ◌/◌, ◌%◌, ◌<◌, ◌≤◌, ◌⊎◌, Bool, true, false, nat_eq, List, slice_index}
-use Rattle.std.specs.List.{list_any}
 use Rattle.std.specs.Int.{bit_at}
 use Rattle.lis_bits.specs.Bytes.{bits_number}
 
@@ -37,10 +36,6 @@ pub record IsNextIn (word start bit : ℕ) : Type 0 where
 -- a bit of the words
 abbrev pub words_bit : List ℕ → ℕ → Bool
 words_bit words bit = word_bit (slice_index words (bit / 64)) (bit % 64)
-
--- whether a bit is 1 in one of these rows of the words
-abbrev pub rows_bit : List ℕ → List ℕ → ℕ → ℕ → Bool
-rows_bit words rows width bit = list_any (λ row. word_bit (slice_index words (row * width + bit / 64)) (bit % 64)) rows
 
 -- no bit from `start` on is true, of so many
 abbrev pub NoneNextFrom : (ℕ → Bool) → ℕ → ℕ → Type 0

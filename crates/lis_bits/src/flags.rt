@@ -1,4 +1,4 @@
-ghost use Rattle.std.specs.Prelude.{◌≡◌, ◌%◌, ◌^◌, ◌<◌, ◌≤◌, false, length, slice_index_or, slice_set, replicate, IfOk};
+ghost use Rattle.std.specs.Prelude.{◌≡◌, ℕ, ◌%◌, ◌^◌, ◌<◌, ◌≤◌, false, length, slice_index_or, slice_set, replicate, IfOk, IfSome, IfNone, IsTrue};
 
 use crate::Rows;
 use std::alloc::{AllocError, Global};
@@ -64,5 +64,16 @@ impl Flags {
         ensures { self.new ≡ replicate (length self.old) value }
     {
         self.rows.fill(0, value);
+    }
+
+    /// The first flag from a number on that is true.
+    pub fn next(&self, start: u32) -> Option<u32>
+        ensures true_flag { IfSome result (λ number. IsTrue (slice_index_or self.now number false)) }
+        ensures in_row { IfSome result (λ number. number < length self.now) }
+        ensures from_start { IfSome result (λ number. start ≤ number) }
+        ensures least { IfSome result (λ number. (k : ℕ) → start ≤ k → k < number → slice_index_or self.now k false ≡ false) }
+        ensures none { IfNone result ((k : ℕ) → start ≤ k → k < length self.now → slice_index_or self.now k false ≡ false) }
+    {
+        self.rows.next(0, start)
     }
 }

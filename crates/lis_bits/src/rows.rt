@@ -1,4 +1,4 @@
-ghost use Rattle.std.specs.Prelude.{◌≡◌, ℕ, ◌+◌, ◌*◌, ◌%◌, ◌^◌, ◌<◌, ◌≤◌, ◌↔◌, ◌==◌, All, length, slice_index, IfOk, IfSome, IfNone, IsTrue, Bool, not, ◌&&◌, ◌||◌, if◌then◌else◌};
+ghost use Rattle.std.specs.Prelude.{◌≡◌, ℕ, ◌+◌, ◌*◌, ◌%◌, ◌^◌, ◌<◌, ◌≤◌, ◌↔◌, ◌==◌, length, slice_index, IfOk, IfSome, IfNone, IsTrue, Bool, not, ◌&&◌, ◌||◌, if◌then◌else◌};
 
 use crate::words;
 use lis_region::{Frame, Region};
@@ -31,7 +31,7 @@ impl Model for Rows {
 
 impl Rows {
     ghost use Rattle.lis_bits.specs.Rows.{get, empty_rows, with_row, true_count, NoneTrue};
-    ghost use Rattle.lis_bits.specs.Rows.{row_at, row_of, get_any, NoneTrueOf, true_count_with};
+    ghost use Rattle.lis_bits.specs.Rows.{row_at, row_of};
     ghost use Rattle.lis_bits.specs.Bytes.{bits_number, bits_bytes};
     ghost use Rattle.lis_bits.specs.Words.{words_bit};
     ghost use Rattle.lis_bits.specs.Inside.{IsBitwise};
@@ -170,31 +170,6 @@ impl Rows {
     {
         let bit = words::next(self.words(row), start as usize)?;
         Some(bit as u32)
-    }
-
-    /// The least bit from `start` on that is true in one of these rows. Where `start` is no bit of a row there is none.
-    pub fn next_of(&self, rows: &[u16], start: u32) -> Option<u32>
-        requires { All (λ row. row < length self.now.rows) rows.now }
-        ensures true_bit { IfSome result (λ bit. IsTrue (get_any self.now rows.now bit)) }
-        ensures in_row { IfSome result (λ bit. bit < self.now.bits) }
-        ensures from_start { IfSome result (λ bit. start ≤ bit) }
-        ensures least { IfSome result (λ bit. NoneTrueOf self.now rows.now start bit) }
-        ensures none { IfNone result (NoneTrueOf self.now rows.now start self.now.bits) }
-        ensures few { IfSome result (λ bit. bit < 2 ^ 27) }
-    {
-        let words = self.region.items(&self.frame);
-        let bit = words::next_of(words, rows, self.width, start)?;
-        Some(bit as u32)
-    }
-
-    /// How many bits are true in a row or in one of these rows of the others.
-    pub fn count_with(&self, row: u32, other: &Rows, others: &[u16]) -> u32
-        requires row { row < length self.now.rows }
-        requires others { All (λ at. at < length other.now.rows) others.now }
-        requires bits { other.now.bits ≡ self.now.bits }
-        ensures { result ≡ true_count_with self.now row other.now others.now }
-    {
-        words::count_with(self.words(row), other.region.items(&other.frame), others)
     }
 
     /// Writes a row as bytes: bit i % 8 of byte i / 8, bit 0 the lowest, tells bit i of the row.

@@ -1,9 +1,8 @@
 ghost use Rattle.std.specs.Prelude.{ℕ, ◌+◌, ◌^◌, ◌<◌, ◌≤◌, length, slice_index};
-ghost use Rattle.std.specs.Prelude.{◌*◌, ◌≡◌, ◌≢◌, ◌==◌, ◌↔◌, ◌||◌, All, IsTrue, MatchOption, sum_by, count_by, count_ones, bit_and, if◌then◌else◌};
+ghost use Rattle.std.specs.Prelude.{◌*◌, ◌≡◌, ◌==◌, ◌↔◌, IsTrue, MatchOption, sum_by, count_ones, bit_and, if◌then◌else◌};
 ghost use Rattle.std.specs.Int.{bit_not, w64};
 ghost use Rattle.lis_bits.specs.Bytes.{bits_number, bits_bytes};
-ghost use Rattle.lis_bits.specs.Rows.{row_of};
-ghost use Rattle.lis_bits.specs.Words.{Joins, JoinsWith, AreApart, word_bit, words_bit, rows_bit, IsNextIn, NoneNextIn, IsNextFrom, NoneNextFrom, HasBytes};
+ghost use Rattle.lis_bits.specs.Words.{Joins, JoinsWith, AreApart, word_bit, words_bit, IsNextIn, NoneNextIn, IsNextFrom, NoneNextFrom, HasBytes};
 
 // Sets each of the `width` words from `to` on to what `op` gives of it and of the word as far on from `from`.
 pub(crate) fn join<F: Fn(u64, u64) -> u64>(
@@ -67,15 +66,6 @@ pub(crate) fn is_subset(a: &[u64], b: &[u64]) -> bool
     a.iter().zip(b).all(|(a, b)| a & !b == 0)
 }
 
-// Whether some bit is 1 in both words of one place.
-pub(crate) fn meets(a: &[u64], b: &[u64]) -> bool
-    requires { length a.now ≡ length b.now }
-    ensures { IsTrue result ↔ ((i : ℕ) × (i < length a.now)
-        × (bit_and (slice_index a.now i) (slice_index b.now i) ≢ 0)) }
-{
-    a.iter().zip(b).any(|(a, b)| a & b != 0)
-}
-
 // The least bit of a word from `start` on that is 1.
 fn next_in(word: u64, start: u32) -> Option<u32>
     requires { start < 64 }
@@ -103,51 +93,6 @@ pub(crate) fn next(words: &[u64], start: usize) -> Option<usize>
         }
     }
     None
-}
-
-// The word of the bits that are 1 in the words of one place of these rows, in one of them at least.
-fn any_word(words: &[u64], rows: &[u16], width: usize, place: usize) -> u64
-    requires rows { All (λ row. row * width + width ≤ length words.now) rows.now }
-    requires place { place < width }
-    ensures { (bit : ℕ) → bit < 64 → word_bit result bit ≡ rows_bit words.now rows.now width (64 * place + bit) }
-{
-    let mut word = 0;
-    for row in rows {
-        word |= words[usize::from(*row) * width + place];
-    }
-    word
-}
-
-// The least bit from `start` on that is 1 in one of these rows.
-pub(crate) fn next_of(words: &[u64], rows: &[u16], width: u32, start: u32) -> Option<usize>
-    requires { All (λ row. row * width + width ≤ length words.now) rows.now }
-    ensures { MatchOption result (NoneNextFrom (rows_bit words.now rows.now width) (64 * width) start)
-        (IsNextFrom (rows_bit words.now rows.now width) (64 * width) start) }
-{
-    let first = start / 64;
-    for i in first..width {
-        let from = if i == first { start % 64 } else { 0 };
-        let place = i as usize;
-        if let Some(bit) = next_in(any_word(words, rows, width as usize, place), from) {
-            return Some(64 * place + bit as usize);
-        }
-    }
-    None
-}
-
-// How many bits are 1 in the words, or in one of these rows of other words.
-pub(crate) fn count_with(words: &[u64], others: &[u64], rows: &[u16]) -> u32
-    requires rows { All (λ row. row * length words.now + length words.now ≤ length others.now) rows.now }
-    requires small { 64 * length words.now < 2 ^ 32 }
-    ensures { result ≡ count_by (λ value. value) (row_of (64 * length words.now)
-        (λ bit. words_bit words.now bit || rows_bit others.now rows.now (length words.now) bit)) }
-{
-    let mut ones = 0;
-    for i in 0..words.len() {
-        let word = words[i] | any_word(others, rows, words.len(), i);
-        ones += word.count_ones();
-    }
-    ones
 }
 
 // Writes the words as bytes, the lowest byte of each first. Eight bytes of one word are written together, so that they are one

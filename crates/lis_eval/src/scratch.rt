@@ -6,6 +6,7 @@ ghost use Rattle.lis_eval.specs.Room.{HasRoom};
 
 use lis_bits::Rows;
 use lis_model::limits::Limits;
+use lis_taxonomy::Search;
 use std::alloc::{AllocError, Global};
 
 /// How many rows of files there are: those that are found, and a stack of as many as a place has nodes.
@@ -25,6 +26,8 @@ pub struct Scratch {
     pub increments: Rows,
     /// Of how many of the files that are found each number is.
     pub counts: Vec<u32>,
+    /// For what words entail.
+    pub search: Search,
     /// The places, in the order of words, of the words of a route.
     pub route: Vec<u32>,
     /// How many words the route has.
@@ -44,6 +47,7 @@ impl Scratch {
             candidates: Rows::new(alloc, 1, limits.props)?,
             increments: Rows::new(alloc, 1, limits.props)?,
             counts: vec![in alloc; 0; limits.props as usize]?,
+            search: Search::new(alloc)?,
             route: vec![in alloc; 0; limits.files as usize]?,
             steps: 0,
         })

@@ -14,7 +14,7 @@ pub trait View {
     /// The known words with their numbers, the files with their slots, and what words entail.
     ghost seen: { Self → Seen };
 
-    /// The rows of the files, with the count of their edits.
+    /// The numbers of the file in each slot, with the count of edits.
     ghost rows: { Self → ext.Ext };
 
     /// The number of a word.

@@ -1,10 +1,11 @@
--- Rows of bits that are kept in step with lists.
-use Rattle.std.proofs.Common.{◌≡◌, ◌⊎◌, ℕ, ◌<◌, ◌==◌, Bool, true, false, not, ◌&&◌, if◌then◌else◌, List, [], length, get_or, set, refl, sym, ap, ◌∙◌, inl, inr, arith, eq-eqb, get_or-set_same, get_or-set_other}
+-- Rows of bits that are kept in step with lists, and how often they are changed.
+use Rattle.std.proofs.Common.{◌≡◌, ◌⊎◌, ℕ, ◌+◌, ◌<◌, ◌≤◌, ◌==◌, Bool, true, false, not, ◌&&◌, if◌then◌else◌, List, [], length, get_or, set, refl, sym, ap, ◌∙◌, inl, inr, arith, eq-eqb, get_or-set_same, get_or-set_other}
 use Rattle.std.proofs.lemmas.Bool.{cases_eq, ne_eqb}
 use Rattle.lis_bits.specs.Rows.{Rows, HasShape, get, with_row}
 use Rattle.lis_bits.proofs.Laws.{shaped, new_row, get-with_row_other}
-use Rattle.lis_ext.specs.Numbers.{has_number}
+use Rattle.lis_ext.specs.Numbers.{has_number, numbers_where, differs}
 use Rattle.lis_ext.specs.Inside.{PutsBits, AreInStep, has_alone}
+use Rattle.lis_ext.proofs.Numbers.{numbers_more, numbers_le, numbers_apart}
 use Rattle.lis_ext.proofs.Touched.{PassesMore}
 
 and_false : (b : Bool) → (b && false) ≡ false
@@ -16,6 +17,8 @@ module _ (old : Rows) (props files file : ℕ) (value : Bool) where
   puts_none others shape = record {
     shape = shape;
     bits = λ p i p_in i_in. sym (ap (λ b. if b then value else get old p i) (and_false (i == file)));
+    edits = omega arith;
+    no_fewer = omega arith;
   }
 
   module _ (touched touched' : ℕ → Bool) (now : Rows) (h : PutsBits old now props files file touched value) where
@@ -23,8 +26,14 @@ module _ (old : Rows) (props files file : ℕ) (value : Bool) where
     puts_more q q_in more = record {
       shape = shaped now props files q (λ i. if i == file then value else get now q i) h.shape;
       bits = λ p i p_in i_in. bit p i p_in i_in (cases_eq p q);
+      edits = omega (arith, h.edits, numbers_more props touched touched' q q_in more.fresh more.passes (λ p p_in was. kept p was (cases_eq p q)));
+      no_fewer = omega (arith, h.no_fewer);
     }
       where
+        kept : (p : ℕ) → touched p ≡ true → (p ≡ q) ⊎ (p ≡ q → ⊥) → touched' p ≡ true
+        kept p was (inl same) = ap touched' same ∙ more.passes
+        kept p was (inr differ) = more.others p differ ∙ was
+
         at : (i : ℕ) → i < files → (i ≡ file) ⊎ (i ≡ file → ⊥) → (if i == file then value else get now q i) ≡ (if (i == file) && touched' q then value else get old q i)
         at i i_in (inl same) = rw (eq-eqb i file same, more.passes) refl
         at i i_in (inr differ) = rw (ne_eqb i file differ) (h.bits q i q_in i_in ∙ rw (ne_eqb i file differ) refl)
@@ -38,6 +47,8 @@ module _ (old : Rows) (props files file : ℕ) (value : Bool) where
     puts_same same = record {
       shape = h.shape;
       bits = λ p i p_in i_in. h.bits p i p_in i_in ∙ ap (λ b. if (i == file) && b then value else get old p i) (sym (same p));
+      edits = omega (arith, h.edits, numbers_le props touched touched' (λ p p_in was. same p ∙ was));
+      no_fewer = h.no_fewer;
     }
 
 -- a file's list becomes a new one
@@ -64,3 +75,11 @@ in_step_set lists rows mid after props files file old new long file_in was step 
         let below = rw (ne_eqb i file differ) at (down.bits p i p_in i_in) in
         let above = rw (ne_eqb i file differ) at (up.bits p i p_in i_in) in
         above ∙ (below ∙ (step p i p_in i_in ∙ ap (λ numbers. has_number numbers p) (sym (get_or-set_other lists file i new [] differ))))
+
+pub edits_set : (rows mid after : Rows) (props files file : ℕ) (old new : List ℕ) → PutsBits rows mid props files file (has_alone old new) false → PutsBits mid after props files file (has_alone new old) true
+    → after.edits ≤ rows.edits + length (numbers_where props (differs old new))
+edits_set rows mid after props files file old new down up = omega (arith, down.edits, up.edits, numbers_apart props (has_alone new old) (has_alone old new) (λ p. apart (has_number new p) (has_number old p)))
+  where
+    apart : (x y : Bool) → (x && not y) ≡ true → (y && not x) ≡ false
+    apart true y e = and_false y
+    apart false y e = absurd cc

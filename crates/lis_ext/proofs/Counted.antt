@@ -117,9 +117,9 @@ module _ (props : ℕ) (old new : List ℕ) where
       by false true d u s = omega (arith, counted p p_in)
       by false false d u s = omega (arith, counted p p_in)
 
-  pub marks_set : (marks mid after : Rows) (lost gained : ℕ) → Touches marks mid props (has_alone old new) lost → Touches mid after props (has_alone new old) gained
+  pub marks_set : (marks mid after : Rows) → Touches marks mid props (has_alone old new) → Touches mid after props (has_alone new old)
       → numbers_where props (get after 0) ≡ numbers_where props (λ p. has_number (numbers_where props (get marks 0)) p || differs old new p)
-  marks_set marks mid after lost gained down up = numbers_same props (get after 0) (λ p. has_number (numbers_where props (get marks 0)) p || differs old new p)
+  marks_set marks mid after down up = numbers_same props (get after 0) (λ p. has_number (numbers_where props (get marks 0)) p || differs old new p)
       (λ p lt. up.marks p lt ∙ (rw (down.marks p lt, has-numbers_where props (get marks 0) p lt) (turned (get marks 0 p) (has_alone old new p) (has_alone new old p))))
     where
       turned : (x y z : Bool) → ((x || y) || z) ≡ (x || (z || y))
@@ -128,17 +128,6 @@ module _ (props : ℕ) (old new : List ℕ) where
       turned false true false = refl
       turned false false true = refl
       turned false false false = refl
-
-  pub edits_set : (marks mid after : Rows) (lost gained : ℕ) → Touches marks mid props (has_alone old new) lost → Touches mid after props (has_alone new old) gained → lost + gained ≤ length (numbers_where props (differs old new))
-  edits_set marks mid after lost gained down up = omega (arith, down.few, up.few, numbers_apart props (has_alone new old) (has_alone old new) (λ p. apart (has_number new p) (has_number old p)))
-    where
-      and_false : (b : Bool) → (b && false) ≡ false
-      and_false true = refl
-      and_false false = refl
-
-      apart : (x y : Bool) → (x && not y) ≡ true → (y && not x) ≡ false
-      apart true y e = and_false y
-      apart false y e = absurd cc
 
 -- ---- whether some number passes
 pub some_where : (n : ℕ) (f : ℕ → Bool) → 0 < length (numbers_where n f) → (k : ℕ) × (k < n) × (f k ≡ true)

@@ -8,7 +8,7 @@ use Rattle.lis_ext.specs.Numbers.{has_number}
 use Rattle.lis_ext.specs.Inside.{CountsUp, Touches, has_alone}
 use Rattle.lis_graph.proofs.Members.{among_from_contains}
 use Rattle.std.proofs.lemmas.List.{get_or_default}
-use Rattle.lis_ext.proofs.Numbers.{has_decides, numbers_more, numbers_le, has_more, not_before}
+use Rattle.lis_ext.proofs.Numbers.{has_decides, has_more, not_before}
 
 or_true : (b : Bool) → (b || true) ≡ true
 or_true true = refl
@@ -62,20 +62,15 @@ same_alone numbers others k lt there p = by (cases_eq p (get_or numbers k 0))
 
 -- ---- one more number passes
 module _ (touched touched' : ℕ → Bool) (q props : ℕ) (q_in : q < props) (more : PassesMore touched touched' q) where
-  pub touch_more : (old now : Rows) (many : ℕ) → Touches old now props touched many → Touches old (with_row now 0 (λ p. if p == q then true else get now 0 p)) props touched' (many + 1)
-  touch_more old now many h = record {
+  pub touch_more : (old now : Rows) → Touches old now props touched → Touches old (with_row now 0 (λ p. if p == q then true else get now 0 p)) props touched'
+  touch_more old now h = record {
     shape = shaped now 1 props 0 (λ p. if p == q then true else get now 0 p) h.shape;
     marks = λ p p_in. new_row now 1 props 0 p (λ p. if p == q then true else get now 0 p) h.shape (omega arith) p_in ∙ mark p p_in (cases_eq p q);
-    few = omega (arith, h.few, numbers_more props touched touched' q q_in more.fresh more.passes (λ p p_in was. kept p was (cases_eq p q)));
   }
     where
       mark : (p : ℕ) → p < props → (p ≡ q) ⊎ (p ≡ q → ⊥) → (if p == q then true else get now 0 p) ≡ (get old 0 p || touched' p)
       mark p p_in (inl same) = rw (eq-eqb p q same, same, more.passes) (sym (or_true (get old 0 q)))
       mark p p_in (inr differ) = rw (ne_eqb p q differ) (h.marks p p_in ∙ ap (λ b. get old 0 p || b) (sym (more.others p differ)))
-
-      kept : (p : ℕ) → touched p ≡ true → (p ≡ q) ⊎ (p ≡ q → ⊥) → touched' p ≡ true
-      kept p was (inl same) = ap touched' same ∙ more.passes
-      kept p was (inr differ) = more.others p differ ∙ was
 
   module _ (low high : List ℕ) (h : CountsUp low high props touched) where
     pub same_before : get_or high q 0 ≡ get_or low q 0
@@ -100,11 +95,10 @@ module _ (touched touched' : ℕ → Bool) (q props : ℕ) (q_in : q < props) (m
 
 -- ---- the test lets the same numbers pass
 module _ (touched touched' : ℕ → Bool) (props : ℕ) (same : (p : ℕ) → touched' p ≡ touched p) where
-  pub touch_same : (old now : Rows) (many : ℕ) → Touches old now props touched many → Touches old now props touched' many
-  touch_same old now many h = record {
+  pub touch_same : (old now : Rows) → Touches old now props touched → Touches old now props touched'
+  touch_same old now h = record {
     shape = h.shape;
     marks = λ p p_in. h.marks p p_in ∙ ap (λ b. get old 0 p || b) (sym (same p));
-    few = omega (arith, h.few, numbers_le props touched touched' (λ p p_in was. same p ∙ was));
   }
 
   pub counts_same : (low high : List ℕ) → CountsUp low high props touched → CountsUp low high props touched'

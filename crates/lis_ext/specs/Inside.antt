@@ -14,20 +14,21 @@ has_alone numbers others p = has_number numbers p && not (has_number others p)
 abbrev pub CountsUp : List ℕ → List ℕ → ℕ → (ℕ → Bool) → Type 0
 CountsUp low high props touched = (p : ℕ) → p < props → slice_index high p ≡ slice_index low p + (if touched p then 1 else 0)
 
--- the numbers that pass the test are marked, and there are at least so many of them
-pub record Touches (old new : Rows) (props : ℕ) (touched : ℕ → Bool) (many : ℕ) : Type 0 where
+-- the numbers that pass the test are marked
+pub record Touches (old new : Rows) (props : ℕ) (touched : ℕ → Bool) : Type 0 where
   pub shape : HasShape new 1 props
   pub marks : (p : ℕ) → p < props → get new 0 p ≡ (get old 0 p || touched p)
-  pub few : many ≤ length (numbers_where props touched)
 
--- the file's bit has this value in the row of each number that passes the test, and all other bits stay
+-- The file's bit has this value in the row of each number that passes the test, and all other bits stay. No row is changed more than once.
 pub record PutsBits (old new : Rows) (props files file : ℕ) (touched : ℕ → Bool) (value : Bool) : Type 0 where
   pub shape : HasShape new props files
   pub bits : (p i : ℕ) → p < props → i < files → get new p i ≡ (if (i == file) && touched p then value else get old p i)
+  pub edits : new.edits ≤ old.edits + length (numbers_where props touched)
+  pub no_fewer : old.edits ≤ new.edits
 
 -- what a contract sees of the fields
-abbrev pub seen : List (List ℕ) → Rows → ℕ → ℕ → Ext
-seen lists marks props edits = record { props = props; sets = lists; marks = numbers_where props (get marks 0); edits = edits }
+abbrev pub seen : List (List ℕ) → Rows → Rows → ℕ → Ext
+seen lists rows marks props = record { props = props; sets = lists; marks = numbers_where props (get marks 0); edits = rows.edits }
 
 -- each row has the files whose lists have its number
 abbrev pub AreInStep : List (List ℕ) → Rows → ℕ → ℕ → Type 0

@@ -1,13 +1,13 @@
-ghost use Rattle.std.specs.Prelude.{◌≡◌, ℕ, ◌+◌, ◌*◌, ◌%◌, ◌<◌, ◌≤◌, All, [], length, slice_get, slice_set, slice_index, IfOk};
+ghost use Rattle.std.specs.Prelude.{◌≡◌, ℕ, ◌+◌, ◌*◌, ◌%◌, ◌<◌, ◌≤◌, ◌&&◌, All, [], length, slice_get, slice_set, slice_index, IfOk};
 ghost use Rattle.std.specs.List.{list_any};
 ghost use Rattle.std.specs.List.Sorted.{IsStrictlyIncreasing};
-ghost use Rattle.lis_bits.specs.Rows.{get, with_row};
+ghost use Rattle.lis_bits.specs.Rows.{HasShape, get, with_row};
 ghost use Rattle.lis_bits.specs.Bytes.{bits_bytes};
 ghost use Rattle.lis_ext.specs.Numbers.{differs, has_number, numbers_where};
 
 use crate::lists::Lists;
 use crate::tables;
-use lis_bits::{Rows, copy_row};
+use lis_bits::{Rows, and_row, copy_row};
 use lis_limits::{MAX_DESCRIPTION, MAX_FILES, MAX_PROPS};
 use std::alloc::{AllocError, Global};
 use std::marker::Model;
@@ -26,7 +26,6 @@ pub struct Ext {
     counts: Vec<u32>,
     // One row, of the numbers that are marked.
     marks: Rows,
-    edits: u64,
 }
 
 impl Model for Ext {
@@ -36,7 +35,7 @@ impl Model for Ext {
 
     ghost use Rattle.lis_ext.specs.Inside.{seen, IsSoundExt};
 
-    ghost view = { λ e. seen e.lists e.marks e.props e.edits };
+    ghost view = { λ e. seen e.lists e.rows e.marks e.props };
 
     ghost invariant = { λ e. IsSoundExt e.lists e.counts.items e.rows e.marks e.props e.files };
 }
@@ -59,7 +58,6 @@ impl Ext {
             lists: Lists::new(alloc, files)?,
             counts: vec![in alloc; 0; props as usize]?,
             marks: Rows::new(alloc, 1, props)?,
-            edits: 0,
         })
     }
 
@@ -79,12 +77,11 @@ impl Ext {
         ensures no_fewer { self.old.edits ≤ self.new.edits }
     {
         let old = self.lists.numbers(file);
-        let lost = tables::lose(&mut self.counts, &mut self.marks, self.props, old, new);
-        let gained = tables::gain(&mut self.counts, &mut self.marks, self.props, new, old);
+        tables::lose(&mut self.counts, &mut self.marks, self.props, old, new);
+        tables::gain(&mut self.counts, &mut self.marks, self.props, new, old);
         let (props, files) = (self.props, self.files);
         tables::put_bits(&mut self.rows, props, files, file, old, new, false);
         tables::put_bits(&mut self.rows, props, files, file, new, old, true);
-        self.edits = self.edits.saturating_add(u64::from(lost + gained));
         self.lists.set(file, new);
     }
 
@@ -165,6 +162,16 @@ impl Ext {
         many
     }
 
+    /// Leaves those of a row's files that have a number.
+    pub fn and_row(&self, prop: u32, to: &mut Rows, row: u32)
+        requires prop { prop < self.now.props }
+        requires bits { to.old.bits ≡ length self.now.sets }
+        requires row { row < length to.old.rows }
+        ensures { to.new ≡ with_row to.old row (λ bit. get to.old row bit && has self.now prop bit) }
+    {
+        and_row(&self.rows, prop, to, row);
+    }
+
     /// Writes the files that have a number into a row.
     pub fn copy_row(&self, prop: u32, to: &mut Rows, row: u32)
         requires prop { prop < self.now.props }
@@ -189,11 +196,21 @@ impl Ext {
         self.marks.fill(0, false);
     }
 
-    /// How often a file got or lost a number since `new`. It stays at its last value, 2^64 - 1.
+    /// The rows by number: row p has bit i where file i has the number p.
+    pub fn rows(&self) -> &Rows
+        ensures shape { HasShape result.now self.now.props (length self.now.sets) }
+        ensures values { (p i : ℕ) → p < self.now.props → i < length self.now.sets → get result.now p i ≡ has self.now p i }
+        ensures edits { result.now.edits ≡ self.now.edits }
+    {
+        &self.rows
+    }
+
+    /// The edits of the rows since `new`: at most one for each time that a file got or lost a number. The count stays at
+    /// its last value, 2^64 - 1.
     pub fn edits(&self) -> u64
         ensures { result ≡ self.now.edits }
     {
-        self.edits
+        self.rows.edits()
     }
 
     /// Writes the files that have a number as bytes: bit i % 8 of byte i / 8, bit 0 the lowest, tells file i.

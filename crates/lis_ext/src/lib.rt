@@ -1,5 +1,5 @@
-//! Which file has which number: a list of numbers for each file, of how many files each number is, and rows of bits
-//! that are changed no more than they differ.
+//! Which file has which number: the numbers of each file, how many files have each number, and a row of bits for each
+//! number. A file's new set changes the rows of the numbers that it gets or loses, each once at most.
 #![tactic(auto)]
 
 mod ext;

@@ -5,7 +5,6 @@ ghost use Rattle.lis_ext.specs.Numbers.{has_number, numbers_where};
 ghost use Rattle.lis_ext.specs.Inside.{CountsUp, Touches, PutsBits, has_alone};
 
 use lis_bits::Rows;
-use lis_limits::MAX_DESCRIPTION;
 
 // Whether the number is one of those that rise.
 fn is_among(numbers: &[u16], number: u16) -> bool
@@ -15,67 +14,57 @@ fn is_among(numbers: &[u16], number: u16) -> bool
     numbers.binary_search(&number).is_ok()
 }
 
-// Counts one more of each number that is none of the others, and marks it. Answers how many these are.
+// Counts one more of each number that is none of the others, and marks it.
 pub(crate) fn gain(
     counts: &mut [u32],
     marks: &mut Rows,
     props: u32,
     numbers: &[u16],
     others: &[u16],
-) -> u32
+)
     requires room { length counts.old ≡ props }
     requires marks_shape { HasShape marks.old 1 props }
     requires in_props { All (λ number. number < props) numbers.now }
     requires rise { IsStrictlyIncreasing numbers.now }
     requires others_rise { IsStrictlyIncreasing others.now }
-    requires short { length numbers.now ≤ MAX_DESCRIPTION }
     requires fit { (p : ℕ) → p < props → slice_index counts.old p + 1 < 2 ^ 32 }
     ensures counts { CountsUp counts.old counts.new props (has_alone numbers.now others.now) }
-    ensures marks { Touches marks.old marks.new props (has_alone numbers.now others.now) result }
-    ensures few { result ≤ length numbers.now }
+    ensures marks { Touches marks.old marks.new props (has_alone numbers.now others.now) }
 {
-    let mut gained = 0;
     for number in numbers {
         if !is_among(others, *number) {
             counts[*number as usize] += 1;
             marks.put(0, u32::from(*number), true);
-            gained += 1;
         }
     }
-    gained
 }
 
-// Counts one less of each number that is none of the others, and marks it. Answers how many these are.
+// Counts one less of each number that is none of the others, and marks it.
 pub(crate) fn lose(
     counts: &mut [u32],
     marks: &mut Rows,
     props: u32,
     numbers: &[u16],
     others: &[u16],
-) -> u32
+)
     requires room { length counts.old ≡ props }
     requires marks_shape { HasShape marks.old 1 props }
     requires in_props { All (λ number. number < props) numbers.now }
     requires rise { IsStrictlyIncreasing numbers.now }
     requires others_rise { IsStrictlyIncreasing others.now }
-    requires short { length numbers.now ≤ MAX_DESCRIPTION }
     requires counted { (p : ℕ) → has_number numbers.now p ≡ true → 0 < slice_index counts.old p }
     ensures counts { CountsUp counts.new counts.old props (has_alone numbers.now others.now) }
-    ensures marks { Touches marks.old marks.new props (has_alone numbers.now others.now) result }
-    ensures few { result ≤ length numbers.now }
+    ensures marks { Touches marks.old marks.new props (has_alone numbers.now others.now) }
 {
-    let mut lost = 0;
     for number in numbers {
         if !is_among(others, *number) {
             counts[*number as usize] -= 1;
             marks.put(0, u32::from(*number), true);
-            lost += 1;
         }
     }
-    lost
 }
 
-// Sets the file's bit in the row of each number that is none of the others.
+// Gives the file's bit the value in the row of each number that is none of the others.
 pub(crate) fn put_bits(
     rows: &mut Rows,
     props: u32,

@@ -80,14 +80,3 @@ split_by v kept found finds e tells counts many room counted total = record { ro
         (total ∙ (ap (λ n. length (numbers_where n (get found 0))) tells.files ∙ where_split v.limits.files (get found 0) (ext.has e w.1)))
         (some_found v found kept finds (ext.has e w.1) (λ (f : Entry). has_word f.words w.0) (λ f here. tells.told w f there here))
         (some_found v found kept finds (λ k. not (ext.has e w.1 k)) (λ (f : Entry). not (has_word f.words w.0)) (λ f here. ap not (tells.told w f there here)))
-
--- a row of those found that have a number too
-module _ (found mid : Rows) (files : ℕ) (had : ℕ → Bool) (shape : HasShape found 65 files) (copied : SetsBits found mid 65 files 1 had) where
-  pub both_shape : HasShape (with_row mid 0 (λ bit. get mid 0 bit && get mid 1 bit)) 65 files
-  both_shape = shaped mid 65 files 0 (λ bit. get mid 0 bit && get mid 1 bit) copied.shape
-
-  pub both_at : (bit : ℕ) → bit < files → get (with_row mid 0 (λ bit. get mid 0 bit && get mid 1 bit)) 0 bit ≡ (get found 0 bit && had bit)
-  both_at bit lt =
-      let first : 0 ≢ 1 = omega arith in
-      new_row mid 65 files 0 bit (λ bit. get mid 0 bit && get mid 1 bit) copied.shape (omega arith) lt
-      ∙ (ap (λ b. b && get mid 1 bit) (copied.others 0 bit first) ∙ ap (λ b. get found 0 bit && b) (copied.at bit lt))

@@ -16,7 +16,7 @@ use Rattle.lis_ext.specs.Ext as ext
 use Rattle.lis_ext.proofs.Numbers.{has_decides}
 use Rattle.lis_ext.proofs.Counted.{each_below}
 use Rattle.lis_eval.specs.View.{Placed, Seen, IsView, TellsFiles}
-use Rattle.lis_incr.specs.Marked.{number_passes, AreMarked, MarkedTo, IsSame, LeavesLocals, LocalsTo, is_covered}
+use Rattle.lis_incr.specs.Marked.{number_passes, AreMarked, MarkedTo, LeavesLocals, LocalsTo, is_covered}
 
 module _ (v : Seen) (test : List ℕ → Bool) where
   pub marked_none : (old : Rows) → HasShape old 1 v.limits.props → MarkedTo v test 0 (with_row old 0 (λ _. false))
@@ -55,9 +55,6 @@ module _ (v : Seen) (test : List ℕ → Bool) where
       let found = among_from_any (λ (x : List ℕ × ℕ). (x.1 == n) && test x.0) v.words (sym (are.marked n lt) ∙ set) in
       let parts = and_parts (found.0.1 == n) (test found.0.0) found.2 in
       (found.0, contains_from_among v.words found.0 found.1, eqb-true found.0.1 n parts.0, parts.1)
-
-  pub marks_same : (old new : Rows) → IsSame old new v.limits.props → AreMarked v test old → AreMarked v test new
-  marks_same old new is are = record { shape = is.shape; marked = λ n lt. is.same n lt ∙ are.marked n lt }
 
 -- ---- locals
 module _ (v : Seen) (files : List Entry) (kept : IsView v) where
@@ -133,10 +130,3 @@ covered_is v kept files marks are e tells keeps f here = one_answer (list_any (g
         let there = contains_from_among v.words some.0 some.1 in
         let parts = and_parts (is_candidate files some.0.0) (has_word f.entry.words some.0.0) some.2 in
         any_from_among (get marks 0) (ext.set_of e f.slot) some.0.1 ((has_decides (ext.set_of e f.slot) some.0.1).0 (tells.told some.0 f there here ∙ parts.1)) (marked_at v (is_candidate files) kept marks are some.0 there ∙ parts.0)
-
--- ---- rows that stay
-pub still_same : (old : Rows) (bits : ℕ) → HasShape old 1 bits → IsSame old old bits
-still_same old bits shape = record { shape = shape; same = λ n lt. refl }
-
-pub same_again : (old mid new : Rows) (bits : ℕ) → IsSame old mid bits → IsSame mid new bits → IsSame old new bits
-same_again old mid new bits first second = record { shape = second.shape; same = λ n lt. second.same n lt ∙ first.same n lt }

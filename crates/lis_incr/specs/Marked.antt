@@ -30,11 +30,6 @@ pub record MarkedTo (v : Seen) (test : List ℕ → Bool) (k : ℕ) (marks : Row
   pub shape : HasShape marks 1 v.limits.props
   pub marked : (n : ℕ) → n < v.limits.props → get marks 0 n ≡ number_passes (take k v.words) test n
 
--- the row is the same, bit by bit
-pub record IsSame (old new : Rows) (bits : ℕ) : Type 0 where
-  pub shape : HasShape new 1 bits
-  pub same : (n : ℕ) → n < bits → get new 0 n ≡ get old 0 n
-
 -- the row has the files found of which no word splits the files
 pub record LeavesLocals (v : Seen) (files : List Entry) (found locals : Rows) : Type 0 where
   pub shape : HasShape locals 1 v.limits.files

@@ -136,8 +136,9 @@ pub fn make_listing<V: View>(view: &V, scratch: &mut Scratch, place: &Place)
     );
     mark_increments(
         view,
-        &mut scratch.candidates,
+        &scratch.candidates,
         &mut scratch.increments,
+        &mut scratch.search,
         props,
     );
 }

@@ -62,21 +62,11 @@ pub fn make_route<V: View>(view: &V, scratch: &mut Scratch, place: &Place, name:
         return false;
     };
     let slot = u32::from(slot);
-    let files = &mut scratch.files;
-    if !files.get(0, slot) {
+    if !scratch.files.get(0, slot) {
         return false;
     }
-    let most = count_found(view, files, scratch.limits.files);
-    scratch.steps = walk(
-        view,
-        files,
-        &mut scratch.counts,
-        &mut scratch.candidates,
-        &mut scratch.route,
-        slot,
-        scratch.limits.props,
-        most,
-    );
+    let most = count_found(view, &scratch.files, scratch.limits.files);
+    scratch.steps = walk(view, scratch, slot, most);
     true
 }
 

@@ -7,6 +7,7 @@ ghost use Rattle.lis_bits.specs.Rows.{HasShape, get};
 ghost use Rattle.lis_model.specs.Listing.{holds_all};
 ghost use Rattle.lis_model.specs.Route.{route_within};
 ghost use Rattle.lis_eval.specs.View.{Placed, IsView, TellsTest, table_of};
+ghost use Rattle.lis_eval.specs.Room.{HasRoom};
 ghost use Rattle.lis_incr.specs.Marked.{Finds};
 ghost use Rattle.lis_incr.specs.Ways.{AreKnown, words_of};
 ghost use Rattle.lis_incr.specs.Walking.{IsFirst};
@@ -14,7 +15,7 @@ ghost use Rattle.lis_incr.specs.Walking.{IsFirst};
 use crate::increments::is_top;
 use crate::marks::{count_words, mark_all_own};
 use lis_bits::Rows;
-use lis_eval::View;
+use lis_eval::{Scratch, View};
 
 // How many files are found.
 pub(crate) fn count_found<V: View>(view: &V, found: &Rows, files: u32) -> u32
@@ -39,31 +40,34 @@ pub(crate) fn count_found<V: View>(view: &V, found: &Rows, files: u32) -> u32
 }
 
 // The first increment that the file in the slot has: its place in the order of words, and its number.
-fn first_step<V: View>(
-    view: &V,
-    found: &Rows,
-    counts: &mut [u32],
-    candidates: &mut Rows,
-    slot: u32,
-    props: u32,
-) -> Option<(u32, u32)>
-    requires found { Finds (V.seen view.now) found.now }
+fn first_step<V: View>(view: &V, scratch: &mut Scratch, slot: u32) -> Option<(u32, u32)>
+    requires found { Finds (V.seen view.now) scratch.old.files }
     requires kept { IsView (V.seen view.now) }
-    requires props { props ≡ (V.seen view.now).limits.props }
-    requires room { length counts.old ≡ (V.seen view.now).limits.props }
-    requires candidates { HasShape candidates.old 1 (V.seen view.now).limits.props }
+    requires room { HasRoom scratch.old (V.seen view.now).limits }
     requires slot { (f : Placed) × Contains (V.seen view.now).files f × (f.slot ≡ slot) }
-    ensures shape { HasShape candidates.new 1 (V.seen view.now).limits.props }
-    ensures first { (f : Placed) → Contains (V.seen view.now).files f → f.slot ≡ slot → IsFirst (V.seen view.now) found.now f.entry result }
+    ensures room { HasRoom scratch.new (V.seen view.now).limits }
+    ensures files { scratch.new.files ≡ scratch.old.files }
+    ensures route { scratch.new.route ≡ scratch.old.route }
+    ensures first { (f : Placed) → Contains (V.seen view.now).files f → f.slot ≡ slot → IsFirst (V.seen view.now) scratch.old.files f.entry result }
 {
-    let many = count_words(view, found, counts);
-    mark_all_own(view, counts, many, candidates, slot, props);
+    let props = scratch.limits.props;
+    let many = count_words(view, &scratch.files, &mut scratch.counts);
+    mark_all_own(
+        view,
+        &scratch.counts,
+        many,
+        &mut scratch.candidates,
+        slot,
+        props,
+    );
+    let candidates = &scratch.candidates;
+    let search = &mut scratch.search;
     for k in 0..props {
         match view.word_at(k) {
             None => return None,
             Some((_, number)) => {
                 let number = u32::from(number);
-                if is_top(view, candidates, number) {
+                if is_top(view, candidates, search, number) {
                     return Some((k, number));
                 }
             }
@@ -74,38 +78,25 @@ fn first_step<V: View>(
 
 // Writes the route to the file in a slot, at most so many words, and answers how many they are. Found are the files of
 // each place on it in turn.
-pub(crate) fn walk<V: View>(
-    view: &V,
-    found: &mut Rows,
-    counts: &mut [u32],
-    candidates: &mut Rows,
-    route: &mut [u32],
-    slot: u32,
-    props: u32,
-    most: u32,
-) -> u32
-    requires found { Finds (V.seen view.now) found.old }
+pub(crate) fn walk<V: View>(view: &V, scratch: &mut Scratch, slot: u32, most: u32) -> u32
+    requires found { Finds (V.seen view.now) scratch.old.files }
     requires kept { IsView (V.seen view.now) }
-    requires props { props ≡ (V.seen view.now).limits.props }
-    requires room { length counts.old ≡ (V.seen view.now).limits.props }
-    requires candidates { HasShape candidates.old 1 (V.seen view.now).limits.props }
+    requires room { HasRoom scratch.old (V.seen view.now).limits }
     requires slot { (f : Placed) × Contains (V.seen view.now).files f × (f.slot ≡ slot) }
-    requires most { most ≤ length route.old }
-    ensures shape { HasShape found.new 65 (V.seen view.now).limits.files }
-    ensures candidates { HasShape candidates.new 1 (V.seen view.now).limits.props }
+    requires most { most ≤ (V.seen view.now).limits.files }
+    ensures room { HasRoom scratch.new (V.seen view.now).limits }
     ensures few { result ≤ most }
-    ensures known { AreKnown (V.seen view.now) (take result route.new) }
+    ensures known { AreKnown (V.seen view.now) (take result scratch.new.route.items) }
     ensures steps { (f : Placed) (place : List Formula) → Contains (V.seen view.now).files f → f.slot ≡ slot
-        → TellsTest (V.seen view.now) (get found.old 0) (holds_all place)
-        → words_of (V.seen view.now) (take result route.new) ≡ route_within most (table_of (V.seen view.now)) place f.entry }
+        → TellsTest (V.seen view.now) (get scratch.old.files 0) (holds_all place)
+        → words_of (V.seen view.now) (take result scratch.new.route.items) ≡ route_within most (table_of (V.seen view.now)) place f.entry }
 {
     for step in 0..most {
-        match first_step(view, found, counts, candidates, slot, props) {
+        match first_step(view, scratch, slot) {
             None => return step,
             Some((place, number)) => {
-                view.ext().copy_row(number, found, 1);
-                found.and(0, 1);
-                route[step as usize] = place;
+                view.ext().and_row(number, &mut scratch.files, 0);
+                scratch.route[step as usize] = place;
             }
         }
     }

@@ -8,7 +8,7 @@ use Rattle.std.specs.List.{range_with_len}
 use Rattle.lis_dict.proofs.Laws.{among_from_number, number_below}
 use Rattle.lis_graph.proofs.Members.{among_left}
 use Rattle.lis_graph.proofs.Ranges.{range_among}
-use Rattle.lis_taxonomy.specs.Taxonomy.{pair_cmp}
+use Rattle.lis_taxonomy.specs.Taxonomy.{pair_cmp, edge_count, edge_room}
 use Rattle.lis_words.proofs.Tests.{valued_not_test}
 use Rattle.lis_kept.specs.Metadata.{Metadata}
 use Rattle.lis_kept.specs.Sound.{AreSound}
@@ -20,6 +20,7 @@ use Rattle.lis_kept.proofs.HeadEdges.{pair_order as edge_order, same_pairs, has_
 use Rattle.lis_kept.proofs.OwnLinks.{pair_slot, among_slot}
 use Rattle.lis_kept.proofs.NextTests.{IsNext, next_is, next_parts, below_one, Ranked, linked_below, has_test}
 use Rattle.lis_laws.proofs.Chains.{tests_by}
+use Rattle.lis_kept.proofs.InArea.{some_properties}
 use Rattle.lis_kept.proofs.Used.{headed}
 
 -- ---- edges that are all in a list are no more than it has
@@ -36,14 +37,14 @@ others_listed e edges t all p q h = by both.0 (all p q both.1)
         absurd (both_ways ((p == e.0) && (q == e.1)) (not-true ((p == e.0) && (q == e.1)) differ) one)
     by differ (inr more) = more
 
-one_fewer : (e : ℕ × ℕ) (t : Taxonomy) (most : ℕ) → set.len (without_edge t e.0 e.1).edges ≤ most → (set.contains t.edges e ≡ true) ⊎ (set.contains t.edges e ≡ false) → set.len t.edges ≤ suc most
+one_fewer : (e : ℕ × ℕ) (t : Taxonomy) (most : ℕ) → edge_count (without_edge t e.0 e.1) ≤ most → (set.contains t.edges e ≡ true) ⊎ (set.contains t.edges e ≡ false) → edge_count t ≤ suc most
 one_fewer e t most fewer (inl there) = omega (arith, fewer, set.len-remove edge_order t.edges e ∙ ap (λ b. cond b (set.len t.edges - 1) (set.len t.edges)) there)
 one_fewer e t most fewer (inr none) = omega (arith, fewer, set.len-remove edge_order t.edges e ∙ ap (λ b. cond b (set.len t.edges - 1) (set.len t.edges)) none)
 
-no_edges : (t : Taxonomy) → ((p q : ℕ) → has_edge t p q ≡ false) → set.len t.edges ≡ 0
+no_edges : (t : Taxonomy) → ((p q : ℕ) → has_edge t p q ≡ false) → edge_count t ≡ 0
 no_edges t none = ap set.len (set.same_set edge_order same_pairs t.edges set.empty (λ e. none e.0 e.1 ∙ sym (set.contains-empty pair_cmp e))) ∙ set.len-empty pair_cmp
 
-pub listed : (edges : List (ℕ × ℕ)) (t : Taxonomy) → ((p q : ℕ) → has_edge t p q ≡ true → Among edges (p, q)) → set.len t.edges ≤ length edges
+listed : (edges : List (ℕ × ℕ)) (t : Taxonomy) → ((p q : ℕ) → has_edge t p q ≡ true → Among edges (p, q)) → edge_count t ≤ length edges
 listed [] t all = omega (arith, no_edges t (λ p q. false_from_ne_true (has_edge t p q) (λ h. all p q h)))
 listed (e ∷ edges) t all = one_fewer e t (length edges) (listed edges (without_edge t e.0 e.1) (others_listed e edges t all)) (cases_Bool (set.contains t.edges e))
 
@@ -131,6 +132,13 @@ module _ (d : Dict) (kept : IsDict d) (bits : List Bool) where
       let first = first_of (own p) (range_with_len 0 d.props) (one_own p) q (range_among 0 d.props q (omega arith) (omega (arith, at.2))) h in
       subst (λ n. Among (map own_edge_of d.entries) (p, n)) first (map_among own_edge_of d.entries (at.0, p) (among_from_number d at.0 p (number_from_word d kept at.0 p at.1)))
 
+  -- a taxonomy of such edges alone has at most one for each word
+  pub own_few : (t : Taxonomy) → ((p q : ℕ) → has_edge t p q ≡ true → own p q ≡ true) → edge_count t ≤ length d.entries
+  own_few t all =
+      let few = listed (map own_edge_of d.entries) t (λ p q edge. own_listed p q (all p q edge)) in
+      let long : length (map own_edge_of d.entries) ≡ length d.entries = search (rules, length-map) in
+      omega (arith, few, long)
+
 -- ---- the edges of axioms
 abbrev sides_of : AxiomSlot → ℕ × ℕ
 sides_of FreeAxiom = (0, 0)
@@ -142,7 +150,7 @@ pair_listed axioms p q h =
     map_among sides_of (filter is_filled axioms) (Pair p q) (filter_among is_filled axioms (Pair p q) (among_slot axioms at.0 (Pair p q) at.1) refl)
 
 -- ---- all edges
-pub edges_few : (k : Metadata) → IsDict k.dict → (t : Taxonomy) → HasEdges k t → set.len t.edges ≤ length k.dict.entries + count_by is_filled k.axioms
+edges_few : (k : Metadata) → IsDict k.dict → (t : Taxonomy) → HasEdges k t → edge_count t ≤ length k.dict.entries + count_by is_filled k.axioms
 edges_few k kept t has =
     let few = listed (own_list ++ pair_list) t all in
     let own_long : length own_list ≡ length k.dict.entries = search (rules, length-map) in
@@ -162,7 +170,7 @@ edges_few k kept t has =
         by (inl own) = among_left own_list pair_list (p, q) (own_listed k.dict kept k.declared p q own)
         by (inr pair) = among_right own_list pair_list (p, q) (pair_listed k.axioms p q pair)
 
--- ---- room for one more
+-- ---- room for more
 -- filled slots are below the limit
 abbrev AreBelow : ℕ → List AxiomSlot → Type 0
 AreBelow n axioms = (slot left right : ℕ) → slice_get axioms slot ≡ Some (Pair left right) → slot < n
@@ -174,34 +182,19 @@ filled_most : (x : AxiomSlot) (xs : List AxiomSlot) → count_by is_filled (x �
 filled_most FreeAxiom xs = omega (arith, sum_by-cons (λ a. cond (is_filled a) 1 0) FreeAxiom xs)
 filled_most (Pair left right) xs = omega (arith, sum_by-cons (λ a. cond (is_filled a) 1 0) (Pair left right) xs)
 
-pub filled_few : (n : ℕ) (axioms : List AxiomSlot) → AreBelow n axioms → count_by is_filled axioms ≤ n
+filled_few : (n : ℕ) (axioms : List AxiomSlot) → AreBelow n axioms → count_by is_filled axioms ≤ n
 filled_few n [] below = omega arith
 filled_few zero (FreeAxiom ∷ xs) below =
     omega (arith, filled_few zero xs (λ slot left right is. absurd (omega (arith, below (suc slot) left right is))), sum_by-cons (λ a. cond (is_filled a) 1 0) FreeAxiom xs)
 filled_few zero (Pair left right ∷ xs) below = absurd (omega (arith, below 0 left right refl))
 filled_few (suc n) (x ∷ xs) below = omega (arith, filled_most x xs, filled_few n xs (below_tail n x xs below))
 
--- where one of them is free there are fewer
-pub filled_less : (n slot : ℕ) (axioms : List AxiomSlot) → AreBelow n axioms → slot < n → slice_get axioms slot ≡ Some FreeAxiom → count_by is_filled axioms < n
-filled_less n slot [] below lt free = absurd cc
-filled_less zero slot (x ∷ xs) below lt free = absurd (omega (arith, lt))
-filled_less (suc n) zero (x ∷ xs) below lt free =
-    let first : x ≡ FreeAxiom = same_Some x FreeAxiom free in
-    omega (arith, filled_few n xs (below_tail n x xs below), sum_by-cons (λ a. cond (is_filled a) 1 0) x xs, ap {B = ℕ} (λ a. cond (is_filled a) 1 0) first)
-filled_less (suc n) (suc slot) (x ∷ xs) below lt free = omega (arith, filled_most x xs, filled_less n slot xs (below_tail n x xs below) (omega (arith, lt)) free)
+-- at most two for each number
+pub edges_most : (k : Metadata) → IsDict k.dict → length k.dict.entries ≤ k.limits.props → AreBelow k.limits.props k.axioms → (t : Taxonomy) → HasEdges k t → edge_count t ≤ 2 * k.limits.props
+edges_most k kept words below t has = omega (arith, edges_few k kept t has, filled_few k.limits.props k.axioms below, words)
 
-module _ (k : Metadata) (sound : AreSound k) (t : Taxonomy) (has : HasEdges k t) where
-  below : AreBelow k.limits.props k.axioms
-  below slot left right is = (sound.axioms slot left right is).below
-
-  -- at most two for each number
-  pub edges_most : set.len t.edges ≤ 2 * k.limits.props
-  edges_most = omega (arith, edges_few k sound.dict t has, filled_few k.limits.props k.axioms below, sound.dict.few, sound.numbers)
-
-  -- one fewer where a word more has room
-  pub room_for_word : length k.dict.entries < k.limits.props → set.len t.edges < 2 * k.limits.props
-  room_for_word room = omega (arith, edges_few k sound.dict t has, filled_few k.limits.props k.axioms below, room)
-
-  -- and where a slot of an axiom is free
-  pub room_for_axiom : (slot : ℕ) → slot < k.limits.props → slice_get k.axioms slot ≡ Some FreeAxiom → set.len t.edges < 2 * k.limits.props
-  room_for_axiom slot lt free = omega (arith, edges_few k sound.dict t has, filled_less k.limits.props slot k.axioms below lt free, sound.dict.few, sound.numbers)
+-- so there is room for several more
+pub has_room : (k : Metadata) → AreSound k → (t : Taxonomy) → HasEdges k t → edge_count t + 2 ≤ edge_room t.props
+has_room k sound t has =
+    let most = edges_most k sound.dict (omega (arith, sound.dict.few, sound.numbers)) (λ slot left right is. (sound.axioms slot left right is).below) t has in
+    omega (arith, most, some_properties k.limits sound.range, has.props)

@@ -48,6 +48,12 @@ whole_properties limits range = props_whole limits.props (props_range limits ran
 pub few_properties : (limits : Limits) → IsTrue (are_in_range limits) → limits.props ≤ 8192
 few_properties limits range = props_few limits.props (props_range limits range)
 
+props_some : (n : ℕ) → is_props_limit n ≡ true → 64 ≤ n
+props_some n is = grind (arith, nat_tests)
+
+pub some_properties : (limits : Limits) → IsTrue (are_in_range limits) → 64 ≤ limits.props
+some_properties limits range = props_some limits.props (props_range limits range)
+
 -- what holds of each limit of files
 either : (P : ℕ → Type 0) (n m : ℕ) (rest : Bool) → (rest || (n == m)) ≡ true → (rest ≡ true → P n) → P m → P n
 either P n m rest is others here = elim (or_cases rest (n == m) is) [ inl r ↦ others r | inr e ↦ subst P (sym (eqb-true n m e)) here ]

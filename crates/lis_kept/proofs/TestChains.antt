@@ -1,13 +1,14 @@
 -- Edges between tests close no circle.
 use Rattle.std.proofs.Common.{OnOk, OnErr, arith}
 use Rattle.lis_words.specs.declared.test.Test.{Test}
-use Rattle.lis_kept.proofs.Common.{rules, ◌≡◌, ◌⊎◌, ℕ, zero, suc, ◌==◌, ◌&&◌, ◌||◌, not, Bool, true, false, Option, Some, None, is_some, List, ◌↔◌, Result, Ok, Err, IsTrue, refl, sym, ap, ap₂, ◌∙◌, subst, inl, inr, Contains, and_parts, or_cases, eqb-true, Chain, among_from_contains, Dict, IsDict, word_of, EdgeFault, Present, Cycle, Absent, Taxonomy, no_links, has_edge, with_edge, without_edge, are_weaker}
-use Rattle.lis_taxonomy.specs.Taxonomy.{Entails}
+use Rattle.lis_kept.proofs.Common.{rules, ◌≡◌, ◌⊎◌, ℕ, zero, suc, ◌+◌, ◌-◌, ◌≤◌, ◌==◌, ◌&&◌, ◌||◌, not, cond, Bool, true, false, Option, Some, None, is_some, List, ◌↔◌, Result, Ok, Err, IsTrue, refl, sym, ap, ap₂, ◌∙◌, subst, inl, inr, Contains, and_parts, or_cases, eqb-true, Chain, among_from_contains, Dict, IsDict, word_of, EdgeFault, Present, Cycle, Absent, Taxonomy, no_links, has_edge, with_edge, without_edge, are_weaker}
+use Rattle.std.proofs.lemmas.Bool.{cases_Bool}
+use Rattle.lis_taxonomy.specs.Taxonomy.{Entails, edge_count}
 use Rattle.lis_laws.proofs.Chains.{weaker_trans, weaker_apart, tests_by}
 use Rattle.lis_kept.specs.Edges.{is_at}
 use Rattle.lis_kept.specs.declared.test_edges.Side.TheVariants.{Weaker, Stronger}
 use Rattle.lis_kept.specs.TestEdges.{test_by, declared_test, is_test_link, is_next_test, TestsAreOrdered, IsNeighbour, AreInOrder, LinksPair, UnlinksPair, LinksNext}
-use Rattle.lis_kept.proofs.HeadEdges.{has_edge-with_edge, has_edge-without_edge, edge_there, swapped}
+use Rattle.lis_kept.proofs.HeadEdges.{pair_order, has_edge-with_edge, has_edge-without_edge, edge_there, swapped}
 use Rattle.lis_kept.proofs.NextTests.{test_link, next_from_here}
 use Rattle.std.specs.FinSet as set
 
@@ -78,6 +79,30 @@ pair_unlinked t u x y (Err fault) gone same only absent =
     by p q true true e f = ap₂ (has_edge t) (sym (eqb-true x p e)) (sym (eqb-true y q f)) ∙ absent.0 only
     by p q true false e f = refl
     by p q false b e f = refl
+
+-- at most one edge more
+pub one_more : {T : Type 0} (t u : Taxonomy) (p q : ℕ) (r : Result T EdgeFault) → OnOk r (u ≡ with_edge t p q) → OnErr r (u ≡ t) → edge_count u ≤ edge_count t + 1
+one_more t u p q (Ok done) ok err = by (cases_Bool (has_edge t p q))
+  where
+    long : edge_count u ≡ cond (has_edge t p q) (edge_count t) (edge_count t + 1)
+    long = ap edge_count ok ∙ set.len-insert pair_order t.edges (p, q)
+
+    by : (has_edge t p q ≡ true) ⊎ (has_edge t p q ≡ false) → edge_count u ≤ edge_count t + 1
+    by (inl there) = omega (arith, long ∙ ap (λ b. cond b (edge_count t) (edge_count t + 1)) there)
+    by (inr none) = omega (arith, long ∙ ap (λ b. cond b (edge_count t) (edge_count t + 1)) none)
+one_more t u p q (Err fault) ok err = omega (arith, ap edge_count err)
+
+-- no more edges
+pub no_more : {T : Type 0} (t u : Taxonomy) (p q : ℕ) (r : Result T EdgeFault) → OnOk r (u ≡ without_edge t p q) → OnErr r (u ≡ t) → edge_count u ≤ edge_count t
+no_more t u p q (Ok done) ok err = by (cases_Bool (has_edge t p q))
+  where
+    long : edge_count u ≡ cond (has_edge t p q) (edge_count t - 1) (edge_count t)
+    long = ap edge_count ok ∙ set.len-remove pair_order t.edges (p, q)
+
+    by : (has_edge t p q ≡ true) ⊎ (has_edge t p q ≡ false) → edge_count u ≤ edge_count t
+    by (inl there) = omega (arith, long ∙ ap (λ b. cond b (edge_count t - 1) (edge_count t)) there)
+    by (inr none) = omega (arith, long ∙ ap (λ b. cond b (edge_count t - 1) (edge_count t)) none)
+no_more t u p q (Err fault) ok err = omega (arith, ap edge_count err)
 
 -- ---- to tests edges lead from stronger tests alone, then as before
 pub linked_ordered : (dict : Dict) (declared : List Bool) (from to : Option ℕ) (t u : Taxonomy) → LinksPair from to t u → AreInOrder dict declared from to → TestsAreOrdered dict t → TestsAreOrdered dict u

@@ -120,11 +120,6 @@ pub record IsFileBlock (k : Metadata) (at : ℕ → List ℕ) (data_block : ℕ)
   pub kept : Contains k.catalog.entries file
   pub has : has_number (blocks_told k.limits at file.rec) data_block ≡ true
 
--- the blocks of each file are taken
-abbrev pub AreBlocksTaken : Metadata → (ℕ → List ℕ) → Type 0
-AreBlocksTaken k at =
-    (f : Filed) → Contains k.catalog.entries f → (n : ℕ) → has_number (blocks_told k.limits at f.rec) n ≡ true → is_taken k.taken n ≡ true
-
 -- Where blocks hold these bytes, what is kept tells the state: its words, axioms and files are those of the state, the numbers of each
 -- file are those of its description, and the taken blocks are those of the files, none of them used twice, by one file or by two.
 pub record Tells (k : Metadata) (at : ℕ → List ℕ) (s : State) : Type 0 where

@@ -16,7 +16,7 @@ use crate::metadata::Metadata;
 use lis_blockmap::BlockMap;
 use lis_ext::Ext;
 use lis_fields::FileRec;
-use lis_limits::{MAX_ASSIGNED, MAX_DESCRIPTION};
+use lis_limits::{MAX_DESCRIPTION, SLOT_BLOCKS};
 use lis_taxonomy::Taxonomy;
 use lis_words::{Name, Word};
 
@@ -116,7 +116,7 @@ impl Metadata {
     pub fn taken_blocks(&self, slot: u16) -> usize
         requires { IsSome (rec_at self.now.catalog slot) }
         ensures taken { (rec : FileRecord) → rec_at self.now.catalog slot ≡ Some rec → result ≡ length (filter (is_taken self.now.taken) rec.blocks) }
-        ensures few { result ≤ MAX_ASSIGNED }
+        ensures few { result ≤ SLOT_BLOCKS }
     {
         let Some(rec) = self.catalog.rec(slot) else {
             unreachable!()

@@ -1,9 +1,10 @@
 //! The edges between tests: one leads from each declared test to the next weaker one.
 
-ghost use Rattle.std.specs.Prelude.{◌≡◌, ◌≤◌, ◌<◌, true, false, Some, length, MatchOption, IfSome};
+ghost use Rattle.std.specs.Prelude.{◌≡◌, ◌+◌, ◌≤◌, ◌<◌, true, false, Some, length, MatchOption, IfSome};
 ghost use Rattle.std.specs.Option.{option_map};
 ghost use Rattle.lis_dict.specs.Dict.{IsDict};
 ghost use Rattle.lis_model.specs.Tests.{is_weaker};
+ghost use Rattle.lis_taxonomy.specs.Taxonomy.{edge_count, edge_room};
 ghost use Rattle.lis_kept.specs.declared.test_edges.Found.{Found};
 ghost use Rattle.lis_kept.specs.TestEdges.{declared_test, is_past, IsNeighbour, AreInOrder, TestsAreOrdered, LinksPair, UnlinksPair, LinksNext, InsertsTest, RemovesTest};
 
@@ -138,6 +139,8 @@ fn link_pair(
     requires to { IfSome to (λ q. q < taxonomy.old.props) }
     requires weaker { AreInOrder dict.now declared.now from to }
     requires ordered { TestsAreOrdered dict.now taxonomy.old }
+    requires room { edge_count taxonomy.old < edge_room taxonomy.old.props }
+    ensures few { edge_count taxonomy.new ≤ edge_count taxonomy.old + 1 }
     ensures linked { LinksPair from to taxonomy.old taxonomy.new }
     ensures ordered { TestsAreOrdered dict.now taxonomy.new }
 {
@@ -155,6 +158,7 @@ fn unlink_pair(dict: &Dict, taxonomy: &mut Taxonomy, from: Option<u32>, to: Opti
     requires from { IfSome from (λ p. p < taxonomy.old.props) }
     requires to { IfSome to (λ q. q < taxonomy.old.props) }
     requires ordered { TestsAreOrdered dict.now taxonomy.old }
+    ensures few { edge_count taxonomy.new ≤ edge_count taxonomy.old }
     ensures unlinked { UnlinksPair from to taxonomy.old taxonomy.new }
     ensures ordered { TestsAreOrdered dict.now taxonomy.new }
 {
@@ -176,6 +180,7 @@ pub fn link_next(dict: &Dict, declared: &Flags, taxonomy: &mut Taxonomy, props: 
     requires names { dict.now.props ≡ props }
     requires bits { length declared.now ≡ props }
     requires ordered { TestsAreOrdered dict.now taxonomy.old }
+    requires room { edge_count taxonomy.old < edge_room taxonomy.old.props }
     ensures linked { LinksNext dict.now declared.now number taxonomy.old taxonomy.new }
     ensures ordered { TestsAreOrdered dict.now taxonomy.new }
 {
@@ -196,6 +201,7 @@ pub(crate) fn insert_test(
     requires number { number < props }
     requires bits { length declared.now ≡ props }
     requires ordered { TestsAreOrdered dict.now taxonomy.old }
+    requires room { edge_count taxonomy.old + 2 ≤ edge_room taxonomy.old.props }
     ensures { InsertsTest dict.now declared.now number taxonomy.old taxonomy.new }
 {
     let weaker = neighbour(dict, declared, props, number, Side::Weaker);
@@ -218,6 +224,7 @@ pub(crate) fn remove_test(
     requires number { number < props }
     requires bits { length declared.now ≡ props }
     requires ordered { TestsAreOrdered dict.now taxonomy.old }
+    requires room { edge_count taxonomy.old < edge_room taxonomy.old.props }
     ensures { RemovesTest dict.now declared.now number taxonomy.old taxonomy.new }
 {
     let weaker = neighbour(dict, declared, props, number, Side::Weaker);

@@ -7,7 +7,7 @@ ghost use Rattle.lis_fields.specs.Layouts.{is_undeclared};
 ghost use Rattle.lis_model.specs.Image.{data_start};
 ghost use Rattle.lis_model.specs.Ranges.{are_in_range};
 ghost use Rattle.lis_model.specs.State.{is_declarable};
-ghost use Rattle.lis_taxonomy.specs.Taxonomy.{has_edge};
+ghost use Rattle.lis_taxonomy.specs.Taxonomy.{has_edge, edge_count, edge_room};
 ghost use Rattle.lis_words.specs.Words.{is_valued, head_bytes};
 ghost use Rattle.lis_kept.specs.Areas.{block_of};
 ghost use Rattle.lis_kept.specs.Edges.{head_number, with_edge_to, without_edge_to};
@@ -64,6 +64,7 @@ fn link_head(taxonomy: &mut Taxonomy, number: u16, head: Option<u16>)
     requires apart { head ≢ Some number }
     requires to { (x : ℕ) → has_edge taxonomy.old x number ≡ false }
     requires from { (x : ℕ) → has_edge taxonomy.old number x ≡ false }
+    requires room { edge_count taxonomy.old < edge_room taxonomy.old.props }
     ensures { taxonomy.new ≡ with_edge_to taxonomy.old number head }
 {
     let Some(head) = head else {

@@ -7,12 +7,11 @@ use Rattle.lis_ports.specs.Since.{Begins, Since}
 use Rattle.lis_line.specs.declared.carrier.Halt.{Halt}
 use Rattle.lis_line.specs.declared.carrier.Halt.TheVariants.{End as AtEnd, Limit, InputFault, Stopped}
 use Rattle.lis_model.specs.Script.{script, session_cut}
-use Rattle.lis_model.specs.State.{State}
 use Rattle.lis_model.specs.Step.{Situation, Item, step}
 use Rattle.lis_store.specs.Stands.{Stands}
 use Rattle.lis_session.specs.declared.end.End.{End}
 use Rattle.lis_session.specs.declared.end.End.TheVariants.{DiskFault, OutputFault}
-use Rattle.lis_session.specs.Session.{root_of, out, state_after, OpenedMoment, EachMoment}
+use Rattle.lis_session.specs.Session.{out, state_after, EachMoment}
 use Rattle.lis_session.specs.Runs.{Goes, CarriedAll, CarriedToLimit, CarriedWhole}
 
 -- how many replies may wait, that of the command which is carried out among them
@@ -47,10 +46,6 @@ module _ (start : Situation) (items : List Item) where
   -- with no opening, and with no exception
   abbrev pub FullLoadHeadline : Meaning → Meaning → Type 0
   FullLoadHeadline old new = EachMoment old new (Since old.shown LoadMoment)
-
--- an opening, and a load from the root behind it
-abbrev pub LoadHeadline : State → List Item → Meaning → Meaning → Type 0
-LoadHeadline state items old new = EachMoment old new (OpenedMoment old (LoadMoment (root_of state) items))
 
 -- How it ended, where the source had these bytes left: but for a fault in an item, or in what was held back, as a session, with all replies shown.
 abbrev pub LoadServed : Situation → ℕ → List ℕ → Option (List ℕ) → Option (List ℕ) → Meaning → Halt End → Type 0

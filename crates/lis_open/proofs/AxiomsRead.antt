@@ -1,9 +1,10 @@
 -- The axioms of axiom slots, read one after another.
-use Rattle.lis_open.proofs.Common.{rules, ◌≡◌, ◌⊎◌, ◌∙◌, refl, sym, ap, ap₂, subst, inl, inr, ℕ, ◌+◌, ◌<◌, ◌==◌, nat_lt, Bool, true, false, ◌&&◌, ◌||◌, Option, Some, None, List, arith, eq-eqb, is_some, IfSome, ⊎_elim, ltb-true, lt-ltb, zero, suc, ◌≤◌, [], ◌∷◌, ◌++◌, length, take, set, replicate, slice_get, ◌^◌, ◌-◌, not, below_more, length-set, get_or-set_same, get_or-set_other, fold, length-take-le, Contains, take_all, and-false, cases_eq, Dict, IsDict, word_of, number_from_word, number_below, Taxonomy, has_edge, is_valued, head_bytes, same_word_decides, head_not_valued, is_head_by, or_left, or_right, is_test, and_parts, both_ways, false_from_ne_true, insert_key, or-false, length-replicate, get_or_from_slice_get, same_Some, Chain, Among, among_from_any, Meaning, DiskFaultEnds, Held, Fits, slot, no_links, axiom_bytes, is_axiom, AxiomSlot, FreeAxiom, Pair, plain_not_valued, Limits, axiom_at, axiom_slots, pair_told, pairs_told, axioms_of, has_pair, among_place, cases_lt, among_from_contains, contains_from_among, number_of, word_from_number, Leads, PropSlot, axiom_once, is_plain_word, is_nameable, some_number, word_at, words_in, one_array, and_from, get_or_past, slice_get-get_or, any_from_among, pair_cmp, has_word, ⊎_map, property_slots, prop_bytes, is_prop, prop_once, cases_Bool}
+use Rattle.lis_open.proofs.Common.{rules, ◌≡◌, ◌⊎◌, ◌∙◌, refl, sym, ap, ap₂, subst, inl, inr, ℕ, ◌+◌, ◌<◌, ◌==◌, nat_lt, Bool, true, false, ◌&&◌, ◌||◌, Option, Some, None, List, arith, eq-eqb, is_some, IfSome, ⊎_elim, ltb-true, lt-ltb, zero, suc, ◌≤◌, [], ◌∷◌, ◌++◌, length, take, set, replicate, slice_get, ◌^◌, ◌-◌, not, below_more, length-set, get_or-set_same, get_or-set_other, fold, length-take-le, Contains, take_all, and-false, cases_eq, Dict, IsDict, word_of, number_from_word, number_below, Taxonomy, has_edge, is_valued, head_bytes, same_word_decides, head_not_valued, is_head_by, or_left, or_right, or_cases, is_test, and_parts, both_ways, false_from_ne_true, insert_key, or-false, length-replicate, get_or_from_slice_get, same_Some, Chain, Among, among_from_any, Meaning, DiskFaultEnds, Held, Fits, slot, no_links, axiom_bytes, is_axiom, AxiomSlot, FreeAxiom, Pair, plain_not_valued, Limits, axiom_at, axiom_slots, pair_told, pairs_told, axioms_of, has_pair, among_place, cases_lt, among_from_contains, contains_from_among, number_of, word_from_number, Leads, PropSlot, axiom_once, is_plain_word, is_nameable, some_number, word_at, words_in, one_array, and_from, get_or_past, slice_get-get_or, any_from_among, pair_cmp, has_word, ⊎_map, property_slots, prop_bytes, is_prop, prop_once, cases_Bool}
 use Rattle.std.proofs.lemmas.Bool.Decides.{nat_tests}
-use Rattle.lis_taxonomy.specs.Taxonomy.{pair_cmp as edge_cmp, empty_taxonomy}
+use Rattle.lis_taxonomy.specs.Taxonomy.{pair_cmp as edge_cmp, edge_count, empty_taxonomy}
 use Rattle.lis_kept.specs.Edges.{with_edge_to}
 use Rattle.lis_kept.proofs.AxiomsChanged.{swapped}
+use Rattle.lis_kept.proofs.FewEdges.{own_few}
 use Rattle.lis_kept.proofs.HeadEdges.{has_edge-with_edge}
 use Rattle.lis_kept.proofs.Used.{is_at, head_by_number}
 use Rattle.lis_open.specs.declared.words.Words.{Words}
@@ -88,6 +89,13 @@ module _ (words : Words) (kept : IsDict words.dict) (end : ℕ) (t : Taxonomy) (
       linked.edges x end
       ∙ (ap (λ b. nat_lt x end && b) (valued_no_head (word_of words.dict x) (word_of words.dict end) found.word found.is found.valued) ∙ and-false (nat_lt x end))
 
+  -- at most one edge for each word
+  pub heads_few : edge_count t ≤ length words.dict.entries
+  heads_few =
+      own_few words.dict kept words.declared t (λ p q edge.
+      or_left (is_head_by (word_of words.dict p) (word_of words.dict q)) (is_next_test words.dict words.declared p q)
+      (and_parts (nat_lt p end) (is_head_by (word_of words.dict p) (word_of words.dict q)) (sym (linked.edges p q) ∙ edge)).1)
+
   pub linked_more : (next : Taxonomy) → next ≡ with_edge_to t end (head_by words.dict (word_of words.dict end)) → LinksHeads words (end + 1) next
   linked_more next is = search (rules, is_at, head_test, edge_to, below_next)
 
@@ -147,6 +155,20 @@ below_one_more words end t u v linked next ordered = record {
       next.edges p q ∙ (ap (λ b. ((p == end) && is_next_test words.dict words.declared p q) || b) (linked.edges p q) ∙ one_more p end (is_next_test words.dict words.declared p q) (has_edge t p q));
   ordered = ordered;
 }
+
+-- at most one edge for each word
+pub below_few : (words : Words) → IsDict words.dict → (props end : ℕ) (t u : Taxonomy) → LinksHeads words props t → LinksBelow words end t u → edge_count u ≤ length words.dict.entries
+below_few words kept props end t u heads linked =
+    own_few words.dict kept words.declared u (λ p q edge. by p q (or_cases (nat_lt p end && is_next_test words.dict words.declared p q) (has_edge t p q) (sym (linked.edges p q) ∙ edge)))
+  where
+    by : (p q : ℕ) → ((nat_lt p end && is_next_test words.dict words.declared p q) ≡ true) ⊎ (has_edge t p q ≡ true)
+        → (is_head_by (word_of words.dict p) (word_of words.dict q) || is_next_test words.dict words.declared p q) ≡ true
+    by p q (inl next) =
+        or_right (is_head_by (word_of words.dict p) (word_of words.dict q)) (is_next_test words.dict words.declared p q)
+        (and_parts (nat_lt p end) (is_next_test words.dict words.declared p q) next).1
+    by p q (inr head) =
+        or_left (is_head_by (word_of words.dict p) (word_of words.dict q)) (is_next_test words.dict words.declared p q)
+        (and_parts (nat_lt p props) (is_head_by (word_of words.dict p) (word_of words.dict q)) (sym (heads.edges p q) ∙ head)).1
 
 -- a number past the last one has no test
 pub all_linked : (words : Words) → IsDict words.dict → (end : ℕ) (t u : Taxonomy) → words.dict.props ≡ end → LinksBelow words end t u → LinksTests words t u

@@ -241,7 +241,7 @@ pub record FilesTurn (journal : Held) (limits : Limits) (words : Words) (axioms 
   pub reads : OnlyReads old now
   pub faults : now.disk_faults ≡ old.disk_faults
   pub first_fault : DiskFaultEnds old now
-  pub shape : HasShape row 2 axioms.taxonomy.props
+  pub shape : HasShape row 1 axioms.taxonomy.props
   pub first : AreFirstFiles limits words axioms files end
   pub recalls : StillRecalls journal old last_old last
   pub so_far : (kept : ℕ → List ℕ) → Fits journal old kept → Recalls last_old kept → AreSoFar limits kept words axioms files end

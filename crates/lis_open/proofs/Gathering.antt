@@ -2,7 +2,7 @@
 use Rattle.std.proofs.Common.{rules}
 pub use Rattle.lis_open.specs.ReadFiles.{Gathered}
 use Rattle.std.proofs.Common.{All}
-use Rattle.lis_open.proofs.Common.{◌≡◌, ℕ, ◌<◌, false, ◌||◌, Option, List, [], ◌∷◌, ◌++◌, get_or, sym, ap, ap₂, ◌∙◌, subst, arith, ◌+◌, nat_le, true, ◌&&◌, Some, None, option_to_list, length, take, refl, ◌≤◌, Bool, not, is_some, slice_get, le-leb, or-false, Among, among_from_contains, HasShape, get, with_row, Taxonomy, entails, list_all, list_all-append, number_of, FileRecord, or_left, IsDict, is_valued, head_bytes, met_tests, Metadata, bit_of, Rows, and_from, both_ways}
+use Rattle.lis_open.proofs.Common.{if◌then◌else◌, ◌≡◌, ℕ, ◌<◌, false, ◌||◌, Option, List, [], ◌∷◌, ◌++◌, get_or, sym, ap, ap₂, ◌∙◌, subst, arith, ◌+◌, nat_le, true, ◌&&◌, Some, None, option_to_list, length, take, refl, ◌≤◌, Bool, not, is_some, slice_get, le-leb, or-false, Among, among_from_contains, HasShape, get, with_row, Taxonomy, entails, list_all, list_all-append, number_of, FileRecord, or_left, IsDict, is_valued, head_bytes, met_tests, Metadata, bit_of, Rows, and_from, both_ways}
 use Rattle.std.specs.List.Sorted.{IsStrictlyIncreasing}
 use Rattle.std.proofs.Math.Bool.{or_assoc, and-true}
 use Rattle.std.proofs.lemmas.List.Elements.{Contains-get_or}
@@ -27,31 +27,31 @@ use Rattle.lis_store.proofs.MetTests.{met_first, met_next, unmet_next, met_befor
 use Rattle.lis_open.specs.ReadWords.{declared_words, kept_words}
 use Rattle.lis_open.proofs.Descriptions.{no_limits, declared_numbered}
 
-pub gathered_none : (t : Taxonomy) (row : Rows) → HasShape row 2 t.props → Gathered t row row []
+pub gathered_none : (t : Taxonomy) (row : Rows) → HasShape row 1 t.props → Gathered t row row []
 gathered_none t row shape = record { shape = shape; bits = λ n lt. sym (or-false (get row 0 n)) }
 
 pub gathered_then : (t : Taxonomy) (old row new : Rows) (ms ns : List ℕ) → Gathered t old row ms → Gathered t row new ns → Gathered t old new (ms ++ ns)
 gathered_then t old row new ms ns first second = search (rules, or_assoc, list_any-append)
 
-pub gathered_more : (t : Taxonomy) (old row mid new : Rows) (numbers : List ℕ) (number : ℕ) → Gathered t old row numbers → mid ≡ with_row row 1 (entails t number)
-    → new ≡ with_row mid 0 (λ bit. get mid 0 bit || get mid 1 bit) → Gathered t old new (numbers ++ number ∷ [])
-gathered_more t old row mid new numbers number was ups joined = gathered_then t old row new numbers (number ∷ []) was (record {
-  shape = second.shape;
-  bits = λ n lt. second.at n lt ∙ ap₂ (λ a b. a || b) (first.others 0 n (λ e. omega (arith, e))) (first.at n lt ∙ sym (or-false (entails t number n)));
-})
+-- what one number entails has its bits set
+pub gathered_one : (t : Taxonomy) (old new : Rows) (number : ℕ) → HasShape old 1 t.props → SetsBits old new (length old.rows) t.props 0 (λ q. if entails t number q then true else get old 0 q) → Gathered t old new (number ∷ [])
+gathered_one t old new number shape sets = record {
+  shape = subst (λ n. HasShape new n t.props) shape.tall sets.shape;
+  bits = λ n lt. sets.at n lt ∙ by (entails t number n) (get old 0 n);
+}
   where
-    first : SetsBits row mid 2 t.props 1 (entails t number)
-    first = row_sets row mid 2 t.props 1 (entails t number) was.shape (omega arith) ups
-
-    second : SetsBits mid new 2 t.props 0 (λ bit. get mid 0 bit || get mid 1 bit)
-    second = row_sets mid new 2 t.props 0 (λ bit. get mid 0 bit || get mid 1 bit) first.shape (omega arith) joined
+    by : (a b : Bool) → (if a then true else b) ≡ (b || (a || false))
+    by true true = refl
+    by true false = refl
+    by false true = refl
+    by false false = refl
 
 -- the row was cleared before
-pub gathered_all : (t : Taxonomy) (old row new : Rows) (numbers : List ℕ) → HasShape old 2 t.props → row ≡ with_row old 0 (λ _. false) → Gathered t row new numbers → (n : ℕ) → n < t.props → get new 0 n ≡ is_described t numbers n
+pub gathered_all : (t : Taxonomy) (old row new : Rows) (numbers : List ℕ) → HasShape old 1 t.props → row ≡ with_row old 0 (λ _. false) → Gathered t row new numbers → (n : ℕ) → n < t.props → get new 0 n ≡ is_described t numbers n
 gathered_all t old row new numbers shape cleared all n lt = search (rules, row_sets)
 
 -- the numbers of the row are those of the description
-pub listed_are : (t : Taxonomy) (own : List ℕ) (row : Rows) (listed : Option (List ℕ)) → HasShape row 2 t.props → ((n : ℕ) → n < t.props → get row 0 n ≡ is_described t own n)
+pub listed_are : (t : Taxonomy) (own : List ℕ) (row : Rows) (listed : Option (List ℕ)) → HasShape row 1 t.props → ((n : ℕ) → n < t.props → get row 0 n ≡ is_described t own n)
     → AreListed (numbers_where row.bits (get row 0)) listed → AreListed (described t own) listed
 listed_are t own row listed shape bits = search (rules, numbers_same)
 
@@ -70,10 +70,10 @@ pub record WordsGathered (words : Words) (t : Taxonomy) (derived : List (List �
   pub gathered : Gathered t old row (numbers_of words.dict (take k derived))
   pub all : list_all (is_numbered words.dict) (take k derived) ≡ true
 
-pub words_more : (words : Words) (t : Taxonomy) (derived : List (List ℕ)) (old row mid new : Rows) (k : ℕ) (word : List ℕ) (n : ℕ) → WordsGathered words t derived old row k → k < length derived → word ≡ get_or derived k word
-    → is_numbered words.dict word ≡ true → number_of words.dict word ≡ Some n → mid ≡ with_row row 1 (entails t n) → new ≡ with_row mid 0 (λ bit. get mid 0 bit || get mid 1 bit) → WordsGathered words t derived old new (k + 1)
-words_more words t derived old row mid new k word n was lt here has is ups joined = record {
-  gathered = subst (λ ns. Gathered t old new ns) (sym numbers_more) (gathered_more t old row mid new (numbers_of words.dict (take k derived)) n was.gathered ups joined);
+pub words_more : (words : Words) (t : Taxonomy) (derived : List (List ℕ)) (old row new : Rows) (k : ℕ) (word : List ℕ) (n : ℕ) → WordsGathered words t derived old row k → k < length derived → word ≡ get_or derived k word
+    → is_numbered words.dict word ≡ true → number_of words.dict word ≡ Some n → Gathered t row new (n ∷ []) → WordsGathered words t derived old new (k + 1)
+words_more words t derived old row new k word n was lt here has is one = record {
+  gathered = subst (λ ns. Gathered t old new ns) (sym numbers_more) (gathered_then t old row new (numbers_of words.dict (take k derived)) (n ∷ []) was.gathered one);
   all = ap (list_all (is_numbered words.dict)) more ∙ (list_all-append (is_numbered words.dict) (take k derived) (word ∷ []) ∙ and_from _ _ was.all (and_from _ _ has refl));
 }
   where
@@ -107,7 +107,7 @@ module _ (words : Words) (t : Taxonomy) (size : ℕ) (old : Rows) where
   abbrev k : Metadata
   k = kept_words no_limits words []
 
-  pub met_none : (start : ℕ) → HasShape old 2 t.props → start ≤ length words.dict.entries → ((i : ℕ) (e : List ℕ × ℕ) → i < start → slice_get words.dict.entries i ≡ Some e → test_of e.0 ≡ None) → MetSoFar words t size old old start
+  pub met_none : (start : ℕ) → HasShape old 1 t.props → start ≤ length words.dict.entries → ((i : ℕ) (e : List ℕ × ℕ) → i < start → slice_get words.dict.entries i ≡ Some e → test_of e.0 ≡ None) → MetSoFar words t size old old start
   met_none start shape le none = subst (λ ws. Gathered t old old (numbers_of words.dict ws)) (sym (met_before k size start le none)) (gathered_none t old shape)
 
   pub met_all : (row : Rows) (end : ℕ) → MetSoFar words t size old row end → end ≤ length words.dict.entries → ((i : ℕ) (e : List ℕ × ℕ) → end ≤ i → slice_get words.dict.entries i ≡ Some e → test_of e.0 ≡ None)
@@ -118,13 +118,12 @@ module _ (words : Words) (t : Taxonomy) (size : ℕ) (old : Rows) where
     pub met_not : (is_met (test_of word) size && bit_of words.declared (number_of words.dict word)) ≡ false → MetSoFar words t size old row (i + 1)
     met_not unmet = subst (λ ws. Gathered t old row (numbers_of words.dict ws)) (sym (unmet_next k size i (word, number) here unmet)) was
 
-    pub met_more : (mid new : Rows) → number_of words.dict word ≡ Some number → (is_met (test_of word) size && bit_of words.declared (number_of words.dict word)) ≡ true → mid ≡ with_row row 1 (entails t number)
-        → new ≡ with_row mid 0 (λ bit. get mid 0 bit || get mid 1 bit) → MetSoFar words t size old new (i + 1)
-    met_more mid new named met ups joined =
+    pub met_more : (new : Rows) → number_of words.dict word ≡ Some number → (is_met (test_of word) size && bit_of words.declared (number_of words.dict word)) ≡ true → Gathered t row new (number ∷ []) → MetSoFar words t size old new (i + 1)
+    met_more new named met one =
         let before = met_first k size i in
         let more = ap (numbers_of words.dict) (met_next k size i (word, number) here met)
         ∙ (flat_map-append (λ w. option_to_list (number_of words.dict w)) before (word ∷ []) ∙ ap (λ (o : Option ℕ). numbers_of words.dict before ++ (option_to_list o ++ [])) named) in
-        subst (λ ns. Gathered t old new ns) (sym more) (gathered_more t old row mid new (numbers_of words.dict before) number was ups joined)
+        subst (λ ns. Gathered t old new ns) (sym more) (gathered_then t old row new (numbers_of words.dict before) (number ∷ []) was one)
 
 -- ---- with what is derived
 -- only a test is met

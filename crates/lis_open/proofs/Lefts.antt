@@ -59,10 +59,10 @@ put_or : (n m : ℕ) (b : Bool) → cond (n == m) true b ≡ (b || (m == n))
 put_or n m b = grind (arith, nat_tests)
 
 -- one bit more
-pub bit_put : (r next : Rows) (bits m n : ℕ) → HasShape r 2 bits → next ≡ with_row r 0 (λ j. if j == m then true else get r 0 j) → n < bits → get next 0 n ≡ (get r 0 n || (m == n))
+pub bit_put : (r next : Rows) (bits m n : ℕ) → HasShape r 1 bits → next ≡ with_row r 0 (λ j. if j == m then true else get r 0 j) → n < bits → get next 0 n ≡ (get r 0 n || (m == n))
 bit_put r next bits m n shape is below = search (rules, get-with_row_same, put_or)
 
-pub no_bit_set : (r next : Rows) (bits n : ℕ) → HasShape r 2 bits → next ≡ with_row r 0 (λ _. false) → n < bits → get next 0 n ≡ false
+pub no_bit_set : (r next : Rows) (bits n : ℕ) → HasShape r 1 bits → next ≡ with_row r 0 (λ _. false) → n < bits → get next 0 n ≡ false
 no_bit_set r next bits n shape is below = search (rules, get-with_row_same)
 
 -- ---- the left side of one axiom
@@ -70,16 +70,16 @@ module _ (d : Dict) (dict : IsDict d) (left n : ℕ) where
   abbrev is_marked : Bool
   is_marked = (left == n) || is_head_by (word_of d left) (word_of d n)
 
-  pub left_marked : (old mid : Rows) (bits : ℕ) → HasShape old 2 bits → mid ≡ with_row old 0 (λ j. if j == left then true else get old 0 j) → head_by d (word_of d left) ≡ None → n < bits
+  pub left_marked : (old mid : Rows) (bits : ℕ) → HasShape old 1 bits → mid ≡ with_row old 0 (λ j. if j == left then true else get old 0 j) → head_by d (word_of d left) ≡ None → n < bits
       → get mid 0 n ≡ (get old 0 n || is_marked)
   left_marked old mid bits shape is none below =
       bit_put old mid bits left n shape is below
       ∙ ap (λ b. get old 0 n || b) (sym (or-false (left == n)) ∙ ap (λ b. (left == n) || b) (sym (ap (λ o. is_at o n) none) ∙ head_test d dict (word_of d left) n))
 
-  pub both_marked : (old mid new : Rows) (bits head : ℕ) → HasShape old 2 bits → mid ≡ with_row old 0 (λ j. if j == left then true else get old 0 j) → head_by d (word_of d left) ≡ Some head
+  pub both_marked : (old mid new : Rows) (bits head : ℕ) → HasShape old 1 bits → mid ≡ with_row old 0 (λ j. if j == left then true else get old 0 j) → head_by d (word_of d left) ≡ Some head
       → new ≡ with_row mid 0 (λ j. if j == head then true else get mid 0 j) → n < bits → get new 0 n ≡ (get old 0 n || is_marked)
   both_marked old mid new bits head shape is some then_is below =
-      bit_put mid new bits head n (shaped old 2 bits 0 _ mid shape is) then_is below
+      bit_put mid new bits head n (shaped old 1 bits 0 _ mid shape is) then_is below
       ∙ (ap (λ b. b || (head == n)) (bit_put old mid bits left n shape is below)
       ∙ (or_assoc (get old 0 n) (left == n) (head == n) ∙ ap (λ b. get old 0 n || ((left == n) || b)) (sym (ap (λ o. is_at o n) some) ∙ head_test d dict (word_of d left) n)))
 

@@ -49,7 +49,7 @@ described t own = numbers_where t.props (is_described t own)
 
 -- the row has what it had, and what these numbers entail
 pub record Gathered (t : Taxonomy) (old row : Rows) (numbers : List ℕ) : Type 0 where
-  pub shape : HasShape row 2 t.props
+  pub shape : HasShape row 1 t.props
   pub bits : (n : ℕ) → n < t.props → get row 0 n ≡ (get old 0 n || is_described t numbers n)
 
 -- the word has a number, and so has its head where it is valued
@@ -167,7 +167,8 @@ pub record AreTold (limits : Limits) (at : ℕ → List ℕ) (rec : FileRecord) 
   pub indexed : HasIndex limits at rec
   pub blocks_are : blocks ≡ blocks_told limits at rec
 
--- The record's file may be taken and is, with these blocks and the words of these bytes. They are those that are told by whatever may be kept.
+-- The record's file may be taken and is, with these blocks and the words of these bytes. The blocks and the words are those that are told by
+-- whatever may be kept.
 pub record TakesRecord (limits : Limits) (MayBeKept : (ℕ → List ℕ) → Type 0) (words : Words) (t : Taxonomy) (slot : ℕ) (rec : FileRecord) (old new : Files) : Type 0 where
   pub bytes : List ℕ
   pub blocks : List ℕ

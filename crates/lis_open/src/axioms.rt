@@ -5,7 +5,7 @@ ghost use Rattle.std.specs.Bool.{OnTrue, OnFalse};
 ghost use Rattle.lis_ports.specs.Calls.{ReadsDisk};
 ghost use Rattle.lis_journal.specs.Images.{Fits};
 ghost use Rattle.lis_dict.specs.Dict.{word_of};
-ghost use Rattle.lis_taxonomy.specs.Taxonomy.{has_edge, empty_taxonomy};
+ghost use Rattle.lis_taxonomy.specs.Taxonomy.{has_edge, edge_count, edge_room, empty_taxonomy};
 ghost use Rattle.lis_fields.specs.Layouts.{axiom_bytes, is_axiom};
 ghost use Rattle.lis_model.specs.Ranges.{are_in_range};
 ghost use Rattle.lis_kept.specs.Areas.{axiom_slots};
@@ -77,6 +77,7 @@ fn link_head(taxonomy: &mut Taxonomy, number: u16, head: Option<u16>)
     requires apart { head ≢ Some number }
     requires to { IfSome head (λ h. (x : ℕ) → has_edge taxonomy.old x number ≡ false) }
     requires from { (x : ℕ) → has_edge taxonomy.old number x ≡ false }
+    requires room { edge_count taxonomy.old < edge_room taxonomy.old.props }
     ensures { taxonomy.new ≡ with_edge_to taxonomy.old number head }
 {
     let Some(head) = head else {

@@ -43,8 +43,8 @@ const MAX_ROW: usize = MAX_FILES as usize / 8;
 fn mark_left(words: &Words, row: &mut Rows, slot: AxiomSlot)
     requires words { AreWords words.now }
     requires left { (left right : ℕ) → slot ≡ Pair left right → left < words.now.dict.props }
-    requires shape { HasShape row.old 2 words.now.dict.props }
-    ensures shape { HasShape row.new 2 words.now.dict.props }
+    requires shape { HasShape row.old 1 words.now.dict.props }
+    ensures shape { HasShape row.new 1 words.now.dict.props }
     ensures bits { (n : ℕ) → n < words.now.dict.props
         → get row.new 0 n ≡ (get row.old 0 n || (is_left_of n slot || is_left_head_of words.now.dict n slot)) }
 {
@@ -62,8 +62,8 @@ fn mark_left(words: &Words, row: &mut Rows, slot: AxiomSlot)
 fn mark_lefts(words: &Words, axioms: &Axioms, row: &mut Rows)
     requires words { AreWords words.now }
     requires lefts { (k left right : ℕ) → slice_get axioms.now.slots.items k ≡ Some (Pair left right) → left < words.now.dict.props }
-    requires shape { HasShape row.old 2 words.now.dict.props }
-    ensures shape { HasShape row.new 2 words.now.dict.props }
+    requires shape { HasShape row.old 1 words.now.dict.props }
+    ensures shape { HasShape row.new 1 words.now.dict.props }
     ensures bits { (n : ℕ) → n < words.now.dict.props
         → get row.new 0 n ≡ list_any (λ slot. is_left_of n slot || is_left_head_of words.now.dict n slot) axioms.now.slots.items }
 {
@@ -77,7 +77,7 @@ fn mark_lefts(words: &Words, axioms: &Axioms, row: &mut Rows)
 fn is_stray(words: &Words, ext: &Ext, lefts: &Rows, number: u16) -> bool
     requires words { AreWords words.now }
     requires props { ext.now.props ≡ words.now.dict.props }
-    requires shape { HasShape lefts.now 2 words.now.dict.props }
+    requires shape { HasShape lefts.now 1 words.now.dict.props }
     requires below { number < words.now.dict.props }
     ensures { result ≡ (is_some (word_of words.now.dict number)
         && not (is_taken words.now.declared number || is_had ext.now number || get lefts.now 0 number)) }
@@ -107,7 +107,7 @@ pub fn check_words(
     requires words { AreFirstWords limits.now words.now limits.now.props }
     requires axioms { AreFirstAxioms limits.now words.now axioms.now (axiom_slots limits.now).count }
     requires files { AreFirstFiles limits.now words.now axioms.now files.now limits.now.files }
-    requires shape { HasShape row.old 2 limits.now.props }
+    requires shape { HasShape row.old 1 limits.now.props }
     ensures { (marks : List Bool) → WordsChecked (metadata_in limits.now words.now axioms.now files.now marks) result }
 {
     mark_lefts(words, axioms, row);

@@ -1,6 +1,6 @@
 //! The files of an image: its file slots, and the descriptions that they have.
 
-ghost use Rattle.std.specs.Prelude.{◌≡◌, ◌<◌, ◌≤◌, ◌&&◌, nat_lt, ℕ, List, length, All, Some, None, IsTrue, IfOk, IfSome, OnOk};
+ghost use Rattle.std.specs.Prelude.{◌≡◌, ◌<◌, ◌≤◌, ◌&&◌, ◌∷◌, [], nat_lt, ℕ, List, length, All, Some, None, IsTrue, IfOk, IfSome, OnOk};
 ghost use Rattle.std.specs.Bool.{OnTrue, OnFalse};
 ghost use Rattle.std.specs.List.{list_all};
 ghost use Rattle.std.specs.List.Sorted.{IsStrictlyIncreasing};
@@ -46,7 +46,7 @@ use lis_model::limits::Limits;
 use lis_model::met::is_met;
 use lis_model::spot::Spot;
 use lis_ports::{Disk, Failed};
-use lis_taxonomy::Taxonomy;
+use lis_taxonomy::{Search, Taxonomy};
 use lis_words::{Word, test_of};
 use std::alloc::{AllocError, Global};
 
@@ -62,6 +62,13 @@ pub struct Files {
 impl Files {
     /// Gives back their memory. A caller that lets them go by this call is not checked with the end of all that they own.
     pub fn close(self) {}
+}
+
+/// A row of numbers, and what finds those that others entail.
+#[derive(Drop)]
+pub struct Gathering {
+    pub row: Rows,
+    pub search: Search,
 }
 
 /// No files yet.
@@ -117,43 +124,56 @@ fn is_met_word(words: &Words, word: &Word, number: u16, size: u64) -> bool
     is_met(test_of(word), size) && words.declared.get(u32::from(number))
 }
 
-// Adds to the row all that the numbers entail. The row behind it is for what one of them entails.
-fn gather(taxonomy: &Taxonomy, numbers: &[u16], row: &mut Rows)
-    requires shape { HasShape row.old 2 taxonomy.now.props }
+// Adds to the row all that the number entails.
+fn gather_one(taxonomy: &Taxonomy, number: u16, gathering: &mut Gathering)
+    requires shape { HasShape gathering.old.row 1 taxonomy.now.props }
+    requires below { number < taxonomy.now.props }
+    ensures { Gathered taxonomy.now gathering.old.row gathering.new.row (number ∷ []) }
+{
+    let search = &mut gathering.search;
+    taxonomy.put_ups(u32::from(number), &mut gathering.row, 0, true, search);
+}
+
+// Adds to the row all that the numbers entail.
+fn gather(taxonomy: &Taxonomy, numbers: &[u16], gathering: &mut Gathering)
+    requires shape { HasShape gathering.old.row 1 taxonomy.now.props }
     requires below { IsTrue (list_all (λ n. nat_lt n taxonomy.now.props) numbers.now) }
-    ensures { Gathered taxonomy.now row.old row.new numbers.now }
+    ensures { Gathered taxonomy.now gathering.old.row gathering.new.row numbers.now }
 {
     for number in numbers {
-        taxonomy.ups(u32::from(*number), row, 1);
-        row.or(0, 1);
+        gather_one(taxonomy, *number, gathering);
     }
 }
 
 // Adds to the row all that the derived words entail, and answers whether each of them, and its head, has a number.
-fn gather_derived(words: &Words, taxonomy: &Taxonomy, derived: &Derived, row: &mut Rows) -> bool
+fn gather_derived(
+    words: &Words,
+    taxonomy: &Taxonomy,
+    derived: &Derived,
+    gathering: &mut Gathering,
+) -> bool
     requires are { AreWords words.now }
     requires props { taxonomy.now.props ≡ words.now.dict.props }
-    requires shape { HasShape row.old 2 taxonomy.now.props }
+    requires shape { HasShape gathering.old.row 1 taxonomy.now.props }
     ensures all { result ≡ list_all (is_numbered words.now.dict) derived.now }
-    ensures shape { HasShape row.new 2 taxonomy.now.props }
-    ensures gathered { OnTrue result (Gathered taxonomy.now row.old row.new (numbers_of words.now.dict derived.now)) }
+    ensures shape { HasShape gathering.new.row 1 taxonomy.now.props }
+    ensures gathered { OnTrue result (Gathered taxonomy.now gathering.old.row gathering.new.row (numbers_of words.now.dict derived.now)) }
 {
     for word in derived.as_slice() {
         let Some(number) = numbered(words, word) else {
             return false;
         };
-        taxonomy.ups(u32::from(number), row, 1);
-        row.or(0, 1);
+        gather_one(taxonomy, number, gathering);
     }
     true
 }
 
-// Adds to the row all that the declared tests that so many bytes meet entail. The row behind it is for what one of them entails.
-fn gather_met(words: &Words, taxonomy: &Taxonomy, size: u64, row: &mut Rows)
+// Adds to the row all that the declared tests that so many bytes meet entail.
+fn gather_met(words: &Words, taxonomy: &Taxonomy, size: u64, gathering: &mut Gathering)
     requires are { AreWords words.now }
     requires props { taxonomy.now.props ≡ words.now.dict.props }
-    requires shape { HasShape row.old 2 taxonomy.now.props }
-    ensures { Gathered taxonomy.now row.old row.new (numbers_of words.now.dict (met_tests (declared_words words.now) size)) }
+    requires shape { HasShape gathering.old.row 1 taxonomy.now.props }
+    ensures { Gathered taxonomy.now gathering.old.row gathering.new.row (numbers_of words.now.dict (met_tests (declared_words words.now) size)) }
 {
     let (start, end) = words.dict.tests();
     for k in start..end {
@@ -161,15 +181,14 @@ fn gather_met(words: &Words, taxonomy: &Taxonomy, size: u64, row: &mut Rows)
             unreachable!()
         };
         if is_met_word(words, &word, number, size) {
-            taxonomy.ups(u32::from(number), row, 1);
-            row.or(0, 1);
+            gather_one(taxonomy, number, gathering);
         }
     }
 }
 
 // The numbers of the row, as they rise. None comes where there are more than a description may have.
 fn list_numbers(row: &Rows) -> Option<ArrayVec<u16, MAX_DESCRIPTION>>
-    requires shape { HasShape row.now 2 row.now.bits }
+    requires shape { HasShape row.now 1 row.now.bits }
     requires few { row.now.bits ≤ MAX_PROPS }
     ensures { AreListed (numbers_where row.now.bits (get row.now 0)) (option_map (λ listed. listed.items) result) }
 {
@@ -192,25 +211,25 @@ fn describe(
     taxonomy: &Taxonomy,
     rec: &FileRec,
     bytes: &[u8],
-    row: &mut Rows,
+    gathering: &mut Gathering,
 ) -> Option<ArrayVec<u16, MAX_DESCRIPTION>>
     requires are { AreWords words.now }
     requires props { taxonomy.now.props ≡ words.now.dict.props }
     requires few { taxonomy.now.props ≤ MAX_PROPS }
-    requires shape { HasShape row.old 2 taxonomy.now.props }
+    requires shape { HasShape gathering.old.row 1 taxonomy.now.props }
     requires below { IsTrue (list_all (λ n. nat_lt n taxonomy.now.props) rec.now.tags) }
-    ensures shape { HasShape row.new 2 taxonomy.now.props }
+    ensures shape { HasShape gathering.new.row 1 taxonomy.now.props }
     ensures described { AreDescribed words.now taxonomy.now rec.now (found_words words.now rec.now.name bytes.now)
         (option_map (λ listed. listed.items) result) }
 {
     let derived = derive_words(&rec.name, bytes);
-    row.fill(0, false);
-    gather(taxonomy, rec.tags.as_slice(), row);
-    if !gather_derived(words, taxonomy, &derived, row) {
+    gathering.row.fill(0, false);
+    gather(taxonomy, rec.tags.as_slice(), gathering);
+    if !gather_derived(words, taxonomy, &derived, gathering) {
         return None;
     }
-    gather_met(words, taxonomy, bytes.len() as u64, row);
-    list_numbers(row)
+    gather_met(words, taxonomy, bytes.len() as u64, gathering);
+    list_numbers(&gathering.row)
 }
 
 // Whether no file before has the name, and the words may be given.
@@ -256,7 +275,7 @@ fn take_record<D: Disk>(
     disk: &mut D,
     known: Known,
     files: &mut Files,
-    row: &mut Rows,
+    gathering: &mut Gathering,
     bytes: &mut Buffer,
     slot: u16,
     rec: FileRec,
@@ -267,10 +286,10 @@ fn take_record<D: Disk>(
     requires props { known.axioms.now.taxonomy.props ≡ known.words.now.dict.props }
     requires ext { files.old.ext.props ≡ known.words.now.dict.props }
     requires map { length files.old.map ≡ known.limits.now.blocks }
-    requires shape { HasShape row.old 2 known.axioms.now.taxonomy.props }
+    requires shape { HasShape gathering.old.row 1 known.axioms.now.taxonomy.props }
     requires slot { IsFreeSlot files.old slot }
     ensures disk { ReadsDisk (D.meaning disk.old) (D.meaning disk.new) result }
-    ensures shape { HasShape row.new 2 known.entry.axioms.now.taxonomy.props }
+    ensures shape { HasShape gathering.new.row 1 known.entry.axioms.now.taxonomy.props }
     ensures taken { IfOk result (λ taken. OnTrue taken
         (TakesRecord known.entry.limits.now (Fits known.entry.journal.now (D.meaning disk.old)) known.entry.words.now known.entry.axioms.now.taxonomy slot rec files.old files.new)) }
     ensures refused { IfOk result (λ taken. OnFalse taken ((files.new ≡ files.old)
@@ -290,7 +309,7 @@ fn take_record<D: Disk>(
         &known.axioms.taxonomy,
         &rec,
         bytes.bytes(),
-        row,
+        gathering,
     ) {
         None => Ok(false),
         Some(numbers) => {
@@ -305,7 +324,7 @@ fn take_file<D: Disk>(
     disk: &mut D,
     known: Known,
     files: &mut Files,
-    row: &mut Rows,
+    gathering: &mut Gathering,
     bytes: &mut Buffer,
     slot: u16,
     found: Option<FileSlot>,
@@ -316,10 +335,10 @@ fn take_file<D: Disk>(
     requires props { known.axioms.now.taxonomy.props ≡ known.words.now.dict.props }
     requires ext { files.old.ext.props ≡ known.words.now.dict.props }
     requires map { length files.old.map ≡ known.limits.now.blocks }
-    requires shape { HasShape row.old 2 known.axioms.now.taxonomy.props }
+    requires shape { HasShape gathering.old.row 1 known.axioms.now.taxonomy.props }
     requires slot { IsFreeSlot files.old slot }
     ensures disk { ReadsDisk (D.meaning disk.old) (D.meaning disk.new) result }
-    ensures shape { HasShape row.new 2 known.entry.axioms.now.taxonomy.props }
+    ensures shape { HasShape gathering.new.row 1 known.entry.axioms.now.taxonomy.props }
     ensures taken { IfOk result (λ taken. OnTrue taken
         (TakesFile known.entry.limits.now (Fits known.entry.journal.now (D.meaning disk.old)) known.entry.words.now known.entry.axioms.now.taxonomy slot found files.old files.new)) }
     ensures refused { IfOk result (λ taken. OnFalse taken ((files.new ≡ files.old)
@@ -329,7 +348,7 @@ fn take_file<D: Disk>(
     match found {
         None => Ok(false),
         Some(FileSlot::Free) => Ok(true),
-        Some(FileSlot::Used(rec)) => take_record(disk, known, files, row, bytes, slot, rec),
+        Some(FileSlot::Used(rec)) => take_record(disk, known, files, gathering, bytes, slot, rec),
     }
 }
 
@@ -339,15 +358,15 @@ pub fn read_files<D: Disk>(
     disk: &mut D,
     known: Known,
     files: &mut Files,
-    row: &mut Rows,
+    gathering: &mut Gathering,
     bytes: &mut Buffer,
 ) -> Result<(), OpenFault>
     requires readable { IsReadable known.limits.now known.journal.now (D.meaning disk.old) }
     requires words { AreFirstWords known.limits.now known.words.now known.limits.now.props }
     requires axioms { AreFirstAxioms known.limits.now known.words.now known.axioms.now (axiom_slots known.limits.now).count }
     requires none { files.old ≡ no_files known.limits.now }
-    requires shape { HasShape row.old 2 known.limits.now.props }
-    ensures shape { HasShape row.new 2 known.entry.limits.now.props }
+    requires shape { HasShape gathering.old.row 1 known.limits.now.props }
+    ensures shape { HasShape gathering.new.row 1 known.entry.limits.now.props }
     ensures disk { ReadsPart (D.meaning disk.old) (D.meaning disk.new) result }
     ensures read { OnOk result (AreFirstFiles known.entry.limits.now known.entry.words.now known.entry.axioms.now files.new known.entry.limits.now.files) }
     ensures recalls { (kept : ℕ → List ℕ) → Fits known.entry.journal.now (D.meaning disk.old) kept → Recalls last.old kept → Recalls last.new kept }
@@ -358,7 +377,7 @@ pub fn read_files<D: Disk>(
 {
     for slot in 0..known.limits.files {
         let found = read_slot(last, disk, known.journal, known.limits, slot)?;
-        let is_taken = take_file(disk, known, files, row, bytes, slot as u16, found)?;
+        let is_taken = take_file(disk, known, files, gathering, bytes, slot as u16, found)?;
         if !is_taken {
             return Err(OpenFault::Damaged(Spot::File(slot)));
         }

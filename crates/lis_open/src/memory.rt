@@ -7,12 +7,13 @@ ghost use Rattle.lis_open.specs.ReadFiles.{no_files};
 ghost use Rattle.lis_open.specs.ReadWords.{no_words, AreNoAxioms};
 
 use crate::axioms::{Axioms, no_axioms};
-use crate::files::{Files, no_files};
+use crate::files::{Files, Gathering, no_files};
 use crate::words::{Words, no_words};
 use lis_bits::{Flags, Rows};
 use lis_content::Buffer;
 use lis_kept::data_start;
 use lis_model::limits::Limits;
+use lis_taxonomy::Search;
 use std::alloc::{AllocError, Global};
 
 /// What opening reads into.
@@ -21,8 +22,8 @@ pub struct OpeningMemory {
     pub words: Words,
     pub axioms: Axioms,
     pub files: Files,
-    /// Two rows of numbers. Each reader uses them as it likes.
-    pub row: Rows,
+    /// Each reader uses its row as it likes.
+    pub gathering: Gathering,
     /// The bytes of the file that is read.
     pub bytes: Buffer,
     /// By block: it is to be written.
@@ -66,7 +67,8 @@ pub fn take_memory(alloc: Global, limits: &Limits) -> Result<OpeningMemory, Allo
     requires { IsTrue (are_in_range limits.now) }
     ensures { IfOk result (IsEmptyMemory limits.now) }
 {
-    let row = Rows::new(alloc, 2, limits.props)?;
+    let row = Rows::new(alloc, 1, limits.props)?;
+    let search = Search::new(alloc)?;
     let bytes = Buffer::new(alloc)?;
     let marks = Flags::new(alloc, 64 * data_start(limits).div_ceil(64))?;
     let slots = take_slot_memory(alloc, limits)?;
@@ -74,7 +76,7 @@ pub fn take_memory(alloc: Global, limits: &Limits) -> Result<OpeningMemory, Allo
         words: slots.words,
         axioms: slots.axioms,
         files: slots.files,
-        row,
+        gathering: Gathering { row, search },
         bytes,
         marks,
     })

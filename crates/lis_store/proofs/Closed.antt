@@ -1,20 +1,21 @@
 -- What numbers entail, and the numbers of all that others entail.
 use Rattle.std.proofs.Common.{rules}
-use Rattle.lis_store.proofs.Common.{common_steps, ◌≡◌, refl, sym, ap, ◌∙◌, subst, ℕ, ◌+◌, ◌≤◌, true, false, List, [], ◌∷◌, length, Option, Some, None, is_some, IsSome, arith, ap₂, ◌<◌, ◌||◌, some_word, nat_cmp_total, nat_cmp, insert_key, list_all, IsStrictlySortedBy, same_Some, Among, members_le, sorted_nil, word_of, has, numbers_at, among_where, where_among, sorted_where, is_plain_word, up, all_up, up_self, entails_from_up, entailing, all_up_closed, sorted_all_up, insert_key_le, linked_up, Metadata, AreSound, declared_of, axioms_of, link_named, named_below, among_axiom, both_ways, and_parts, among_from_any, any_from_among, among_from_contains, has_number, up_trans, all_from, all_among, is_linked, TellsLinks, words_told, among_from_number, number_from_among, HasShape, get, get_any, numbers_where, numbers_same, Taxonomy, link_cases}
+use Rattle.lis_store.proofs.Common.{common_steps, ◌≡◌, refl, sym, ap, ◌∙◌, subst, ℕ, ◌+◌, ◌≤◌, true, false, List, [], ◌∷◌, length, Option, Some, None, is_some, IsSome, arith, ap₂, ◌<◌, ◌||◌, some_word, nat_cmp_total, nat_cmp, insert_key, list_all, IsStrictlySortedBy, same_Some, Among, members_le, sorted_nil, word_of, has, numbers_at, among_where, where_among, sorted_where, is_plain_word, up, all_up, up_self, entails_from_up, entailing, all_up_closed, sorted_all_up, insert_key_le, linked_up, Metadata, AreSound, declared_of, axioms_of, link_named, named_below, among_axiom, both_ways, and_parts, among_from_any, any_from_among, among_from_contains, has_number, up_trans, all_from, all_among, is_linked, TellsLinks, words_told, among_from_number, number_from_among, numbers_where, numbers_same, Taxonomy, link_cases, get_or, count_by, range_with_len, Contains-get_or}
 use Rattle.std.proofs.lemmas.Map.Lookups.{exact_unsigned}
 use Rattle.lis_graph.specs.Graph.{with_more}
 use Rattle.lis_graph.proofs.Members.{with_more_new}
 use Rattle.lis_graph.proofs.Sets.{sorted_with_more}
 use Rattle.lis_laws.proofs.Leads.{right_leads}
 use Rattle.lis_kept.proofs.Numbered.{numbers_are}
-use Rattle.lis_store.specs.Closing.{entails_by, is_entailed, is_gained, closure}
+use Rattle.lis_store.specs.Closing.{AreGained, entails_by, is_entailed, is_gained, closure, wider}
 use Rattle.lis_store.specs.Stored.{AreClosed}
 use Rattle.lis_store.proofs.Entailment.{up_has_number, closed_up}
 use Rattle.lis_store.proofs.Naming.{one_of, of_one}
 use Rattle.std.specs.Prelude.{All}
-use Rattle.lis_bits.specs.Rows.{Rows}
-use Rattle.lis_taxonomy.specs.Taxonomy.{entails}
+use Rattle.lis_taxonomy.specs.Search.{is_found}
+use Rattle.lis_taxonomy.specs.Taxonomy.{entails, any_entails}
 use Rattle.lis_store.proofs.Entailed.{entails_told}
+use Rattle.lis_store.proofs.Widened.{where_counted}
 
 -- ---- what numbers entail
 -- the words of the two, of which the one entails the other
@@ -119,31 +120,45 @@ module _ (k : Metadata) (sound : AreSound k) (numbers : List ℕ) where
             all_up_closed D A own l.from w (worded from.0 l.from l.is_from from.1) (subst (λ v. Among (up D A l.from) v) (same_Some l.to w (sym l.is_to ∙ is)) l.entailed);
       })
 
--- ---- by the rows of a taxonomy
+-- ---- by a taxonomy
 -- a taxonomy tells what numbers entail
 pub number_led : (k : Metadata) → AreSound k → (t : Taxonomy) → TellsLinks k t → (m n : ℕ) → is_some (word_of k.dict m) ≡ true → entails t m n ≡ is_entailed k m n
 number_led k sound t tells m n some =
     let w = some_word (word_of k.dict m) some in
     entails_told k sound t tells m w.0 w.1 n ∙ sym (ap (λ o. entails_by k o (word_of k.dict n)) w.1)
 
--- as wide as there are properties
-pub wide_as : (k : Metadata) (t : Taxonomy) → TellsLinks k t → (rows : Rows) → HasShape rows t.props t.props → rows.bits ≡ k.limits.props
-wide_as k t tells rows shape = omega (arith, shape.wide, tells.props)
+module _ (k : Metadata) (sound : AreSound k) (t : Taxonomy) (tells : TellsLinks k t) where
+  -- numbers of words are numbers of the taxonomy
+  pub all_within : (numbers : List ℕ) → list_all (λ n. is_some (word_of k.dict n)) numbers ≡ true → All (λ p. p < t.props) numbers
+  all_within numbers named = λ i d lt.
+      let named_here = all_among (λ n. is_some (word_of k.dict n)) numbers (get_or numbers i d) named (among_from_contains numbers (get_or numbers i d) (Contains-get_or numbers i d lt)) in
+      omega (arith, named_below k sound (get_or numbers i d) named_here, tells.props)
 
-module _ (k : Metadata) (sound : AreSound k) (t : Taxonomy) (tells : TellsLinks k t) (rows : Rows) (shape : HasShape rows t.props t.props) where
-  -- numbers of words have rows
-  pub rows_below : (numbers : List ℕ) → list_all (λ n. is_some (word_of k.dict n)) numbers ≡ true → All (λ row. row < length rows.rows) numbers
-  rows_below numbers named = grind (arith, common_steps, named_below, all_among, among_from_contains)
+  any_led : (numbers : List ℕ) → list_all (λ n. is_some (word_of k.dict n)) numbers ≡ true → (n : ℕ) → any_entails t numbers n ≡ is_gained k numbers n
+  any_led [] named n = refl
+  any_led (m ∷ ms) named n =
+      let both = and_parts (is_some (word_of k.dict m)) (list_all (λ i. is_some (word_of k.dict i)) ms) named in
+      ap₂ (λ a b. a || b) (number_led k sound t tells m n both.0) (any_led ms both.1 n)
 
-  module _ (values : (p q : ℕ) → p < t.props → q < t.props → get rows p q ≡ entails t p q) where
-    row_led : (m n : ℕ) → is_some (word_of k.dict m) ≡ true → n < k.limits.props → get rows m n ≡ is_entailed k m n
-    row_led m n some lt = search (rules, named_below, number_led)
+  -- what a search finds from the numbers
+  pub gained_found : (numbers found : List ℕ) → list_all (λ n. is_some (word_of k.dict n)) numbers ≡ true
+      → ((n : ℕ) → is_found found n ≡ any_entails t numbers n) → ((n : ℕ) → is_found found n ≡ true → n < t.props)
+      → length found ≡ count_by (any_entails t numbers) (range_with_len 0 t.props) → AreGained k numbers found
+  gained_found numbers found named are below count = record {
+    gained = λ n lt. are n ∙ any_led numbers named n;
+    below = λ n is. omega (arith, below n is, tells.props);
+    count = count
+        ∙ (where_counted t.props (any_entails t numbers)
+        ∙ (ap (λ props. length (numbers_where props (any_entails t numbers))) tells.props
+        ∙ ap length (numbers_same k.limits.props (any_entails t numbers) (is_gained k numbers) (λ n lt. any_led numbers named n))));
+  }
 
-    pub any_led : (numbers : List ℕ) → list_all (λ n. is_some (word_of k.dict n)) numbers ≡ true → (n : ℕ) → n < k.limits.props → get_any rows numbers n ≡ is_gained k numbers n
-    any_led [] named n lt = refl
-    any_led (m ∷ ms) named n lt =
-        let both = and_parts (is_some (word_of k.dict m)) (list_all (λ i. is_some (word_of k.dict i)) ms) named in
-        ap₂ (λ a b. a || b) (row_led m n both.0 lt) (any_led ms both.1 n lt)
+-- ---- by what was found
+module _ (k : Metadata) (numbers found : List ℕ) (are : AreGained k numbers found) where
+  pub found_closure : numbers_where k.limits.props (is_found found) ≡ closure k numbers
+  found_closure = numbers_same k.limits.props (is_found found) (is_gained k numbers) are.gained
 
-    pub closure_shown : (numbers : List ℕ) → list_all (λ n. is_some (word_of k.dict n)) numbers ≡ true → numbers_where rows.bits (get_any rows numbers) ≡ closure k numbers
-    closure_shown numbers named = search (rules, wide_as, numbers_same, any_led)
+  pub found_wider : AreSound k → (slot : ℕ) → wider k (is_found found) slot ≡ wider k (is_gained k numbers) slot
+  found_wider sound slot =
+      numbers_same k.ext.props (λ n. has k.ext n slot || is_found found n) (λ n. has k.ext n slot || is_gained k numbers n)
+      (λ n lt. ap (λ b. has k.ext n slot || b) (are.gained n (omega (arith, lt, sound.rows))))

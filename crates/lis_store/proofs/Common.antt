@@ -1,6 +1,6 @@
 -- The names that most proofs of this crate cite, passed on from one place. Declares nothing.
 pub use Rattle.arrayvec.specs.ArrayVec.{ArrayVec}
-pub use Rattle.lis_bits.specs.Rows.{HasShape, get, get_any, with_row}
+pub use Rattle.lis_bits.specs.Rows.{HasShape, get, with_row}
 pub use Rattle.lis_blockmap.specs.Bitmap.{free_count, is_taken}
 pub use Rattle.lis_catalog.proofs.Laws.{rec_at-slot_of, slot_is_below}
 pub use Rattle.lis_catalog.specs.Catalog.{Filed, rec_at, slot_of}

@@ -1,6 +1,6 @@
 -- The numbers of all that words entail, left out of a row.
-use Rattle.lis_store.proofs.Common.{common_steps, ◌≡◌, refl, sym, ap, ap₂, ◌∙◌, ℕ, ◌<◌, ◌≤◌, not, ◌&&◌, ◌||◌, Bool, true, false, List, [], ◌∷◌, ◌++◌, length, Option, Some, append-nil, arith, flat_map, HasShape, get, with_row, number_of, word_of, word_from_number, number_below, Taxonomy, entails_decides, up, all_up, up_from_entails, among_set_of, Metadata, TellsLinks, AreSound, declared_of, axioms_of, flat_map-append, set_of, set_of_among, same_tests, numbers_where}
-use Rattle.lis_bits.specs.Rows.{Rows}
+use Rattle.lis_store.proofs.Common.{common_steps, ◌≡◌, refl, sym, ap, ap₂, ◌∙◌, ℕ, ◌<◌, ◌≤◌, not, ◌&&◌, ◌||◌, if◌then◌else◌, Bool, true, false, List, [], ◌∷◌, ◌++◌, length, Option, Some, append-nil, arith, flat_map, HasShape, get, with_row, number_of, word_of, word_from_number, Taxonomy, entails_decides, up, all_up, up_from_entails, among_set_of, Metadata, TellsLinks, AreSound, declared_of, axioms_of, flat_map-append, set_of, set_of_among, same_tests, numbers_where}
+use Rattle.lis_bits.specs.Rows.{Rows, SetsBits}
 use Rattle.lis_taxonomy.specs.Taxonomy.{entails}
 use Rattle.lis_store.specs.Adding.{is_one_of, numbers_named}
 use Rattle.lis_kept.proofs.Entailed.{chain_named, leads_from_up}
@@ -35,6 +35,12 @@ out_more true true y = refl
 out_more true false y = refl
 out_more false x y = refl
 
+out_by : (a x : Bool) → (if x then false else a) ≡ (a && not x)
+out_by true true = refl
+out_by true false = refl
+out_by false true = refl
+out_by false false = refl
+
 -- the row lost the numbers of all that these words entail
 pub record LeavesOut (k : Metadata) (words : List (List ℕ)) (old row : Rows) : Type 0 where
   pub shape : HasShape row 1 k.limits.props
@@ -56,23 +62,21 @@ module _ (k : Metadata) (sound : AreSound k) (t : Taxonomy) (tells : TellsLinks 
       let found = one_of (up (declared_of k) (axioms_of k) p) (word_of k.dict m) h in
       (entails_decides t n m).1 (leads_from_up k sound t tells n m p found.0 is found.1 found.2))
 
-  module _ (entailed : Rows) (values : (p q : ℕ) → p < t.props → q < t.props → get entailed p q ≡ entails t p q) where
-    pub leaves_one : (words : List (List ℕ)) (word : List ℕ) (old row new : Rows) (number : ℕ) → LeavesOut k words old row → number_of k.dict word ≡ Some number
-        → new ≡ with_row row 0 (λ bit. get row 0 bit && not (get entailed number bit)) → LeavesOut k (words ++ word ∷ []) old new
-    leaves_one words word old row new number leaves there is = record {
-      shape = same_shape row new 1 k.limits.props 0 (λ bit. get row 0 bit && not (get entailed number bit)) leaves.shape is;
-      bits = λ n lt.
-          let below = number_below k.dict sound.dict word number there in
-          let value = values number n (omega (arith, below, sound.numbers, tells.props)) (omega (arith, lt, tells.props)) in
-          let told = entails_told number word (word_from_number k.dict sound.dict word number there) n in
-          let D = declared_of k in
-          let A = axioms_of k in
-          let o = word_of k.dict n in
-          value_at row new k.limits.props n (λ bit. get row 0 bit && not (get entailed number bit)) leaves.shape is lt
-          ∙ (ap₂ (λ a b. a && not b) (leaves.bits n lt) (value ∙ (told ∙ sym (ups_one D A o word)))
-          ∙ (out_more (get old 0 n) (is_one_of (all_up D A words) o) (is_one_of (all_up D A (word ∷ [])) o)
-          ∙ ap (λ b. get old 0 n && not b) (sym (ups_both D A o words (word ∷ [])))));
-    }
+  pub leaves_one : (words : List (List ℕ)) (word : List ℕ) (old row new : Rows) (number : ℕ) → LeavesOut k words old row → number_of k.dict word ≡ Some number
+      → SetsBits row new (length row.rows) t.props 0 (λ q. if entails t number q then false else get row 0 q) → LeavesOut k (words ++ word ∷ []) old new
+  leaves_one words word old row new number leaves there sets = record {
+    shape = record { tall = sets.shape.tall ∙ leaves.shape.tall; wide = sets.shape.wide ∙ tells.props };
+    bits = λ n lt.
+        let told = entails_told number word (word_from_number k.dict sound.dict word number there) n in
+        let D = declared_of k in
+        let A = axioms_of k in
+        let o = word_of k.dict n in
+        sets.at n (omega (arith, lt, tells.props))
+        ∙ (out_by (get row 0 n) (entails t number n)
+        ∙ (ap₂ (λ a b. a && not b) (leaves.bits n lt) (told ∙ sym (ups_one D A o word))
+        ∙ (out_more (get old 0 n) (is_one_of (all_up D A words) o) (is_one_of (all_up D A (word ∷ [])) o)
+        ∙ ap (λ b. get old 0 n && not b) (sym (ups_both D A o words (word ∷ []))))));
+  }
 
 -- ---- what is left over is entailed by none
 left_over : (x y z : Bool) → not (((true && not x) && not y) && not z) ≡ ((x || y) || z)

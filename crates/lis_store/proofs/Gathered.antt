@@ -1,8 +1,8 @@
 -- Words that are gathered one after another: the numbers of what those with numbers entail, and those without.
 use Rattle.std.proofs.Common.{rules}
-use Rattle.lis_store.proofs.Common.{◌≡◌, refl, sym, ap, ◌∙◌, subst, ℕ, ◌+◌, ◌*◌, ◌<◌, ◌≤◌, Bool, true, false, not, ◌&&◌, ◌||◌, cond, is_some, is_none, Option, Some, None, List, [], ◌∷◌, ◌++◌, length, take, get_or, arith, length-append, or-false, list_any-append, HasShape, get, with_row, number_of, word_of, number_from_word, number_below, Taxonomy, same_word, has_word, is_valued, head_bytes, same_word_decides, heads, all_up, Metadata, AreSound, TellsLinks, declared_of, axioms_of, false_from_ne_true}
+use Rattle.lis_store.proofs.Common.{◌≡◌, refl, sym, ap, ◌∙◌, subst, ℕ, ◌+◌, ◌*◌, ◌<◌, ◌≤◌, Bool, true, false, not, ◌&&◌, ◌||◌, cond, if◌then◌else◌, is_some, is_none, Option, Some, None, List, [], ◌∷◌, ◌++◌, length, take, get_or, arith, length-append, or-false, list_any-append, HasShape, get, number_of, word_of, number_from_word, number_below, Taxonomy, same_word, has_word, is_valued, head_bytes, same_word_decides, heads, all_up, Metadata, AreSound, TellsLinks, declared_of, axioms_of, false_from_ne_true}
 use Rattle.std.proofs.lemmas.List.Elements.{filter-append}
-use Rattle.lis_bits.specs.Rows.{Rows}
+use Rattle.lis_bits.specs.Rows.{Rows, SetsBits}
 use Rattle.lis_taxonomy.specs.Taxonomy.{entails}
 use Rattle.lis_model.proofs.NotedLemmas.{are_distinct-push}
 use Rattle.lis_laws.proofs.Few.{heads_le}
@@ -52,10 +52,9 @@ module _ (k : Metadata) where
     same_number w o same is = ap (number_of k.dict) (sym ((same_word_decides word w).0 same)) ∙ is
 
     -- ---- a word that has a number
-    pub gathers_known : (sound : AreSound k) (t : Taxonomy) → TellsLinks k t → (number : ℕ) → number_of k.dict word ≡ Some number → (reached old new : Rows)
-        → ((p q : ℕ) → p < t.props → q < t.props → get reached p q ≡ entails t p q) → HasShape old 1 k.limits.props
-        → new ≡ with_row old 0 (λ bit. get old 0 bit && not (get reached number bit)) → (fresh : List (List ℕ)) → Gathers k (word ∷ []) old new fresh fresh
-    gathers_known sound t tells number numbered reached old new values shape is fresh = record {
+    pub gathers_known : (sound : AreSound k) (t : Taxonomy) → TellsLinks k t → (number : ℕ) → number_of k.dict word ≡ Some number → (old new : Rows) → HasShape old 1 k.limits.props
+        → SetsBits old new (length old.rows) t.props 0 (λ q. if entails t number q then false else get old 0 q) → (fresh : List (List ℕ)) → Gathers k (word ∷ []) old new fresh fresh
+    gathers_known sound t tells number numbered old new shape sets fresh = record {
       shape = leaves.shape;
       bits = λ n lt. leaves.bits n lt ∙ ap (λ (o : Option ℕ). get old 0 n && not (entailed_by (cond (is_some o) (word ∷ []) []) n)) (sym numbered);
       few = omega arith;
@@ -64,7 +63,7 @@ module _ (k : Metadata) where
     }
       where
         leaves : LeavesOut k (word ∷ []) old new
-        leaves = leaves_one k sound t tells reached values [] word old old new number (leaves_none k old shape) numbered is
+        leaves = leaves_one k sound t tells [] word old old new number (leaves_none k old shape) numbered sets
 
         by : (w : List ℕ) (a b : Bool) → same_word word w ≡ b → a ≡ (a || ((b || false) && is_none (number_of k.dict w)))
         by w true b e = refl

@@ -39,7 +39,7 @@ count_map : (f : ℕ → Bool) (xs : List ℕ) → count_by (λ (b : Bool). b) (
 count_map f [] = refl
 count_map f (x ∷ xs) = search (rules, sum_by-cons, count_map f xs)
 
-pub row_counted : (bits : ℕ) (f : ℕ → Bool) → count_by (λ (b : Bool). b) (row_of bits f) ≡ length (numbers_where bits f)
+row_counted : (bits : ℕ) (f : ℕ → Bool) → count_by (λ (b : Bool). b) (row_of bits f) ≡ length (numbers_where bits f)
 unfolding row_of numbers_where
 row_counted bits f = count_map f (range_with_len 0 bits) ∙ sym (length-filter f (range_with_len 0 bits))
 

@@ -1,16 +1,21 @@
 -- How many numbers a description has with those that pass a test.
-use Rattle.lis_store.proofs.Common.{◌≡◌, ℕ, ◌+◌, ◌<◌, Bool, true, false, not, ◌&&◌, ◌||◌, List, [], ◌∷◌, length, get_or, list_any, filter, refl, sym, ap, ◌∙◌, arith, numbers_same, range_with_len}
+use Rattle.lis_store.proofs.Common.{◌≡◌, ℕ, ◌+◌, ◌<◌, Bool, true, false, not, ◌&&◌, ◌||◌, List, length, filter, refl, sym, ap, ◌∙◌, arith, numbers_same, range_with_len}
 use Rattle.std.specs.List.{All, count_by}
 use Rattle.std.specs.List.Sorted.{IsStrictlyIncreasing}
 use Rattle.std.proofs.lemmas.List.Sums.{length-filter}
 use Rattle.lis_graph.proofs.Filters.{filter_twice}
 use Rattle.lis_ext.specs.Numbers.{has_number, numbers_where}
-use Rattle.lis_ext.proofs.Numbers.{numbers_of, numbers_apart, numbers_none}
+use Rattle.lis_ext.proofs.Numbers.{numbers_of, numbers_apart}
 use Rattle.lis_ext.proofs.Counted.{each_below}
 
 where_twice : (props : ℕ) (f g : ℕ → Bool) → filter g (numbers_where props f) ≡ numbers_where props (λ n. f n && g n)
 unfolding numbers_where
 where_twice props f g = filter_twice f g (range_with_len 0 props)
+
+-- a count over the numbers below
+pub where_counted : (props : ℕ) (test : ℕ → Bool) → count_by test (range_with_len 0 props) ≡ length (numbers_where props test)
+unfolding numbers_where
+where_counted props test = sym (length-filter test (range_with_len 0 props))
 
 pub widened : (props : ℕ) (gains : ℕ → Bool) (set : List ℕ) → IsStrictlyIncreasing set → All (λ n. n < props) set
     → length (numbers_where props gains) + count_by (λ n. not (gains n)) set ≡ length (numbers_where props (λ n. has_number set n || gains n))
@@ -32,17 +37,3 @@ widened props gains set rises below =
     either true false = refl
     either false true = refl
     either false false = refl
-
--- numbers that one of no numbers leads to
-pub none_gained : (props : ℕ) (leads : ℕ → ℕ → Bool) (numbers : List ℕ) → length numbers ≡ 0 → length (numbers_where props (λ n. list_any (λ m. leads m n) numbers)) ≡ 0
-none_gained props leads [] none = ap length (numbers_none props)
-none_gained props leads (m ∷ ms) none = absurd (omega arith)
-
--- the first one leads to no more than they all do
-pub first_twice : (leads : ℕ → Bool) (numbers : List ℕ) → 0 < length numbers → (leads (get_or numbers 0 0) || list_any leads numbers) ≡ list_any leads numbers
-first_twice leads [] some = absurd (omega arith)
-first_twice leads (m ∷ ms) some = twice (leads m) (list_any leads ms)
-  where
-    twice : (a b : Bool) → (a || (a || b)) ≡ (a || b)
-    twice true b = refl
-    twice false b = refl

@@ -1,11 +1,12 @@
 -- Descriptions that are made anew: of some of their numbers, with all that these entail.
-use Rattle.std.specs.Prelude.{ℕ, Bool, true, false, not, ◌&&◌, ◌||◌, if◌then◌else◌, Option, is_some, Some, None, List, [], ◌∷◌, ◌++◌, filter}
+use Rattle.std.specs.Prelude.{◌≡◌, ℕ, ◌<◌, IsTrue, length, Bool, true, false, not, ◌&&◌, ◌||◌, if◌then◌else◌, Option, is_some, Some, None, List, [], ◌∷◌, ◌++◌, filter}
 use Rattle.std.specs.List.{list_any}
 use Rattle.lis_words.specs.declared.test.Test.{Test}
 use Rattle.lis_dict.specs.Dict.{word_of}
 use Rattle.lis_catalog.specs.Catalog.{rec_at}
 use Rattle.lis_ext.specs.Ext.{has, set_of as numbers_at}
 use Rattle.lis_ext.specs.Numbers.{numbers_where}
+use Rattle.lis_taxonomy.specs.Search.{is_found}
 use Rattle.lis_fields.specs.Records.{FileRecord}
 use Rattle.lis_model.specs.State.{up}
 use Rattle.lis_model.specs.Tests.{is_met}
@@ -32,6 +33,12 @@ is_gained k numbers n = list_any (λ m. is_entailed k m n) numbers
 -- the numbers of all that the words of these entail, in rising order
 abbrev pub closure : Metadata → List ℕ → List ℕ
 closure k numbers = numbers_where k.limits.props (is_gained k numbers)
+
+-- the found numbers are those of all that the words of these entail
+pub record AreGained (k : Metadata) (numbers found : List ℕ) : Type 0 where
+  pub gained : (n : ℕ) → n < k.limits.props → is_found found n ≡ is_gained k numbers n
+  pub below : (n : ℕ) → IsTrue (is_found found n) → n < k.limits.props
+  pub count : length found ≡ length (closure k numbers)
 
 -- the number is that of a word that this one entails
 abbrev pub entails_number : Metadata → List ℕ → ℕ → Bool

@@ -13,9 +13,10 @@ ghost use Rattle.lis_store.specs.Adding.{is_one_of, numbers_named, AreNumbered, 
 
 use crate::meeting::leave_out_met;
 use arrayvec::ArrayVec;
-use lis_bits::{Rows, and_not_row};
+use lis_bits::Rows;
 use lis_kept::Metadata;
 use lis_limits::{MAX_ASSIGNED, MAX_DESCRIPTION, MAX_PROPS};
+use lis_taxonomy::Search;
 use lis_words::{Word, head_of};
 
 // Gives the head of a valued word a number if it has none.
@@ -86,7 +87,7 @@ pub(crate) fn numbers_of(metadata: &Metadata, words: &[Word], row: &mut Rows) ->
 }
 
 // Takes from a row the numbers of all words that these entail.
-fn leave_out(metadata: &Metadata, words: &[Word], row: &mut Rows)
+fn leave_out(metadata: &Metadata, words: &[Word], row: &mut Rows, search: &mut Search)
     requires sound { AreSound metadata.now }
     requires shape { HasShape row.old 1 metadata.now.limits.props }
     requires numbered { AreNumbered metadata.now.dict words.now }
@@ -94,12 +95,12 @@ fn leave_out(metadata: &Metadata, words: &[Word], row: &mut Rows)
     ensures bits { (n : ℕ) → n < metadata.now.limits.props → get row.new 0 n
         ≡ (get row.old 0 n && not (is_one_of (all_up (declared_of metadata.now) (axioms_of metadata.now) words.now) (word_of metadata.now.dict n))) }
 {
-    let entailed = metadata.taxonomy().rows();
+    let taxonomy = metadata.taxonomy();
     for word in words {
         let Some(number) = metadata.number_of(word) else {
             unreachable!()
         };
-        and_not_row(entailed, u32::from(number), row, 0);
+        taxonomy.put_ups(u32::from(number), row, 0, false, search);
     }
 }
 
@@ -110,6 +111,7 @@ pub(crate) fn numbers_entailed(
     derived: &[Word],
     size: u64,
     row: &mut Rows,
+    search: &mut Search,
 ) -> ArrayVec<u16, MAX_DESCRIPTION>
     requires shape { HasShape row.old 1 metadata.now.limits.props }
     requires numbered { AreNumbered metadata.now.dict (assigned.now ++ derived.now) }
@@ -120,9 +122,9 @@ pub(crate) fn numbers_entailed(
 {
     let props = metadata.limits().props;
     row.fill(0, true);
-    leave_out(metadata, assigned, row);
-    leave_out(metadata, derived, row);
-    leave_out_met(metadata, size, row);
+    leave_out(metadata, assigned, row, search);
+    leave_out(metadata, derived, row, search);
+    leave_out_met(metadata, size, row, search);
     row.negate(0);
     numbers_in(row, props)
 }

@@ -137,7 +137,8 @@ fn has_room_for(
     if metadata.file_count() >= limits.files {
         return Err(Refusal::NoFileRoom);
     }
-    let measure = measure(metadata, &mut scratch.candidates, None, draft);
+    let row = &mut scratch.candidates;
+    let measure = measure(metadata, row, &mut scratch.search, None, draft);
     if measure.words > MAX_DESCRIPTION as u32 {
         return Err(Refusal::LargeDescription);
     }

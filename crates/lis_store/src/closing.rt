@@ -10,10 +10,11 @@ ghost use Rattle.lis_store.specs.Redescribing.{SlotHas, Redescribes};
 ghost use Rattle.lis_store.specs.Stored.{DescriptionsAreShort};
 ghost use Rattle.lis_model.specs.Sets.{has_number};
 
-use crate::crowding::is_met_at;
+use crate::crowding::{find_gained, is_met_at};
 use arrayvec::ArrayVec;
 use lis_kept::Metadata;
 use lis_limits::MAX_DESCRIPTION;
+use lis_taxonomy::Search;
 use lis_words::Test;
 
 /// Which descriptions are made anew, and of which numbers.
@@ -28,16 +29,20 @@ pub(crate) enum Rebuild {
 }
 
 /// The numbers of all that the words of these numbers entail, in rising order.
-pub(crate) fn all_entailed(metadata: &Metadata, numbers: &[u16]) -> ArrayVec<u16, MAX_DESCRIPTION>
+pub(crate) fn all_entailed(
+    metadata: &Metadata,
+    numbers: &[u16],
+    search: &mut Search,
+) -> ArrayVec<u16, MAX_DESCRIPTION>
     requires sound { AreSound metadata.now }
     requires named { IsTrue (list_all (λ n. is_some (word_of metadata.now.dict n)) numbers.now) }
     requires few { length (closure metadata.now numbers.now) ≤ MAX_DESCRIPTION }
     ensures { result.items ≡ closure metadata.now numbers.now }
 {
-    let entailed = metadata.taxonomy().rows();
+    find_gained(metadata, numbers, search);
     let mut all = ArrayVec::new();
     let mut start = 0;
-    while let Some(number) = entailed.next_of(numbers, start) {
+    while let Some(number) = search.next(start) {
         all.push(number as u16);
         start = number + 1;
     }
@@ -59,7 +64,7 @@ fn is_concerned(metadata: &Metadata, how: Rebuild, slot: u16) -> bool
 }
 
 // Whether the word of a number entails that of another one.
-fn entails(metadata: &Metadata, number: u16, other: u16) -> bool
+fn entails(metadata: &Metadata, number: u16, other: u16, search: &mut Search) -> bool
     requires sound { AreSound metadata.now }
     requires named { IsSome (word_of metadata.now.dict number) }
     requires other { IsSome (word_of metadata.now.dict other) }
@@ -67,7 +72,7 @@ fn entails(metadata: &Metadata, number: u16, other: u16) -> bool
 {
     metadata
         .taxonomy()
-        .entails(u32::from(number), u32::from(other))
+        .entails(u32::from(number), u32::from(other), search)
 }
 
 // Whether the file in a slot was given the word of a number.
@@ -81,7 +86,7 @@ fn is_given(metadata: &Metadata, slot: u16, number: u16) -> bool
 }
 
 // Whether a number of the description in a slot is one of those of which it is made anew.
-fn is_base(metadata: &Metadata, how: Rebuild, slot: u16, number: u16) -> bool
+fn is_base(metadata: &Metadata, how: Rebuild, slot: u16, number: u16, search: &mut Search) -> bool
     requires sound { AreSound metadata.now }
     requires named { has_words metadata.now how ≡ true }
     requires number { IsSome (word_of metadata.now.dict number) }
@@ -89,7 +94,7 @@ fn is_base(metadata: &Metadata, how: Rebuild, slot: u16, number: u16) -> bool
 {
     match how {
         Rebuild::Losing(_, right) => {
-            is_given(metadata, slot, number) || !entails(metadata, right, number)
+            is_given(metadata, slot, number) || !entails(metadata, right, number, search)
         }
         Rebuild::Having(_) | Rebuild::Meeting(_, _) => true,
     }
@@ -110,7 +115,13 @@ fn added(how: Rebuild) -> ArrayVec<u16, 129>
 }
 
 // The numbers of which the description in a slot, which has these, is made anew.
-fn base_at(metadata: &Metadata, how: Rebuild, slot: u16, numbers: &[u16]) -> ArrayVec<u16, 129>
+fn base_at(
+    metadata: &Metadata,
+    how: Rebuild,
+    slot: u16,
+    numbers: &[u16],
+    search: &mut Search,
+) -> ArrayVec<u16, 129>
     requires sound { AreSound metadata.now }
     requires named { has_words metadata.now how ≡ true }
     requires numbers { IsTrue (list_all (λ n. is_some (word_of metadata.now.dict n)) numbers.now) }
@@ -120,7 +131,7 @@ fn base_at(metadata: &Metadata, how: Rebuild, slot: u16, numbers: &[u16]) -> Arr
 {
     let mut base = added(how);
     for number in numbers {
-        if is_base(metadata, how, slot, *number) {
+        if is_base(metadata, how, slot, *number, search) {
             base.push(*number);
         }
     }
@@ -128,7 +139,7 @@ fn base_at(metadata: &Metadata, how: Rebuild, slot: u16, numbers: &[u16]) -> Arr
 }
 
 // Makes the description in a slot anew, if it is concerned.
-fn rebuild_slot(metadata: &mut Metadata, how: Rebuild, slot: u16)
+fn rebuild_slot(metadata: &mut Metadata, how: Rebuild, slot: u16, search: &mut Search)
     requires sound { AreSound metadata.old }
     requires words { has_words metadata.old how ≡ true }
     requires slot { slot < metadata.old.limits.files }
@@ -142,13 +153,13 @@ fn rebuild_slot(metadata: &mut Metadata, how: Rebuild, slot: u16)
         return;
     }
     let old = metadata.ext().numbers(u32::from(slot));
-    let base = base_at(metadata, how, slot, old);
-    let new = all_entailed(metadata, base.as_slice());
+    let base = base_at(metadata, how, slot, old, search);
+    let new = all_entailed(metadata, base.as_slice(), search);
     metadata.describe(slot, new.as_slice());
 }
 
 /// Makes all descriptions anew that are concerned.
-pub(crate) fn rebuild_all(metadata: &mut Metadata, how: Rebuild)
+pub(crate) fn rebuild_all(metadata: &mut Metadata, how: Rebuild, search: &mut Search)
     requires words { has_words metadata.old how ≡ true }
     requires free { FreeSlotsAreEmpty metadata.old }
     requires short { DescriptionsAreShort metadata.old }
@@ -158,6 +169,6 @@ pub(crate) fn rebuild_all(metadata: &mut Metadata, how: Rebuild)
 {
     let files = metadata.limits().files;
     for slot in 0..files {
-        rebuild_slot(metadata, how, slot as u16);
+        rebuild_slot(metadata, how, slot as u16, search);
     }
 }

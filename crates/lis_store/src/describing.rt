@@ -14,10 +14,11 @@ ghost use Rattle.lis_store.specs.Describing.{with_heads, Gathers, IsTold};
 
 use crate::meeting::leave_out_met;
 use arrayvec::ArrayVec;
-use lis_bits::{Rows, and_not_row};
+use lis_bits::Rows;
 use lis_kept::Metadata;
 use lis_limits::{MAX_ASSIGNED, MAX_DESCRIPTION};
 use lis_model::derived::Derived;
+use lis_taxonomy::Search;
 use lis_words::{Name, Word, head_of};
 
 /// A file as a change tells it: of its bytes only how many they are, and which words are derived from them and its name.
@@ -57,15 +58,21 @@ fn has(words: &[Word], word: &Word) -> bool
 }
 
 // Gathers a word: takes the numbers of all that it entails from the row, or notes it where it has no number.
-fn gather(metadata: &Metadata, lacked: &mut Rows, fresh: &mut Fresh, word: &Word)
+fn gather(
+    metadata: &Metadata,
+    lacked: &mut Rows,
+    search: &mut Search,
+    fresh: &mut Fresh,
+    word: &Word,
+)
     requires sound { AreSound metadata.now }
     requires shape { HasShape lacked.old 1 metadata.now.limits.props }
     requires room { length fresh.old.items < 2 * (MAX_ASSIGNED + MAX_DESCRIPTION) }
     ensures { Gathers metadata.now (word.now ∷ []) lacked.old lacked.new fresh.old.items fresh.new.items }
 {
     if let Some(number) = metadata.number_of(word) {
-        let entailed = metadata.taxonomy().rows();
-        and_not_row(entailed, u32::from(number), lacked, 0);
+        let taxonomy = metadata.taxonomy();
+        taxonomy.put_ups(u32::from(number), lacked, 0, false, search);
         return;
     }
     if !has(fresh.as_slice(), word) {
@@ -74,45 +81,57 @@ fn gather(metadata: &Metadata, lacked: &mut Rows, fresh: &mut Fresh, word: &Word
 }
 
 // Gathers a word and its head, if it has one.
-fn gather_with_head(metadata: &Metadata, lacked: &mut Rows, fresh: &mut Fresh, word: &Word)
+fn gather_with_head(
+    metadata: &Metadata,
+    lacked: &mut Rows,
+    search: &mut Search,
+    fresh: &mut Fresh,
+    word: &Word,
+)
     requires sound { AreSound metadata.now }
     requires shape { HasShape lacked.old 1 metadata.now.limits.props }
     requires room { length fresh.old.items + 1 < 2 * (MAX_ASSIGNED + MAX_DESCRIPTION) }
     ensures { Gathers metadata.now (word.now ∷ heads word.now) lacked.old lacked.new fresh.old.items fresh.new.items }
 {
-    gather(metadata, lacked, fresh, word);
+    gather(metadata, lacked, search, fresh, word);
     if let Some(head) = head_of(word) {
-        gather(metadata, lacked, fresh, &head);
+        gather(metadata, lacked, search, fresh, &head);
     }
 }
 
 // Gathers the words and their heads.
-fn gather_all(metadata: &Metadata, lacked: &mut Rows, fresh: &mut Fresh, words: &[Word])
+fn gather_all(
+    metadata: &Metadata,
+    lacked: &mut Rows,
+    search: &mut Search,
+    fresh: &mut Fresh,
+    words: &[Word],
+)
     requires sound { AreSound metadata.now }
     requires shape { HasShape lacked.old 1 metadata.now.limits.props }
     requires room { length fresh.old.items + 2 * length words.now ≤ 2 * (MAX_ASSIGNED + MAX_DESCRIPTION) }
     ensures { Gathers metadata.now (with_heads words.now) lacked.old lacked.new fresh.old.items fresh.new.items }
 {
     for word in words {
-        gather_with_head(metadata, lacked, fresh, word);
+        gather_with_head(metadata, lacked, search, fresh, word);
     }
 }
 
 // Tells the description of a file: `row`, a row of words to work in, has then the numbers of its words. The answer is those that
 // have none.
-fn tell(metadata: &Metadata, row: &mut Rows, draft: Draft) -> Fresh
+fn tell(metadata: &Metadata, row: &mut Rows, search: &mut Search, draft: Draft) -> Fresh
     requires sound { AreSound metadata.now }
     requires shape { HasShape row.old 1 metadata.now.limits.props }
     requires few { length draft.assigned.now ≤ MAX_ASSIGNED }
     requires few_own { length draft.own.now ≤ MAX_DESCRIPTION }
     ensures { IsTold metadata.now (drafted draft.entry.name.now draft.entry.size draft.entry.assigned.now draft.entry.own.now) row.new result.items }
 {
-    // Rows of other rows are taken from a row, so it has at first what the file lacks.
+    // The row has at first what the file lacks.
     let mut fresh = ArrayVec::new();
     row.fill(0, true);
-    gather_all(metadata, row, &mut fresh, draft.assigned);
-    gather_all(metadata, row, &mut fresh, draft.own);
-    leave_out_met(metadata, draft.size, row);
+    gather_all(metadata, row, search, &mut fresh, draft.assigned);
+    gather_all(metadata, row, search, &mut fresh, draft.own);
+    leave_out_met(metadata, draft.size, row, search);
     row.negate(0);
     fresh
 }
@@ -158,6 +177,7 @@ fn leaving(metadata: &Metadata, row: &Rows, beside: Option<u16>) -> u32
 pub(crate) fn measure(
     metadata: &Metadata,
     row: &mut Rows,
+    search: &mut Search,
     beside: Option<u16>,
     draft: Draft,
 ) -> Extent
@@ -173,7 +193,7 @@ pub(crate) fn measure(
     ensures known { result.known
         ≡ length (known_beside metadata.now beside (drafted draft.entry.name.now draft.entry.size draft.entry.assigned.now draft.entry.own.now)) }
 {
-    let fresh = tell(metadata, row, draft).len() as u32;
+    let fresh = tell(metadata, row, search, draft).len() as u32;
     Extent {
         words: row.count(0) + fresh,
         known: metadata.word_count() + fresh - leaving(metadata, row, beside),

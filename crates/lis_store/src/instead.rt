@@ -146,7 +146,8 @@ pub(crate) fn may_stand_instead(
     if !all_assignable(metadata, draft.assigned) {
         return Err(Refusal::UnknownProperty);
     }
-    let measure = measure(metadata, &mut scratch.candidates, Some(slot), draft);
+    let row = &mut scratch.candidates;
+    let measure = measure(metadata, row, &mut scratch.search, Some(slot), draft);
     if measure.words > MAX_DESCRIPTION as u32 {
         return Err(Refusal::LargeDescription);
     }

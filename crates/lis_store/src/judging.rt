@@ -20,6 +20,7 @@ use lis_kept::Metadata;
 use lis_limits::MAX_NODES;
 use lis_model::refusal::Refusal;
 use lis_place::Place;
+use lis_taxonomy::Search;
 use lis_words::{Word, is_builtin, is_valued};
 
 // The numbers of the place's words, where the word is a new one, and these are plain words that are declared.
@@ -55,7 +56,12 @@ fn may_place(
 }
 
 // Whether there is room for the word, and for axioms from it to the words of these numbers.
-fn has_room(metadata: &Metadata, word: &Word, numbers: &[u16]) -> Result<(), Refusal>
+fn has_room(
+    metadata: &Metadata,
+    word: &Word,
+    numbers: &[u16],
+    search: &mut Search,
+) -> Result<(), Refusal>
     requires named { IsTrue (list_all (λ n. is_some (word_of metadata.now.dict n)) numbers.now) }
     requires few { length numbers.now ≤ MAX_NODES }
     ensures { Judges (room_checks metadata.now word.now (length numbers.now) numbers.now) result }
@@ -67,7 +73,7 @@ fn has_room(metadata: &Metadata, word: &Word, numbers: &[u16]) -> Result<(), Ref
     if metadata.word_count() >= props {
         return Err(Refusal::NoPropertyRoom);
     }
-    if has_crowded(metadata, word, numbers) {
+    if has_crowded(metadata, word, numbers, search) {
         return Err(Refusal::LargeDescription);
     }
     Ok(())
@@ -78,6 +84,7 @@ pub(crate) fn may_declare(
     metadata: &Metadata,
     place: &Place,
     word: &Word,
+    search: &mut Search,
 ) -> Result<ArrayVec<u16, MAX_NODES>, Refusal>
     requires sound { AreSound metadata.now }
     ensures row { Judges (word_checks metadata.now place.now word.now) result }
@@ -86,7 +93,7 @@ pub(crate) fn may_declare(
     ensures told { IfOk result (λ numbers. words_told metadata.now.dict numbers.items ≡ words_at place.now) }
 {
     let numbers = may_place(metadata, place, word)?;
-    has_room(metadata, word, numbers.as_slice())?;
+    has_room(metadata, word, numbers.as_slice(), search)?;
     Ok(numbers)
 }
 

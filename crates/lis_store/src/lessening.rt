@@ -9,6 +9,7 @@ ghost use Rattle.lis_store.specs.Unlinking.{with_head, TakesAxiom};
 use crate::closing::{Rebuild, rebuild_all};
 use arrayvec::ArrayVec;
 use lis_kept::Metadata;
+use lis_taxonomy::Search;
 use lis_words::head_of;
 
 // A left side, and its head.
@@ -31,13 +32,13 @@ fn with_head(metadata: &Metadata, left: u16) -> ArrayVec<u16, 2>
 }
 
 /// Takes an axiom away, with all that descriptions have by it alone, and with the words that nothing uses any more.
-pub(crate) fn take_axiom(metadata: &mut Metadata, left: u16, right: u16)
+pub(crate) fn take_axiom(metadata: &mut Metadata, left: u16, right: u16, search: &mut Search)
     requires form { AreInForm metadata.old }
     requires may { MayUnlink left right metadata.old }
     ensures { TakesAxiom left right metadata.old metadata.new }
 {
     let numbers = with_head(metadata, left);
     metadata.unlink(left, right);
-    rebuild_all(metadata, Rebuild::Losing(left, right));
+    rebuild_all(metadata, Rebuild::Losing(left, right), search);
     metadata.forget_unused(numbers.as_slice());
 }

@@ -1,6 +1,6 @@
 //! What a new axiom is refused for.
 
-ghost use Rattle.std.specs.Prelude.{◌≡◌, ◌+◌, ◌<◌, ◌≤◌, ◌&&◌, ◌||◌, nat_lt, [], ◌∷◌, length, is_some, Some, IsSome, IfSome, IfOk, if◌then◌else◌};
+ghost use Rattle.std.specs.Prelude.{◌≡◌, ℕ, ◌+◌, ◌<◌, ◌≤◌, ◌&&◌, ◌||◌, nat_lt, List, length, is_some, Some, IsSome, IfSome, IfOk, if◌then◌else◌};
 ghost use Rattle.lis_dict.specs.Dict.{words, number_of, word_of};
 ghost use Rattle.lis_ext.specs.Ext.{has};
 ghost use Rattle.lis_words.specs.Words.{has_word, is_plain_word, is_test, is_valued, head_bytes};
@@ -11,14 +11,15 @@ ghost use Rattle.lis_kept.specs.Sound.{AreSound};
 ghost use Rattle.lis_kept.specs.Telling.{declared_of, axioms_of};
 ghost use Rattle.lis_store.specs.Adding.{behind_head};
 ghost use Rattle.lis_store.specs.Changes.{Judges};
-ghost use Rattle.lis_store.specs.Closing.{is_gained, wider};
+ghost use Rattle.lis_store.specs.Closing.{AreGained, is_gained, wider};
 ghost use Rattle.lis_store.specs.Unlinking.{IsAxiomAt};
 ghost use Rattle.lis_store.specs.Relating.{entails_word, has_overfull, pair_checks, axiom_room_checks, axiom_checks_of};
 
-use crate::crowding::is_full;
+use crate::crowding::{find_gained, is_full};
 use lis_kept::Metadata;
 use lis_limits::MAX_DESCRIPTION;
 use lis_model::refusal::Refusal;
+use lis_taxonomy::Search;
 use lis_words::{Word, head_of, is_builtin, is_head, is_plain_word, test_of};
 
 fn is_plain_or_test(word: &Word) -> bool
@@ -95,7 +96,7 @@ pub(crate) fn axiom_numbers(metadata: &Metadata, left: &Word, right: &Word) -> O
 }
 
 // Whether a word that has a number entails the other word.
-fn leads(metadata: &Metadata, number: u16, word: &Word, other: &Word) -> bool
+fn leads(metadata: &Metadata, number: u16, word: &Word, other: &Word, search: &mut Search) -> bool
     requires sound { AreSound metadata.now }
     requires number { number_of metadata.now.dict word.now ≡ Some number }
     ensures { result ≡ entails_word metadata.now word.now other.now }
@@ -105,7 +106,7 @@ fn leads(metadata: &Metadata, number: u16, word: &Word, other: &Word) -> bool
     };
     metadata
         .taxonomy()
-        .entails(u32::from(number), u32::from(to))
+        .entails(u32::from(number), u32::from(to), search)
 }
 
 // How many numbers a word still needs.
@@ -130,22 +131,29 @@ fn lacked_with_head(metadata: &Metadata, word: &Word) -> u32
     }
 }
 
-// Whether the description in a slot has the left number, and would have more words than it may with all that the right one entails.
-fn is_overfull(metadata: &Metadata, slot: u16, left: u16, right: u16) -> bool
+// Whether the description in a slot has the left number, and would have more words than it may with those that were found.
+fn is_overfull(metadata: &Metadata, gained: &Search, slot: u16, left: u16) -> bool
     requires sound { AreSound metadata.now }
     requires slot { slot < metadata.now.limits.files }
     requires left { IsSome (word_of metadata.now.dict left) }
-    requires right { IsSome (word_of metadata.now.dict right) }
-    ensures { result ≡ (has metadata.now.ext left slot && nat_lt MAX_DESCRIPTION (length (wider metadata.now (is_gained metadata.now (right ∷ [])) slot))) }
+    requires gained { (numbers : List ℕ) × AreGained metadata.now numbers gained.now }
+    ensures { (numbers : List ℕ) → AreGained metadata.now numbers gained.now
+        → result ≡ (has metadata.now.ext left slot && nat_lt MAX_DESCRIPTION (length (wider metadata.now (is_gained metadata.now numbers) slot))) }
 {
     if !metadata.ext().has(u32::from(left), u32::from(slot)) {
         return false;
     }
-    is_full(metadata, &[right], slot, MAX_DESCRIPTION as u32)
+    is_full(metadata, gained, slot, MAX_DESCRIPTION as u32)
 }
 
 // Whether a description that has the left word would have more words than it may.
-fn has_overfull(metadata: &Metadata, left: &Word, right: &Word, number: u16) -> bool
+fn has_overfull(
+    metadata: &Metadata,
+    left: &Word,
+    right: &Word,
+    number: u16,
+    search: &mut Search,
+) -> bool
     requires sound { AreSound metadata.now }
     requires number { number_of metadata.now.dict right.now ≡ Some number }
     ensures { result ≡ has_overfull metadata.now left.now right.now }
@@ -154,8 +162,9 @@ fn has_overfull(metadata: &Metadata, left: &Word, right: &Word, number: u16) -> 
         return false;
     };
     let files = metadata.limits().files;
+    find_gained(metadata, &[number], search);
     for slot in 0..files {
-        if is_overfull(metadata, slot as u16, from, number) {
+        if is_overfull(metadata, search, slot as u16, from) {
             return true;
         }
     }
@@ -163,7 +172,12 @@ fn has_overfull(metadata: &Metadata, left: &Word, right: &Word, number: u16) -> 
 }
 
 // The number of the right word, or what the two words are refused for.
-fn may_pair(metadata: &Metadata, left: &Word, right: &Word) -> Result<u16, Refusal>
+fn may_pair(
+    metadata: &Metadata,
+    left: &Word,
+    right: &Word,
+    search: &mut Search,
+) -> Result<u16, Refusal>
     requires sound { AreSound metadata.now }
     ensures row { Judges (pair_checks metadata.now left.now right.now) result }
     ensures number { IfOk result (λ number. number_of metadata.now.dict right.now ≡ Some number) }
@@ -180,14 +194,20 @@ fn may_pair(metadata: &Metadata, left: &Word, right: &Word) -> Result<u16, Refus
     let Some(number) = metadata.number_of(right) else {
         unreachable!()
     };
-    if leads(metadata, number, right, left) {
+    if leads(metadata, number, right, left, search) {
         return Err(Refusal::Cycle);
     }
     Ok(number)
 }
 
 // Whether there is room for an axiom between the two words.
-fn has_room(metadata: &Metadata, left: &Word, right: &Word, number: u16) -> Result<(), Refusal>
+fn has_room(
+    metadata: &Metadata,
+    left: &Word,
+    right: &Word,
+    number: u16,
+    search: &mut Search,
+) -> Result<(), Refusal>
     requires sound { AreSound metadata.now }
     requires number { number_of metadata.now.dict right.now ≡ Some number }
     ensures row { Judges (axiom_room_checks metadata.now left.now right.now) result }
@@ -199,17 +219,22 @@ fn has_room(metadata: &Metadata, left: &Word, right: &Word, number: u16) -> Resu
     if metadata.word_count() + lacked_with_head(metadata, left) > props {
         return Err(Refusal::NoPropertyRoom);
     }
-    if has_overfull(metadata, left, right, number) {
+    if has_overfull(metadata, left, right, number, search) {
         return Err(Refusal::LargeDescription);
     }
     Ok(())
 }
 
 /// What an axiom from the left word to the right one is refused for.
-pub(crate) fn may_relate(metadata: &Metadata, left: &Word, right: &Word) -> Result<(), Refusal>
+pub(crate) fn may_relate(
+    metadata: &Metadata,
+    left: &Word,
+    right: &Word,
+    search: &mut Search,
+) -> Result<(), Refusal>
     requires sound { AreSound metadata.now }
     ensures row { Judges (axiom_checks_of metadata.now left.now right.now) result }
 {
-    let number = may_pair(metadata, left, right)?;
-    has_room(metadata, left, right, number)
+    let number = may_pair(metadata, left, right, search)?;
+    has_room(metadata, left, right, number, search)
 }

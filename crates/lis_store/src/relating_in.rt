@@ -7,11 +7,12 @@ ghost use Rattle.lis_store.specs.ReplacingIn.{AreInForm};
 use crate::adding::learn_word;
 use crate::closing::{Rebuild, rebuild_all};
 use lis_kept::Metadata;
+use lis_taxonomy::Search;
 use lis_words::Word;
 
 /// Adds an axiom between two words: the left one and its head get numbers, and each file that has it all that the right one
 /// entails.
-pub(crate) fn relate(metadata: &mut Metadata, left: &Word, right: &Word)
+pub(crate) fn relate(metadata: &mut Metadata, left: &Word, right: &Word, search: &mut Search)
     requires form { AreInForm metadata.old }
     requires may { MayRelate metadata.old left.now right.now }
     ensures { RelatesIn left.now right.now metadata.old metadata.new }
@@ -24,5 +25,5 @@ pub(crate) fn relate(metadata: &mut Metadata, left: &Word, right: &Word)
         unreachable!()
     };
     metadata.link(from, to);
-    rebuild_all(metadata, Rebuild::Having(from));
+    rebuild_all(metadata, Rebuild::Having(from), search);
 }

@@ -53,6 +53,7 @@ fn learn_own(metadata: &mut Metadata, scratch: &mut Scratch, draft: Draft) -> Nu
         draft.own,
         draft.size,
         &mut scratch.candidates,
+        &mut scratch.search,
     );
     Numbers { tags, all }
 }

@@ -135,10 +135,10 @@ impl Store {
         ensures disk { ChangesDisk (D.meaning disk.old) (D.meaning disk.new) result }
     {
         match write {
-            Write::Declare(word) => self.declare(disk, place, word),
+            Write::Declare(word) => self.declare(disk, place, word, &mut scratch.search),
             Write::Undeclare(word) => self.undeclare(disk, word),
-            Write::Axiom(left, right) => self.axiom(disk, left, right),
-            Write::Unaxiom(left, right) => self.unaxiom(disk, left, right),
+            Write::Axiom(left, right) => self.axiom(disk, left, right, &mut scratch.search),
+            Write::Unaxiom(left, right) => self.unaxiom(disk, left, right, &mut scratch.search),
             Write::Add(file) => self.add(disk, scratch, place, file),
             Write::Write(name, bytes, size) => self.write(disk, scratch, place, name, bytes, size),
             Write::Remove(name) => self.remove(disk, scratch, place, name),
@@ -185,8 +185,8 @@ impl Store {
         self.memory.is_broken
     }
 
-    /// For each file slot the numbers of its file's description, as rows of bits. These are the rows that listings look at, and
-    /// their edits are counted.
+    /// For each file slot the numbers of its file's description, and for each number how many files have it and which, with
+    /// a count of edits. Listings look at the numbers and at how many files have each.
     pub fn descriptions(&self) -> &Ext
         ensures { result.now ≡ self.now.metadata.ext }
     {

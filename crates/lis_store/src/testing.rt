@@ -14,11 +14,17 @@ use crate::closing::{Rebuild, rebuild_all};
 use arrayvec::ArrayVec;
 use lis_kept::Metadata;
 use lis_limits::MAX_DESCRIPTION;
+use lis_taxonomy::Search;
 use lis_words::{Word, test_of};
 
 /// Declares a new word, with an axiom from it to the word of each of these numbers. A test comes into the descriptions of the
 /// files that meet it.
-pub(crate) fn declare_tested(metadata: &mut Metadata, word: &Word, places: &[u16])
+pub(crate) fn declare_tested(
+    metadata: &mut Metadata,
+    word: &Word,
+    places: &[u16],
+    search: &mut Search,
+)
     requires form { AreInForm metadata.old }
     requires may { MayDeclare metadata.old word.now places.now }
     ensures { DeclaresTested word.now places.now metadata.old metadata.new }
@@ -30,7 +36,7 @@ pub(crate) fn declare_tested(metadata: &mut Metadata, word: &Word, places: &[u16
     let Some(number) = metadata.number_of(word) else {
         unreachable!()
     };
-    rebuild_all(metadata, Rebuild::Meeting(test, number));
+    rebuild_all(metadata, Rebuild::Meeting(test, number), search);
 }
 
 // The numbers but for one.

@@ -1,11 +1,19 @@
 -- What crates above need to know of a taxonomy's value.
-use Rattle.std.proofs.Common.{ℕ, Decides, nat_eq}
+use Rattle.std.proofs.Common.{◌≡◌, ℕ, Decides, nat_eq, [], eq-eqb}
 use Rattle.std.specs.Ordering.{nat_cmp}
 use Rattle.std.specs.FinSet as set
+use Rattle.std.proofs.lemmas.Bool.{eqb-true}
 use Rattle.std.proofs.lemmas.Map.Lookups.{exact_unsigned}
+use Rattle.lis_graph.specs.Graph.{IsOrdered}
 use Rattle.lis_graph.proofs.Graph.{up_decides}
+use Rattle.lis_graph.proofs.Members.{among_from_contains}
 use Rattle.lis_taxonomy.specs.Taxonomy.{Taxonomy, Entails, entails, no_links}
-use Rattle.lis_taxonomy.proofs.Edges.{nat_decides, no_links_ordered}
+
+pub nat_decides : (x y : ℕ) → Decides (nat_eq x y) (x ≡ y)
+nat_decides x y = (eqb-true x y, eq-eqb x y)
+
+pub no_links_ordered : IsOrdered no_links
+no_links_ordered = record { joined = λ p q r h k. absurd (among_from_contains [] q h); apart = λ p h. absurd (among_from_contains [] p h) }
 
 -- the test of entailment tells what chains of edges lead to
 pub entails_decides : (t : Taxonomy) (p q : ℕ) → Decides (entails t p q) (Entails t p q)

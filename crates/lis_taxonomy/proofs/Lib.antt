@@ -1,5 +1,6 @@
-mod Edges
-mod Loops
-mod Remakes
-pub mod Seen
 pub mod Laws
+mod Places
+pub mod Seen
+mod Searches
+mod Marks
+mod Ups

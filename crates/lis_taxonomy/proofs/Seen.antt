@@ -1,21 +1,24 @@
--- What a contract sees of the rows, and how one edge more or less changes it.
-use Rattle.std.proofs.Common.{◌≡◌, ◌⊎◌, ℕ, ◌<◌, ◌≤◌, ◌==◌, Bool, true, false, not, ◌&&◌, ◌||◌, nat_eq, if◌then◌else◌, List, [], ◌∷◌, Decides, refl, sym, ap, subst, ◌∙◌, inl, inr, eq-eqb}
+-- What a contract sees of the edges, and how one edge more or less changes it.
+use Rattle.std.proofs.Common.{◌≡◌, ◌⊎◌, ◌↔◌, Result, Ok, Err, IfOk, IfErr, is_ok, ℕ, ◌+◌, ◌*◌, ◌<◌, ◌≤◌, Bool, true, false, cond, not, ◌&&◌, ◌||◌, nat_eq, List, [], ◌∷◌, length, Decides, refl, sym, ap, subst, ◌∙◌, inl, inr, arith}
 use Rattle.std.specs.Bool.{one_answer}
-use Rattle.std.specs.List.{list_any}
+use Rattle.std.specs.List.{list_any, insert, remove}
 use Rattle.std.specs.Ordering.{nat_cmp, eq_by_cmp}
 use Rattle.std.specs.Cmp.{IsTotalOrder, nat_cmp_total, Equal-is, tied_itself}
 use Rattle.std.specs.FinSet as set
-use Rattle.std.proofs.lemmas.Bool.{cases_eq, ne_eqb, eqb-true}
 use Rattle.std.proofs.lemmas.Map.Lookups.{CmpEqualImpliesEq, exact_unsigned}
-use Rattle.lis_bits.specs.Rows.{HasShape, Rows, get, with_row, empty_rows}
-use Rattle.lis_bits.proofs.Laws.{get-with_row_other, get-empty_rows, shaped, new_row}
-use Rattle.lis_graph.specs.Graph.{Linked}
-use Rattle.lis_graph.proofs.Members.{Among, among_from_any, any_from_among, among_from_contains, contains_from_among}
+use Rattle.std.proofs.lemmas.List.Edits.{length-insert, length-remove}
+use Rattle.lis_graph.specs.Graph.{Acyclic}
+use Rattle.lis_graph.specs.Graph as chains
+use Rattle.lis_graph.proofs.Members.{Among, among_from_any, any_from_among, contains_from_among}
 use Rattle.lis_graph.proofs.Pairs.{pairs_total, pairs_exact}
 use Rattle.lis_graph.proofs.Graph as graph
-use Rattle.lis_taxonomy.specs.Taxonomy.{pair_cmp, no_links, has_edge, Entails, IsAcyclic, entails, with_edge, without_edge, empty_taxonomy}
-use Rattle.lis_taxonomy.specs.Inside.{edge_list, reach, IsAcyclicTable, seen, IsSoundTaxonomy, IsWidened, IsPartlyRight}
-use Rattle.lis_taxonomy.proofs.Edges.{IsOneMore, among_edges, edges_among, big_among, among_big, reach_with, acyclic_with, acyclic_without, reach_decides, acyclic_decides, first_step, reach_self, reach_trans, nat_decides, no_links_ordered}
+use Rattle.lis_taxonomy.specs.Taxonomy.{pair_cmp, no_links, has_edge, Entails, IsAcyclic, with_edge, without_edge}
+use Rattle.lis_limits.specs.declared.TheConstants.{MAX_PROPS}
+use Rattle.lis_taxonomy.specs.Search.{is_found}
+use Rattle.lis_taxonomy.specs.Inside.{edge_at, AreInOrder, IsGap, seen, IsSoundTaxonomy, IsSearched}
+use Rattle.lis_taxonomy.proofs.Laws.{nat_decides, no_links_ordered}
+use Rattle.lis_taxonomy.proofs.Searches.{has_at, only_start}
+use Rattle.lis_taxonomy.proofs.Places.{among_place, place_among, not_among, order_more, order_less, gone, among_insert, insert_among, among_remove, remove_among}
 
 -- ---- sets of pairs
 pair_total : IsTotalOrder pair_cmp
@@ -36,7 +39,7 @@ listed es e = (
   λ m. any_from_among (eq_by_cmp pair_cmp e) es e m ((pair_decides e e).1 refl),
 )
 
-contains_decides : (es : List (ℕ × ℕ)) (e : ℕ × ℕ) → Decides (set.contains (set.from_list {R = pair_cmp} es) e) (Among es e)
+pub contains_decides : (es : List (ℕ × ℕ)) (e : ℕ × ℕ) → Decides (set.contains (set.from_list {R = pair_cmp} es) e) (Among es e)
 contains_decides es e =
     let test = set.contains-from_list pair_total es e in
     (λ h. (listed es e).0 (sym test ∙ h), λ m. test ∙ (listed es e).1 m)
@@ -54,106 +57,53 @@ to_items : (es : List (ℕ × ℕ)) (e : ℕ × ℕ) → Among es e → Among (s
 to_items es e m = (items_decide (set.from_list {R = pair_cmp} es) e).0 ((contains_decides es e).1 m)
 
 -- ---- what a contract sees
-edge_decides : (linked : Rows) (props p q : ℕ) → p < props → q < props → Decides (get linked p q) (Among (edge_list linked props) (p, q))
-edge_decides linked props p q p_in q_in = (λ bit. edges_among linked props p q p_in q_in bit, λ m. (among_edges linked props (p, q) m).bit)
+module _ (es : List (ℕ × ℕ)) (props : ℕ) where
+  pub entails_seen : (p q : ℕ) → chains.Entails no_links es p q → Entails (seen es props) p q
+  entails_seen p q e = graph.entails_within no_links es (set.items (seen es props).edges) (to_items es) p q e
 
-pub has_edge-seen : (linked : Rows) (props p q : ℕ) → p < props → q < props → get linked p q ≡ has_edge (seen linked props) p q
-has_edge-seen linked props p q p_in q_in = one_answer (get linked p q) (has_edge (seen linked props) p q) (edge_decides linked props p q p_in q_in) (contains_decides (edge_list linked props) (p, q))
+  pub seen_entails : (p q : ℕ) → Entails (seen es props) p q → chains.Entails no_links es p q
+  seen_entails p q e = graph.entails_within no_links (set.items (seen es props).edges) es (from_items es) p q e
 
-pub edges_in_range : (linked : Rows) (props p q : ℕ) → has_edge (seen linked props) p q ≡ true → (p < props) × (q < props)
-edges_in_range linked props p q h = let e = among_edges linked props (p, q) ((contains_decides (edge_list linked props) (p, q)).0 h) in (e.left, e.right)
+  pub acyclic_seen : Acyclic no_links es → IsAcyclic (seen es props)
+  acyclic_seen acyclic = graph.acyclic_within no_links (set.items (seen es props).edges) es (from_items es) acyclic
 
-pub entails_from_reach : (linked : Rows) (props p q : ℕ) → reach linked props p q ≡ true → Entails (seen linked props) p q
-entails_from_reach linked props p q h = graph.entails_within no_links (edge_list linked props) (set.items (seen linked props).edges) (to_items (edge_list linked props)) p q ((reach_decides linked props p q).0 h)
+  pub edge_there : (p q place : ℕ) → (place < length es) × (edge_at es place ≡ (p, q)) → has_edge (seen es props) p q ≡ true
+  edge_there p q place here = (contains_decides es (p, q)).1 (place_among es (p, q) place here.0 here.1)
 
-pub reach_from_entails : (linked : Rows) (props p q : ℕ) → Entails (seen linked props) p q → reach linked props p q ≡ true
-reach_from_entails linked props p q e = (reach_decides linked props p q).1 (graph.entails_within no_links (set.items (seen linked props).edges) (edge_list linked props) (from_items (edge_list linked props)) p q e)
+  pub edge_absent : (p q place : ℕ) → IsGap es p q place → has_edge (seen es props) p q ≡ false
+  edge_absent p q place none = by (has_edge (seen es props) p q) refl
+    where
+      by : (t : Bool) → has_edge (seen es props) p q ≡ t → t ≡ false
+      by true e = absurd (not_among es p q place none ((contains_decides es (p, q)).0 e))
+      by false e = refl
 
-pub entails-seen : (linked : Rows) (props p q : ℕ) → entails (seen linked props) p q ≡ reach linked props p q
-unfolding entails reach
-entails-seen linked props p q =
-    ap (λ words. list_any (λ y. nat_eq y q) words)
-    (graph.up_same nat_eq nat_cmp no_links nat_decides exact_unsigned no_links_ordered nat_cmp_total (set.items (seen linked props).edges) (edge_list linked props) (from_items (edge_list linked props)) (to_items (edge_list linked props)) p)
+  pub edges_in_range : AreInOrder es props → (p q : ℕ) → has_edge (seen es props) p q ≡ true → (p < props) × (q < props)
+  edges_in_range order p q h =
+      let k = among_place es (p, q) ((contains_decides es (p, q)).0 h) in
+      (subst (λ (e : ℕ × ℕ). e.0 < props) k.2 (order.left k.0 k.1), subst (λ (e : ℕ × ℕ). e.1 < props) k.2 (order.right k.0 k.1))
 
-pub acyclic-seen : (linked : Rows) (props : ℕ) → IsAcyclicTable linked props → IsAcyclic (seen linked props)
-acyclic-seen linked props acyclic = graph.acyclic_within no_links (set.items (seen linked props).edges) (edge_list linked props) (from_items (edge_list linked props)) ((acyclic_decides linked props).0 acyclic)
+  -- whether the edge was found
+  pub has_edge_found : (p q : ℕ) (r : Result ℕ ℕ) → IfOk r (λ k. (k < length es) × (edge_at es k ≡ (p, q))) → IfErr r (λ k. IsGap es p q k) → is_ok r ≡ has_edge (seen es props) p q
+  has_edge_found p q (Ok k) here none = sym (edge_there p q k here)
+  has_edge_found p q (Err k) here none = sym (edge_absent p q k none)
 
--- an edge has no way back
-pub no_way_back : (linked : Rows) (props p q : ℕ) → IsAcyclicTable linked props → p < props → q < props → get linked p q ≡ true → Entails (seen linked props) q p → ⊥
-no_way_back linked props p q acyclic p_in q_in bit e =
-    let chain = (reach_decides linked props q p).0 (reach_from_entails linked props q p e) in
-    (acyclic_decides linked props).0 acyclic chain.0 p (q, inr (contains_from_among (edge_list linked props) (p, q) (edges_among linked props p q p_in q_in bit)), chain.1)
+  -- just what the search found is entailed
+  pub just_entailed : (found : List ℕ) (p : ℕ) → IsSearched es (p ∷ []) found → (q : ℕ) → (is_found found q ≡ true) ↔ Entails (seen es props) p q
+  just_entailed found p searched q = (
+    λ h. let e = (searched q).0 h in subst (λ x. Entails (seen es props) x q) (sym (only_start p e.0 e.1)) (entails_seen e.0 q e.2),
+    λ e. (searched q).1 (p, has_at (p ∷ []) 0 (omega arith), seen_entails p q e),
+  )
 
--- ---- one edge set or cleared
-bit_at_edge : (linked : Rows) (props p q : ℕ) (value : Bool) → HasShape linked props props → p < props → (a b : ℕ) → b < props → get (with_row linked p (λ k. if k == q then value else get linked p k)) a b ≡ (if a == p && b == q then value else get linked a b)
-bit_at_edge linked props p q value shape p_in a b b_in = go (cases_eq a p)
-  where
-    go : (a ≡ p) ⊎ (a ≡ p → ⊥) → get (with_row linked p (λ k. if k == q then value else get linked p k)) a b ≡ (if a == p && b == q then value else get linked a b)
-    go (inl same) = rw (eq-eqb a p same) (ap (λ k. get (with_row linked p (λ k. if k == q then value else get linked p k)) k b) same
-        ∙ (new_row linked props props p b (λ k. if k == q then value else get linked p k) shape p_in b_in ∙ ap (λ k. if b == q then value else get linked k b) (sym same)))
-    go (inr differ) = rw (ne_eqb a p differ) (get-with_row_other linked p a b (λ k. if k == q then value else get linked p k) differ)
+  -- an edge has no way back
+  pub no_way_back : Acyclic no_links es → (p q : ℕ) → has_edge (seen es props) p q ≡ true → Entails (seen es props) q p → ⊥
+  no_way_back acyclic p q there back = let chain = seen_entails q p back in acyclic chain.0 p (q, inr (contains_from_among es (p, q) ((contains_decides es (p, q)).0 there)), chain.1)
 
-both_tests : (a b p q : ℕ) → (nat_eq a p && nat_eq b q) ≡ true → (a ≡ p) × (b ≡ q)
-both_tests a b p q h = go (nat_eq a p) refl h
-  where
-    go : (x : Bool) → nat_eq a p ≡ x → (x && nat_eq b q) ≡ true → (a ≡ p) × (b ≡ q)
-    go true e k = (eqb-true a p e, eqb-true b q k)
-    go false e k = absurd cc
-
-pub one_more_set : (linked : Rows) (props p q : ℕ) → HasShape linked props props → p < props → q < props → IsOneMore linked (with_row linked p (λ k. if k == q then true else get linked p k)) props p q
-one_more_set linked props p q shape p_in q_in = record {
-  left = p_in;
-  right = q_in;
-  bits = λ a b a_in b_in. (
-    λ set. to a b (a == p && b == q) refl (sym (bit_at_edge linked props p q true shape p_in a b b_in) ∙ set),
-    λ found. bit_at_edge linked props p q true shape p_in a b b_in ∙ from a b found,
-  );
-}
-  where
-    to : (a b : ℕ) (t : Bool) → (a == p && b == q) ≡ t → (if t then true else get linked a b) ≡ true → ((a ≡ p) × (b ≡ q)) ⊎ (get linked a b ≡ true)
-    to a b true e set = inl (both_tests a b p q e)
-    to a b false e set = inr set
-
-    here : (a b : ℕ) → (a ≡ p) → (b ≡ q) → (a == p && b == q) ≡ true
-    here a b left right = rw (eq-eqb a p left, eq-eqb b q right)
-
-    any : (t : Bool) (v : Bool) → v ≡ true → (if t then true else v) ≡ true
-    any true v e = refl
-    any false v e = e
-
-    from : (a b : ℕ) → ((a ≡ p) × (b ≡ q)) ⊎ (get linked a b ≡ true) → (if a == p && b == q then true else get linked a b) ≡ true
-    from a b (inl same) = rw (here a b same.0 same.1)
-    from a b (inr bit) = any (a == p && b == q) (get linked a b) bit
-
-pub one_more_cleared : (linked : Rows) (props p q : ℕ) → HasShape linked props props → p < props → q < props → get linked p q ≡ true → IsOneMore (with_row linked p (λ k. if k == q then false else get linked p k)) linked props p q
-one_more_cleared linked props p q shape p_in q_in there = record {
-  left = p_in;
-  right = q_in;
-  bits = λ a b a_in b_in. (
-    λ set. to a b b_in (a == p && b == q) refl set,
-    λ found. from a b b_in found,
-  );
-}
-  where
-    small : Rows
-    small = with_row linked p (λ k. if k == q then false else get linked p k)
-
-    to : (a b : ℕ) → b < props → (t : Bool) → (a == p && b == q) ≡ t → get linked a b ≡ true → ((a ≡ p) × (b ≡ q)) ⊎ (get small a b ≡ true)
-    to a b b_in true e set = inl (both_tests a b p q e)
-    to a b b_in false e set = inr (bit_at_edge linked props p q false shape p_in a b b_in ∙ (ap (λ t. if t then false else get linked a b) e ∙ set))
-
-    kept : (t v : Bool) → (if t then false else v) ≡ true → v ≡ true
-    kept true v e = absurd cc
-    kept false v e = e
-
-    from : (a b : ℕ) → b < props → ((a ≡ p) × (b ≡ q)) ⊎ (get small a b ≡ true) → get linked a b ≡ true
-    from a b b_in (inl same) = ap (λ k. get linked k b) same.0 ∙ (ap (λ k. get linked p k) same.1 ∙ there)
-    from a b b_in (inr bit) = kept (a == p && b == q) (get linked a b) (sym (bit_at_edge linked props p q false shape p_in a b b_in) ∙ bit)
-
-module _ (small big : Rows) (props p q : ℕ) (one : IsOneMore small big props p q) where
-  pub seen_more : seen big props ≡ with_edge (seen small props) p q
-  seen_more = ap (λ edges. record { props = props; edges = edges }) (set.same_set pair_total pair_exact (set.from_list (edge_list big props)) (set.insert (set.from_list (edge_list small props)) (p, q))
-      (λ e. one_answer (set.contains (set.from_list (edge_list big props)) e) (set.contains (set.insert (set.from_list (edge_list small props)) (p, q)) e) (contains_decides (edge_list big props) e) (inserted e)))
+-- ---- one edge more
+module _ (small big : List (ℕ × ℕ)) (props p q : ℕ)
+    (big_among : (e : ℕ × ℕ) → Among big e → Among ((p, q) ∷ small) e) (among_big : (e : ℕ × ℕ) → Among ((p, q) ∷ small) e → Among big e) where
+  set_more : set.from_list {R = pair_cmp} big ≡ set.insert (set.from_list small) (p, q)
+  set_more = set.same_set pair_total pair_exact (set.from_list big) (set.insert (set.from_list small) (p, q))
+      (λ e. one_answer (set.contains (set.from_list big) e) (set.contains (set.insert (set.from_list small) (p, q)) e) (contains_decides big e) (inserted e))
     where
       or_true : (x y : Bool) → (x || y) ≡ true → (x ≡ true) ⊎ (y ≡ true)
       or_true true y h = inl refl
@@ -164,174 +114,117 @@ module _ (small big : Rows) (props p q : ℕ) (one : IsOneMore small big props p
       true_or false y (inl h) = absurd cc
       true_or false y (inr h) = h
 
-      inserted : (e : ℕ × ℕ) → Decides (set.contains (set.insert (set.from_list {R = pair_cmp} (edge_list small props)) (p, q)) e) (Among (edge_list big props) e)
+      inserted : (e : ℕ × ℕ) → Decides (set.contains (set.insert (set.from_list {R = pair_cmp} small) (p, q)) e) (Among big e)
       inserted e = (
-        λ h. among_big small big props p q one e (to (or_true (eq_by_cmp pair_cmp e (p, q)) (set.contains (set.from_list {R = pair_cmp} (edge_list small props)) e) (sym test ∙ h))),
-        λ m. test ∙ true_or (eq_by_cmp pair_cmp e (p, q)) (set.contains (set.from_list {R = pair_cmp} (edge_list small props)) e) (from (big_among small big props p q one e m)),
+        λ h. among_big e (to (or_true (eq_by_cmp pair_cmp e (p, q)) (set.contains (set.from_list {R = pair_cmp} small) e) (sym test ∙ h))),
+        λ m. test ∙ true_or (eq_by_cmp pair_cmp e (p, q)) (set.contains (set.from_list {R = pair_cmp} small) e) (from (big_among e m)),
       )
         where
-          test : set.contains (set.insert (set.from_list {R = pair_cmp} (edge_list small props)) (p, q)) e ≡ (eq_by_cmp pair_cmp e (p, q) || set.contains (set.from_list {R = pair_cmp} (edge_list small props)) e)
-          test = set.contains-insert pair_total (set.from_list {R = pair_cmp} (edge_list small props)) (p, q) e
+          test : set.contains (set.insert (set.from_list {R = pair_cmp} small) (p, q)) e ≡ (eq_by_cmp pair_cmp e (p, q) || set.contains (set.from_list {R = pair_cmp} small) e)
+          test = set.contains-insert pair_total (set.from_list {R = pair_cmp} small) (p, q) e
 
-          to : (eq_by_cmp pair_cmp e (p, q) ≡ true) ⊎ (set.contains (set.from_list {R = pair_cmp} (edge_list small props)) e ≡ true) → Among ((p, q) ∷ edge_list small props) e
+          to : (eq_by_cmp pair_cmp e (p, q) ≡ true) ⊎ (set.contains (set.from_list {R = pair_cmp} small) e ≡ true) → Among ((p, q) ∷ small) e
           to (inl same) = inl (sym ((pair_decides e (p, q)).0 same))
-          to (inr old) = inr ((contains_decides (edge_list small props) e).0 old)
+          to (inr old) = inr ((contains_decides small e).0 old)
 
-          from : Among ((p, q) ∷ edge_list small props) e → (eq_by_cmp pair_cmp e (p, q) ≡ true) ⊎ (set.contains (set.from_list {R = pair_cmp} (edge_list small props)) e ≡ true)
+          from : Among ((p, q) ∷ small) e → (eq_by_cmp pair_cmp e (p, q) ≡ true) ⊎ (set.contains (set.from_list {R = pair_cmp} small) e ≡ true)
           from (inl same) = inl ((pair_decides e (p, q)).1 (sym same))
-          from (inr m) = inr ((contains_decides (edge_list small props) e).1 m)
+          from (inr m) = inr ((contains_decides small e).1 m)
 
-  pub seen_less : get small p q ≡ false → seen small props ≡ without_edge (seen big props) p q
-  seen_less gone = ap (λ edges. record { props = props; edges = edges }) (set.same_set pair_total pair_exact (set.from_list (edge_list small props)) (set.remove (set.from_list (edge_list big props)) (p, q))
-      (λ e. one_answer (set.contains (set.from_list (edge_list small props)) e) (set.contains (set.remove (set.from_list (edge_list big props)) (p, q)) e) (contains_decides (edge_list small props) e) (removed e)))
-    where
-      not_and : (x y : Bool) → (not x && y) ≡ true → (x ≡ false) × (y ≡ true)
-      not_and true y h = absurd cc
-      not_and false y h = (refl, h)
+  pub seen_more : seen big props ≡ with_edge (seen small props) p q
+  seen_more = ap (λ edges. record { props = props; edges = edges }) set_more
 
-      removed : (e : ℕ × ℕ) → Decides (set.contains (set.remove (set.from_list {R = pair_cmp} (edge_list big props)) (p, q)) e) (Among (edge_list small props) e)
-      removed e = (
-        λ h. let parts = not_and (eq_by_cmp pair_cmp e (p, q)) (set.contains (set.from_list {R = pair_cmp} (edge_list big props)) e) (sym test ∙ h) in
-            to parts.0 (big_among small big props p q one e ((contains_decides (edge_list big props) e).0 parts.1)),
-        λ m. test ∙ ap (λ t. not t && set.contains (set.from_list {R = pair_cmp} (edge_list big props)) e) (other m (eq_by_cmp pair_cmp e (p, q)) refl)
-            ∙ (contains_decides (edge_list big props) e).1 (among_big small big props p q one e (inr m)),
-      )
-        where
-          test : set.contains (set.remove (set.from_list {R = pair_cmp} (edge_list big props)) (p, q)) e ≡ (not (eq_by_cmp pair_cmp e (p, q)) && set.contains (set.from_list {R = pair_cmp} (edge_list big props)) e)
-          test = set.contains-remove pair_total (set.from_list {R = pair_cmp} (edge_list big props)) (p, q) e
+  pub acyclic_more : Acyclic no_links small → (chains.Entails no_links small q p → ⊥) → Acyclic no_links big
+  acyclic_more acyclic open_end = graph.acyclic_within no_links big ((p, q) ∷ small) big_among
+      (graph.acyclic_cons nat_eq nat_cmp no_links nat_decides exact_unsigned no_links_ordered (p, q) small acyclic open_end)
 
-          to : eq_by_cmp pair_cmp e (p, q) ≡ false → Among ((p, q) ∷ edge_list small props) e → Among (edge_list small props) e
-          to differs (inl same) = absurd (let k = (pair_decides e (p, q)).1 (sym same) in cc)
-          to differs (inr m) = m
+  pub acyclic_fewer : Acyclic no_links big → Acyclic no_links small
+  acyclic_fewer acyclic = graph.acyclic_within no_links small big (λ e m. among_big e (inr m)) acyclic
 
-          other : Among (edge_list small props) e → (t : Bool) → eq_by_cmp pair_cmp e (p, q) ≡ t → t ≡ false
-          other m true same = absurd (let bit = (among_edges small props e m).bit in let here = ap (λ (k : ℕ × ℕ). get small k.0 k.1) ((pair_decides e (p, q)).0 same) in cc)
-          other m false same = refl
+  module _ (new : Among small (p, q) → ⊥) where
+    absent : set.contains (set.from_list {R = pair_cmp} small) (p, q) ≡ false
+    absent = by (set.contains (set.from_list {R = pair_cmp} small) (p, q)) refl
+      where
+        by : (t : Bool) → set.contains (set.from_list {R = pair_cmp} small) (p, q) ≡ t → t ≡ false
+        by true e = absurd (new ((contains_decides small (p, q)).0 e))
+        by false e = refl
 
--- ---- what the rows keep
-pub sound_added : (linked reached reached' stale : Rows) (props p q : ℕ) → IsSoundTaxonomy linked reached stale props → p < props → q < props → get reached q p ≡ false → IsWidened reached reached' props p q
-    → IsSoundTaxonomy (with_row linked p (λ k. if k == q then true else get linked p k)) reached' stale props
-sound_added linked reached reached' stale props p q sound p_in q_in apart widened =
-    let one = one_more_set linked props p q sound.linked_shape p_in q_in in
-    let linked' = with_row linked p (λ k. if k == q then true else get linked p k) in
-    record {
-      few = sound.few;
-      linked_shape = shaped linked props props p (λ k. if k == q then true else get linked p k) sound.linked_shape;
-      reached_shape = widened.shape;
-      stale_shape = sound.stale_shape;
-      acyclic = acyclic_with linked linked' props p q one sound.acyclic (sym (sound.right q p q_in p_in) ∙ apart);
-      right = λ a b a_in b_in. widened.bits a b a_in b_in
-          ∙ ((λ i. sound.right a b a_in b_in i || (sound.right a p a_in p_in i && sound.right q b q_in b_in i)) ∙ sym (reach_with linked linked' props p q one a b));
-    }
+    -- sets of one more, and of one fewer
+    count_more : set.len (set.from_list {R = pair_cmp} big) ≡ set.len (set.from_list {R = pair_cmp} small) + 1
+    count_more = ap (λ (s : set.FinSet pair_cmp). set.len s) set_more ∙ (set.len-insert pair_total (set.from_list small) (p, q) ∙ ap (λ t. cond t (set.len (set.from_list {R = pair_cmp} small)) (set.len (set.from_list {R = pair_cmp} small) + 1)) absent)
 
--- rows where p has q are as wide as an edge from p to q makes them
-widened_already : (linked reached stale : Rows) (props p q : ℕ) → IsSoundTaxonomy linked reached stale props → p < props → q < props → get reached p q ≡ true → IsWidened reached reached props p q
-widened_already linked reached stale props p q sound p_in q_in there = record {
-  shape = sound.reached_shape;
-  bits = λ a b a_in b_in. by a b a_in b_in (get reached a b) (get reached a p) (get reached q b) refl refl refl;
+    set_less : set.from_list {R = pair_cmp} small ≡ set.remove (set.from_list big) (p, q)
+    set_less = set.same_set pair_total pair_exact (set.from_list small) (set.remove (set.from_list big) (p, q))
+        (λ e. one_answer (set.contains (set.from_list small) e) (set.contains (set.remove (set.from_list big) (p, q)) e) (contains_decides small e) (removed e))
+      where
+        not_and : (x y : Bool) → (not x && y) ≡ true → (x ≡ false) × (y ≡ true)
+        not_and true y h = absurd cc
+        not_and false y h = (refl, h)
+
+        removed : (e : ℕ × ℕ) → Decides (set.contains (set.remove (set.from_list {R = pair_cmp} big) (p, q)) e) (Among small e)
+        removed e = (
+          λ h. let parts = not_and (eq_by_cmp pair_cmp e (p, q)) (set.contains (set.from_list {R = pair_cmp} big) e) (sym test ∙ h) in
+              to parts.0 (big_among e ((contains_decides big e).0 parts.1)),
+          λ m. test ∙ ap (λ t. not t && set.contains (set.from_list {R = pair_cmp} big) e) (other m (eq_by_cmp pair_cmp e (p, q)) refl)
+              ∙ (contains_decides big e).1 (among_big e (inr m)),
+        )
+          where
+            test : set.contains (set.remove (set.from_list {R = pair_cmp} big) (p, q)) e ≡ (not (eq_by_cmp pair_cmp e (p, q)) && set.contains (set.from_list {R = pair_cmp} big) e)
+            test = set.contains-remove pair_total (set.from_list {R = pair_cmp} big) (p, q) e
+
+            to : eq_by_cmp pair_cmp e (p, q) ≡ false → Among ((p, q) ∷ small) e → Among small e
+            to differs (inl same) = absurd (let k = (pair_decides e (p, q)).1 (sym same) in cc)
+            to differs (inr m) = m
+
+            other : Among small e → (t : Bool) → eq_by_cmp pair_cmp e (p, q) ≡ t → t ≡ false
+            other m true same = absurd (new (subst (λ (k : ℕ × ℕ). Among small k) ((pair_decides e (p, q)).0 same) m))
+            other m false same = refl
+
+    pub seen_less : seen small props ≡ without_edge (seen big props) p q
+    seen_less = ap (λ edges. record { props = props; edges = edges }) set_less
+
+-- ---- what the fields keep
+pub sound_new : (props capacity : ℕ) → props ≤ MAX_PROPS → capacity ≡ 3 * props → IsSoundTaxonomy [] props capacity
+sound_new props capacity few exact = record {
+  order = record { few = few; left = λ k lt. absurd (omega arith); right = λ k lt. absurd (omega arith); rising = λ i j less lt. absurd (omega arith) };
+  acyclic = graph.acyclic_from nat_eq nat_cmp no_links nat_decides exact_unsigned no_links_ordered [] refl;
+  count = set.len-empty pair_cmp;
+  memory = omega arith;
 }
-  where
-    right : (a b : ℕ) → a < props → b < props → get reached a b ≡ true → reach linked props a b ≡ true
-    right a b a_in b_in h = sym (sound.right a b a_in b_in) ∙ h
 
-    through : (a b : ℕ) → a < props → b < props → get reached a p ≡ true → get reached q b ≡ true → get reached a b ≡ true
-    through a b a_in b_in h k = sound.right a b a_in b_in
-        ∙ reach_trans linked props a q b (reach_trans linked props a p q (right a p a_in p_in h) (right p q p_in q_in there)) (right q b q_in b_in k)
+module _ (es : List (ℕ × ℕ)) (props capacity : ℕ) (sound : IsSoundTaxonomy es props capacity) (p q place : ℕ) where
+  module _ (left : p < props) (right : q < props) (none : IsGap es p q place) (open_end : chains.Entails no_links es q p → ⊥) (big : List (ℕ × ℕ)) (same : big ≡ insert es place (p, q)) where
+    new : Among es (p, q) → ⊥
+    new = not_among es p q place none
 
-    by : (a b : ℕ) → a < props → b < props → (x y z : Bool) → get reached a b ≡ x → get reached a p ≡ y → get reached q b ≡ z → x ≡ (x || (y && z))
-    by a b a_in b_in true y z e f g = refl
-    by a b a_in b_in false true true e f g = absurd (let k = through a b a_in b_in f g in cc)
-    by a b a_in b_in false true false e f g = refl
-    by a b a_in b_in false false z e f g = refl
+    pub sound_added : (wider : ℕ) → capacity ≤ wider → IsSoundTaxonomy big props wider
+    sound_added wider wide = subst (λ bs. IsSoundTaxonomy bs props wider) (sym same) (record {
+      order = order_more es props sound.order p q place right none.at new left;
+      acyclic = acyclic_more es (insert es place (p, q)) props p q (among_insert es place (p, q)) (insert_among es place (p, q)) sound.acyclic open_end;
+      count = count_more es (insert es place (p, q)) props p q (among_insert es place (p, q)) (insert_among es place (p, q)) new ∙ (ap (λ n. n + 1) sound.count ∙ sym (length-insert es place (p, q) none.at.within));
+      memory = omega (arith, sound.memory);
+    })
 
--- so they stay
-pub sound_known : (linked reached stale : Rows) (props p q : ℕ) → IsSoundTaxonomy linked reached stale props → p < props → q < props → get reached q p ≡ false → get reached p q ≡ true
-    → IsSoundTaxonomy (with_row linked p (λ k. if k == q then true else get linked p k)) reached stale props
-sound_known linked reached stale props p q sound p_in q_in apart there =
-    sound_added linked reached reached stale props p q sound p_in q_in apart (widened_already linked reached stale props p q sound p_in q_in there)
+    pub seen_added : seen big props ≡ with_edge (seen es props) p q
+    seen_added = ap (λ bs. seen bs props) same ∙ seen_more es (insert es place (p, q)) props p q (among_insert es place (p, q)) (insert_among es place (p, q))
 
-module _ (linked reached stale : Rows) (props p q : ℕ) (sound : IsSoundTaxonomy linked reached stale props) (p_in : p < props) (q_in : q < props) (there : get linked p q ≡ true) where
-  pub acyclic_removed : IsAcyclicTable (with_row linked p (λ k. if k == q then false else get linked p k)) props
-  acyclic_removed = acyclic_without (with_row linked p (λ k. if k == q then false else get linked p k)) linked props p q (one_more_cleared linked props p q sound.linked_shape p_in q_in there) sound.acyclic
+  module _ (there : place < length es) (same : edge_at es place ≡ (p, q)) (small : List (ℕ × ℕ)) (is : small ≡ remove es place) where
+    to : (e : ℕ × ℕ) → Among es e → Among ((p, q) ∷ remove es place) e
+    to e m = subst (λ (k : ℕ × ℕ). Among (k ∷ remove es place) e) same (among_remove es place there e m)
 
-  pub shape_removed : HasShape (with_row linked p (λ k. if k == q then false else get linked p k)) props props
-  shape_removed = shaped linked props props p (λ k. if k == q then false else get linked p k) sound.linked_shape
+    from : (e : ℕ × ℕ) → Among ((p, q) ∷ remove es place) e → Among es e
+    from e m = remove_among es place there e (subst (λ (k : ℕ × ℕ). Among (k ∷ remove es place) e) (sym same) m)
 
-  -- a word that did not reach the edge's left side reaches what it reached
-  pub partly_removed : (marked : Rows) → HasShape marked 1 props → ((w : ℕ) → w < props → get marked 0 w ≡ get reached w p) → IsPartlyRight (with_row linked p (λ k. if k == q then false else get linked p k)) reached marked props
-  partly_removed marked shape marks = record {
-    reached_shape = sound.reached_shape;
-    stale_shape = shape;
-    right = λ a b a_in b_in not_stale. sound.right a b a_in b_in ∙ kept a b (sym (sound.right a p a_in p_in) ∙ (sym (marks a a_in) ∙ not_stale));
-  }
-    where
-      small : Rows
-      small = with_row linked p (λ k. if k == q then false else get linked p k)
+    out : Among (remove es place) (p, q) → ⊥
+    out m = gone es props sound.order place there (subst (λ (k : ℕ × ℕ). Among (remove es place) k) (sym same) m)
 
-      wider : (a b : ℕ) → reach linked props a b ≡ (reach small props a b || (reach small props a p && reach small props q b))
-      wider = reach_with small linked props p q (one_more_cleared linked props p q sound.linked_shape p_in q_in there)
+    pub seen_removed : seen small props ≡ without_edge (seen es props) p q
+    seen_removed = ap (λ bs. seen bs props) is ∙ seen_less (remove es place) es props p q to from out
 
-      left_false : (x y : Bool) → (x || y) ≡ false → x ≡ false
-      left_false true y h = absurd cc
-      left_false false y h = refl
-
-      alone : (x z y : Bool) → y ≡ false → (x || (y && z)) ≡ x
-      alone true z y e = refl
-      alone false z y e = ap (λ v. v && z) e
-
-      kept : (a b : ℕ) → reach linked props a p ≡ false → reach linked props a b ≡ reach small props a b
-      kept a b none = wider a b ∙ alone (reach small props a b) (reach small props q b) (reach small props a p) (left_false (reach small props a p) (reach small props a p && reach small props q p) (sym (wider a p) ∙ none))
-
-  pub sound_removed : (reached' stale' : Rows) → HasShape reached' props props → HasShape stale' 1 props → ((a b : ℕ) → a < props → b < props → get reached' a b ≡ reach (with_row linked p (λ k. if k == q then false else get linked p k)) props a b)
-      → IsSoundTaxonomy (with_row linked p (λ k. if k == q then false else get linked p k)) reached' stale' props
-  sound_removed reached' stale' shape stale_shape right = record {
-    few = sound.few;
-    linked_shape = shape_removed;
-    reached_shape = shape;
-    stale_shape = stale_shape;
-    acyclic = acyclic_removed;
-    right = right;
-  }
-
-  pub seen_removed : seen (with_row linked p (λ k. if k == q then false else get linked p k)) props ≡ without_edge (seen linked props) p q
-  seen_removed = seen_less (with_row linked p (λ k. if k == q then false else get linked p k)) linked props p q (one_more_cleared linked props p q sound.linked_shape p_in q_in there)
-      (new_row linked props props p q (λ k. if k == q then false else get linked p k) sound.linked_shape p_in q_in ∙ rw (eq-eqb q q refl))
-
-pub seen_added : (linked : Rows) (props p q : ℕ) → HasShape linked props props → p < props → q < props → seen (with_row linked p (λ k. if k == q then true else get linked p k)) props ≡ with_edge (seen linked props) p q
-seen_added linked props p q shape p_in q_in = seen_more linked (with_row linked p (λ k. if k == q then true else get linked p k)) props p q (one_more_set linked props p q shape p_in q_in)
-
--- ---- new rows
-no_edges : (props : ℕ) (e : ℕ × ℕ) → Among (edge_list (empty_rows props props) props) e → ⊥
-no_edges props e m = let bit = (among_edges (empty_rows props props) props e m).bit in let none = get-empty_rows props props e.0 e.1 in cc
-
-nothing : {K : Type 0} (xs : List K) → ((x : K) → Among xs x → ⊥) → xs ≡ []
-nothing [] none = refl
-nothing (x ∷ xs) none = absurd (none x (inl refl))
-
-pub seen_new : (props : ℕ) → seen (empty_rows props props) props ≡ empty_taxonomy props
-seen_new props = ap (λ es. record { props = props; edges = set.from_list es }) (nothing (edge_list (empty_rows props props) props) (no_edges props))
-
-pub sound_new : (reached stale : Rows) (props : ℕ) → props ≤ 8192 → HasShape (empty_rows props props) props props → HasShape reached props props → HasShape stale 1 props → ((p q : ℕ) → p < props → q < props → get reached p q ≡ (p == q))
-    → IsSoundTaxonomy (empty_rows props props) reached stale props
-sound_new reached stale props few shape reached_shape stale_shape own = record {
-  few = few;
-  linked_shape = shape;
-  reached_shape = reached_shape;
-  stale_shape = stale_shape;
-  acyclic = (acyclic_decides (empty_rows props props) props).1 (λ n p c. no_link p c.0 c.1);
-  right = λ p q p_in q_in. own p q p_in q_in ∙ alone p q (nat_eq p q) refl (reach (empty_rows props props) props p q) refl;
-}
-  where
-    no_link : (p r : ℕ) → Linked no_links (edge_list (empty_rows props props) props) p r → ⊥
-    no_link p r (inl given) = among_from_contains [] r given
-    no_link p r (inr edge) = no_edges props (p, r) (among_from_contains (edge_list (empty_rows props props) props) (p, r) edge)
-
-    only : (p q : ℕ) → (p ≡ q) ⊎ ((next : ℕ) × (next < props) × (get (empty_rows props props) p next ≡ true) × (reach (empty_rows props props) props next q ≡ true)) → p ≡ q
-    only p q (inl same) = same
-    only p q (inr found) = absurd (let none = get-empty_rows props props p found.0 in let some = found.2 in cc)
-
-    alone : (p q : ℕ) (x : Bool) → nat_eq p q ≡ x → (y : Bool) → reach (empty_rows props props) props p q ≡ y → x ≡ y
-    alone p q true e true f = refl
-    alone p q false e false f = refl
-    alone p q true e false f = absurd (let k = ap (λ r. reach (empty_rows props props) props p r) (eqb-true p q e) in let own = reach_self (empty_rows props props) props p in cc)
-    alone p q false e true f = absurd (let k = eq-eqb p q (only p q (first_step (empty_rows props props) props p q f)) in cc)
+    pub sound_removed : (wider : ℕ) → capacity ≤ wider → IsSoundTaxonomy small props wider
+    sound_removed wider wide = subst (λ bs. IsSoundTaxonomy bs props wider) (sym is) (record {
+      order = order_less es props sound.order place there;
+      acyclic = acyclic_fewer (remove es place) es props p q to from sound.acyclic;
+      count = let more = count_more (remove es place) es props p q to from out in omega (arith, more, sound.count, length-remove es place there);
+      memory = omega (arith, sound.memory);
+    })

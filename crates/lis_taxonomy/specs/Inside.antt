@@ -1,51 +1,77 @@
--- The rows of a taxonomy, and what the functions over them do. No public clause cites this module.
-use Rattle.std.specs.Prelude.{◌≡◌, ◌≢◌, ℕ, ◌<◌, ◌≤◌, Bool, true, false, ◌&&◌, ◌||◌, ◌↔◌, ◌⊎◌, nat_eq, List, map, filter}
-use Rattle.std.specs.List.{range_with_len, flat_map}
-use Rattle.std.specs.Ordering.{nat_cmp}
+-- The lists of a taxonomy and of a search, and what the functions over them do. No public clause cites this module.
+use Rattle.std.specs.Prelude.{◌≡◌, ◌≢◌, ℕ, ◌+◌, ◌*◌, ◌<◌, ◌≤◌, ◌↔◌, ◌⊎◌, Bool, false, IsTrue, List, ◌∷◌, [], ◌++◌, if◌then◌else◌, length, count_by, slice_index, slice_index_or}
 use Rattle.std.specs.FinSet as set
 use Rattle.lis_limits.specs.declared.TheConstants.{MAX_PROPS}
-use Rattle.lis_bits.specs.Rows.{Rows, HasShape, get}
+use Rattle.lis_bits.specs.Rows.{Rows, get}
 use Rattle.lis_graph.specs.Graph as graph
-use Rattle.lis_taxonomy.specs.Taxonomy.{Taxonomy, no_links}
+use Rattle.lis_taxonomy.specs.Search.{is_found}
+use Rattle.lis_taxonomy.specs.Taxonomy.{Taxonomy, no_links, pair_cmp, edge_room}
 
--- the edges that rows tell
-unfoldable pub edge_list : Rows → ℕ → List (ℕ × ℕ)
-edge_list linked props = flat_map (λ p. map (λ q. (p, q)) (filter (get linked p) (range_with_len 0 props))) (range_with_len 0 props)
+-- the edge at a place of the list
+abbrev pub edge_at : List (ℕ × ℕ) → ℕ → ℕ × ℕ
+edge_at edges k = slice_index_or edges k (0, 0)
 
--- whether a chain of these edges leads from p to q
-unfoldable pub reach : Rows → ℕ → ℕ → ℕ → Bool
-reach linked props p q = graph.has nat_eq (graph.up nat_eq nat_cmp no_links (edge_list linked props) p) q
+-- the rank of an edge in the order: by its left side, and then by its right side
+abbrev pub rank : ℕ × ℕ → ℕ
+rank e = e.0 * MAX_PROPS + e.1
 
--- each row that had the left word has the right word's row too
-pub record IsWidened (old new : Rows) (props left right : ℕ) : Type 0 where
-  pub shape : HasShape new props props
-  pub bits : (p q : ℕ) → p < props → q < props → get new p q ≡ (get old p q || (get old p left && get old right q))
-
--- the row of the word has the word, and the rows of those that it is linked to; other rows stay
-pub record Gathers (linked old new : Rows) (props word : ℕ) : Type 0 where
-  pub shape : HasShape new props props
-  pub row : (q : ℕ) → q < props → (get new word q ≡ true) ↔ ((word ≡ q) ⊎ ((next : ℕ) × (next < props) × (get linked word next ≡ true) × (get old next q ≡ true)))
-  pub others : (p q : ℕ) → p ≢ word → get new p q ≡ get old p q
-
--- the rows of all words but the stale ones tell what chains of edges lead to
-pub record IsPartlyRight (linked reached stale : Rows) (props : ℕ) : Type 0 where
-  pub reached_shape : HasShape reached props props
-  pub stale_shape : HasShape stale 1 props
-  pub right : (p q : ℕ) → p < props → q < props → get stale 0 p ≡ false → get reached p q ≡ reach linked props p q
-
--- edges without a circle
-abbrev pub IsAcyclicTable : Rows → ℕ → Type 0
-IsAcyclicTable linked props = graph.is_acyclic nat_eq nat_cmp no_links (edge_list linked props) ≡ true
-
--- the rows tell edges without a circle, and what chains of them lead to
-pub record IsSoundTaxonomy (linked reached stale : Rows) (props : ℕ) : Type 0 where
+-- edges between numbers below `props`, each once, in the order of their ranks
+pub record AreInOrder (edges : List (ℕ × ℕ)) (props : ℕ) : Type 0 where
   pub few : props ≤ MAX_PROPS
-  pub linked_shape : HasShape linked props props
-  pub reached_shape : HasShape reached props props
-  pub stale_shape : HasShape stale 1 props
-  pub acyclic : IsAcyclicTable linked props
-  pub right : (p q : ℕ) → p < props → q < props → get reached p q ≡ reach linked props p q
+  pub left : (k : ℕ) → k < length edges → (edge_at edges k).0 < props
+  pub right : (k : ℕ) → k < length edges → (edge_at edges k).1 < props
+  pub rising : (i j : ℕ) → i < j → j < length edges → rank (edge_at edges i) < rank (edge_at edges j)
 
--- what a contract sees of the rows
-abbrev pub seen : Rows → ℕ → Taxonomy
-seen linked props = record { props = props; edges = set.from_list (edge_list linked props) }
+-- how many of these edges come before the edge from p to q
+pub record IsPlace (edges : List (ℕ × ℕ)) (p q place : ℕ) : Type 0 where
+  pub within : place ≤ length edges
+  pub before : (k : ℕ) → k < place → rank (edge_at edges k) < rank (p, q)
+  pub behind : (k : ℕ) → place ≤ k → k < length edges → rank (p, q) ≤ rank (edge_at edges k)
+
+-- the edge from p to q is not there, and this is the place that it would have
+pub record IsGap (edges : List (ℕ × ℕ)) (p q place : ℕ) : Type 0 where
+  pub at : IsPlace edges p q place
+  pub absent : (k : ℕ) → k < length edges → edge_at edges k ≢ (p, q)
+
+-- what a contract sees of the edges
+abbrev pub seen : List (ℕ × ℕ) → ℕ → Taxonomy
+seen edges props = record { props = props; edges = set.from_list edges }
+
+-- what the fields of a taxonomy keep: the edges have no circle, and there is memory for all for which there is room
+pub record IsSoundTaxonomy (edges : List (ℕ × ℕ)) (props capacity : ℕ) : Type 0 where
+  pub order : AreInOrder edges props
+  pub acyclic : graph.Acyclic no_links edges
+  pub count : set.len (set.from_list {R = pair_cmp} edges) ≡ length edges
+  pub memory : edge_room props ≤ capacity
+
+-- what the fields of a search keep: just the found numbers are marked, and each is found once
+pub record IsSoundSearch (numbers : List ℕ) (marks : List Bool) (capacity : ℕ) : Type 0 where
+  pub size : length marks ≡ MAX_PROPS
+  pub memory : MAX_PROPS ≤ capacity
+  pub marked : (q : ℕ) → slice_index_or marks q false ≡ is_found numbers q
+  pub once : count_by (λ mark. mark) marks ≡ length numbers
+
+-- the number comes at the end, unless it was found before
+abbrev pub met : List ℕ → ℕ → List ℕ
+met found q = if is_found found q then found else found ++ q ∷ []
+
+-- the numbers to which edges lead from this one came to those that were found
+pub record MeetsRights (edges : List (ℕ × ℕ)) (old new : List ℕ) (number : ℕ) : Type 0 where
+  pub longer : length old ≤ length new
+  pub kept : (k : ℕ) → k < length old → slice_index new k ≡ slice_index old k
+  pub all : (k : ℕ) → k < length edges → (edge_at edges k).0 ≡ number → IsTrue (is_found new (edge_at edges k).1)
+  pub only : (q : ℕ) → IsTrue (is_found new q)
+      → IsTrue (is_found old q) ⊎ ((k : ℕ) × (k < length edges) × (edge_at edges k ≡ (number, q)))
+
+-- just the numbers are found to which chains of edges lead from these
+abbrev pub IsSearched : List (ℕ × ℕ) → List ℕ → List ℕ → Type 0
+IsSearched edges starts found =
+    (q : ℕ) → IsTrue (is_found found q) ↔ ((p : ℕ) × IsTrue (is_found starts p) × graph.Entails no_links edges p q)
+
+-- a chain of edges leads from the number to another one whose bit is true in the first row
+abbrev pub ChainToMarked : List (ℕ × ℕ) → ℕ → Rows → Type 0
+ChainToMarked edges p marks = (q : ℕ) × (q < marks.bits) × (q ≢ p) × graph.Entails no_links edges p q × IsTrue (get marks 0 q)
+
+-- the bits of these numbers have the value, and the others of the row stay
+abbrev pub with_bits : Rows → ℕ → List ℕ → Bool → ℕ → Bool
+with_bits old row numbers value q = if is_found numbers q then value else get old row q

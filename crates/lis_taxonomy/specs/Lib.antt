@@ -1,3 +1,4 @@
 pub mod Taxonomy
+pub mod Search
 pub mod Inside
 pub mod Steps

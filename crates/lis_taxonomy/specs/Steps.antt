@@ -1,38 +1,29 @@
--- How far the loops over rows have come. No public clause cites this module.
-use Rattle.std.specs.Prelude.{◌≡◌, ◌≢◌, ℕ, ◌<◌, ◌≤◌, true, false, ◌||◌, ◌&&◌, ◌==◌, ◌↔◌, ◌⊎◌}
-use Rattle.lis_bits.specs.Rows.{HasShape, Rows, get}
-use Rattle.lis_taxonomy.specs.Inside.{IsPartlyRight}
+-- How far the loops of a search have come. No public clause cites this module.
+use Rattle.std.specs.Prelude.{◌≡◌, ◌≢◌, ℕ, ◌<◌, ◌≤◌, ◌⊎◌, false, IsTrue, List, ◌∷◌, [], length, slice_index}
+use Rattle.lis_bits.specs.Rows.{Rows, get}
+use Rattle.lis_graph.specs.Graph as graph
+use Rattle.lis_taxonomy.specs.Search.{is_found}
+use Rattle.lis_taxonomy.specs.Taxonomy.{no_links}
+use Rattle.lis_taxonomy.specs.Inside.{edge_at}
 
--- the words below `word` are in their own rows, which hold no other word
-pub record ReachThemselves (reached : Rows) (props word : ℕ) : Type 0 where
-  pub shape : HasShape reached props props
-  pub done : (p q : ℕ) → p < word → p < props → q < props → get reached p q ≡ (p == q)
-  pub left : (p q : ℕ) → word ≤ p → get reached p q ≡ false
+-- the edges before `place` that lead from the number are done
+pub record MeetsTo (edges : List (ℕ × ℕ)) (old now : List ℕ) (number place : ℕ) : Type 0 where
+  pub longer : length old ≤ length now
+  pub kept : (k : ℕ) → k < length old → slice_index now k ≡ slice_index old k
+  pub all : (k : ℕ) → k < place → k < length edges → (edge_at edges k).0 ≡ number → IsTrue (is_found now (edge_at edges k).1)
+  pub only : (q : ℕ) → IsTrue (is_found now q)
+      → IsTrue (is_found old q) ⊎ ((k : ℕ) × (k < length edges) × (edge_at edges k ≡ (number, q)))
+  pub from_there : (k : ℕ) → place ≤ k → k < length edges → number ≤ (edge_at edges k).0
 
--- the rows of the words below `word` are widened
-pub record WidensTo (old now : Rows) (props left right word : ℕ) : Type 0 where
-  pub shape : HasShape now props props
-  pub done : (p q : ℕ) → p < word → p < props → q < props → get now p q ≡ (get old p q || (get old p left && get old right q))
-  pub rest : (p q : ℕ) → word ≤ p → get now p q ≡ get old p q
+-- the starts are found, chains of edges lead from them to all that is found, and where the first `done` of the numbers lead is found
+pub record SearchesTo (edges : List (ℕ × ℕ)) (starts now : List ℕ) (done : ℕ) : Type 0 where
+  pub within : done ≤ length now
+  pub start : (p : ℕ) → IsTrue (is_found starts p) → IsTrue (is_found now p)
+  pub entailed : (q : ℕ) → IsTrue (is_found now q) → (p : ℕ) × IsTrue (is_found starts p) × graph.Entails no_links edges p q
+  pub closed : (i k : ℕ) → i < done → k < length edges → (edge_at edges k).0 ≡ slice_index now i
+      → IsTrue (is_found now (edge_at edges k).1)
 
--- the row of the word has the rows of those below `start` that it is linked to
-pub record GathersTo (linked old now : Rows) (props word start : ℕ) : Type 0 where
-  pub shape : HasShape now props props
-  pub row : (q : ℕ) → q < props → (get now word q ≡ true) ↔ ((word ≡ q) ⊎ ((next : ℕ) × (next < start) × (next < props) × (get linked word next ≡ true) × (get old next q ≡ true)))
-  pub others : (p q : ℕ) → p ≢ word → get now p q ≡ get old p q
-
--- those below `start` that the word is linked to are made anew, and none became stale
-pub record RemakesTo (linked old_stale reached stale : Rows) (props word start : ℕ) : Type 0 where
-  pub partly : IsPartlyRight linked reached stale props
-  pub made : (next : ℕ) → next < start → next < props → get linked word next ≡ true → get stale 0 next ≡ false
-  pub fewer : (p : ℕ) → p < props → get old_stale 0 p ≡ false → get stale 0 p ≡ false
-
--- no word below `word` is stale
-pub record RemakesAllTo (linked reached stale : Rows) (props word : ℕ) : Type 0 where
-  pub partly : IsPartlyRight linked reached stale props
-  pub made : (p : ℕ) → p < word → p < props → get stale 0 p ≡ false
-
--- the words below `word` are marked
-pub record MarksTo (reached stale : Rows) (left word : ℕ) : Type 0 where
-  pub shape : HasShape stale 1 reached.bits
-  pub marks : (p : ℕ) → p < word → get stale 0 p ≡ get reached p left
+-- and none of these but the start has its bit in the first row
+pub record LeadsTo (edges : List (ℕ × ℕ)) (marks : Rows) (number : ℕ) (now : List ℕ) (done : ℕ) : Type 0 where
+  pub searches : SearchesTo edges (number ∷ []) now done
+  pub unmarked : (k : ℕ) → k < done → slice_index now k ≢ number → get marks 0 (slice_index now k) ≡ false

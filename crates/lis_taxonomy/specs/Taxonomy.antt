@@ -1,9 +1,11 @@
 -- What a contract sees of a `Taxonomy`.
-use Rattle.std.specs.Prelude.{ℕ, Bool, nat_eq, List, [], refl}
+use Rattle.std.specs.Prelude.{◌≢◌, ℕ, ◌<◌, ◌*◌, Bool, IsTrue, nat_eq, List, [], refl}
+use Rattle.std.specs.List.{list_any}
 use Rattle.std.specs.declared.cmp.Ordering.{Ordering}
 use Rattle.std.specs.Ordering.{nat_cmp, ordering_then}
 use Rattle.std.specs.FinSet as set
 use Rattle.std.specs.Coded.{Coded, code_by, coded×, coded_ℕ}
+use Rattle.lis_bits.specs.Rows.{Rows, get}
 use Rattle.lis_graph.specs.Graph as graph
 
 -- edges in the order of their left sides, and then of their right sides
@@ -28,6 +30,13 @@ no_links p = []
 abbrev pub has_edge : Taxonomy → ℕ → ℕ → Bool
 has_edge t p q = set.contains t.edges (p, q)
 
+abbrev pub edge_count : Taxonomy → ℕ
+edge_count t = set.len t.edges
+
+-- how many edges there is memory for
+abbrev pub edge_room : ℕ → ℕ
+edge_room props = 3 * props
+
 -- a chain of edges leads from p to q; it may be empty
 abbrev pub Entails : Taxonomy → ℕ → ℕ → Type 0
 Entails t p q = graph.Entails no_links (set.items t.edges) p q
@@ -39,6 +48,14 @@ IsAcyclic t = graph.Acyclic no_links (set.items t.edges)
 -- the test of `Entails`
 unfoldable pub entails : Taxonomy → ℕ → ℕ → Bool
 entails t p q = graph.has nat_eq (graph.up nat_eq nat_cmp no_links (set.items t.edges) p) q
+
+-- one of these numbers entails q
+abbrev pub any_entails : Taxonomy → List ℕ → ℕ → Bool
+any_entails t numbers q = list_any (λ p. entails t p q) numbers
+
+-- some other number that this one entails has its bit in the first row
+abbrev pub LeadsToMarked : Taxonomy → ℕ → Rows → Type 0
+LeadsToMarked t p marks = (q : ℕ) × (q < t.props) × (q ≢ p) × Entails t p q × IsTrue (get marks 0 q)
 
 abbrev pub empty_taxonomy : ℕ → Taxonomy
 empty_taxonomy props = record { props = props; edges = set.empty }

@@ -1,7 +1,9 @@
 //! A taxonomy: edges between numbers, without a circle, and for each number all that it entails.
 #![tactic(auto)]
 
-mod tables;
+mod edges;
+mod search;
 mod taxonomy;
 
+pub use search::Search;
 pub use taxonomy::{EdgeFault, Taxonomy};

@@ -1,8 +1,10 @@
-ghost use Rattle.std.specs.Prelude.{◌≡◌, ◌≢◌, ℕ, ◌%◌, ◌<◌, ◌≤◌, ◌↔◌, false, length, IfOk, OnOk, OnErr, IsTrue, Err};
-ghost use Rattle.lis_bits.specs.Rows.{HasShape, get, with_row};
+ghost use Rattle.std.specs.Prelude.{◌≡◌, ◌≢◌, ℕ, ◌+◌, ◌<◌, ◌≤◌, ◌↔◌, ◌∷◌, [], All, false, length, if◌then◌else◌, count_by, IfOk, OnOk, OnErr, IsTrue, Err};
+ghost use Rattle.std.specs.List.{range_with_len};
+ghost use Rattle.lis_bits.specs.Rows.{SetsBits, get};
 
-use crate::tables;
-use lis_bits::{Rows, copy_row};
+use crate::edges::find;
+use crate::search::Search;
+use lis_bits::Rows;
 use lis_limits::MAX_PROPS;
 use std::alloc::{AllocError, Global};
 use std::marker::Model;
@@ -18,20 +20,21 @@ pub enum EdgeFault {
     Absent,
 }
 
-/// Edges between numbers, which never form a circle, and for each number all that chains of them lead to. All
-/// memory is taken by `new`.
+// For each number an edge to its head or to the next weaker test, an axiom, and one that a change needs on its way.
+const EDGES_PER_PROP: u32 = 3;
+
+/// Edges between numbers, which never form a circle. All memory is taken by `new`.
 #[derive(Drop)]
 pub struct Taxonomy {
     props: u32,
-    // Row p has bit q where there is an edge from p to q.
-    linked: Rows,
-    // Row p has bit q where p is q, or a chain of edges leads from p to q.
-    reached: Rows,
-    // One row, of the words whose rows in `reached` are to be made anew.
-    stale: Rows,
+    // In the order of their left sides, and then of their right sides.
+    edges: Vec<(u32, u32)>,
+    // For the test of a new edge.
+    search: Search,
 }
 
 impl Model for Taxonomy {
+    ghost use Rattle.std.specs.Prelude.{vec_capacity};
     ghost use Rattle.lis_taxonomy.specs.Taxonomy.{Taxonomy as Edges, taxonomy_code};
 
     ghost Value = { Edges };
@@ -40,36 +43,42 @@ impl Model for Taxonomy {
 
     ghost use Rattle.lis_taxonomy.specs.Inside.{seen, IsSoundTaxonomy};
 
-    ghost view = { λ t. seen t.linked t.props };
+    ghost view = { λ t. seen t.edges.items t.props };
 
-    ghost invariant = { λ t. IsSoundTaxonomy t.linked t.reached t.stale t.props };
+    ghost invariant = { λ t. IsSoundTaxonomy t.edges.items t.props (vec_capacity t.edges) };
 }
 
 impl Taxonomy {
-    ghost use Rattle.lis_taxonomy.specs.Taxonomy.{has_edge, Entails, IsAcyclic, entails, empty_taxonomy, with_edge, without_edge};
+    ghost use Rattle.lis_taxonomy.specs.Search.{is_found};
+    ghost use Rattle.lis_taxonomy.specs.Taxonomy.{has_edge, edge_count, edge_room, Entails, IsAcyclic, LeadsToMarked, entails, any_entails, empty_taxonomy, with_edge, without_edge};
 
     /// A taxonomy of so many numbers, with no edge.
     pub fn new(alloc: Global, props: u32) -> Result<Taxonomy, AllocError>
-        requires whole_words { props % 64 ≡ 0 }
-        requires few { props ≤ MAX_PROPS }
+        requires { props ≤ MAX_PROPS }
         ensures { IfOk result (λ made. made ≡ empty_taxonomy props) }
     {
-        let linked = Rows::new(alloc, props, props)?;
-        let mut reached = Rows::new(alloc, props, props)?;
-        let stale = Rows::new(alloc, 1, props)?;
-        tables::reach_themselves(&mut reached, props);
         Ok(Taxonomy {
             props,
-            linked,
-            reached,
-            stale,
+            edges: Vec::with_capacity(alloc, (EDGES_PER_PROP * props) as usize)?,
+            search: Search::new(alloc)?,
         })
+    }
+
+    /// How many numbers there are. The contract also tells what each taxonomy keeps.
+    pub fn props(&self) -> u32
+        ensures value { result ≡ self.now.props }
+        ensures acyclic { IsAcyclic self.now }
+        ensures in_range { (p q : ℕ) → IsTrue (has_edge self.now p q) → (p < self.now.props) × (q < self.now.props) }
+        ensures few { self.now.props ≤ MAX_PROPS }
+    {
+        self.props
     }
 
     /// Adds the edge from p to q. `Cycle` comes also where p is q.
     pub fn add(&mut self, p: u32, q: u32) -> Result<(), EdgeFault>
         requires p { p < self.old.props }
         requires q { q < self.old.props }
+        requires room { edge_count self.old < edge_room self.old.props }
         ensures present { (result ≡ Err EdgeFault.Present) ↔ IsTrue (has_edge self.old p q) }
         ensures cycle { (result ≡ Err EdgeFault.Cycle) ↔ Entails self.old q p }
         ensures not_absent { result ≢ Err EdgeFault.Absent }
@@ -77,17 +86,16 @@ impl Taxonomy {
         ensures err { OnErr result (self.new ≡ self.old) }
         ensures acyclic { IsAcyclic self.new }
     {
-        if self.linked.get(p, q) {
+        let Err(place) = find(&self.edges, p, q) else {
             return Err(EdgeFault::Present);
-        }
-        if self.reached.get(q, p) {
+        };
+        self.search.run(&self.edges, q);
+        if self.search.has(p) {
             return Err(EdgeFault::Cycle);
         }
-        self.linked.put(p, q, true);
-        // Where p entails q already, no row changes.
-        if !self.reached.get(p, q) {
-            tables::widen(&mut self.reached, self.props, p, q);
-        }
+        let Ok(()) = self.edges.insert(place, (p, q)) else {
+            unreachable!()
+        };
         Ok(())
     }
 
@@ -101,12 +109,10 @@ impl Taxonomy {
         ensures err { OnErr result (self.new ≡ self.old) }
         ensures acyclic { IsAcyclic self.new }
     {
-        if !self.linked.get(p, q) {
+        let Ok(place) = find(&self.edges, p, q) else {
             return Err(EdgeFault::Absent);
-        }
-        tables::mark(&self.reached, &mut self.stale, self.props, p);
-        self.linked.put(p, q, false);
-        tables::remake_all(&self.linked, &mut self.reached, &mut self.stale, self.props);
+        };
+        self.edges.remove(place);
         Ok(())
     }
 
@@ -116,39 +122,52 @@ impl Taxonomy {
         requires q { q < self.now.props }
         ensures { result ≡ has_edge self.now p q }
     {
-        self.linked.get(p, q)
+        find(&self.edges, p, q).is_ok()
+    }
+
+    /// Finds all that these numbers entail, themselves included.
+    pub fn find_all(&self, numbers: &[u16], search: &mut Search)
+        requires { All (λ p. p < self.now.props) numbers.now }
+        ensures found { (q : ℕ) → is_found search.new q ≡ any_entails self.now numbers.now q }
+        ensures below { (q : ℕ) → IsTrue (is_found search.new q) → q < self.now.props }
+        ensures count { length search.new ≡ count_by (any_entails self.now numbers.now) (range_with_len 0 self.now.props) }
+    {
+        let edges = &self.edges;
+        search.clear();
+        for number in numbers {
+            search.meet(u32::from(*number));
+        }
+        search.close(edges);
     }
 
     /// Whether a chain of edges leads from p to q, as it does where p is q.
-    pub fn entails(&self, p: u32, q: u32) -> bool
+    pub fn entails(&self, p: u32, q: u32, search: &mut Search) -> bool
         requires p { p < self.now.props }
         requires q { q < self.now.props }
         ensures { IsTrue result ↔ Entails self.now p q }
     {
-        self.reached.get(p, q)
+        search.run(&self.edges, p);
+        search.has(q)
     }
 
-    /// Writes all that p entails into a row.
-    pub fn ups(&self, p: u32, to: &mut Rows, row: u32)
+    /// Whether a chain of edges leads from a number to another one whose bit is true in the first row of these.
+    pub fn leads_to_marked(&self, number: u32, marks: &Rows, search: &mut Search) -> bool
+        requires number { number < self.now.props }
+        requires marks { 0 < length marks.now.rows }
+        requires bits { marks.now.bits ≡ self.now.props }
+        ensures { IsTrue result ↔ LeadsToMarked self.now number marks.now }
+    {
+        search.leads(&self.edges, number, marks)
+    }
+
+    /// Sets the bits of all that p entails in a row, to true or to false.
+    pub fn put_ups(&self, p: u32, to: &mut Rows, row: u32, value: bool, search: &mut Search)
         requires p { p < self.now.props }
         requires bits { to.old.bits ≡ self.now.props }
         requires row { row < length to.old.rows }
-        ensures bits { (q : ℕ) → q < self.now.props → (IsTrue (get to.new row q) ↔ Entails self.now p q) }
-        ensures row { to.new ≡ with_row to.old row (entails self.now p) }
+        ensures { SetsBits to.old to.new (length to.old.rows) self.now.props row (λ q. if entails self.now p q then value else get to.old row q) }
     {
-        copy_row(&self.reached, p, to, row);
-    }
-
-    /// The rows of entailment: row p has bit q where a chain of edges leads from p to q, as it does where p is q. The
-    /// contract also tells what each taxonomy keeps.
-    pub fn rows(&self) -> &Rows
-        ensures shape { HasShape result.now self.now.props self.now.props }
-        ensures values { (p q : ℕ) → p < self.now.props → q < self.now.props
-            → get result.now p q ≡ entails self.now p q }
-        ensures acyclic { IsAcyclic self.now }
-        ensures in_range { (p q : ℕ) → IsTrue (has_edge self.now p q) → (p < self.now.props) × (q < self.now.props) }
-        ensures few { self.now.props ≤ MAX_PROPS }
-    {
-        &self.reached
+        search.run(&self.edges, p);
+        search.put(to, row, value);
     }
 }

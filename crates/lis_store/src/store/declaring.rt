@@ -13,6 +13,7 @@ use crate::store::Store;
 use crate::testing::declare_tested;
 use lis_place::Place;
 use lis_ports::Disk;
+use lis_taxonomy::Search;
 use lis_words::Word;
 
 impl Store {
@@ -22,6 +23,7 @@ impl Store {
         disk: &mut D,
         place: &Place,
         word: &Word,
+        search: &mut Search,
     ) -> Result<(), ChangeFault>
         requires usable { IsUsable self.old (D.meaning disk.old) }
         ensures holds { (base : State) (s : State) → StoreHolds self.old (D.meaning disk.old) base s
@@ -29,8 +31,8 @@ impl Store {
             self.new (D.meaning disk.old) (D.meaning disk.new) result }
         ensures ends { Ends (disk.new ≡ disk.old) self.old self.new (D.meaning disk.old) (D.meaning disk.new) result }
     {
-        let places = may_declare(&self.memory.metadata, place, word)?;
-        declare_tested(&mut self.memory.metadata, word, places.as_slice());
+        let places = may_declare(&self.memory.metadata, place, word, search)?;
+        declare_tested(&mut self.memory.metadata, word, places.as_slice(), search);
         self.memory.hold(disk, MOST_HELD)
     }
 }

@@ -12,6 +12,7 @@ use crate::relating_in::relate;
 use crate::saving::MOST_HELD;
 use crate::store::Store;
 use lis_ports::Disk;
+use lis_taxonomy::Search;
 use lis_words::Word;
 
 impl Store {
@@ -21,14 +22,15 @@ impl Store {
         disk: &mut D,
         left: &Word,
         right: &Word,
+        search: &mut Search,
     ) -> Result<(), ChangeFault>
         requires usable { IsUsable self.old (D.meaning disk.old) }
         ensures holds { (base : State) (now : Situation) → StoreHolds self.old (D.meaning disk.old) base now.state
             → Holds base now (add_axiom now (left.now, right.now)) self.new (D.meaning disk.old) (D.meaning disk.new) result }
         ensures ends { Ends (disk.new ≡ disk.old) self.old self.new (D.meaning disk.old) (D.meaning disk.new) result }
     {
-        may_relate(&self.memory.metadata, left, right)?;
-        relate(&mut self.memory.metadata, left, right);
+        may_relate(&self.memory.metadata, left, right, search)?;
+        relate(&mut self.memory.metadata, left, right, search);
         self.memory.hold(disk, MOST_HELD)
     }
 }

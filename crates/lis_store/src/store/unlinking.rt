@@ -13,6 +13,7 @@ use crate::saving::MOST_HELD;
 use crate::store::Store;
 use lis_model::refusal::Refusal;
 use lis_ports::Disk;
+use lis_taxonomy::Search;
 use lis_words::Word;
 
 impl Store {
@@ -22,6 +23,7 @@ impl Store {
         disk: &mut D,
         left: &Word,
         right: &Word,
+        search: &mut Search,
     ) -> Result<(), ChangeFault>
         requires usable { IsUsable self.old (D.meaning disk.old) }
         ensures holds { (base : State) (now : Situation) → StoreHolds self.old (D.meaning disk.old) base now.state
@@ -31,7 +33,7 @@ impl Store {
         let Some((from, to)) = axiom_numbers(&self.memory.metadata, left, right) else {
             return Err(ChangeFault::Refused(Refusal::NoAxiom));
         };
-        take_axiom(&mut self.memory.metadata, from, to);
+        take_axiom(&mut self.memory.metadata, from, to, search);
         self.memory.hold(disk, MOST_HELD)
     }
 }

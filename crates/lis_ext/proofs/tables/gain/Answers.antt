@@ -32,16 +32,14 @@ loop-number-preserved c =
     elim c.if-not-is_among.branch [
       | then-not-is_among w ↦
           let more = more_alone numbers others k c.requires.rise lt (sym c.is_among.ensures ∙ w.if-not-is_among.true) in
-          rw (w.counts-is, w.marks-is, w.gained-is, w.put.ensures, w.from.ensures) (record {
+          rw (w.counts-is, w.marks-is, w.put.ensures, w.from.ensures) (record {
             counts = counts_up (has_alone (take k numbers) others) (has_alone (take (k + 1) numbers) others) q props q_in more a.counts.now l.counts l.invariant.counts (omega (arith, l.auto.counts));
-            marks = touch_more (has_alone (take k numbers) others) (has_alone (take (k + 1) numbers) others) q props q_in more a.marks.now l.marks l.gained l.invariant.marks;
-            few = omega arith;
+            marks = touch_more (has_alone (take k numbers) others) (has_alone (take (k + 1) numbers) others) q props q_in more a.marks.now l.marks l.invariant.marks;
           })
       | else-not-is_among w ↦
           let same = same_alone numbers others k lt (sym c.is_among.ensures ∙ w.if-not-is_among.false) in
-          rw (w.counts-is, w.marks-is, w.gained-is) (record {
+          rw (w.counts-is, w.marks-is) (record {
             counts = counts_same (has_alone (take k numbers) others) (has_alone (take (k + 1) numbers) others) props same a.counts.now l.counts l.invariant.counts;
-            marks = touch_same (has_alone (take k numbers) others) (has_alone (take (k + 1) numbers) others) props same a.marks.now l.marks l.gained l.invariant.marks;
-            few = omega arith;
+            marks = touch_same (has_alone (take k numbers) others) (has_alone (take (k + 1) numbers) others) props same a.marks.now l.marks l.invariant.marks;
           })
     ]

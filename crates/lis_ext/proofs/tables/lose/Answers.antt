@@ -34,16 +34,14 @@ loop-number-preserved c =
           let more = more_alone numbers others k c.requires.rise lt (sym c.is_among.ensures ∙ w.if-not-is_among.true) in
           let same = same_before (has_alone (take k numbers) others) (has_alone (take (k + 1) numbers) others) q props q_in more l.counts c.args.counts.now l.invariant.counts in
           let fit = c.requires.counted q (has_it numbers k lt) in
-          rw (w.counts-is, w.marks-is, w.lost-is, w.put.ensures, w.from.ensures) (record {
+          rw (w.counts-is, w.marks-is, w.put.ensures, w.from.ensures) (record {
             counts = counts_down (has_alone (take k numbers) others) (has_alone (take (k + 1) numbers) others) q props q_in more l.counts a.counts.now l.invariant.counts (omega (arith, l.auto.counts)) (omega (arith, same, fit));
-            marks = touch_more (has_alone (take k numbers) others) (has_alone (take (k + 1) numbers) others) q props q_in more a.marks.now l.marks l.lost l.invariant.marks;
-            few = omega arith;
+            marks = touch_more (has_alone (take k numbers) others) (has_alone (take (k + 1) numbers) others) q props q_in more a.marks.now l.marks l.invariant.marks;
           })
       | else-not-is_among w ↦
           let same = same_alone numbers others k lt (sym c.is_among.ensures ∙ w.if-not-is_among.false) in
-          rw (w.counts-is, w.marks-is, w.lost-is) (record {
+          rw (w.counts-is, w.marks-is) (record {
             counts = counts_same (has_alone (take k numbers) others) (has_alone (take (k + 1) numbers) others) props same l.counts a.counts.now l.invariant.counts;
-            marks = touch_same (has_alone (take k numbers) others) (has_alone (take (k + 1) numbers) others) props same a.marks.now l.marks l.lost l.invariant.marks;
-            few = omega arith;
+            marks = touch_same (has_alone (take k numbers) others) (has_alone (take (k + 1) numbers) others) props same a.marks.now l.marks l.invariant.marks;
           })
     ]

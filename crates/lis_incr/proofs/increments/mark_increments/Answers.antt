@@ -4,14 +4,13 @@ use Rattle.std.proofs.lemmas.List.{take_all}
 use Rattle.lis_eval.specs.View.{table_of}
 use Rattle.lis_eval.proofs.Members.{contains_at, all_taken}
 use Rattle.lis_incr.specs.Marked.{is_top}
-use Rattle.lis_incr.proofs.Marked.{marked_none, marked_more, marked_all, marks_same, same_again, still_same}
+use Rattle.lis_incr.proofs.Marked.{marked_none, marked_more, marked_all}
 use Rattle.lis_incr.proofs.increments.mark_increments.Goals as goal
 
 pub loop-k-init : goal.loop-k-init
 loop-k-init g c =
     let v = g.V.View.seen c.args.view.now in
     rw c.fill.ensures (record {
-      same = still_same c.args.candidates.now v.limits.props c.requires.candidates;
       shape = (marked_none v (λ _. true) c.args.increments.now c.requires.increments).shape;
       marked = λ test are. marked_none v (is_top (table_of v) test) c.args.increments.now c.requires.increments;
     })
@@ -39,10 +38,9 @@ loop-k-preserved g c =
     let there = contains_at v.words c.loop-k.k w at in
     let same : w.1 ≡ c.from.result = sym c.from.ensures in
     record {
-      same = same_again c.args.candidates.now c.loop-k.candidates c.mark_increment.new.candidates v.limits.props c.loop-k.invariant.same c.mark_increment.ensures.same;
       shape = c.mark_increment.ensures.shape;
       marked = λ test are. marked_more v (is_top (table_of v) test) c.loop-k.k c.loop-k.increments c.mark_increment.new.increments w (c.loop-k.invariant.marked test are) at
-          (c.mark_increment.ensures.marked test w (marks_same v test c.args.candidates.now c.loop-k.candidates c.loop-k.invariant.same are) there same);
+          (c.mark_increment.ensures.marked test w are there same);
     }
 
 pub returns-clause-marked : goal.returns-clause-marked

@@ -1,5 +1,5 @@
 use Rattle.std.proofs.Common.{◌≡◌, ℕ, List, length, take, sym, ap, ◌∙◌, arith}
-use Rattle.std.proofs.lemmas.List.{length-map, with_items_is}
+use Rattle.std.proofs.lemmas.List.{length-map}
 use Rattle.std.specs.List.{find}
 use Rattle.lis_words.specs.Words.{same_word}
 use Rattle.lis_bits.specs.Rows.{get}
@@ -45,8 +45,7 @@ returns-clause-way g c = λ _.
     let found = c.evaluate.new.scratch.files in
     let inside = sym (c.evaluate.ensures.found.told f.0 f.1) ∙ (ap (get found 0) (f.3 ∙ sym c.from-slot.ensures) ∙ (sym c.get.ensures ∙ c.if-not-get.false)) in
     let most : c.count_found-most.result ≡ length (extension (table_of v) place) = c.count_found-most.ensures.count ∙ (sym (length-map _ (λ (p : Placed). p.entry)) ∙ ap length (found_is v kept found place c.evaluate.ensures.found)) in
-    let written = with_items_is c.evaluate.new.scratch.route c.walk-scratch.new.route (c.walk-scratch.auto.route ∙ c.deref_mut-2.ensures.len) in
-    let steps = ap (λ (places : List ℕ). words_of v (take c.walk-scratch.result places)) written ∙ (c.walk-scratch.ensures.steps f.0 place f.1 (f.3 ∙ sym c.from-slot.ensures) c.evaluate.ensures.found ∙ ap (λ n. route_within n (table_of v) place f.0.entry) most) in
+    let steps = (c.walk-scratch.ensures.steps f.0 place f.1 (f.3 ∙ sym c.from-slot.ensures) c.evaluate.ensures.found ∙ ap (λ n. route_within n (table_of v) place f.0.entry) most) in
     let few = shorter v kept (length (extension (table_of v) place)) place f.0.entry (among_here v kept place c.args.name.now f.0 f.1 f.2 inside) in
     let same = ap length steps in
     record {

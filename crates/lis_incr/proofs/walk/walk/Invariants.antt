@@ -1,7 +1,8 @@
 use Rattle.std.proofs.Common.{◌≡◌, ◌-◌, List, take}
 use Rattle.std.specs.List.{Contains}
 use Rattle.lis_grammar.specs.Formula.{Formula}
-use Rattle.lis_bits.specs.Rows.{HasShape, get}
+use Rattle.lis_bits.specs.Rows.{get}
+use Rattle.lis_eval.specs.Room.{HasRoom}
 use Rattle.lis_model.specs.Listing.{holds_all}
 use Rattle.lis_model.specs.Route.{route_within}
 use Rattle.lis_eval.specs.View.{Placed, TellsTest, table_of}
@@ -11,9 +12,9 @@ use Rattle.lis_incr.proofs.walk.walk.Given as goal
 
 abbrev pub invariant-loop-step : goal.invariant-loop-step
 invariant-loop-step g l = record {
-  finds : Finds (g.V.View.seen l.view) l.found;
-  shape : HasShape l.candidates 1 (g.V.View.seen l.view).limits.props;
-  known : AreKnown (g.V.View.seen l.view) (take l.step l.route);
-  walks : (f : Placed) (place : List Formula) → Contains (g.V.View.seen l.view).files f → f.slot ≡ l.slot → TellsTest (g.V.View.seen l.view) (get l.fn.found 0) (holds_all place)
-      → Walks (g.V.View.seen l.view) l.found (l.most - l.step) (take l.step l.route) place f.entry (route_within l.most (table_of (g.V.View.seen l.view)) place f.entry);
+  finds : Finds (g.V.View.seen l.view) l.scratch.files;
+  room : HasRoom l.scratch (g.V.View.seen l.view).limits;
+  known : AreKnown (g.V.View.seen l.view) (take l.step l.scratch.route.items);
+  walks : (f : Placed) (place : List Formula) → Contains (g.V.View.seen l.view).files f → f.slot ≡ l.slot → TellsTest (g.V.View.seen l.view) (get l.fn.scratch.files 0) (holds_all place)
+      → Walks (g.V.View.seen l.view) l.scratch.files (l.most - l.step) (take l.step l.scratch.route.items) place f.entry (route_within l.most (table_of (g.V.View.seen l.view)) place f.entry);
 }

@@ -1,7 +1,10 @@
 use Rattle.lis_kept.proofs.Common.{◌≡◌, true}
 use Rattle.lis_kept.specs.TestEdges.{is_test_link, LinksPair}
-use Rattle.lis_kept.proofs.TestChains.{pair_linked, linked_ordered}
+use Rattle.lis_kept.proofs.TestChains.{one_more, pair_linked, linked_ordered}
 use Rattle.lis_kept.proofs.test_edges.link_pair.Goals as goal
+
+pub returns-clause-few : goal.returns-clause-few
+returns-clause-few c = one_more c.args.taxonomy.now c.add.new.self c.in-Some.from c.in-Some-to.to c.add.result c.add.ensures.ok c.add.ensures.err
 
 pub returns-clause-linked : goal.returns-clause-linked
 returns-clause-linked c =

@@ -1,5 +1,8 @@
-use Rattle.lis_kept.proofs.TestChains.{pair_unlinked, unlinked_ordered}
+use Rattle.lis_kept.proofs.TestChains.{no_more, pair_unlinked, unlinked_ordered}
 use Rattle.lis_kept.proofs.test_edges.unlink_pair.Goals as goal
+
+pub returns-clause-few : goal.returns-clause-few
+returns-clause-few c = no_more c.args.taxonomy.now c.remove.new.self c.in-Some.from c.in-Some-to.to c.remove.result c.remove.ensures.ok c.remove.ensures.err
 
 pub returns-clause-unlinked : goal.returns-clause-unlinked
 returns-clause-unlinked c =

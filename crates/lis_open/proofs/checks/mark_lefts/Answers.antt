@@ -6,7 +6,7 @@ pub loop-slot-init : goal.loop-slot-init
 loop-slot-init c =
     let props = c.args.words.now.dict.props in
     record {
-      shape = shaped c.args.row.now 2 props 0 _ c.fill.new.self c.requires.shape c.fill.ensures;
+      shape = shaped c.args.row.now 1 props 0 _ c.fill.new.self c.requires.shape c.fill.ensures;
       bits = λ n below. no_bit_set c.args.row.now c.fill.new.self props n c.requires.shape c.fill.ensures below;
     }
 

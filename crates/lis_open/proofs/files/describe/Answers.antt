@@ -10,7 +10,7 @@ use Rattle.lis_open.proofs.files.describe.Goals as goal
 pub gather-requires-clause-shape : goal.gather-requires-clause-shape
 gather-requires-clause-shape c =
     let props = c.args.taxonomy.now.props in
-    subst (λ row. HasShape row 2 props) (sym c.fill.ensures) (shaped c.args.row.now 2 props 0 _ c.requires.shape)
+    subst (λ row. HasShape row 1 props) (sym c.fill.ensures) (shaped c.args.gathering.now.row 1 props 0 _ c.requires.shape)
 
 pub gather-requires-clause-below : goal.gather-requires-clause-below
 gather-requires-clause-below c =
@@ -38,11 +38,11 @@ returns-clause-described c =
     let bytes = c.args.bytes.now in
     let size : ℕ = length bytes in
     let found : List (List ℕ) = derived ++ met_tests (declared_words words) size in
-    let given = subst (λ ns. Gathered t c.fill.new.self c.gather.new.row ns) (c.as_slice.ensures.value ∙ ap (λ (r : FileRecord). r.tags) c.rec.view_is) c.gather.ensures in
+    let given = subst (λ ns. Gathered t c.fill.new.self c.gather.new.gathering.row ns) (c.as_slice.ensures.value ∙ ap (λ (r : FileRecord). r.tags) c.rec.view_is) c.gather.ensures in
     let more = OnTrue_at c.if-not-gather_derived.false c.gather_derived.ensures.gathered in
-    let all = found_gathered words dict size t rec.tags derived c.fill.new.self c.gather.new.row c.gather_derived.new.row c.gather_met.new.row given more c.gather_met.ensures in
+    let all = found_gathered words dict size t rec.tags derived c.fill.new.self c.gather.new.gathering.row c.gather_derived.new.gathering.row c.gather_met.new.gathering.row given more c.gather_met.ensures in
     subst (λ ws. AreDescribed words t rec (ws ++ met_tests (declared_words words) size) (option_map (λ listed. listed.items) c.list_numbers.result))
     (c.derive_words-derived.ensures ∙ ap (λ (r : FileRecord). derived_words r.name bytes) c.rec.view_is)
     (listed_described words t rec found _ (found_numbered words dict size derived ∙ (sym c.gather_derived.ensures.all ∙ c.if-not-gather_derived.false))
-    (listed_are t (own_numbers words.dict rec.tags found) c.gather_met.new.row _ all.shape
-    (gathered_all t c.args.row.now c.fill.new.self c.gather_met.new.row (own_numbers words.dict rec.tags found) c.requires.shape c.fill.ensures all) c.list_numbers.ensures))
+    (listed_are t (own_numbers words.dict rec.tags found) c.gather_met.new.gathering.row _ all.shape
+    (gathered_all t c.args.gathering.now.row c.fill.new.self c.gather_met.new.gathering.row (own_numbers words.dict rec.tags found) c.requires.shape c.fill.ensures all) c.list_numbers.ensures))

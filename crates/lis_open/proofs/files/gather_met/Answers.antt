@@ -1,6 +1,7 @@
 use Rattle.lis_open.proofs.Common.{◌≡◌, ◌∙◌, ◌+◌, Some, sym, ap, subst, arith, slice_get, with_row, number_below, among_place, entails}
 use Rattle.lis_dict.proofs.Laws.{number_from_among}
 use Rattle.lis_eval.proofs.Members.{past_end}
+use Rattle.lis_open.specs.declared.files.Gathering.{Gathering}
 use Rattle.lis_open.proofs.Gathering.{MetSoFar, met_none, met_not, met_more, met_all}
 use Rattle.lis_open.proofs.files.gather_met.Goals.{then-is_met_word, else-is_met_word}
 use Rattle.lis_open.proofs.files.gather_met.Goals as goal
@@ -8,7 +9,7 @@ use Rattle.lis_open.proofs.files.gather_met.Goals as goal
 pub loop-k-init : goal.loop-k-init
 loop-k-init c =
     let tests = c.tests-start.ensures in
-    met_none c.args.words.now c.args.taxonomy.now c.args.size c.args.row.now c.tests-start.result.0 c.requires.shape (omega (arith, tests.rise, tests.within)) tests.before
+    met_none c.args.words.now c.args.taxonomy.now c.args.size c.args.gathering.now.row c.tests-start.result.0 c.requires.shape (omega (arith, tests.rise, tests.within)) tests.before
 
 pub unreachable-requires : goal.unreachable-requires
 unreachable-requires c =
@@ -20,28 +21,27 @@ is_met_word-requires-clause-number c =
     let dict = c.args.words.now.dict in
     number_from_among dict c.requires.are.dict c.in-Some.word c.in-Some.number (among_place dict.entries c.loop-k.k (c.in-Some.word, c.in-Some.number) (sym c.word_at.ensures ∙ c.in-Some.is))
 
-pub ups-requires-clause-p : goal.ups-requires-clause-p
-ups-requires-clause-p c =
+pub gather_one-requires-clause-below : goal.gather_one-requires-clause-below
+gather_one-requires-clause-below c =
     let dict = c.args.words.now.dict in
     let named = number_from_among dict c.requires.are.dict c.in-Some.word c.in-Some.number (among_place dict.entries c.loop-k.k (c.in-Some.word, c.in-Some.number) (sym c.word_at.ensures ∙ c.in-Some.is)) in
-    omega (arith, number_below dict c.requires.are.dict c.in-Some.word c.in-Some.number named, c.requires.props, c.from.ensures)
+    omega (arith, number_below dict c.requires.are.dict c.in-Some.word c.in-Some.number named, c.requires.props)
 
 pub loop-k-preserved : goal.loop-k-preserved
 loop-k-preserved c =
     let l = c.loop-k in
     let words = c.args.words.now in
     let t = c.args.taxonomy.now in
-    let old = c.args.row.now in
+    let old = c.args.gathering.now.row in
     let here : slice_get words.dict.entries l.k ≡ Some (c.in-Some.word, c.in-Some.number) = sym c.word_at.ensures ∙ c.in-Some.is in
     let named = number_from_among words.dict c.requires.are.dict c.in-Some.word c.in-Some.number (among_place words.dict.entries l.k (c.in-Some.word, c.in-Some.number) here) in
     elim c.if-is_met_word.branch [
       | then-is_met_word w ↦
-          subst (λ row. MetSoFar words t c.args.size old row (l.k + 1)) (sym w.row-is)
-          (met_more words t c.args.size old l.k c.in-Some.word c.in-Some.number here l.row l.invariant w.ups.new.to w.or.new.self named (sym c.is_met_word.ensures ∙ w.if-is_met_word.true)
-          (w.ups.ensures.row ∙ ap (λ n. with_row l.row 1 (entails t n)) w.from.ensures) w.or.ensures)
+          subst (λ (g : Gathering). MetSoFar words t c.args.size old g.row (l.k + 1)) (sym w.gathering-is)
+          (met_more words t c.args.size old l.k c.in-Some.word c.in-Some.number here l.gathering.row l.invariant w.gather_one.new.gathering.row named (sym c.is_met_word.ensures ∙ w.if-is_met_word.true) w.gather_one.ensures)
       | else-is_met_word w ↦
-          subst (λ row. MetSoFar words t c.args.size old row (l.k + 1)) (sym w.row-is)
-          (met_not words t c.args.size old l.k c.in-Some.word c.in-Some.number here l.row l.invariant (sym c.is_met_word.ensures ∙ w.if-is_met_word.false))
+          subst (λ (g : Gathering). MetSoFar words t c.args.size old g.row (l.k + 1)) (sym w.gathering-is)
+          (met_not words t c.args.size old l.k c.in-Some.word c.in-Some.number here l.gathering.row l.invariant (sym c.is_met_word.ensures ∙ w.if-is_met_word.false))
     ]
 
 pub returns : goal.returns
@@ -49,5 +49,5 @@ returns c =
     let tests = c.tests-start.ensures in
     let words = c.args.words.now in
     let end : c.loop-k.k ≡ c.tests-start.result.1 = omega (arith, c.loop-k-test.false, c.loop-k.auto.k-end, tests.rise) in
-    let was = subst (λ k. MetSoFar words c.args.taxonomy.now c.args.size c.args.row.now c.loop-k.row k) end c.loop-k.invariant in
-    met_all words c.args.taxonomy.now c.args.size c.args.row.now c.loop-k.row c.tests-start.result.1 was tests.within tests.behind
+    let was = subst (λ k. MetSoFar words c.args.taxonomy.now c.args.size c.args.gathering.now.row c.loop-k.gathering.row k) end c.loop-k.invariant in
+    met_all words c.args.taxonomy.now c.args.size c.args.gathering.now.row c.loop-k.gathering.row c.tests-start.result.1 was tests.within tests.behind

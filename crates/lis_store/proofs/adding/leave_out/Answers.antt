@@ -1,4 +1,4 @@
-use Rattle.lis_store.proofs.Common.{◌≡◌, ◌∙◌, ◌+◌, not, ◌&&◌, List, [], ◌∷◌, ◌++◌, take, get_or, is_some, sym, ap, subst, arith, both_ways, take_more, Contains-get_or, Among, among_from_contains, get, with_row, number_below, has_word_from_among}
+use Rattle.lis_store.proofs.Common.{◌≡◌, ◌∙◌, ◌+◌, Some, List, [], ◌∷◌, ◌++◌, take, get_or, is_some, sym, ap, subst, arith, both_ways, take_more, Contains-get_or, Among, among_from_contains, number_below, has_word_from_among}
 use Rattle.lis_store.proofs.Entailed.{LeavesOut, leaves_none, leaves_one}
 use Rattle.lis_store.proofs.adding.leave_out.Goals as goal
 
@@ -14,23 +14,25 @@ unreachable-requires c =
     let some = c.requires.numbered word (has_word_from_among words word (subst P (sym c.word-item.is) there)) in
     both_ways _ (ap is_some (sym c.number_of.ensures ∙ c.in_default.is)) some
 
-pub and_not_row-requires-clause-row : goal.and_not_row-requires-clause-row
-and_not_row-requires-clause-row c =
+pub put_ups-requires-clause-p : goal.put_ups-requires-clause-p
+put_ups-requires-clause-p c =
     let sound = c.requires.sound in
     let below = number_below c.args.metadata.now.dict sound.dict c.word-item.result c.in-Some.number (sym c.number_of.ensures ∙ c.in-Some.is) in
-    omega (arith, below, sound.numbers, c.taxonomy.ensures.props, c.rows-entailed.ensures.shape.tall, c.from.ensures)
+    omega (arith, below, sound.numbers, c.taxonomy-taxonomy.ensures.props, c.from.ensures)
+
+pub put_ups-requires-clause-bits : goal.put_ups-requires-clause-bits
+put_ups-requires-clause-bits c = omega (arith, c.taxonomy-taxonomy.ensures.props, c.loop-word.invariant.shape.wide)
+
+pub put_ups-requires-clause-row : goal.put_ups-requires-clause-row
+put_ups-requires-clause-row c = omega (arith, c.loop-word.invariant.shape.tall)
 
 pub loop-word-preserved : goal.loop-word-preserved
 loop-word-preserved c =
-    let k = c.args.metadata.now in
     let i = c.loop-word.word-index in
     let words = c.args.words.now in
     let word = c.word-item.result in
-    let row = c.loop-word.row in
-    let entailed = c.rows-entailed.result.now in
     let more : take (i + 1) words ≡ take i words ++ word ∷ [] = take_more words i word c.loop-word-test.true ∙ ap (λ w. take i words ++ w ∷ []) (sym c.word-item.is) in
-    let Q : List _ → Type 0 = λ ws. LeavesOut k ws c.args.row.now c.and_not_row.new.to in
+    let Q : List _ → Type 0 = λ ws. LeavesOut c.args.metadata.now ws c.args.row.now c.put_ups.new.to in
     subst Q (sym more)
-    (leaves_one k c.requires.sound c.taxonomy.result.now c.taxonomy.ensures entailed c.rows-entailed.ensures.values (take i words) word c.args.row.now row c.and_not_row.new.to c.in-Some.number
-    c.loop-word.invariant (sym c.number_of.ensures ∙ c.in-Some.is)
-    (c.and_not_row.ensures ∙ ap (λ n. with_row row 0 (λ bit. get row 0 bit && not (get entailed n bit))) c.from.ensures))
+    (leaves_one c.args.metadata.now c.requires.sound c.taxonomy-taxonomy.result.now c.taxonomy-taxonomy.ensures (take i words) word c.args.row.now c.loop-word.row c.put_ups.new.to c.from.result
+    c.loop-word.invariant (sym c.number_of.ensures ∙ (c.in-Some.is ∙ ap Some (sym c.from.ensures))) c.put_ups.ensures)

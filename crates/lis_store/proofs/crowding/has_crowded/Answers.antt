@@ -11,13 +11,13 @@ returns-then-is_crowded c =
     let k = c.args.metadata.now in
     let test = sym c.test_of.ensures ∙ c.in-Some.is in
     let below : c.loop-slot.slot < k.limits.files = omega (arith, c.loop-slot-test.true, ap (λ (l : Limits). l.files) c.limits.ensures.value) in
-    sym (ap (λ t. has_crowded k t c.args.numbers.now) test ∙ full_at (is_crowded k (Some c.in-Some.test) c.args.numbers.now) k.limits.files c.loop-slot.slot below (sym c.is_crowded.ensures ∙ c.if-is_crowded.true))
+    sym (ap (λ t. has_crowded k t c.args.numbers.now) test ∙ full_at (is_crowded k (Some c.in-Some.test) c.args.numbers.now) k.limits.files c.loop-slot.slot below (sym (c.is_crowded.ensures c.args.numbers.now c.find_gained.ensures) ∙ c.if-is_crowded.true))
 
 pub loop-slot-preserved : goal.loop-slot-preserved
 loop-slot-preserved c = λ i lt.
     let k = c.args.metadata.now in
     let n = c.loop-slot.slot in
-    let here = sym c.is_crowded.ensures ∙ c.if-is_crowded.false in
+    let here = sym (c.is_crowded.ensures c.args.numbers.now c.find_gained.ensures) ∙ c.if-is_crowded.false in
     elim (cases_lt i n) [
       | inl less ↦ c.loop-slot.invariant i less
       | inr more ↦

@@ -3,18 +3,23 @@ use Rattle.lis_store.specs.Describing.{Gathers}
 use Rattle.lis_store.proofs.Gathered.{numbered_below, gathers_known, gathers_new, gathers_there}
 use Rattle.lis_store.proofs.describing.gather.Goals as goal
 
-pub and_not_row-requires-clause-row : goal.and_not_row-requires-clause-row
-and_not_row-requires-clause-row c =
+pub put_ups-requires-clause-p : goal.put_ups-requires-clause-p
+put_ups-requires-clause-p c =
     let k = c.args.metadata.now in
     let numbered = sym c.number_of.ensures ∙ c.in-Some.is in
     let inside = numbered_below k c.requires.sound c.args.word.now c.in-Some.number (word_from_number k.dict c.requires.sound.dict c.args.word.now c.in-Some.number numbered) in
-    omega (arith, c.from.ensures, inside, c.rows-entailed.ensures.shape.tall, c.taxonomy.ensures.props)
+    omega (arith, c.from.ensures, inside, c.taxonomy-taxonomy.ensures.props)
+
+pub put_ups-requires-clause-bits : goal.put_ups-requires-clause-bits
+put_ups-requires-clause-bits c = omega (arith, c.taxonomy-taxonomy.ensures.props, c.requires.shape.wide)
+
+pub put_ups-requires-clause-row : goal.put_ups-requires-clause-row
+put_ups-requires-clause-row c = omega (arith, c.requires.shape.tall)
 
 pub returns-in-Some : goal.returns-in-Some
 returns-in-Some c =
-    gathers_known c.args.metadata.now c.args.word.now c.requires.sound c.taxonomy.result.now c.taxonomy.ensures c.from.result
-    (sym c.number_of.ensures ∙ (c.in-Some.is ∙ ap Some (sym c.from.ensures))) c.rows-entailed.result.now c.args.lacked.now c.and_not_row.new.to
-    c.rows-entailed.ensures.values c.requires.shape c.and_not_row.ensures c.args.fresh.now.items
+    gathers_known c.args.metadata.now c.args.word.now c.requires.sound c.taxonomy-taxonomy.result.now c.taxonomy-taxonomy.ensures c.from.result
+    (sym c.number_of.ensures ∙ (c.in-Some.is ∙ ap Some (sym c.from.ensures))) c.args.lacked.now c.put_ups.new.to c.requires.shape c.put_ups.ensures c.args.fresh.now.items
 
 pub returns-then-not-has : goal.returns-then-not-has
 returns-then-not-has c =

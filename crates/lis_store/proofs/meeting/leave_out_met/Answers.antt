@@ -1,4 +1,4 @@
-use Rattle.lis_store.proofs.Common.{◌≡◌, ◌∙◌, ℕ, ◌+◌, not, ◌&&◌, Some, List, sym, ap, subst, arith, get, with_row, number_below, among_place}
+use Rattle.lis_store.proofs.Common.{◌≡◌, ◌∙◌, ℕ, ◌+◌, Some, List, sym, ap, subst, arith, number_below, among_place}
 use Rattle.std.specs.List.{slice_get}
 use Rattle.lis_dict.proofs.Laws.{number_from_among}
 use Rattle.lis_eval.proofs.Members.{past_end}
@@ -19,15 +19,21 @@ unreachable-requires c =
     let past = past_end k.dict.entries c.loop-k.k (sym c.word_at.ensures ∙ c.in_default.is) in
     omega (arith, past, c.loop-k-test.true, c.tests-start.ensures.within)
 
-pub and_not_row-requires-clause-row : goal.and_not_row-requires-clause-row
-and_not_row-requires-clause-row c =
+pub put_ups-requires-clause-p : goal.put_ups-requires-clause-p
+put_ups-requires-clause-p c =
     let k = c.args.metadata.now in
     let sound = c.requires.sound in
     let e : List ℕ × ℕ = (c.in-Some.word, c.in-Some.number) in
     let at : slice_get k.dict.entries c.loop-k.k ≡ Some e = sym c.word_at.ensures ∙ c.in-Some.is in
     let there = number_from_among k.dict sound.dict e.0 e.1 (among_place k.dict.entries c.loop-k.k e at) in
     let below = number_below k.dict sound.dict e.0 e.1 there in
-    omega (arith, below, sound.numbers, c.taxonomy.ensures.props, c.rows-entailed.ensures.shape.tall, c.from.ensures)
+    omega (arith, below, sound.numbers, c.taxonomy-taxonomy.ensures.props, c.from.ensures)
+
+pub put_ups-requires-clause-bits : goal.put_ups-requires-clause-bits
+put_ups-requires-clause-bits c = omega (arith, c.taxonomy-taxonomy.ensures.props, c.loop-k.invariant.shape.wide)
+
+pub put_ups-requires-clause-row : goal.put_ups-requires-clause-row
+put_ups-requires-clause-row c = omega (arith, c.loop-k.invariant.shape.tall)
 
 pub loop-k-preserved : goal.loop-k-preserved
 loop-k-preserved c =
@@ -36,17 +42,15 @@ loop-k-preserved c =
     let i = c.loop-k.k in
     let row = c.loop-k.row in
     let size = c.args.size in
-    let entailed = c.rows-entailed.result.now in
     let e : List ℕ × ℕ = (c.in-Some.word, c.in-Some.number) in
     let at : slice_get k.dict.entries i ≡ Some e = sym c.word_at.ensures ∙ c.in-Some.is in
     let there = number_from_among k.dict sound.dict e.0 e.1 (among_place k.dict.entries i e at) in
     elim c.if-is_met_word.branch [
       | then-is_met_word w ↦
-          let Q : List (List ℕ) → Type 0 = λ ws. LeavesOut k ws c.args.row.now w.and_not_row.new.to in
+          let Q : List (List ℕ) → Type 0 = λ ws. LeavesOut k ws c.args.row.now w.put_ups.new.to in
           let next = subst Q (sym (met_next k size i e at (sym c.is_met_word.ensures ∙ w.if-is_met_word.true)))
-          (leaves_one k sound c.taxonomy.result.now c.taxonomy.ensures entailed c.rows-entailed.ensures.values (met_first k size i) e.0 c.args.row.now row w.and_not_row.new.to e.1
-          c.loop-k.invariant there
-          (w.and_not_row.ensures ∙ ap (λ n. with_row row 0 (λ bit. get row 0 bit && not (get entailed n bit))) w.from.ensures)) in
+          (leaves_one k sound c.taxonomy-taxonomy.result.now c.taxonomy-taxonomy.ensures (met_first k size i) e.0 c.args.row.now row w.put_ups.new.to w.from.result
+          c.loop-k.invariant (there ∙ ap Some (sym w.from.ensures)) w.put_ups.ensures) in
           subst (λ r. LeavesOut k (met_first k size (i + 1)) c.args.row.now r) (sym w.row-is) next
       | else-is_met_word w ↦
           let Q : List (List ℕ) → Type 0 = λ ws. LeavesOut k ws c.args.row.now row in

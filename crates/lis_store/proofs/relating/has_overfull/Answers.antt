@@ -1,4 +1,4 @@
-use Rattle.lis_store.proofs.Common.{◌≡◌, ◌∙◌, ℕ, false, is_some, sym, ap, subst, inl, inr, arith, cases_lt, word_from_number, Limits}
+use Rattle.lis_store.proofs.Common.{◌≡◌, ◌∙◌, ◌∷◌, [], ℕ, true, false, is_some, refl, and_from, word_of, sym, ap, subst, inl, inr, arith, cases_lt, word_from_number, Limits}
 use Rattle.lis_store.specs.Relating.{is_overfull}
 use Rattle.lis_store.proofs.Crowded.{full_at, full_nowhere}
 use Rattle.lis_store.proofs.Related.{overfull_here, overfull_unnumbered}
@@ -11,8 +11,9 @@ pub is_overfull-requires-clause-left : goal.is_overfull-requires-clause-left
 is_overfull-requires-clause-left c =
     ap is_some (word_from_number c.args.metadata.now.dict c.requires.sound.dict c.args.left.now c.in-Some.from (sym c.number_of.ensures ∙ c.in-Some.is))
 
-pub is_overfull-requires-clause-right : goal.is_overfull-requires-clause-right
-is_overfull-requires-clause-right c = ap is_some (word_from_number c.args.metadata.now.dict c.requires.sound.dict c.args.right.now c.args.number c.requires.number)
+pub find_gained-requires-clause-named : goal.find_gained-requires-clause-named
+find_gained-requires-clause-named c =
+    and_from (is_some (word_of c.args.metadata.now.dict c.args.number)) true (ap is_some (word_from_number c.args.metadata.now.dict c.requires.sound.dict c.args.right.now c.args.number c.requires.number)) refl
 
 pub returns-then-is_overfull : goal.returns-then-is_overfull
 returns-then-is_overfull c =
@@ -21,7 +22,7 @@ returns-then-is_overfull c =
     let told = overfull_here k c.args.left.now c.args.right.now c.in-Some.from c.args.number (sym c.number_of.ensures ∙ c.in-Some.is)
     (word_from_number k.dict c.requires.sound.dict c.args.right.now c.args.number c.requires.number) slot in
     sym (full_at (is_overfull k c.args.left.now c.args.right.now) k.limits.files slot (omega (arith, c.loop-slot-test.true, ap (λ (l : Limits). l.files) c.limits.ensures.value))
-    (told ∙ (sym c.is_overfull.ensures ∙ c.if-is_overfull.true)))
+    (told ∙ (sym (c.is_overfull.ensures (c.args.number ∷ []) c.find_gained.ensures) ∙ c.if-is_overfull.true)))
 
 pub loop-slot-preserved : goal.loop-slot-preserved
 loop-slot-preserved c = λ i lt.
@@ -34,7 +35,7 @@ loop-slot-preserved c = λ i lt.
       | inr more ↦
           let P : ℕ → Type 0 = λ m. is_overfull k c.args.left.now c.args.right.now m ≡ false in
           let same : n ≡ i = omega (arith, lt, more) in
-          subst P same (told ∙ (sym c.is_overfull.ensures ∙ c.if-is_overfull.false))
+          subst P same (told ∙ (sym (c.is_overfull.ensures (c.args.number ∷ []) c.find_gained.ensures) ∙ c.if-is_overfull.false))
     ]
 
 pub returns : goal.returns

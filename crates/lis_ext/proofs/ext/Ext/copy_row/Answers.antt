@@ -15,5 +15,5 @@ returns c =
     let e = c.self.inside in
     let prop = rw (← c.self.view_is) at c.requires.prop in
     let bits = rw (← c.self.view_is) at c.requires.bits in
-    rw (← c.self.view_is) (c.copy_row.ensures ∙ with_row_same c.args.to.now c.args.row (get e.rows c.args.prop) (has (seen e.lists e.marks e.props e.edits) c.args.prop)
+    rw (← c.self.view_is) (c.copy_row.ensures ∙ with_row_same c.args.to.now c.args.row (get e.rows c.args.prop) (has (seen e.lists e.rows e.marks e.props) c.args.prop)
     (λ i lt. c.self.invariant.in_step c.args.prop i prop (omega (arith, bits, c.self.invariant.long))))

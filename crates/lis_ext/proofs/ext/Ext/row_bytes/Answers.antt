@@ -15,5 +15,5 @@ returns c =
     let e = c.self.inside in
     let prop = rw (← c.self.view_is) at c.requires.prop in
     let room = rw (← c.self.view_is) at c.requires.room in
-    rw (← c.self.view_is) (c.row_bytes.ensures ∙ bytes_same (length c.args.buf.now) (get e.rows c.args.prop) (has (seen e.lists e.marks e.props e.edits) c.args.prop)
+    rw (← c.self.view_is) (c.row_bytes.ensures ∙ bytes_same (length c.args.buf.now) (get e.rows c.args.prop) (has (seen e.lists e.rows e.marks e.props) c.args.prop)
     (λ i lt. c.self.invariant.in_step c.args.prop i prop (omega (arith, room, c.self.invariant.long))))

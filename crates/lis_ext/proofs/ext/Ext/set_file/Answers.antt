@@ -3,13 +3,13 @@ use Rattle.std.specs.List.{All}
 use Rattle.std.specs.List.Sorted.{IsStrictlyIncreasing}
 use Rattle.lis_ext.specs.Ext.{count_of}
 use Rattle.lis_ext.specs.Inside.{IsSoundExt}
-use Rattle.lis_ext.proofs.Bits.{in_step_set}
+use Rattle.lis_ext.proofs.Bits.{in_step_set, edits_set}
 use Rattle.lis_ext.proofs.Numbers.{has_decides}
-use Rattle.lis_ext.proofs.Counted.{retaken, each_set, each_below, counted_some, counts_set, marks_set, edits_set}
+use Rattle.lis_ext.proofs.Counted.{retaken, each_set, each_below, counted_some, counts_set, marks_set}
 use Rattle.lis_ext.proofs.ext.Ext.set_file.Goals as goal
 
-pub lose-lost-requires-clause-counted : goal.lose-lost-requires-clause-counted
-lose-lost-requires-clause-counted c = λ p there.
+pub lose-requires-clause-counted : goal.lose-requires-clause-counted
+lose-requires-clause-counted c = λ p there.
     let e = c.self.inside in
     let inv = c.self.invariant in
     let file = c.args.file in
@@ -27,24 +27,24 @@ invariant_of-self c =
     let file = c.args.file in
     let old = c.numbers-old.result.now in
     let new = c.args.new.now in
-    let mid = c.lose-lost.new.counts in
-    let after = c.gain-gained.new.counts in
+    let mid = c.lose.new.counts in
+    let after = c.gain.new.counts in
     let file_in = rw (← c.self.view_is) at c.requires.file in
     let new_in = rw (← c.self.view_is) at c.requires.new_in in
-    let mid_long : length mid ≡ e.counts.len = omega (arith, c.lose-lost.auto.counts, c.deref_mut.ensures.len) in
+    let mid_long : length mid ≡ e.counts.len = omega (arith, c.lose.auto.counts, c.deref_mut.ensures.len) in
     let mid_is : c.deref_mut-2.result.now ≡ mid = c.deref_mut-2.ensures.value ∙ retaken e.counts.len mid _ mid_long in
-    let after_long : length after ≡ e.counts.len = omega (arith, c.gain-gained.auto.counts, ap length mid_is, mid_long) in
-    let up = rw mid_is at c.gain-gained.ensures.counts in
-    subst (λ (xs : List ℕ). IsSoundExt c.set.new.self xs c.put_bits-2.new.rows c.gain-gained.new.marks e.props e.files) (sym (retaken e.counts.len after _ after_long)) (record {
+    let after_long : length after ≡ e.counts.len = omega (arith, c.gain.auto.counts, ap length mid_is, mid_long) in
+    let up = rw mid_is at c.gain.ensures.counts in
+    subst (λ (xs : List ℕ). IsSoundExt c.set.new.self xs c.put_bits-2.new.rows c.gain.new.marks e.props e.files) (sym (retaken e.counts.len after _ after_long)) (record {
       few_props = inv.few_props;
       few_files = inv.few_files;
       long = omega (arith, ap length c.set.ensures, length-set e.lists file new, inv.long);
       rows_shape = c.put_bits-2.ensures.shape;
-      marks_shape = c.gain-gained.ensures.marks.shape;
+      marks_shape = c.gain.ensures.marks.shape;
       room = omega (arith, after_long, c.deref_mut.ensures.len, ap length c.deref_mut.ensures.value, inv.room);
       rise = λ i lt. rw c.set.ensures (each_set IsStrictlyIncreasing e.lists file new (λ k low. inv.rise k (omega (arith, inv.long))) c.requires.new_rises i (omega (arith, inv.long)));
       in_range = λ i lt. rw c.set.ensures (each_set (All (λ p. p < e.props)) e.lists file new (λ k low. inv.in_range k (omega (arith, inv.long))) new_in i (omega (arith, inv.long)));
-      counted = λ p lt. counts_set e.props old new c.deref_mut.result.now mid after e.lists file file_in (sym c.numbers-old.ensures.numbers) c.lose-lost.ensures.counts up
+      counted = λ p lt. counts_set e.props old new c.deref_mut.result.now mid after e.lists file file_in (sym c.numbers-old.ensures.numbers) c.lose.ensures.counts up
           (λ k low. ap (λ (xs : List ℕ). get_or xs k 0) c.deref_mut.ensures.value ∙ inv.counted k low) p lt ∙ ap (λ (sets : List (List ℕ)). count_of sets p) (sym c.set.ensures);
       in_step = rw c.set.ensures (in_step_set e.lists e.rows c.put_bits.new.rows c.put_bits-2.new.rows e.props e.files file old new inv.long (omega (arith, inv.long, file_in)) (sym c.numbers-old.ensures.numbers) inv.in_step c.put_bits.ensures c.put_bits-2.ensures);
     })
@@ -52,10 +52,12 @@ invariant_of-self c =
 pub returns-clause-marks : goal.returns-clause-marks
 returns-clause-marks c =
     let e = c.self.inside in
-    rw (← c.self.view_is, ← c.numbers-old.ensures.numbers) (marks_set e.props c.numbers-old.result.now c.args.new.now e.marks c.lose-lost.new.marks c.gain-gained.new.marks c.lose-lost.result c.gain-gained.result c.lose-lost.ensures.marks c.gain-gained.ensures.marks)
+    rw (← c.self.view_is, ← c.numbers-old.ensures.numbers) (marks_set e.props c.numbers-old.result.now c.args.new.now e.marks c.lose.new.marks c.gain.new.marks c.lose.ensures.marks c.gain.ensures.marks)
 
 pub returns-clause-edits : goal.returns-clause-edits
 returns-clause-edits c =
     let e = c.self.inside in
-    let both = edits_set e.props c.numbers-old.result.now c.args.new.now e.marks c.lose-lost.new.marks c.gain-gained.new.marks c.lose-lost.result c.gain-gained.result c.lose-lost.ensures.marks c.gain-gained.ensures.marks in
-    rw (← c.self.view_is, ← c.numbers-old.ensures.numbers) (omega (arith, c.saturating_add-self-inside.ensures, c.from.ensures, both))
+    rw (← c.self.view_is, ← c.numbers-old.ensures.numbers) (edits_set e.rows c.put_bits.new.rows c.put_bits-2.new.rows e.props e.files c.args.file c.numbers-old.result.now c.args.new.now c.put_bits.ensures c.put_bits-2.ensures)
+
+pub returns-clause-no_fewer : goal.returns-clause-no_fewer
+returns-clause-no_fewer c = rw (← c.self.view_is) (omega (arith, c.put_bits.ensures.no_fewer, c.put_bits-2.ensures.no_fewer))

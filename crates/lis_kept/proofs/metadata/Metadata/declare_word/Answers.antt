@@ -3,6 +3,7 @@ use Rattle.lis_kept.specs.Metadata.{Metadata}
 use Rattle.lis_kept.specs.Links.{AreHeld}
 use Rattle.lis_kept.specs.Sound.{AreSound}
 use Rattle.lis_kept.specs.Changes.{Declares}
+use Rattle.lis_kept.proofs.FewEdges.{has_room}
 use Rattle.lis_kept.proofs.InArea.{few_properties}
 use Rattle.lis_kept.proofs.OneWord.{Comes, added, number_then}
 use Rattle.lis_kept.proofs.WordsChanged.{ordered_after, declares}
@@ -23,6 +24,9 @@ pub insert_test-requires-clause-ordered : goal.insert_test-requires-clause-order
 insert_test-requires-clause-ordered c =
     let there = (goal.at.insert_test-requires-clause-ordered c).After-put in
     ordered_after (the_view c.self.inside) c.self.inside.taxonomy c.self.invariant c.requires.form (come there) (bits there)
+
+pub insert_test-requires-clause-room : goal.insert_test-requires-clause-room
+insert_test-requires-clause-room c = has_room (the_view c.self.inside) c.self.invariant.sound c.self.inside.taxonomy c.self.invariant.links
 
 abbrev now : goal.After-mark_property → Metadata
 now c = record (the_view c.self.inside) { dict = c.add.new.self; declared = c.put.new.self; marks = c.mark_property.new.marks }

@@ -1,9 +1,11 @@
+use Rattle.std.proofs.Common.{arith}
 use Rattle.lis_kept.proofs.Common.{◌≡◌, ◌∙◌, ◌<◌, ℕ, true, None, List, length, IsSome, sym, ap, subst, number_of, is_undeclared, is_valued, head_bytes}
 use Rattle.lis_kept.specs.Metadata.{Metadata}
 use Rattle.lis_kept.specs.Edges.{with_edge_to}
 use Rattle.lis_kept.specs.Sound.{AreSound}
 use Rattle.lis_kept.specs.Links.{AreHeld}
 use Rattle.lis_kept.specs.Changes.{Learns}
+use Rattle.lis_kept.proofs.FewEdges.{has_room}
 use Rattle.lis_kept.proofs.OneWord.{Comes, added}
 use Rattle.lis_kept.proofs.TestLinks.{none_to, none_from}
 use Rattle.lis_kept.proofs.WordsChanged.{head_below, head_apart, learns_new, learns_there}
@@ -45,6 +47,9 @@ link_head-requires-clause-to c = none_to (the_view c.self.inside) c.self.inside.
 
 pub link_head-requires-clause-from : goal.link_head-requires-clause-from
 link_head-requires-clause-from c = none_from (the_view c.self.inside) c.self.inside.taxonomy c.self.invariant c.in-Ok.number (come (goal.at.link_head-requires-clause-from c).In-Ok).free
+
+pub link_head-requires-clause-room : goal.link_head-requires-clause-room
+link_head-requires-clause-room c = omega (arith, has_room (the_view c.self.inside) c.self.invariant.sound c.self.inside.taxonomy c.self.invariant.links)
 
 abbrev now : goal.After-mark_property → Metadata
 now c = record (the_view c.self.inside) { dict = c.add.new.self; marks = c.mark_property.new.marks }

@@ -4,6 +4,7 @@ use Rattle.std.specs.List.{position}
 use Rattle.lis_kept.specs.Linking.{is_free, MayLink, Links}
 use Rattle.lis_kept.specs.Metadata.{Metadata}
 use Rattle.lis_kept.specs.Links.{AreHeld}
+use Rattle.lis_kept.proofs.FewEdges.{has_room}
 use Rattle.lis_kept.proofs.Formed.{named_below}
 use Rattle.lis_kept.proofs.AxiomSlots.{axiom_within, first_is_some, first_no_later, free_place}
 use Rattle.lis_kept.proofs.AxiomsChanged.{link_refused, links}
@@ -39,6 +40,9 @@ pub add-requires-clause-q : goal.add-requires-clause-q
 add-requires-clause-q c =
     let side = ap is_some (may (goal.at.add-requires-clause-q c).In-Some).is_right in
     omega (arith, named_below (the_view c.self.inside) c.self.invariant.sound c.args.right side, c.from-right.ensures, c.self.invariant.links.props)
+
+pub add-requires-clause-room : goal.add-requires-clause-room
+add-requires-clause-room c = omega (arith, has_room (the_view c.self.inside) c.self.invariant.sound c.self.inside.taxonomy c.self.invariant.links)
 
 pub unreachable-requires-in_default-add : goal.unreachable-requires-in_default-add
 unreachable-requires-in_default-add c =

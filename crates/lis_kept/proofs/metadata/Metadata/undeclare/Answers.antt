@@ -3,6 +3,7 @@ use Rattle.lis_kept.proofs.Common.{◌∙◌, false, set, sym, ap, subst, is_som
 use Rattle.lis_kept.specs.Metadata.{Metadata}
 use Rattle.lis_kept.specs.Links.{AreHeld}
 use Rattle.lis_kept.specs.Undeclaring.{MayUndeclare, Undeclares}
+use Rattle.lis_kept.proofs.FewEdges.{has_room}
 use Rattle.lis_kept.proofs.Formed.{named_below}
 use Rattle.lis_kept.proofs.InArea.{few_properties}
 use Rattle.lis_kept.proofs.TestLinks.{tests_ordered}
@@ -21,6 +22,9 @@ remove_test-requires-clause-few c = few_properties c.self.inside.limits c.self.i
 
 pub remove_test-requires-clause-ordered : goal.remove_test-requires-clause-ordered
 remove_test-requires-clause-ordered c = tests_ordered (the_view c.self.inside) c.self.inside.taxonomy c.self.invariant
+
+pub remove_test-requires-clause-room : goal.remove_test-requires-clause-room
+remove_test-requires-clause-room c = omega (arith, has_room (the_view c.self.inside) c.self.invariant.sound c.self.inside.taxonomy c.self.invariant.links)
 
 pub mark_property-requires-clause-number : goal.mark_property-requires-clause-number
 mark_property-requires-clause-number c = named_below (the_view c.self.inside) c.self.invariant.sound c.args.number (ap is_some (sym c.word_of.ensures ∙ c.in-Some.is))

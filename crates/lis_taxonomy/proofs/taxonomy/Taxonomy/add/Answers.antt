@@ -1,119 +1,86 @@
-use Rattle.std.proofs.Common.{refl, sym, ◌∙◌, subst}
-use Rattle.lis_taxonomy.specs.Taxonomy.{IsAcyclic}
-use Rattle.lis_taxonomy.specs.Inside.{IsSoundTaxonomy}
-use Rattle.lis_taxonomy.proofs.Seen.{has_edge-seen, entails_from_reach, reach_from_entails, acyclic-seen, no_way_back, sound_added, sound_known, seen_added}
+use Rattle.std.proofs.Common.{◌≡◌, ◌∷◌, [], false, refl, sym, ap, subst, ◌∙◌, arith}
+use Rattle.lis_taxonomy.specs.Search.{is_found}
+use Rattle.lis_taxonomy.specs.Taxonomy.{Taxonomy, IsAcyclic, with_edge}
+use Rattle.lis_taxonomy.proofs.Searches.{has_at}
+use Rattle.lis_taxonomy.proofs.Seen.{edge_there, edge_absent, no_way_back, acyclic_seen, just_entailed, sound_added, seen_added}
 use Rattle.lis_taxonomy.proofs.taxonomy.Taxonomy.add.Goals as goal
 
-pub returns-then-get-clause-present : goal.returns-then-get-clause-present
-returns-then-get-clause-present c =
-    let inside = c.self.inside in
-    let p_in = rw (← c.self.view_is) at c.requires.p in
-    let q_in = rw (← c.self.view_is) at c.requires.q in
-    rw (← c.self.view_is) (λ _. sym (has_edge-seen inside.linked inside.props c.args.p c.args.q p_in q_in) ∙ (sym c.get.ensures ∙ c.if-get.true), λ _. refl)
+pub returns-in_default-clause-present : goal.returns-in_default-clause-present
+returns-in_default-clause-present c =
+    let m = c.self.inside in
+    let here = rw c.deref.ensures.value at c.in_default.ensures.found in
+    rw (← c.self.view_is) (λ _. edge_there m.edges.items m.props c.args.p c.args.q c.in_default.field-0 here, λ _. refl)
 
-pub returns-then-get-clause-cycle : goal.returns-then-get-clause-cycle
-returns-then-get-clause-cycle c =
-    let inside = c.self.inside in
-    let p_in = rw (← c.self.view_is) at c.requires.p in
-    let q_in = rw (← c.self.view_is) at c.requires.q in
-    rw (← c.self.view_is) (λ e. absurd cc, λ back. absurd (no_way_back inside.linked inside.props c.args.p c.args.q c.self.invariant.acyclic p_in q_in (sym c.get.ensures ∙ c.if-get.true) back))
+pub returns-in_default-clause-cycle : goal.returns-in_default-clause-cycle
+returns-in_default-clause-cycle c =
+    let m = c.self.inside in
+    let here = rw c.deref.ensures.value at c.in_default.ensures.found in
+    rw (← c.self.view_is)
+    (λ e. absurd cc, λ back. absurd (no_way_back m.edges.items m.props c.self.invariant.acyclic c.args.p c.args.q (edge_there m.edges.items m.props c.args.p c.args.q c.in_default.field-0 here) back))
 
-pub returns-then-get-clause-acyclic : goal.returns-then-get-clause-acyclic
-returns-then-get-clause-acyclic c = subst (λ t. IsAcyclic t) c.self.view_is (acyclic-seen c.self.inside.linked c.self.inside.props c.self.invariant.acyclic)
+pub returns-in_default-clause-acyclic : goal.returns-in_default-clause-acyclic
+returns-in_default-clause-acyclic c = subst (λ t. IsAcyclic t) c.self.view_is (acyclic_seen c.self.inside.edges.items c.self.inside.props c.self.invariant.acyclic)
 
-pub returns-then-get-2-clause-present : goal.returns-then-get-2-clause-present
-returns-then-get-2-clause-present c =
-    let inside = c.self.inside in
-    let p_in = rw (← c.self.view_is) at c.requires.p in
-    let q_in = rw (← c.self.view_is) at c.requires.q in
-    let none = sym (has_edge-seen inside.linked inside.props c.args.p c.args.q p_in q_in) ∙ (sym c.get.ensures ∙ c.if-get.false) in
+pub returns-then-has-clause-present : goal.returns-then-has-clause-present
+returns-then-has-clause-present c =
+    let m = c.self.inside in
+    let gap = rw c.deref.ensures.value at c.in-Err.ensures.absent in
+    let none = edge_absent m.edges.items m.props c.args.p c.args.q c.in-Err.place gap in
     rw (← c.self.view_is) (λ e. absurd cc, λ there. absurd cc)
 
-pub returns-then-get-2-clause-cycle : goal.returns-then-get-2-clause-cycle
-returns-then-get-2-clause-cycle c =
-    let inside = c.self.inside in
+pub returns-then-has-clause-cycle : goal.returns-then-has-clause-cycle
+returns-then-has-clause-cycle c =
+    let m = c.self.inside in
+    let searched = rw c.deref-2.ensures.value at c.run.ensures in
+    let ups = just_entailed m.edges.items m.props c.run.new.self c.args.q searched in
+    rw (← c.self.view_is) (λ _. (ups c.args.p).0 (sym c.has.ensures ∙ c.if-has.true), λ _. refl)
+
+pub returns-then-has-clause-acyclic : goal.returns-then-has-clause-acyclic
+returns-then-has-clause-acyclic c = acyclic_seen c.self.inside.edges.items c.self.inside.props c.self.invariant.acyclic
+
+pub invariant_of-self-2 : goal.invariant_of-self-2
+invariant_of-self-2 c =
+    let m = c.self.inside in
     let p_in = rw (← c.self.view_is) at c.requires.p in
     let q_in = rw (← c.self.view_is) at c.requires.q in
-    let reached = sym (c.self.invariant.right c.args.q c.args.p q_in p_in) ∙ (sym c.get-2.ensures ∙ c.if-get-2.true) in
-    rw (← c.self.view_is) (λ _. entails_from_reach inside.linked inside.props c.args.q c.args.p reached, λ _. refl)
+    let gap = rw c.deref.ensures.value at c.in-Err.ensures.absent in
+    let searched = rw c.deref-2.ensures.value at c.run.ensures in
+    let missed : is_found c.run.new.self c.args.p ≡ false = sym c.has.ensures ∙ c.if-has.false in
+    sound_added m.edges.items m.props _ c.self.invariant c.args.p c.args.q c.in-Err.place p_in q_in gap (λ chain. let found = (searched c.args.p).1 (c.args.q, has_at (c.args.q ∷ []) 0 (omega arith), chain) in cc) c.insert.new.self.items c.in-Ok.ensures.items _ (omega (arith, c.insert.ensures.capacity))
 
-pub returns-then-get-2-clause-acyclic : goal.returns-then-get-2-clause-acyclic
-returns-then-get-2-clause-acyclic c = subst (λ t. IsAcyclic t) c.self.view_is (acyclic-seen c.self.inside.linked c.self.inside.props c.self.invariant.acyclic)
-
-pub invariant_of-self : goal.invariant_of-self
-invariant_of-self c =
-    let inside = c.self.inside in
-    let p_in = rw (← c.self.view_is) at c.requires.p in
-    let q_in = rw (← c.self.view_is) at c.requires.q in
-    rw c.put.ensures (sound_added inside.linked inside.reached c.widen.new.reached inside.stale inside.props c.args.p c.args.q c.self.invariant p_in q_in (sym c.get-2.ensures ∙ c.if-get-2.false) c.widen.ensures)
-
-pub returns-then-not-get-clause-present : goal.returns-then-not-get-clause-present
-returns-then-not-get-clause-present c =
-    let inside = c.self.inside in
-    let p_in = rw (← c.self.view_is) at c.requires.p in
-    let q_in = rw (← c.self.view_is) at c.requires.q in
-    let none = sym (has_edge-seen inside.linked inside.props c.args.p c.args.q p_in q_in) ∙ (sym c.get.ensures ∙ c.if-get.false) in
+pub returns-clause-present : goal.returns-clause-present
+returns-clause-present c =
+    let m = c.self.inside in
+    let gap = rw c.deref.ensures.value at c.in-Err.ensures.absent in
+    let none = edge_absent m.edges.items m.props c.args.p c.args.q c.in-Err.place gap in
     rw (← c.self.view_is) (λ e. absurd cc, λ there. absurd cc)
 
-pub returns-then-not-get-clause-cycle : goal.returns-then-not-get-clause-cycle
-returns-then-not-get-clause-cycle c =
-    let inside = c.self.inside in
-    let p_in = rw (← c.self.view_is) at c.requires.p in
-    let q_in = rw (← c.self.view_is) at c.requires.q in
-    let apart = sym (c.self.invariant.right c.args.q c.args.p q_in p_in) ∙ (sym c.get-2.ensures ∙ c.if-get-2.false) in
-    rw (← c.self.view_is) (λ e. absurd cc, λ back. absurd (let k = reach_from_entails inside.linked inside.props c.args.q c.args.p back in cc))
+pub returns-clause-cycle : goal.returns-clause-cycle
+returns-clause-cycle c =
+    let m = c.self.inside in
+    let searched = rw c.deref-2.ensures.value at c.run.ensures in
+    let ups = just_entailed m.edges.items m.props c.run.new.self c.args.q searched in
+    let missed : is_found c.run.new.self c.args.p ≡ false = sym c.has.ensures ∙ c.if-has.false in
+    rw (← c.self.view_is) (λ e. absurd cc, λ back. absurd (let found = (ups c.args.p).1 back in cc))
 
-pub returns-then-not-get-clause-ok : goal.returns-then-not-get-clause-ok
-returns-then-not-get-clause-ok c =
-    let inside = c.self.inside in
+pub returns-clause-ok : goal.returns-clause-ok
+returns-clause-ok c =
+    let m = c.self.inside in
     let p_in = rw (← c.self.view_is) at c.requires.p in
     let q_in = rw (← c.self.view_is) at c.requires.q in
-    rw (c.put.ensures, ← c.self.view_is) (seen_added inside.linked inside.props c.args.p c.args.q c.self.invariant.linked_shape p_in q_in)
+    let gap = rw c.deref.ensures.value at c.in-Err.ensures.absent in
+    let searched = rw c.deref-2.ensures.value at c.run.ensures in
+    let missed : is_found c.run.new.self c.args.p ≡ false = sym c.has.ensures ∙ c.if-has.false in
+    seen_added m.edges.items m.props _ c.self.invariant c.args.p c.args.q c.in-Err.place p_in q_in gap (λ chain. let found = (searched c.args.p).1 (c.args.q, has_at (c.args.q ∷ []) 0 (omega arith), chain) in cc) c.insert.new.self.items c.in-Ok.ensures.items
+    ∙ ap (λ (t : Taxonomy). with_edge t c.args.p c.args.q) c.self.view_is
 
-pub returns-then-not-get-clause-acyclic : goal.returns-then-not-get-clause-acyclic
-returns-then-not-get-clause-acyclic c =
-    let inside = c.self.inside in
+pub returns-clause-acyclic : goal.returns-clause-acyclic
+returns-clause-acyclic c =
+    let m = c.self.inside in
     let p_in = rw (← c.self.view_is) at c.requires.p in
     let q_in = rw (← c.self.view_is) at c.requires.q in
-    let sound : IsSoundTaxonomy c.put.new.self c.widen.new.reached inside.stale inside.props =
-    rw c.put.ensures (sound_added inside.linked inside.reached c.widen.new.reached inside.stale inside.props c.args.p c.args.q c.self.invariant p_in q_in (sym c.get-2.ensures ∙ c.if-get-2.false) c.widen.ensures) in
-    acyclic-seen c.put.new.self inside.props sound.acyclic
-
-pub invariant_of-self-else-not-get : goal.invariant_of-self-else-not-get
-invariant_of-self-else-not-get c =
-    let inside = c.self.inside in
-    let p_in = rw (← c.self.view_is) at c.requires.p in
-    let q_in = rw (← c.self.view_is) at c.requires.q in
-    rw c.put.ensures (sound_known inside.linked inside.reached inside.stale inside.props c.args.p c.args.q c.self.invariant p_in q_in (sym c.get-2.ensures ∙ c.if-get-2.false) (sym c.get-3.ensures ∙ c.if-not-get.false))
-
-pub returns-else-not-get-clause-present : goal.returns-else-not-get-clause-present
-returns-else-not-get-clause-present c =
-    let inside = c.self.inside in
-    let p_in = rw (← c.self.view_is) at c.requires.p in
-    let q_in = rw (← c.self.view_is) at c.requires.q in
-    let none = sym (has_edge-seen inside.linked inside.props c.args.p c.args.q p_in q_in) ∙ (sym c.get.ensures ∙ c.if-get.false) in
-    rw (← c.self.view_is) (λ e. absurd cc, λ there. absurd cc)
-
-pub returns-else-not-get-clause-cycle : goal.returns-else-not-get-clause-cycle
-returns-else-not-get-clause-cycle c =
-    let inside = c.self.inside in
-    let p_in = rw (← c.self.view_is) at c.requires.p in
-    let q_in = rw (← c.self.view_is) at c.requires.q in
-    let apart = sym (c.self.invariant.right c.args.q c.args.p q_in p_in) ∙ (sym c.get-2.ensures ∙ c.if-get-2.false) in
-    rw (← c.self.view_is) (λ e. absurd cc, λ back. absurd (let k = reach_from_entails inside.linked inside.props c.args.q c.args.p back in cc))
-
-pub returns-else-not-get-clause-ok : goal.returns-else-not-get-clause-ok
-returns-else-not-get-clause-ok c =
-    let inside = c.self.inside in
-    let p_in = rw (← c.self.view_is) at c.requires.p in
-    let q_in = rw (← c.self.view_is) at c.requires.q in
-    rw (c.put.ensures, ← c.self.view_is) (seen_added inside.linked inside.props c.args.p c.args.q c.self.invariant.linked_shape p_in q_in)
-
-pub returns-else-not-get-clause-acyclic : goal.returns-else-not-get-clause-acyclic
-returns-else-not-get-clause-acyclic c =
-    let inside = c.self.inside in
-    let p_in = rw (← c.self.view_is) at c.requires.p in
-    let q_in = rw (← c.self.view_is) at c.requires.q in
-    let sound : IsSoundTaxonomy c.put.new.self inside.reached inside.stale inside.props =
-    rw c.put.ensures (sound_known inside.linked inside.reached inside.stale inside.props c.args.p c.args.q c.self.invariant p_in q_in (sym c.get-2.ensures ∙ c.if-get-2.false) (sym c.get-3.ensures ∙ c.if-not-get.false)) in
-    acyclic-seen c.put.new.self inside.props sound.acyclic
+    let gap = rw c.deref.ensures.value at c.in-Err.ensures.absent in
+    let searched = rw c.deref-2.ensures.value at c.run.ensures in
+    let missed : is_found c.run.new.self c.args.p ≡ false = sym c.has.ensures ∙ c.if-has.false in
+    let sound = sound_added m.edges.items m.props _ c.self.invariant c.args.p c.args.q c.in-Err.place p_in q_in gap (λ chain. let found = (searched c.args.p).1 (c.args.q, has_at (c.args.q ∷ []) 0 (omega arith), chain) in cc) c.insert.new.self.items c.in-Ok.ensures.items _ c.insert.ensures.capacity in
+    acyclic_seen c.insert.new.self.items m.props sound.acyclic

@@ -1,66 +1,41 @@
-use Rattle.std.proofs.Common.{◌≡◌, true, refl, sym, subst, ◌∙◌}
-use Rattle.lis_bits.specs.Rows.{get}
-use Rattle.lis_taxonomy.specs.Taxonomy.{IsAcyclic}
-use Rattle.lis_taxonomy.specs.Inside.{IsAcyclicTable}
-use Rattle.lis_taxonomy.proofs.Seen.{has_edge-seen, acyclic-seen, acyclic_removed, partly_removed, sound_removed, seen_removed}
+use Rattle.std.proofs.Common.{◌≤◌, vec_capacity, refl, ap, subst, ◌∙◌, arith}
+use Rattle.lis_taxonomy.specs.Taxonomy.{Taxonomy, IsAcyclic, without_edge}
+use Rattle.lis_taxonomy.proofs.Seen.{edge_there, edge_absent, acyclic_seen, sound_removed, seen_removed}
 use Rattle.lis_taxonomy.proofs.taxonomy.Taxonomy.remove.Goals as goal
 
-pub returns-then-not-get-clause-absent : goal.returns-then-not-get-clause-absent
-returns-then-not-get-clause-absent c =
-    let inside = c.self.inside in
-    let p_in = rw (← c.self.view_is) at c.requires.p in
-    let q_in = rw (← c.self.view_is) at c.requires.q in
-    rw (← c.self.view_is) (λ _. sym (has_edge-seen inside.linked inside.props c.args.p c.args.q p_in q_in) ∙ (sym c.get.ensures ∙ c.if-not-get.true), λ _. refl)
+pub returns-in_default-clause-absent : goal.returns-in_default-clause-absent
+returns-in_default-clause-absent c =
+    let m = c.self.inside in
+    let gap = rw c.deref.ensures.value at c.in_default.ensures.absent in
+    rw (← c.self.view_is) (λ _. edge_absent m.edges.items m.props c.args.p c.args.q c.in_default.field-0 gap, λ _. refl)
 
-pub returns-then-not-get-clause-acyclic : goal.returns-then-not-get-clause-acyclic
-returns-then-not-get-clause-acyclic c = subst (λ t. IsAcyclic t) c.self.view_is (acyclic-seen c.self.inside.linked c.self.inside.props c.self.invariant.acyclic)
-
-pub remake_all-requires-clause-acyclic : goal.remake_all-requires-clause-acyclic
-remake_all-requires-clause-acyclic c =
-    let inside = c.self.inside in
-    let p_in = rw (← c.self.view_is) at c.requires.p in
-    let q_in = rw (← c.self.view_is) at c.requires.q in
-    let there : get inside.linked c.args.p c.args.q ≡ true = sym c.get.ensures ∙ c.if-not-get.false in
-    rw c.put.ensures (acyclic_removed inside.linked inside.reached inside.stale inside.props c.args.p c.args.q c.self.invariant p_in q_in there)
-
-pub remake_all-requires-clause-partly : goal.remake_all-requires-clause-partly
-remake_all-requires-clause-partly c =
-    let inside = c.self.inside in
-    let p_in = rw (← c.self.view_is) at c.requires.p in
-    let q_in = rw (← c.self.view_is) at c.requires.q in
-    let there : get inside.linked c.args.p c.args.q ≡ true = sym c.get.ensures ∙ c.if-not-get.false in
-    rw c.put.ensures (partly_removed inside.linked inside.reached inside.stale inside.props c.args.p c.args.q c.self.invariant p_in q_in there c.mark.new.stale c.mark.ensures.stale_shape c.mark.ensures.marks)
+pub returns-in_default-clause-acyclic : goal.returns-in_default-clause-acyclic
+returns-in_default-clause-acyclic c = subst (λ t. IsAcyclic t) c.self.view_is (acyclic_seen c.self.inside.edges.items c.self.inside.props c.self.invariant.acyclic)
 
 pub invariant_of-self : goal.invariant_of-self
 invariant_of-self c =
-    let inside = c.self.inside in
-    let p_in = rw (← c.self.view_is) at c.requires.p in
-    let q_in = rw (← c.self.view_is) at c.requires.q in
-    let there : get inside.linked c.args.p c.args.q ≡ true = sym c.get.ensures ∙ c.if-not-get.false in
-    let right = rw c.put.ensures at c.remake_all.ensures.right in
-    rw c.put.ensures (sound_removed inside.linked inside.reached inside.stale inside.props c.args.p c.args.q c.self.invariant p_in q_in there c.remake_all.new.reached c.remake_all.new.stale c.remake_all.ensures.shape c.remake_all.ensures.stale_shape right)
+    let m = c.self.inside in
+    let here = rw c.deref.ensures.value at c.in-Ok.ensures.found in
+    sound_removed m.edges.items m.props _ c.self.invariant c.args.p c.args.q c.in-Ok.place here.0 here.1 c.remove.new.self.items c.remove.ensures.items _ (omega (arith, c.remove.ensures.capacity))
 
 pub returns-clause-absent : goal.returns-clause-absent
 returns-clause-absent c =
-    let inside = c.self.inside in
-    let p_in = rw (← c.self.view_is) at c.requires.p in
-    let q_in = rw (← c.self.view_is) at c.requires.q in
-    let there = sym (has_edge-seen inside.linked inside.props c.args.p c.args.q p_in q_in) ∙ (sym c.get.ensures ∙ c.if-not-get.false) in
+    let m = c.self.inside in
+    let here = rw c.deref.ensures.value at c.in-Ok.ensures.found in
+    let there = edge_there m.edges.items m.props c.args.p c.args.q c.in-Ok.place here in
     rw (← c.self.view_is) (λ e. absurd cc, λ none. absurd cc)
 
 pub returns-clause-ok : goal.returns-clause-ok
 returns-clause-ok c =
-    let inside = c.self.inside in
-    let p_in = rw (← c.self.view_is) at c.requires.p in
-    let q_in = rw (← c.self.view_is) at c.requires.q in
-    let there : get inside.linked c.args.p c.args.q ≡ true = sym c.get.ensures ∙ c.if-not-get.false in
-    rw (c.put.ensures, ← c.self.view_is) (seen_removed inside.linked inside.reached inside.stale inside.props c.args.p c.args.q c.self.invariant p_in q_in there)
+    let m = c.self.inside in
+    let here = rw c.deref.ensures.value at c.in-Ok.ensures.found in
+    seen_removed m.edges.items m.props _ c.self.invariant c.args.p c.args.q c.in-Ok.place here.0 here.1 c.remove.new.self.items c.remove.ensures.items
+    ∙ ap (λ (t : Taxonomy). without_edge t c.args.p c.args.q) c.self.view_is
 
 pub returns-clause-acyclic : goal.returns-clause-acyclic
 returns-clause-acyclic c =
-    let inside = c.self.inside in
-    let p_in = rw (← c.self.view_is) at c.requires.p in
-    let q_in = rw (← c.self.view_is) at c.requires.q in
-    let there : get inside.linked c.args.p c.args.q ≡ true = sym c.get.ensures ∙ c.if-not-get.false in
-    let acyclic : IsAcyclicTable c.put.new.self inside.props = rw c.put.ensures (acyclic_removed inside.linked inside.reached inside.stale inside.props c.args.p c.args.q c.self.invariant p_in q_in there) in
-    acyclic-seen c.put.new.self inside.props acyclic
+    let m = c.self.inside in
+    let here = rw c.deref.ensures.value at c.in-Ok.ensures.found in
+    let wide : vec_capacity c.self.inside.edges ≤ vec_capacity c.remove.new.self = omega (arith, c.remove.ensures.capacity) in
+    let sound = sound_removed m.edges.items m.props _ c.self.invariant c.args.p c.args.q c.in-Ok.place here.0 here.1 c.remove.new.self.items c.remove.ensures.items _ wide in
+    acyclic_seen c.remove.new.self.items m.props sound.acyclic
