@@ -44,13 +44,15 @@ import re
 import select
 import signal
 import subprocess
-import tempfile
 import threading
 from collections.abc import Callable, Collection, Iterable, Iterator, Mapping, Sequence
-from typing import IO, Literal, NamedTuple, Protocol, TypeAlias, overload
+from typing import IO, TYPE_CHECKING, Literal, NamedTuple, Protocol, TypeAlias, overload
 
 from lisfs.constants import MAX_DIGITS, MAX_LINE, MAX_PAYLOAD, ROOMS
 from lisfs.words import is_word
+
+if TYPE_CHECKING:
+    from lisfs.served import News
 
 # The checkout, if this module lies in one.
 CHECKOUT = os.path.dirname(os.path.dirname(os.path.dirname(os.path.abspath(__file__))))
@@ -60,6 +62,8 @@ PROGRAM = os.environ.get("LISFS_PROGRAM") or os.path.join(CHECKOUT, "crates/lisf
 ROOM_LINE = MAX_LINE - len(b"@0 ")
 # What `tools/serve` tells one client too many.
 FULL = b"full: eight clients are here\n"
+# What the name of the socket of a served image has after that of the image.
+SOCKET = ".socket"
 # No line of a reply is as long.
 SHOWN = 2_048
 # How long a program that has closed its output may take to end, in seconds.
@@ -129,6 +133,11 @@ class End(NamedTuple):
 
     status: int
     text: str
+
+
+def socket_of(image: str) -> str:
+    """Where an image is served, if it is: beside the file, also if a link leads to it."""
+    return (os.path.realpath(image) if os.path.islink(image) else image) + SOCKET
 
 
 def missing() -> str | None:
@@ -375,6 +384,13 @@ class Commands:
     def stat(self) -> Lines: return self.lines(b"stat")
 
 
+def unnamed_file() -> IO[bytes]:
+    """A file that is gone once it is closed."""
+    # Only where a program begins.
+    import tempfile
+    return tempfile.TemporaryFile()
+
+
 class Stream(Protocol):
     """Where commands go, or where replies come from."""
 
@@ -406,8 +422,11 @@ class Program(Commands):
     At the end of a `with` block it is closed. One that is no session, as `lisfs make`, is run by `Program(command).close()`.
     """
 
+    # Whether others change the image too, as where a server runs the program (`served.Joined`).
+    is_shared = False
+
     def __init__(self, command: Sequence[Word], rooms: bool = False, unheard: Collection[signal.Signals] = ()) -> None:
-        self._said = tempfile.TemporaryFile()
+        self._said = unnamed_file()
         self._child = begun(command, subprocess.PIPE, self._said, unheard, 0)
         assert self._child.stdin and self._child.stdout
         os.set_blocking(self._child.stdin.fileno(), False)
@@ -429,6 +448,13 @@ class Program(Commands):
         # An error of the block is not hidden by the end of the program.
         with contextlib.suppress(Ended) if kind else contextlib.nullcontext():
             self.close()
+
+    def news(self) -> News | None:
+        """What others have changed since this was asked last, or None if that is nothing, as of an image that a program has alone."""
+        return None
+
+    def guard(self) -> None:
+        """From now on no file is changed that another client has changed after what is known. Of an image alone there is none."""
 
     def room(self, number: int) -> Room:
         """The room of this number, which can be asked commands."""
@@ -697,7 +723,7 @@ def parts_of(change: Retag) -> list[Retag]:
 
 def shown_by(command: Sequence[Word], data: bytes = b"") -> bytes:
     """What a program shows that reads this input and ends. Raises `Ended` where its status is not 0."""
-    with tempfile.TemporaryFile() as given:
+    with unnamed_file() as given:
         # Where this process is killed, a pipe would end early, and the program take a part for the whole.
         given.write(data)
         given.seek(0)
@@ -760,7 +786,7 @@ def no_heed(_: Callable[[float], None]) -> None:
 def shown(command: Sequence[Word], unheard: Collection[signal.Signals] = (), heed: Heed = no_heed) -> Iterator[IO[bytes]]:
     """What a program shows that takes no commands, as `lisfs dump IMAGE`: a binary stream, to be read in the block. Raises `Ended` where its
     status is not 0, also in the place of an error of the block, since what was shown is then cut off."""
-    with tempfile.TemporaryFile() as said, begun(command, subprocess.DEVNULL, said, unheard, -1) as child:
+    with unnamed_file() as said, begun(command, subprocess.DEVNULL, said, unheard, -1) as child:
         assert child.stdout
         heed(functools.partial(kill_after, child))
         try:

@@ -1,7 +1,6 @@
 """What an image holds, read out of the session that makes it again, as `lisfs dump IMAGE` shows it."""
 from __future__ import annotations
 
-import hashlib
 import os
 import signal
 import time
@@ -46,6 +45,13 @@ class Digest(Protocol):
     """What takes the bytes of a file, as those of `hashlib` do."""
 
     def update(self, data: bytes, /) -> None: ...
+    def digest(self) -> bytes: ...
+
+
+def new_digest() -> Digest:
+    # OpenSSL takes a while to load, and few sessions need it.
+    import hashlib
+    return hashlib.sha256()
 
 
 class Dump:
@@ -76,7 +82,7 @@ def read_dump(stream: IO[bytes], with_digests: bool = False) -> Dump:
             dump.axioms.add(Axiom(*given))
         elif command == b"add" and len(given) >= 2 and given[1].isdigit():
             dump.files[given[0]] = Stored(int(given[1]), frozenset(given[2:]))
-            digest = hashlib.sha256() if with_digests else None
+            digest = new_digest() if with_digests else None
             pass_over(stream, int(given[1]), digest)
             if digest:
                 dump.digests[given[0]] = digest.digest()

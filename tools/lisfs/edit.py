@@ -26,16 +26,14 @@ import signal
 import stat
 import subprocess
 import sys
-import tempfile
 from collections.abc import Callable
 from types import FrameType
 from typing import TypeVar
 
 from lisfs.client import Ended, Locked, NotAReply, Refused, missing
 from lisfs.constants import MAX_VIEW
-from lisfs.endings import quiet
+from lisfs.endings import NotJoined, quiet
 from lisfs.parts import Changed, put, view
-from lisfs.served import NotJoined
 from lisfs.showing import harmless
 
 # How the program ends where it has certainly written nothing, beside being locked out: wrong words, no image, a fault of the input, no memory,
@@ -130,6 +128,7 @@ def editor() -> list[str]:
 def draft_of(name: str, shown: bytes) -> str:
     """A file with this view, in a folder of its own: for what an editor puts beside it, and so that no name says anything to an editor or to
     another user. Its end is that of the name, by which editors know what they show."""
+    import tempfile
     folder = None
     try:
         folder = tempfile.mkdtemp(prefix="edit-")

@@ -8,8 +8,18 @@ from collections.abc import Callable
 from typing import NoReturn
 
 from lisfs.client import Ended, Locked
-from lisfs.served import NotJoined
 from lisfs.showing import harmless, write_line
+
+
+class NotJoined(Ended):
+    """There is a server, and this is no client of it, for a cause that one line says."""
+
+    def __init__(self, cause: str) -> None:
+        super().__init__(1, cause + "\n")
+        self.cause = cause
+
+    def __str__(self) -> str:
+        return self.cause
 
 
 def cause_of(error: BaseException, image: str) -> str:

@@ -8,14 +8,16 @@ from __future__ import annotations
 import contextlib
 import struct
 from collections.abc import Iterable, Iterator, Sequence
-from typing import Generic, NamedTuple, TypeAlias, cast, overload
+from typing import TYPE_CHECKING, Generic, NamedTuple, TypeAlias, cast, overload
 
 from lisfs.client import BodyLine, Program, Refused, Reply, as_lines, counts_in, item
 from lisfs.constants import MAX_FILE, MAX_LARGE_FILE, NO_FILE_HERE
 from lisfs.dumps import Dump
 from lisfs.index import F, File, Index, Kind
-from lisfs.served import Joined, News, news_of_others
 from lisfs.words import is_test
+
+if TYPE_CHECKING:
+    from lisfs.served import News
 
 # The most bytes of a file, by the version of the image.
 FILE_BYTES = {1: MAX_FILE, 2: MAX_LARGE_FILE}
@@ -51,7 +53,7 @@ class Following(Generic[F]):
 
     def catch_up(self) -> News | None:
         """Takes in what other clients of a served image have changed since the last time, or returns None if that is nothing."""
-        if news := news_of_others(self.program):
+        if news := self.program.news():
             self._take_names(news)
             self._take_words(news)
         return news
@@ -145,7 +147,7 @@ class Image(Following[F]):
         for file, answer in zip(files, self._answers([(b"props", file.name) for file in files])):
             if not isinstance(answer, Refused):
                 lost |= self.index.describe(file, frozenset(text for _, text in as_lines(answer).body))
-            elif not (isinstance(self.program, Joined) and answer.number == NO_FILE_HERE):
+            elif not (self.program.is_shared and answer.number == NO_FILE_HERE):
                 raise answer
             # Else another client has just removed or renamed it, as the next news say.
         return {word for word in lost if not self.index.having(word)}

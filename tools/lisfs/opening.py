@@ -5,14 +5,19 @@ from __future__ import annotations
 
 import contextlib
 import functools
+import os
 import sys
 import threading
 from collections.abc import Iterator
+from typing import TYPE_CHECKING
 
-from lisfs import dumps, served
-from lisfs.client import PROGRAM, Program
+from lisfs import dumps
+from lisfs.client import PROGRAM, Program, socket_of
 from lisfs.dumps import Dump
 from lisfs.showing import harmless, write_line
+
+if TYPE_CHECKING:
+    from lisfs.served import Session
 
 # After so many seconds it is said.
 LONG = 1.0
@@ -66,14 +71,22 @@ def waiting(tool: str, image: str) -> Iterator[None]:
 @functools.cache
 def say_served(tool: str, image: str) -> None:
     """Says once that a tool is a client."""
-    write_line(sys.stderr, f"{tool}: {image} is served: a client of {served.socket_of(image)}")
+    write_line(sys.stderr, f"{tool}: {image} is served: a client of {socket_of(image)}")
     sys.stderr.flush()
 
 
-def joined(tool: str, image: str) -> served.Session | None:
-    """A client of the server of an image, which a line says, or None if there is none. Raises `NotJoined`."""
-    session = served.joined(image)
-    if session:
+def joined_quietly(image: str) -> Session | None:
+    """A client of the server of an image, or None if there is none. Raises `NotJoined`."""
+    if not os.path.exists(socket_of(image)):
+        return None
+    # Most images are not served, and then no sockets are needed.
+    from lisfs import served
+    return served.joined(image)
+
+
+def joined(tool: str, image: str) -> Session | None:
+    """The same, which a line says."""
+    if session := joined_quietly(image):
         say_served(tool, image)
     return session
 
@@ -100,5 +113,5 @@ def looked(tool: str, image: str) -> Iterator[Dump]:
 def tried(tool: str, image: str) -> None:
     """Opens an image and closes it again, so that what is wrong with it is known before anything takes long."""
     with waiting(tool, image):
-        session = served.joined(image)
+        session = joined_quietly(image)
         (session.program if session else Program([PROGRAM, "run", image])).close()

@@ -6,14 +6,12 @@ the program makes the view of it there, and puts the edited view back, and the s
 from __future__ import annotations
 
 import os
-import tempfile
 from typing import NamedTuple
 
 from lisfs import client
 from lisfs.client import PROGRAM, Ended, Program, Refused
 from lisfs.constants import BLOCK_LEN, MAX_PAYLOAD
 from lisfs.opening import joined, waiting
-from lisfs.refusals import CHANGED
 from lisfs.words import is_file_name
 
 # The limits of an image that takes any file, in which new bytes need room beside the old ones.
@@ -62,6 +60,7 @@ def view(image: str, name: str, formula: str) -> bytes:
         session = joined("edit", image)
         if session is None:
             return client.view(image, name, formula)
+        import tempfile
         with session.program as program, tempfile.TemporaryDirectory() as folder:
             return alone(folder, name, content_of(program, name)).view(formula)
 
@@ -73,6 +72,9 @@ def put(image: str, name: str, formula: str, shown: bytes, edited: bytes) -> Non
         if session is None:
             client.put(image, name, formula, edited)
             return
+        import tempfile
+
+        from lisfs.refusals import CHANGED
         with session.program as program, tempfile.TemporaryDirectory() as folder:
             session.program.guard()
             made = alone(folder, name, content_of(program, name))

@@ -46,13 +46,12 @@ import time
 from collections.abc import Callable, Iterator, Sequence
 from typing import NamedTuple, NoReturn, Protocol, TypeAlias
 
-from lisfs.client import FULL, ROOM_LINE, Ended, Item, Items, NotAReply, Program, item, missing, words_of
+from lisfs.client import FULL, ROOM_LINE, Ended, Item, Items, NotAReply, Program, item, missing, socket_of, words_of
 from lisfs.constants import CUT_PAYLOAD, REFUSAL_WORDS, ROOMS
 from lisfs.dumps import STOPS, NotADump, dumped, opened_by, started
 from lisfs.endings import quiet
 from lisfs.history import OK, PLACED, History
 from lisfs.opening import waiting
-from lisfs.served import socket_of
 from lisfs.showing import harmless
 
 READ, WRITE = selectors.EVENT_READ, selectors.EVENT_WRITE

@@ -6,7 +6,6 @@ that what is known of the image stays true (`history` has the lines), and behind
 from __future__ import annotations
 
 import contextlib
-import hashlib
 import os
 import socket
 import struct
@@ -14,25 +13,13 @@ import threading
 from collections.abc import Callable
 from typing import NamedTuple
 
-from lisfs.client import FULL, ROOM_LINE, BodyLine, End, Ended, NotAReply, Program, Refused, Replies
+from lisfs.client import FULL, ROOM_LINE, BodyLine, End, Ended, NotAReply, Program, Refused, Replies, socket_of
 from lisfs.dumps import Axiom, Dump, Stored
+from lisfs.endings import NotJoined
 
-# What the name of the socket has after that of the image.
-SUFFIX = ".socket"
 PIECE = 65_536
 # What the system says of who listens: the process, the user and the group.
 PEER = struct.Struct("3i")
-
-
-class NotJoined(Ended):
-    """There is a server, and this is no client of it, for a cause that one line says."""
-
-    def __init__(self, cause: str) -> None:
-        super().__init__(1, cause + "\n")
-        self.cause = cause
-
-    def __str__(self) -> str:
-        return self.cause
 
 
 class Identity(NamedTuple):
@@ -84,6 +71,8 @@ def news_of(body: list[BodyLine]) -> News:
 
 class Joined(Program):
     """A client of a served image."""
+
+    is_shared = True
 
     def __init__(self, connection: socket.socket, image: str) -> None:
         self._connection, self._image, self._is_closing = connection, image, False
@@ -172,16 +161,12 @@ class Digests(dict[bytes, bytes]):
         self._program = program
 
     def __missing__(self, name: bytes) -> bytes:
+        import hashlib
         try:
             self[name] = hashlib.sha256(self._program.cat(name).body).digest()
         except Refused:
             self[name] = b""
         return self[name]
-
-
-def socket_of(image: str) -> str:
-    """Where an image is served, if it is: beside the file, also if a link leads to it."""
-    return (os.path.realpath(image) if os.path.islink(image) else image) + SUFFIX
 
 
 def connected(image: str) -> socket.socket | None:
@@ -208,11 +193,6 @@ class Session(NamedTuple):
 
     program: Joined
     dump: Dump
-
-
-def news_of_others(program: Program) -> News | None:
-    """What others have changed since this was asked last, or None if that is nothing, as of an image that a program has alone."""
-    return program.news() if isinstance(program, Joined) else None
 
 
 def joined(image: str) -> Session | None:

@@ -16,9 +16,8 @@ import stat
 import sys
 from typing import NoReturn
 
-from lisfs.client import FULL, ROOM_LINE, Items, NotAReply, Replies
+from lisfs.client import FULL, ROOM_LINE, Items, NotAReply, Replies, socket_of
 from lisfs.endings import quiet
-from lisfs.served import socket_of
 from lisfs.showing import harmless
 
 INPUT, OUTPUT, PIECE = 0, 1, 65_536

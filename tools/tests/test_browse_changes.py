@@ -15,7 +15,7 @@ from lisfs.refusals import REFUSALS
 from lisfs.web import site
 from lisfs.web.image import Differs, Image
 from lisfs.web.places import Place
-from support import visitors, with_package
+from support import visitors
 from support.visitors import Browsed, Seen
 from support.waiting import LONG, children, is_running, until
 from support.web import MAIL, MIXED, Visitor, adding, make
@@ -324,9 +324,7 @@ def test_no_program(one_file):
 
 def test_no_package(one_file):
     """What is missing is said with Debian's package."""
-    os.mkdir("hidden")
-    with open("hidden/jinja2.py", "w", encoding="ascii") as file:
-        file.write("raise ModuleNotFoundError('none', name='jinja2')\n")
-    told = subprocess.run([sys.executable, visitors.BROWSE, one_file], capture_output=True, text=True, check=False, stdin=subprocess.DEVNULL,
-                          env=with_package(PYTHONPATH="hidden"), timeout=LONG)
+    # Without `site` Python finds its own modules alone.
+    told = subprocess.run([sys.executable, "-S", visitors.BROWSE, one_file], capture_output=True, text=True, check=False, stdin=subprocess.DEVNULL,
+                          timeout=LONG)
     assert (told.returncode, told.stderr) == (1, "browse: jinja2 is missing: apt-get install python3-jinja2\n")

@@ -5,9 +5,8 @@ from __future__ import annotations
 
 import binascii
 import encodings
-import encodings.aliases
+import functools
 import itertools
-import pkgutil
 import quopri
 import re
 from collections.abc import Iterator
@@ -24,8 +23,6 @@ TOKEN = re.compile(rf"(?P<word>{ENCODED})|\"(?P<quoted>(?:[^\"\\]+|\\.)*)\"?|<(?
 IN_COMMENT = re.compile(r"[()]|\\.")
 ESCAPED = re.compile(r"\\(.)")
 NO_NAME = re.compile(r"[@\[\]>\\]")
-# Character sets that there are. To look for another one takes long, since it could be in a file.
-CHARSETS = frozenset((*encodings.aliases.aliases, *(module.name for module in pkgutil.iter_modules(encodings.__path__))))
 
 
 class Person(NamedTuple):
@@ -33,6 +30,14 @@ class Person(NamedTuple):
 
     name: str
     address: str
+
+
+@functools.cache
+def charsets() -> frozenset[str]:
+    """Character sets that there are. To look for another one takes long, since it could be in a file."""
+    import encodings.aliases
+    import pkgutil
+    return frozenset((*encodings.aliases.aliases, *(module.name for module in pkgutil.iter_modules(encodings.__path__))))
 
 
 def people(field: str) -> list[Person]:
@@ -105,6 +110,6 @@ def decoded_word(charset: str, code: str, coded: str) -> str:
             return coded
     charset = encodings.normalize_encoding(charset.partition("*")[0].lower())
     try:
-        return data.decode(charset if charset in CHARSETS else "ascii", "replace")
+        return data.decode(charset if charset in charsets() else "ascii", "replace")
     except (LookupError, ValueError):
         return data.decode("ascii", "replace")

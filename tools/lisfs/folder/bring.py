@@ -34,7 +34,6 @@ import argparse
 import collections
 import os
 import sys
-import tempfile
 from collections.abc import Callable, Iterator, Sequence
 from typing import BinaryIO, NamedTuple
 
@@ -321,6 +320,7 @@ def main() -> int:
         return 2
     taking = Import(given, words.by_folder, 2 if words.v2 else 1, Telling("import", sys.stderr, words.verbose))
     taking.read(words)
+    import tempfile
     with tempfile.TemporaryDirectory() as folder:
         largest = Largest(folder, taking.version)
         taking.carry(sys.stdout.buffer, largest)

@@ -14,7 +14,6 @@ import json
 import os
 import stat
 import sys
-import tempfile
 import time
 import unicodedata
 from collections.abc import Callable, Sequence
@@ -133,6 +132,7 @@ def read_own(path: str) -> bytes:
 
 def write_whole(path: str, data: bytes, is_kept: bool = False) -> None:
     """Writes a file whole or not at all, for its owner alone; and on the medium before this returns, where it is to be kept."""
+    import tempfile
     os.makedirs(os.path.dirname(path), 0o700, exist_ok=True)
     handle, temporary = tempfile.mkstemp(dir=os.path.dirname(path), prefix=".sync-")
     try:

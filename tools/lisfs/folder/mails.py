@@ -11,9 +11,6 @@ no more than so many go to Python's own `email` package, which takes time with t
 from __future__ import annotations
 
 import calendar
-import email.header
-import email.policy
-import email.utils
 import functools
 import itertools
 import re
@@ -77,6 +74,7 @@ class Mail:
     @functools.cached_property
     def _date_parts(self) -> Sequence[int]:
         """The parts of its Date, with the seconds east of Greenwich at the end, or none."""
+        import email.utils
         try:
             date = email.utils.parsedate_tz(self._raw("Date")[:SHORT])
         except Exception:
@@ -137,11 +135,14 @@ def subject_of(raw: str) -> str:
 
 def newer_header(raw: str) -> object:
     """A Subject as the package's newer classes read it."""
+    # The package takes a while to load, and many folders have no mails.
+    import email.policy
     return email.policy.default.header_factory("Subject", raw)
 
 
 def older_header(raw: str) -> object:
     """The same, as its older ones read it."""
+    import email.header
     return email.header.make_header(email.header.decode_header(raw))
 
 

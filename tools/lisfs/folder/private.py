@@ -5,7 +5,6 @@ import contextlib
 import errno
 import os
 import stat
-import tempfile
 from collections.abc import Iterator
 
 from lisfs.client import held
@@ -22,6 +21,7 @@ PIECE = 65_536
 @contextlib.contextmanager
 def private_copy(image: str) -> Iterator[str]:
     """The path of a copy of an image, which is removed at the end. Raises `OSError`, and `Locked` if another program has the image."""
+    import tempfile
     with tempfile.TemporaryDirectory(prefix="lisfs-") as folder:
         path = os.path.join(folder, "image")
         try:

@@ -72,7 +72,7 @@ from fractions import Fraction
 from typing import NoReturn
 
 from lisfs import opening
-from lisfs.client import PROGRAM, Ended, Locked, NotAReply, Program, missing
+from lisfs.client import PROGRAM, Ended, Locked, NotAReply, Program, missing, socket_of
 from lisfs.constants import MAX_ASSIGNED, MAX_DERIVED, MAX_DESCRIPTION, MAX_WORD
 from lisfs.dumps import Dump, NotADump
 from lisfs.endings import folder_fault, quiet
@@ -87,7 +87,6 @@ from lisfs.folder.private import private_copy
 from lisfs.folder.report import Telling, counted, left_out
 from lisfs.folder.room import RESERVE, Room, kept_free
 from lisfs.image import limits_of
-from lisfs.served import Joined, socket_of
 from lisfs.showing import harmless, write_line
 from lisfs.words import PLAIN_FORM, PLAIN_RUN
 
@@ -165,9 +164,8 @@ class Sync:
             self.telling.clear()
             program, dump = opening.opened("sync", self.path, session_word(), with_digests=True)
             with program:
-                if isinstance(program, Joined):
-                    # What another client changes from now on is not written over.
-                    program.guard()
+                # What another client changes from now on is not written over.
+                program.guard()
                 self.carry(program, self.make_plan(entries, dump, program), room)
 
     def look(self) -> Room:

@@ -24,7 +24,6 @@ from lisfs.mount.image import Image
 from lisfs.mount.kernel import Connection
 from lisfs.mount.tree import Tree
 from lisfs.opening import opened
-from lisfs.served import Joined
 
 
 class Options(argparse.Namespace):
@@ -59,7 +58,7 @@ def run(image: str, folder: str, with_derived: bool, others: bool) -> int:
         finally:
             tree.finish()
     if not is_wanted:
-        tell(f"{image}: the {'server' if isinstance(program, Joined) else 'program'} has ended")
+        tell(f"{image}: the {'server' if program.is_shared else 'program'} has ended")
     return 0 if is_wanted and not tree.has_lost else 1
 
 

@@ -12,7 +12,7 @@ import collections
 import errno
 import functools
 from collections.abc import Iterable
-from typing import NamedTuple
+from typing import TYPE_CHECKING, NamedTuple
 
 from lisfs import image
 from lisfs.client import NotSent, Program, Refused
@@ -21,8 +21,10 @@ from lisfs.dumps import Dump
 from lisfs.formulas import Place
 from lisfs.image import Limits
 from lisfs.mount.nodes import File
-from lisfs.served import Joined, News
 from lisfs.words import TEST, head_of, is_head, is_plain, is_test, is_word
+
+if TYPE_CHECKING:
+    from lisfs.served import News
 
 # So many bytes of files are kept in memory, those that were looked at last.
 KEPT = 32 * 1_048_576
@@ -341,7 +343,7 @@ class Image(image.Image[File]):
         """Whether the program would make an empty file with these words, by `create` or by `add`."""
         if name in self.files or len(self.files) >= self.limits.files or not len(place.words or ()) == len(given) <= MAX_ASSIGNED:
             return False
-        if isinstance(self.program, Joined):
+        if self.program.is_shared:
             # Another client may make a file of this name, or take the room.
             return False
         if len(b" ".join((b"add", name, b"%d" % self.limits.file_bytes, *given))) > MAX_LINE:

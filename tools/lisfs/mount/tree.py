@@ -27,7 +27,6 @@ from lisfs.mount.kernel import KEEP_CACHE, NO_FLUSH, Attributes, Caller, Changed
 from lisfs.mount.nodes import Draft, File, Folder, Handle, Leaf, Listed, Looks, Node, Shelf, Shows, inode_of, leaf_inode
 from lisfs.mount.shown import shown
 from lisfs.refusals import error_of
-from lisfs.served import Joined
 from lisfs.words import FILE_NAME, head_of
 
 ALL, BY = b":all", b":by"
@@ -104,7 +103,7 @@ class Tree:
         self.image, self.user, self.group = image, os.getuid(), os.getgid()
         self.folder_mode, self.file_mode = (0o700, 0o600) if others else (0o755, 0o644)
         self.touched = now or time.time_ns()
-        self.kept_seconds = 0 if isinstance(image.program, Joined) else KEPT_SECONDS
+        self.kept_seconds = 0 if image.program.is_shared else KEPT_SECONDS
         root = Folder(ROOT_NUMBER, b"", ROOT, Shows.DERIVED if with_derived else Shows.GIVEN)
         root.lookups = 1
         # By their numbers; and the folders by their paths, and the files by a path and the file.

@@ -4,7 +4,6 @@ import os
 import shlex
 import shutil
 import stat
-import tempfile
 from collections.abc import Callable, Iterator, Sequence
 from typing import NoReturn
 
@@ -188,6 +187,7 @@ class Shell:
             raise Failed(f"{harmless(path)}: it is there already, and no plain file")
         if not self.screen.says_yes(f"{harmless(path)} is there already: write over it?"):
             raise Failed(f"{harmless(path)}: it is there already, and is left as it was")
+        import tempfile
         # The old bytes stand until the new ones are whole.
         path = os.path.realpath(path)
         descriptor, new = tempfile.mkstemp(dir=os.path.dirname(path))

@@ -9,7 +9,7 @@ from __future__ import annotations
 import collections
 import contextlib
 from collections.abc import Callable, Iterable, Iterator, KeysView, Sequence
-from typing import NamedTuple
+from typing import TYPE_CHECKING, NamedTuple
 
 from lisfs import client
 from lisfs.client import GoOn, NotSent, Program, Refused, Reply, Retag, Retagged, as_content, words_of
@@ -19,9 +19,11 @@ from lisfs.formulas import formula as read_formula
 from lisfs.formulas import words_in
 from lisfs.image import Following, Limits
 from lisfs.index import File, Index
-from lisfs.served import News
 from lisfs.shell.undoing import UNDOABLE, Change, moving, tags_of, undoing
 from lisfs.words import head_of, is_plain, is_test
+
+if TYPE_CHECKING:
+    from lisfs.served import News
 
 ROOT = b"/"
 # So many commands are sent before the first reply is received, and so many bytes are asked for.

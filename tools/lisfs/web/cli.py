@@ -17,6 +17,7 @@ The status is 0 after a requested end, 1 if something is wrong, which one line s
 """
 import argparse
 import functools
+import importlib.util
 import os
 import signal
 import socket
@@ -28,16 +29,15 @@ from lisfs.dumps import NotADump
 from lisfs.endings import cause_of, quiet, say
 from lisfs.image import limits_of
 from lisfs.opening import opened
+from lisfs.web.connections import WAITING, Connections
 from lisfs.web.image import Image
+from lisfs.web.site import Site
 
+# What the first page needs.
 PACKAGES = {"jinja2": "python3-jinja2", "markupsafe": "python3-markupsafe"}
-try:
-    from lisfs.web.connections import WAITING, Connections
-    from lisfs.web.site import Site
-except ModuleNotFoundError as absent:
-    if absent.name not in PACKAGES:
-        raise
-    sys.exit(f"browse: {absent.name} is missing: apt-get install {PACKAGES[absent.name]}")
+for package, of_debian in PACKAGES.items():
+    if importlib.util.find_spec(package) is None:
+        sys.exit(f"browse: {package} is missing: apt-get install {of_debian}")
 
 
 class NotServed(Exception):

@@ -4,10 +4,12 @@ What a place is, and what it shows, the program says. The index says how many fi
 the two agree is looked at each time: the files that no word covers are those that the program shows, and each word leaves some files and not
 all.
 """
+from __future__ import annotations
+
 import functools
 import hashlib
 from collections.abc import Callable, Collection, Iterable, Mapping, Sequence
-from typing import NamedTuple, Protocol
+from typing import TYPE_CHECKING, NamedTuple, Protocol
 
 from lisfs import image
 from lisfs.client import Commands, Program, Refused, Retag, Retagged, as_content, as_lines, item, tag, undo, untag
@@ -15,9 +17,11 @@ from lisfs.constants import IN_USE, NO_FILE_HERE, REFUSAL_WORDS, UNKNOWN_PROPERT
 from lisfs.dumps import Axiom, Dump
 from lisfs.index import File
 from lisfs.refusals import about
-from lisfs.served import News
 from lisfs.web.places import Place
 from lisfs.words import head_of, is_head, is_plain, is_test, is_word
+
+if TYPE_CHECKING:
+    from lisfs.served import News
 
 
 # So often a place is looked at again, while others change what it shows.

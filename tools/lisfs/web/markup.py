@@ -3,14 +3,17 @@
 A template writes what it is given by `{{ }}` alone, and there each value is a text: what is no character in it is made visible, and then it is
 escaped. No template turns that off, and each attribute that shows a value stands in quotes (`tools/tests/test_browse_parts.py` looks).
 """
+from __future__ import annotations
+
 import functools
 import re
 import urllib.parse
-
-import jinja2
-import markupsafe
+from typing import TYPE_CHECKING
 
 from lisfs.constants import MAX_WORD
+
+if TYPE_CHECKING:
+    import jinja2
 
 CONTROLS = {code: 0x2400 + code for code in range(32) if code not in (9, 10)} | {0x7F: 0x2421} | {code: 0xFFFD
                                                                                                   for code in range(0x80, 0xA0)}
@@ -31,6 +34,7 @@ def visible(text: str | bytes) -> str:
 
 def written(value: object) -> str:
     """What a template writes of a value, before it is escaped. Markup is what another part of a template has made."""
+    import markupsafe
     if isinstance(value, markupsafe.Markup):
         return value
     if isinstance(value, (str, bytes)):
@@ -60,6 +64,7 @@ def address(page: str, /, **given: str | bytes | int | None) -> str:
 
 @functools.cache
 def environment() -> jinja2.Environment:
+    import jinja2
     made = jinja2.Environment(loader=jinja2.PackageLoader("lisfs.web"), autoescape=True, finalize=written, undefined=jinja2.StrictUndefined,
                               trim_blocks=True, lstrip_blocks=True, auto_reload=False)
     made.globals.update(address=address, counted=counted, most_of_word=MAX_WORD)
