@@ -204,26 +204,32 @@ def test_an_undo_beside_another_client(pages):
 
 # The mount.
 
-@pytest.mark.usefixtures("fuse")
-def test_two_mounts(monkeypatch):
+@pytest.fixture
+def mounts(fuse, monkeypatch):
+    """Two folders at which the served image is mounted."""
     first, one = mounted_by("one", monkeypatch)
     second, other = mounted_by("two", monkeypatch)
     try:
-        one.mkdir("music")
-        one.put("todo", b"")
-        other.put("music/song", b"la la")
-        assert (one.ls(""), one.ls("music"), one.get("music/song"), one.size("music/song")) == (["music/", "todo"], ["song"], b"la la", 5)
-        one.put("music/song", b"another, and longer")
-        assert (other.get("music/song"), other.size("song")) == (b"another, and longer", 19)
-        other.rename("music/song", "music/tune")
-        assert (one.ls("music"), one.exists("music/song"), one.get("music/tune")) == (["tune"], False, b"another, and longer")
-        one.rename("music/tune", "tune")
-        assert (other.ls("music"), other.ls("")) == ([], ["music/", "todo", "tune"])
-        other.unlink("tune")
-        other.rmdir("music")
-        assert (one.ls(""), one.exists("music"), told_by(one.get, "tune")) == (["todo"], False, "ENOENT")
+        yield one, other
     finally:
         assert first.stop() == second.stop() == (0, "")
+
+
+def test_two_mounts(mounts):
+    one, other = mounts
+    one.mkdir("music")
+    one.put("todo", b"")
+    other.put("music/song", b"la la")
+    assert (one.ls(""), one.ls("music"), one.get("music/song"), one.size("music/song")) == (["music/", "todo"], ["song"], b"la la", 5)
+    one.put("music/song", b"another, and longer")
+    assert (other.get("music/song"), other.size("song")) == (b"another, and longer", 19)
+    other.rename("music/song", "music/tune")
+    assert (one.ls("music"), one.exists("music/song"), one.get("music/tune")) == (["tune"], False, b"another, and longer")
+    one.rename("music/tune", "tune")
+    assert (other.ls("music"), other.ls("")) == ([], ["music/", "todo", "tune"])
+    other.unlink("tune")
+    other.rmdir("music")
+    assert (one.ls(""), one.exists("music"), told_by(one.get, "tune")) == (["todo"], False, "ENOENT")
 
 
 def shuffle(ways, own, seed, fine):
@@ -238,28 +244,23 @@ def shuffle(ways, own, seed, fine):
         fine.update(answer for answer in answers if isinstance(answer, str))
 
 
-@pytest.mark.usefixtures("fuse")
-def test_two_busy_mounts(monkeypatch):
+def test_two_busy_mounts(mounts):
     """Each shows at the end what the other one shows, and is never wrong in another way than that somebody was quicker."""
-    first, one = mounted_by("one", monkeypatch)
-    second, other = mounted_by("two", monkeypatch)
-    try:
-        one.mkdir("a")
-        one.mkdir("b")
-        refused = [set(), set()]
-        threads = [threading.Thread(target=shuffle, args=(ways, own, number, refused[number])) for number, (ways, own) in enumerate(((one, "x"), (other, "y")))]
-        for thread in threads:
-            thread.start()
-        for thread in threads:
-            thread.join()
-        assert refused[0] | refused[1] <= {"ENOENT", "ESTALE", "EEXIST"}, refused
-        one.put("a/last", b"x")
-        other.put("b/last2", b"y")
-        shown = [{place: (sorted(ways.ls(place)), {name: ways.get(f":all/{name}") for name in ways.ls(":all")}) for place in ("", "a", "b", "a/b", ":all")}
-                 for ways in (one, other)]
-        assert shown[0] == shown[1] and {"last", "last2"} <= set(shown[0][":all"][0])
-    finally:
-        assert first.stop() == second.stop() == (0, "")
+    one, other = mounts
+    one.mkdir("a")
+    one.mkdir("b")
+    refused = [set(), set()]
+    threads = [threading.Thread(target=shuffle, args=(ways, own, number, refused[number])) for number, (ways, own) in enumerate(((one, "x"), (other, "y")))]
+    for thread in threads:
+        thread.start()
+    for thread in threads:
+        thread.join()
+    assert refused[0] | refused[1] <= {"ENOENT", "ESTALE", "EEXIST"}, refused
+    one.put("a/last", b"x")
+    other.put("b/last2", b"y")
+    shown = [{place: (sorted(ways.ls(place)), {name: ways.get(f":all/{name}") for name in ways.ls(":all")}) for place in ("", "a", "b", "a/b", ":all")}
+             for ways in (one, other)]
+    assert shown[0] == shown[1] and {"last", "last2"} <= set(shown[0][":all"][0])
 
 
 @pytest.mark.usefixtures("fuse")

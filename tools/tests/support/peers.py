@@ -6,7 +6,6 @@ import random
 import select
 import signal
 import socket
-import subprocess
 import time
 from collections.abc import Callable, Sequence
 from typing import IO, Any, NamedTuple
@@ -14,7 +13,7 @@ from typing import IO, Any, NamedTuple
 from lisfs.client import PROGRAM, End, Replies, shown_by
 from lisfs.constants import MAX_PAYLOAD
 from support import images, tool
-from support.running import Running
+from support.running import Running, Told, told
 from support.waiting import LONG, is_running, stop, until
 
 SERVE, TALK = tool("serve"), tool("talk")
@@ -135,17 +134,8 @@ def asked(connection: socket.socket, data: bytes, wanted: int) -> bytes:
     return got
 
 
-class Talked(NamedTuple):
-    """The status of a talk, what it showed and what it said."""
-
-    status: int
-    shown: bytes
-    said: str
-
-
-def talked(data: bytes, path: str = "socket", **more: Any) -> Talked:
-    talk = subprocess.run([TALK, path], input=data, capture_output=True, timeout=LONG, check=False, **more)
-    return Talked(talk.returncode, talk.stdout, talk.stderr.decode())
+def talked(data: bytes, path: str = "socket", **more: Any) -> Told:
+    return told([TALK, path], data, **more)
 
 
 class Served(Running):

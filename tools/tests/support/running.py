@@ -7,10 +7,25 @@ import signal
 import subprocess
 import tempfile
 from collections.abc import Iterator, Sequence
-from typing import Any, Self
+from typing import Any, NamedTuple, Self
 
 from lisfs.client import PROGRAM, End
 from support.waiting import LONG, children
+
+
+class Told(NamedTuple):
+    """The status of a tool that has ended, what it showed and what it said."""
+
+    status: int
+    shown: bytes
+    said: str
+
+
+def told(command: Sequence[str], data: bytes, **more: Any) -> Told:
+    """What a tool does with an input."""
+    ran = subprocess.run(command, input=data, capture_output=True, timeout=LONG, check=False, **more)
+    return Told(ran.returncode, ran.stdout, ran.stderr.decode())
+
 
 # Those that were started and not ended for sure.
 STARTED: list[subprocess.Popen[bytes]] = []

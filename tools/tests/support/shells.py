@@ -1,9 +1,8 @@
 """The prompt over scripts, as a program and within this process. For its test alone."""
 import contextlib
 import signal
-import subprocess
 from collections.abc import Iterator
-from typing import Any, NamedTuple
+from typing import Any
 
 from lisfs.dumps import opened
 from lisfs.image import limits_of
@@ -11,22 +10,13 @@ from lisfs.shell.running import Shell, as_a_script
 from lisfs.shell.session import Session
 from lisfs.shell.terminal import OUTPUT, Interrupts, Screen
 from support import tool
-from support.waiting import LONG
+from support.running import Told, told
 
 SHELL = tool("shell")
 
 
-class Told(NamedTuple):
-    """The status of a script, what it showed and what it said."""
-
-    status: int
-    shown: bytes
-    said: str
-
-
 def shell(script: bytes, image: str = "image", **more: Any) -> Told:
-    ran = subprocess.run([SHELL, image], input=script, capture_output=True, timeout=LONG, check=False, **more)
-    return Told(ran.returncode, ran.stdout, ran.stderr.decode())
+    return told([SHELL, image], script, **more)
 
 
 class Kept(Screen):
