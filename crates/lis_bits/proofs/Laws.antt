@@ -17,7 +17,7 @@ get-with_row_other r row other bit value differ = ap (λ values. get_or values b
 pub length-with_row : (r : Rows) (row : ℕ) (value : ℕ → Bool) → length (with_row r row value).rows ≡ length r.rows
 length-with_row r row value = length-set r.rows row (row_of r.bits value)
 
-all_false : (n k : ℕ) → get_or (replicate n false) k false ≡ false
+pub all_false : (n k : ℕ) → get_or (replicate n false) k false ≡ false
 all_false n k = go (cases_lt k n)
   where
     go : (k < n) ⊎ (n ≤ k) → get_or (replicate n false) k false ≡ false

@@ -1,6 +1,7 @@
 pub mod Laws
 mod Places
 pub mod Seen
-mod Searches
+pub mod Searches
 mod Marks
 mod Ups
+pub mod Finds

@@ -3,10 +3,11 @@ use Rattle.std.proofs.Common.{◌≡◌, ◌⊎◌, ℕ, zero, suc, ◌+◌, ◌
 use Rattle.std.specs.Bool.{one_answer}
 use Rattle.std.specs.List.{range_with_len}
 use Rattle.std.proofs.lemmas.Bool.{cases_eq, cases_lt}
-use Rattle.std.proofs.lemmas.List.{get_or_default, get_or-replicate, get_or_past, length-replicate}
+use Rattle.std.proofs.lemmas.List.{get_or_default, length-replicate}
 use Rattle.std.proofs.lemmas.List.Sums.{sum_by-cons, sum_by-set, count_by-le-length}
 use Rattle.std.proofs.Math.ListN.{get_or-eq_default}
 use Rattle.lis_limits.specs.declared.TheConstants.{MAX_PROPS}
+use Rattle.lis_bits.proofs.Laws.{all_false}
 use Rattle.lis_taxonomy.specs.Search.{is_found}
 use Rattle.lis_taxonomy.specs.Inside.{IsSoundSearch}
 use Rattle.lis_taxonomy.proofs.Searches.{has_at, push_from, push_old, push_new}
@@ -18,20 +19,12 @@ none_counted (mark ∷ marks) none =
     let head = ap {B = ℕ} (λ (m : Bool). cond m 1 0) (none 0) in
     omega (arith, sum_by-cons (λ (m : Bool). cond m 1 0) mark marks, head, none_counted marks (λ k. none (suc k)))
 
--- nothing is found at first
-unmarked : (n q : ℕ) → get_or (replicate n false) q false ≡ false
-unmarked n q = by (cases_lt q n)
-  where
-    by : (q < n) ⊎ (n ≤ q) → get_or (replicate n false) q false ≡ false
-    by (inl lt) = get_or-replicate n q false false lt
-    by (inr past) = get_or_past (replicate n false) q false (omega (arith, length-replicate n false, past))
-
 pub sound_empty : (n capacity : ℕ) → n ≡ MAX_PROPS → capacity ≡ MAX_PROPS → IsSoundSearch [] (replicate n false) capacity
 sound_empty n capacity all exact = record {
   size = omega (arith, length-replicate n false, all);
   memory = omega (arith, exact);
-  marked = λ q. unmarked n q;
-  once = none_counted (replicate n false) (unmarked n);
+  marked = λ q. all_false n q;
+  once = none_counted (replicate n false) (all_false n);
 }
 
 -- as many places are marked as there are numbers that are

@@ -27,7 +27,7 @@ module _ (es : List (ℕ × ℕ)) (props : ℕ) (order : AreInOrder es props) (p
       by : (k : ℕ) → k < length es → edge_at es k ≡ (p, q) → (k < place) ⊎ (place ≤ k) → (place ≡ k) ⊎ (place ≡ k → ⊥) → (place < length es) × (edge_at es place ≡ (p, q))
       by k lt same (inl less) other = absurd (omega (arith, at.before k less, ap rank same))
       by k lt same (inr more) (inl here) = (omega arith, ap (edge_at es) here ∙ same)
-      by k lt same (inr more) (inr apart) = absurd (omega (arith, at.behind place (omega arith) (omega arith), order.rising place k (omega arith) lt, ap rank same))
+      by k lt same (inr more) (inr apart) = absurd (omega (arith, at.after place (omega arith) (omega arith), order.rising place k (omega arith) lt, ap rank same))
 
   pub gap : ((place < length es) × (edge_at es place ≡ (p, q)) → ⊥) → IsGap es p q place
   gap other = record { at = at; absent = λ k lt same. other (among_here (place_among es (p, q) k lt same)) }
@@ -38,7 +38,7 @@ module _ (es : List (ℕ × ℕ)) (props : ℕ) (order : AreInOrder es props) (p
       where
         by : (rank (p, q) ≡ rank (edge_at es k)) ⊎ (rank (p, q) ≡ rank (edge_at es k) → ⊥) → rank (p, q) < rank (edge_at es k)
         by (inl same) = absurd (absent (place_among es (p, q) k lt (rank_same (edge_at es k) (p, q) (omega (arith, order.right k lt, order.few)) (omega (arith, order.few)) (sym same))))
-        by (inr apart) = omega (arith, at.behind k le lt)
+        by (inr apart) = omega (arith, at.after k le lt)
 
     module _ (left : p < props) where
       more : List (ℕ × ℕ)
@@ -193,8 +193,8 @@ module _ (p q : ℕ) (right : q < MAX_PROPS) (e : ℕ × ℕ) (within : e.1 < MA
       by false true false ae be ce h = absurd cc
       by false false c ae be ce h = absurd cc
 
-  rank_behind : is_before p q e ≡ false → rank (p, q) ≤ rank e
-  rank_behind h = by (nat_lt e.0 p) (nat_eq e.0 p) (nat_lt e.1 q) refl refl refl h
+  rank_after : is_before p q e ≡ false → rank (p, q) ≤ rank e
+  rank_after h = by (nat_lt e.0 p) (nat_eq e.0 p) (nat_lt e.1 q) refl refl refl h
     where
       by : (a b c : Bool) → nat_lt e.0 p ≡ a → nat_eq e.0 p ≡ b → nat_lt e.1 q ≡ c → (a || (b && c)) ≡ false → rank (p, q) ≤ rank e
       by true b c ae be ce h = absurd cc
@@ -218,11 +218,11 @@ module _ (es : List (ℕ × ℕ)) (props : ℕ) (order : AreInOrder es props) (p
       by : (t : Bool) → is_before p q (get_or es i d) ≡ t → (i ≡ j) ⊎ (i ≡ j → ⊥) → is_before p q (get_or es i d) ≡ true
       by true e other = e
       by false e (inl same) = ap (λ k. is_before p q (get_or es k d)) same ∙ before
-      by false e (inr apart) = absurd (omega (arith, high, order.rising i j (omega arith) lt, rank_behind p q right (edge_at es i) (narrow i (omega arith)) (ap (is_before p q) (sym (at i (omega arith))) ∙ e)))
+      by false e (inr apart) = absurd (omega (arith, high, order.rising i j (omega arith) lt, rank_after p q right (edge_at es i) (narrow i (omega arith)) (ap (is_before p q) (sym (at i (omega arith))) ∙ e)))
 
   pub is_place : (place : ℕ) → place ≤ length es → IsPartitionPoint (λ e. is_before p q e ≡ true) (λ e. is_before p q e ≡ false) es place → IsPlace es p q place
   is_place place within point = record {
     within = within;
     before = λ k lt. rank_before p q right (edge_at es k) (narrow k (omega arith)) (point.0 k (0, 0) (omega arith) lt);
-    behind = λ k le lt. rank_behind p q right (edge_at es k) (narrow k lt) (point.1 k (0, 0) le lt);
+    after = λ k le lt. rank_after p q right (edge_at es k) (narrow k lt) (point.1 k (0, 0) le lt);
   }

@@ -7,9 +7,9 @@ use Rattle.std.proofs.lemmas.List.Folds.{list_any-append, list_any_at, list_any_
 use Rattle.lis_graph.specs.Graph as chains
 use Rattle.lis_graph.proofs.Members.{among_from_any, among_from_contains, contains_from_among}
 use Rattle.lis_graph.proofs.Graph as graph
-use Rattle.lis_taxonomy.specs.Search.{is_found}
+use Rattle.lis_taxonomy.specs.Search.{is_found, met}
 use Rattle.lis_taxonomy.specs.Taxonomy.{no_links}
-use Rattle.lis_taxonomy.specs.Inside.{edge_at, AreInOrder, IsPlace, MeetsRights, IsSearched, met}
+use Rattle.lis_taxonomy.specs.Inside.{edge_at, AreInOrder, AreEntered, IsPlace, MeetsRights, IsSearched}
 use Rattle.lis_taxonomy.specs.Steps.{MeetsTo, SearchesTo}
 use Rattle.lis_taxonomy.proofs.Places.{among_place, place_among}
 
@@ -97,6 +97,17 @@ module _ (now : List ℕ) (r : ℕ) where
   pub met_from : (q : ℕ) → is_found (met now r) q ≡ true → (is_found now q ≡ true) ⊎ (r ≡ q)
   met_from q = met_by (λ f. is_found f q ≡ true → (is_found now q ≡ true) ⊎ (r ≡ q)) (λ _ h. inl h) (push_from now r q)
 
+  pub met_found : (q : ℕ) → is_found (met now r) q ≡ (is_found now q || nat_eq r q)
+  met_found q = one_answer (is_found (met now r) q) (is_found now q || nat_eq r q) (λ h. to (met_from q h), λ h. from (or_cases (is_found now q) (nat_eq r q) h)) (λ h. h, λ h. h)
+    where
+      to : (is_found now q ≡ true) ⊎ (r ≡ q) → (is_found now q || nat_eq r q) ≡ true
+      to (inl old) = or_left (is_found now q) (nat_eq r q) old
+      to (inr same) = or_right (is_found now q) (nat_eq r q) (eq-eqb r q same)
+
+      from : (is_found now q ≡ true) ⊎ (nat_eq r q ≡ true) → is_found (met now r) q ≡ true
+      from (inl old) = met_old q old
+      from (inr same) = subst (λ x. is_found (met now r) x ≡ true) (eqb-true r q same) met_has
+
 -- ---- the edges from one number
 module _ (es : List (ℕ × ℕ)) (old : List ℕ) (props : ℕ) (order : AreInOrder es props) (number : ℕ) where
   pub meets_start : (place : ℕ) → IsPlace es number 0 place → MeetsTo es old old number place
@@ -105,7 +116,7 @@ module _ (es : List (ℕ × ℕ)) (old : List ℕ) (props : ℕ) (order : AreInO
     kept = λ k lt. refl;
     all = λ k low lt same. absurd (omega (arith, at.before k low, same));
     only = λ q h. inl h;
-    from_there = λ k le lt. omega (arith, at.behind k le lt, order.right k lt, order.few);
+    from_there = λ k le lt. omega (arith, at.after k le lt, order.right k lt, order.few);
   }
 
   pub meets_step : (now : List ℕ) (place : ℕ) → MeetsTo es old now number place → place < length es → (edge_at es place).0 ≡ number → MeetsTo es old (met now (edge_at es place).1) number (place + 1)
@@ -195,21 +206,7 @@ module _ (es : List (ℕ × ℕ)) (starts : List ℕ) where
 -- ---- numbers that are met one after the other
 module _ (xs : List ℕ) (now : List ℕ) (i : ℕ) (lt : i < length xs) (so_far : (q : ℕ) → is_found now q ≡ is_found (take i xs) q) where
   pub met_more : (q : ℕ) → is_found (met now (get_or xs i 0)) q ≡ is_found (take (i + 1) xs) q
-  met_more q = one_answer (is_found (met now r) q) (is_found (take (i + 1) xs) q) (λ h. to (met_from now r q h), λ h. from (or_cases (is_found (take i xs) q) (nat_eq r q) (sym more ∙ h))) (λ h. h, λ h. h)
-    where
-      r : ℕ
-      r = get_or xs i 0
-
-      more : is_found (take (i + 1) xs) q ≡ (is_found (take i xs) q || nat_eq r q)
-      more = list_any_more (λ x. nat_eq x q) xs i 0 lt
-
-      to : (is_found now q ≡ true) ⊎ (r ≡ q) → is_found (take (i + 1) xs) q ≡ true
-      to (inl old) = more ∙ or_left (is_found (take i xs) q) (nat_eq r q) (sym (so_far q) ∙ old)
-      to (inr same) = more ∙ or_right (is_found (take i xs) q) (nat_eq r q) (eq-eqb r q same)
-
-      from : (is_found (take i xs) q ≡ true) ⊎ (nat_eq r q ≡ true) → is_found (met now r) q ≡ true
-      from (inl old) = met_old now r q (so_far q ∙ old)
-      from (inr same) = subst (λ x. is_found (met now r) x ≡ true) (eqb-true r q same) (met_has now r)
+  met_more q = met_found now (get_or xs i 0) q ∙ (ap (λ b. b || nat_eq (get_or xs i 0) q) (so_far q) ∙ sym (list_any_more (λ x. nat_eq x q) xs i 0 lt))
 
 -- a search from numbers with the same members finds the same
 pub searched_as : (es : List (ℕ × ℕ)) (starts others found : List ℕ) → ((q : ℕ) → is_found starts q ≡ is_found others q) → IsSearched es starts found → IsSearched es others found
@@ -217,6 +214,22 @@ searched_as es starts others found same searched q = (
   λ h. let e = (searched q).0 h in (e.0, sym (same e.0) ∙ e.1, e.2),
   λ e. (searched q).1 (e.0, same e.0 ∙ e.1, e.2),
 )
+
+-- ---- marks of numbers to which edges lead
+-- a chain of edges ends where it starts, or at a number that is marked
+pub chain_enters : (es : List (ℕ × ℕ)) (entered : List Bool) → AreEntered es entered → (n p q : ℕ) → chains.Chain no_links es n p q → (p ≡ q) ⊎ (get_or entered q false ≡ true)
+chain_enters es entered marked zero p q same = inl same
+chain_enters es entered marked (suc n) p q chain = inr (by (chain_enters es entered marked n chain.0 q chain.2))
+  where
+    first : chains.Linked no_links es p chain.0 → get_or entered chain.0 false ≡ true
+    first (inl given) = absurd (among_from_contains [] chain.0 given)
+    first (inr edge) =
+        let k = among_place es (p, chain.0) (among_from_contains es (p, chain.0) edge) in
+        subst (λ (e : ℕ × ℕ). get_or entered e.1 false ≡ true) k.2 (marked.each k.0 k.1)
+
+    by : (chain.0 ≡ q) ⊎ (get_or entered q false ≡ true) → get_or entered q false ≡ true
+    by (inl same) = subst (λ x. get_or entered x false ≡ true) same (first chain.1)
+    by (inr mark) = mark
 
 -- ---- one start
 pub met_first : (p : ℕ) → met [] p ≡ p ∷ []

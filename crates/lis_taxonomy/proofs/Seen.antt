@@ -1,5 +1,7 @@
 -- What a contract sees of the edges, and how one edge more or less changes it.
-use Rattle.std.proofs.Common.{◌≡◌, ◌⊎◌, ◌↔◌, Result, Ok, Err, IfOk, IfErr, is_ok, ℕ, ◌+◌, ◌*◌, ◌<◌, ◌≤◌, Bool, true, false, cond, not, ◌&&◌, ◌||◌, nat_eq, List, [], ◌∷◌, length, Decides, refl, sym, ap, subst, ◌∙◌, inl, inr, arith}
+use Rattle.std.proofs.Common.{◌≡◌, ◌⊎◌, ◌↔◌, Result, Ok, Err, IfOk, IfErr, is_ok, ℕ, ◌+◌, ◌*◌, ◌<◌, ◌≤◌, Bool, true, false, cond, not, ◌&&◌, ◌||◌, nat_eq, List, [], ◌∷◌, length, get_or, set, replicate, Decides, refl, sym, ap, subst, ◌∙◌, inl, inr, arith, length-set, get_or-set_same, get_or-set_other}
+use Rattle.std.proofs.lemmas.Bool.{cases_eq}
+use Rattle.std.proofs.lemmas.List.{length-replicate}
 use Rattle.std.specs.Bool.{one_answer}
 use Rattle.std.specs.List.{list_any, insert, remove}
 use Rattle.std.specs.Ordering.{nat_cmp, eq_by_cmp}
@@ -15,7 +17,7 @@ use Rattle.lis_graph.proofs.Graph as graph
 use Rattle.lis_taxonomy.specs.Taxonomy.{pair_cmp, no_links, has_edge, Entails, IsAcyclic, with_edge, without_edge}
 use Rattle.lis_limits.specs.declared.TheConstants.{MAX_PROPS}
 use Rattle.lis_taxonomy.specs.Search.{is_found}
-use Rattle.lis_taxonomy.specs.Inside.{edge_at, AreInOrder, IsGap, seen, IsSoundTaxonomy, IsSearched}
+use Rattle.lis_taxonomy.specs.Inside.{edge_at, AreInOrder, AreEntered, IsGap, seen, IsSoundTaxonomy, IsSearched}
 use Rattle.lis_taxonomy.proofs.Laws.{nat_decides, no_links_ordered}
 use Rattle.lis_taxonomy.proofs.Searches.{has_at, only_start}
 use Rattle.lis_taxonomy.proofs.Places.{among_place, place_among, not_among, order_more, order_less, gone, among_insert, insert_among, among_remove, remove_among}
@@ -184,26 +186,45 @@ module _ (small big : List (ℕ × ℕ)) (props p q : ℕ)
     seen_less = ap (λ edges. record { props = props; edges = edges }) set_less
 
 -- ---- what the fields keep
-pub sound_new : (props capacity : ℕ) → props ≤ MAX_PROPS → capacity ≡ 3 * props → IsSoundTaxonomy [] props capacity
-sound_new props capacity few exact = record {
+pub sound_new : (props capacity n : ℕ) → n ≡ MAX_PROPS → props ≤ MAX_PROPS → capacity ≡ 3 * props → IsSoundTaxonomy [] (replicate n false) props capacity
+sound_new props capacity n all few exact = record {
   order = record { few = few; left = λ k lt. absurd (omega arith); right = λ k lt. absurd (omega arith); rising = λ i j less lt. absurd (omega arith) };
+  marked = record { size = length-replicate n false ∙ all; each = λ k lt. absurd (omega arith) };
   acyclic = graph.acyclic_from nat_eq nat_cmp no_links nat_decides exact_unsigned no_links_ordered [] refl;
   count = set.len-empty pair_cmp;
   memory = omega arith;
 }
 
-module _ (es : List (ℕ × ℕ)) (props capacity : ℕ) (sound : IsSoundTaxonomy es props capacity) (p q place : ℕ) where
+module _ (es : List (ℕ × ℕ)) (entered : List Bool) (props capacity : ℕ) (sound : IsSoundTaxonomy es entered props capacity) (p q place : ℕ) where
   module _ (left : p < props) (right : q < props) (none : IsGap es p q place) (open_end : chains.Entails no_links es q p → ⊥) (big : List (ℕ × ℕ)) (same : big ≡ insert es place (p, q)) where
     new : Among es (p, q) → ⊥
     new = not_among es p q place none
 
-    pub sound_added : (wider : ℕ) → capacity ≤ wider → IsSoundTaxonomy big props wider
-    sound_added wider wide = subst (λ bs. IsSoundTaxonomy bs props wider) (sym same) (record {
+    -- the number to which the new edge leads is marked too
+    entered_more : AreEntered (insert es place (p, q)) (set entered q true)
+    entered_more = record { size = length-set entered q true ∙ sound.marked.size; each = λ k lt. each k lt }
+      where
+        each : (k : ℕ) → k < length (insert es place (p, q)) → get_or (set entered q true) (edge_at (insert es place (p, q)) k).1 false ≡ true
+        each k lt = by (among_insert es place (p, q) (edge_at (insert es place (p, q)) k) (place_among (insert es place (p, q)) (edge_at (insert es place (p, q)) k) k lt refl))
+          where
+            old : (r : ℕ) → get_or entered r false ≡ true → (r ≡ q) ⊎ (r ≡ q → ⊥) → get_or (set entered q true) r false ≡ true
+            old r mark (inl is) = subst (λ x. get_or (set entered q true) x false ≡ true) (sym is) (get_or-set_same entered q true false (omega (arith, right, sound.order.few, sound.marked.size)))
+            old r mark (inr apart) = get_or-set_other entered q r true false apart ∙ mark
+
+            by : Among ((p, q) ∷ es) (edge_at (insert es place (p, q)) k) → get_or (set entered q true) (edge_at (insert es place (p, q)) k).1 false ≡ true
+            by (inl is) = subst (λ (e : ℕ × ℕ). get_or (set entered q true) e.1 false ≡ true) is (get_or-set_same entered q true false (omega (arith, right, sound.order.few, sound.marked.size)))
+            by (inr there) =
+                let j = among_place es (edge_at (insert es place (p, q)) k) there in
+                subst (λ (e : ℕ × ℕ). get_or (set entered q true) e.1 false ≡ true) j.2 (old (edge_at es j.0).1 (sound.marked.each j.0 j.1) (cases_eq (edge_at es j.0).1 q))
+
+    pub sound_added : (marks : List Bool) → marks ≡ set entered q true → (wider : ℕ) → capacity ≤ wider → IsSoundTaxonomy big marks props wider
+    sound_added marks put wider wide = subst (λ (ms : List Bool). IsSoundTaxonomy big ms props wider) (sym put) (subst (λ bs. IsSoundTaxonomy bs (set entered q true) props wider) (sym same) (record {
       order = order_more es props sound.order p q place right none.at new left;
+      marked = entered_more;
       acyclic = acyclic_more es (insert es place (p, q)) props p q (among_insert es place (p, q)) (insert_among es place (p, q)) sound.acyclic open_end;
       count = count_more es (insert es place (p, q)) props p q (among_insert es place (p, q)) (insert_among es place (p, q)) new ∙ (ap (λ n. n + 1) sound.count ∙ sym (length-insert es place (p, q) none.at.within));
       memory = omega (arith, sound.memory);
-    })
+    }))
 
     pub seen_added : seen big props ≡ with_edge (seen es props) p q
     seen_added = ap (λ bs. seen bs props) same ∙ seen_more es (insert es place (p, q)) props p q (among_insert es place (p, q)) (insert_among es place (p, q))
@@ -221,9 +242,19 @@ module _ (es : List (ℕ × ℕ)) (props capacity : ℕ) (sound : IsSoundTaxonom
     pub seen_removed : seen small props ≡ without_edge (seen es props) p q
     seen_removed = ap (λ bs. seen bs props) is ∙ seen_less (remove es place) es props p q to from out
 
-    pub sound_removed : (wider : ℕ) → capacity ≤ wider → IsSoundTaxonomy small props wider
-    sound_removed wider wide = subst (λ bs. IsSoundTaxonomy bs props wider) (sym is) (record {
+    entered_less : AreEntered (remove es place) entered
+    entered_less = record {
+      size = sound.marked.size;
+      each = λ k lt.
+          let m = place_among (remove es place) (edge_at (remove es place) k) k lt refl in
+          let j = among_place es (edge_at (remove es place) k) (from (edge_at (remove es place) k) (inr m)) in
+          subst (λ (e : ℕ × ℕ). get_or entered e.1 false ≡ true) j.2 (sound.marked.each j.0 j.1);
+    }
+
+    pub sound_removed : (wider : ℕ) → capacity ≤ wider → IsSoundTaxonomy small entered props wider
+    sound_removed wider wide = subst (λ bs. IsSoundTaxonomy bs entered props wider) (sym is) (record {
       order = order_less es props sound.order place there;
+      marked = entered_less;
       acyclic = acyclic_fewer (remove es place) es props p q to from sound.acyclic;
       count = let more = count_more (remove es place) es props p q to from out in omega (arith, more, sound.count, length-remove es place there);
       memory = omega (arith, sound.memory);

@@ -1,5 +1,5 @@
 -- The lists of a taxonomy and of a search, and what the functions over them do. No public clause cites this module.
-use Rattle.std.specs.Prelude.{◌≡◌, ◌≢◌, ℕ, ◌+◌, ◌*◌, ◌<◌, ◌≤◌, ◌↔◌, ◌⊎◌, Bool, false, IsTrue, List, ◌∷◌, [], ◌++◌, if◌then◌else◌, length, count_by, slice_index, slice_index_or}
+use Rattle.std.specs.Prelude.{◌≡◌, ◌≢◌, ℕ, ◌+◌, ◌*◌, ◌<◌, ◌≤◌, ◌↔◌, ◌⊎◌, Bool, false, IsTrue, List, length, count_by, slice_index, slice_index_or}
 use Rattle.std.specs.FinSet as set
 use Rattle.lis_limits.specs.declared.TheConstants.{MAX_PROPS}
 use Rattle.lis_bits.specs.Rows.{Rows, get}
@@ -26,7 +26,7 @@ pub record AreInOrder (edges : List (ℕ × ℕ)) (props : ℕ) : Type 0 where
 pub record IsPlace (edges : List (ℕ × ℕ)) (p q place : ℕ) : Type 0 where
   pub within : place ≤ length edges
   pub before : (k : ℕ) → k < place → rank (edge_at edges k) < rank (p, q)
-  pub behind : (k : ℕ) → place ≤ k → k < length edges → rank (p, q) ≤ rank (edge_at edges k)
+  pub after : (k : ℕ) → place ≤ k → k < length edges → rank (p, q) ≤ rank (edge_at edges k)
 
 -- the edge from p to q is not there, and this is the place that it would have
 pub record IsGap (edges : List (ℕ × ℕ)) (p q place : ℕ) : Type 0 where
@@ -37,9 +37,15 @@ pub record IsGap (edges : List (ℕ × ℕ)) (p q place : ℕ) : Type 0 where
 abbrev pub seen : List (ℕ × ℕ) → ℕ → Taxonomy
 seen edges props = record { props = props; edges = set.from_list edges }
 
--- what the fields of a taxonomy keep: the edges have no circle, and there is memory for all for which there is room
-pub record IsSoundTaxonomy (edges : List (ℕ × ℕ)) (props capacity : ℕ) : Type 0 where
+-- each number to which an edge leads is marked
+pub record AreEntered (edges : List (ℕ × ℕ)) (entered : List Bool) : Type 0 where
+  pub size : length entered ≡ MAX_PROPS
+  pub each : (k : ℕ) → k < length edges → IsTrue (slice_index_or entered (edge_at edges k).1 false)
+
+-- what the fields of a taxonomy keep: the edges have no cycle, and there is memory for all for which there is room
+pub record IsSoundTaxonomy (edges : List (ℕ × ℕ)) (entered : List Bool) (props capacity : ℕ) : Type 0 where
   pub order : AreInOrder edges props
+  pub marked : AreEntered edges entered
   pub acyclic : graph.Acyclic no_links edges
   pub count : set.len (set.from_list {R = pair_cmp} edges) ≡ length edges
   pub memory : edge_room props ≤ capacity
@@ -50,10 +56,6 @@ pub record IsSoundSearch (numbers : List ℕ) (marks : List Bool) (capacity : �
   pub memory : MAX_PROPS ≤ capacity
   pub marked : (q : ℕ) → slice_index_or marks q false ≡ is_found numbers q
   pub once : count_by (λ mark. mark) marks ≡ length numbers
-
--- the number comes at the end, unless it was found before
-abbrev pub met : List ℕ → ℕ → List ℕ
-met found q = if is_found found q then found else found ++ q ∷ []
 
 -- the numbers to which edges lead from this one came to those that were found
 pub record MeetsRights (edges : List (ℕ × ℕ)) (old new : List ℕ) (number : ℕ) : Type 0 where
@@ -71,7 +73,3 @@ IsSearched edges starts found =
 -- a chain of edges leads from the number to another one whose bit is true in the first row
 abbrev pub ChainToMarked : List (ℕ × ℕ) → ℕ → Rows → Type 0
 ChainToMarked edges p marks = (q : ℕ) × (q < marks.bits) × (q ≢ p) × graph.Entails no_links edges p q × IsTrue (get marks 0 q)
-
--- the bits of these numbers have the value, and the others of the row stay
-abbrev pub with_bits : Rows → ℕ → List ℕ → Bool → ℕ → Bool
-with_bits old row numbers value q = if is_found numbers q then value else get old row q

@@ -1,7 +1,11 @@
 -- What a contract sees of a `Search`: the numbers that it found.
-use Rattle.std.specs.Prelude.{ℕ, Bool, nat_eq, List}
+use Rattle.std.specs.Prelude.{ℕ, Bool, nat_eq, List, ◌∷◌, [], ◌++◌, if◌then◌else◌}
 use Rattle.lis_graph.specs.Graph.{has}
 
 -- the number was found
 abbrev pub is_found : List ℕ → ℕ → Bool
 is_found numbers q = has nat_eq numbers q
+
+-- the number comes at the end, unless it was found before
+abbrev pub met : List ℕ → ℕ → List ℕ
+met found q = if is_found found q then found else found ++ q ∷ []

@@ -7,6 +7,7 @@ use Rattle.std.specs.FinSet as set
 use Rattle.std.specs.Coded.{Coded, code_by, coded×, coded_ℕ}
 use Rattle.lis_bits.specs.Rows.{Rows, get}
 use Rattle.lis_graph.specs.Graph as graph
+use Rattle.lis_taxonomy.specs.declared.taxonomy.TheConstants.{EDGES_PER_PROP}
 
 -- edges in the order of their left sides, and then of their right sides
 abbrev pub pair_cmp : ℕ × ℕ → ℕ × ℕ → Ordering
@@ -35,7 +36,7 @@ edge_count t = set.len t.edges
 
 -- how many edges there is memory for
 abbrev pub edge_room : ℕ → ℕ
-edge_room props = 3 * props
+edge_room props = EDGES_PER_PROP * props
 
 -- a chain of edges leads from p to q; it may be empty
 abbrev pub Entails : Taxonomy → ℕ → ℕ → Type 0

@@ -1,4 +1,4 @@
-//! A taxonomy: edges between numbers, without a circle, and for each number all that it entails.
+//! A taxonomy: edges between numbers, without a cycle, and all that a number entails.
 #![tactic(auto)]
 
 mod edges;

@@ -1,8 +1,9 @@
 ghost use Rattle.std.specs.Prelude.{◌≡◌, ℕ, ◌<◌, ◌≤◌, ◌↔◌, ◌∷◌, [], All, false, length, slice_index_or, IfOk, IfSome, IfNone, IsTrue, count_by};
+ghost use Rattle.lis_graph.specs.Graph.{Entails};
 ghost use Rattle.std.specs.List.{range_with_len};
-ghost use Rattle.lis_taxonomy.specs.Search.{is_found};
-ghost use Rattle.lis_bits.specs.Rows.{SetsBits};
-ghost use Rattle.lis_taxonomy.specs.Inside.{AreInOrder, MeetsRights, IsSearched, ChainToMarked, met, with_bits};
+ghost use Rattle.lis_taxonomy.specs.Search.{is_found, met};
+ghost use Rattle.lis_taxonomy.specs.Taxonomy.{no_links};
+ghost use Rattle.lis_taxonomy.specs.Inside.{AreInOrder, AreEntered, MeetsRights, IsSearched, ChainToMarked};
 
 use crate::edges::place_of;
 use lis_bits::{Flags, Rows};
@@ -64,7 +65,9 @@ impl Search {
 
     /// How many numbers were found.
     pub fn count(&self) -> u32
-        ensures { result ≡ length self.now }
+        ensures value { result ≡ length self.now }
+        ensures once { (props : ℕ) → props ≤ MAX_PROPS → ((q : ℕ) → IsTrue (is_found self.now q) → q < props)
+            → result ≡ count_by (is_found self.now) (range_with_len 0 props) }
     {
         self.numbers.len() as u32
     }
@@ -91,16 +94,16 @@ impl Search {
         self.numbers.as_slice()
     }
 
-    // Forgets all numbers.
-    pub(crate) fn clear(&mut self)
+    /// Forgets all numbers.
+    pub fn clear(&mut self)
         ensures { self.new ≡ [] }
     {
         unmark(&mut self.marks, &self.numbers);
         self.numbers.clear();
     }
 
-    // Adds a number, unless it was found before.
-    pub(crate) fn meet(&mut self, number: u32)
+    /// Adds a number, unless it was found before.
+    pub fn meet(&mut self, number: u32)
         requires { number < MAX_PROPS }
         ensures { self.new ≡ met self.old number }
     {
@@ -152,6 +155,21 @@ impl Search {
         self.close(edges);
     }
 
+    // Whether a chain of edges leads from p to q. The flag of each number to which an edge leads is set.
+    pub(crate) fn reaches(&mut self, edges: &[(u32, u32)], entered: &Flags, p: u32, q: u32) -> bool
+        requires order { (props : ℕ) × AreInOrder edges.now props }
+        requires entered { AreEntered edges.now entered.now }
+        requires p { p < MAX_PROPS }
+        requires q { q < MAX_PROPS }
+        ensures { IsTrue result ↔ Entails no_links edges.now p q }
+    {
+        if p != q && !entered.get(q) {
+            return false;
+        }
+        self.run(edges, p);
+        self.has(q)
+    }
+
     // Whether a chain of edges leads from a number to another one whose bit is true in the first row of these.
     pub(crate) fn leads(&mut self, edges: &[(u32, u32)], number: u32, marks: &Rows) -> bool
         requires order { AreInOrder edges.now marks.now.bits }
@@ -171,17 +189,5 @@ impl Search {
             done += 1;
         }
         false
-    }
-
-    // Gives the bits of all that was found the value, in a row.
-    pub(crate) fn put(&self, to: &mut Rows, row: u32, value: bool)
-        requires row { row < length to.old.rows }
-        requires below { (q : ℕ) → IsTrue (is_found self.now q) → q < to.old.bits }
-        ensures { SetsBits to.old to.new (length to.old.rows) to.old.bits row (with_bits to.old row self.now value) }
-    {
-        let numbers = self.numbers();
-        for found in numbers {
-            to.put(row, *found, value);
-        }
     }
 }

@@ -1,10 +1,9 @@
-ghost use Rattle.std.specs.Prelude.{◌≡◌, ◌≢◌, ℕ, ◌+◌, ◌<◌, ◌≤◌, ◌↔◌, ◌∷◌, [], All, false, length, if◌then◌else◌, count_by, IfOk, OnOk, OnErr, IsTrue, Err};
+ghost use Rattle.std.specs.Prelude.{◌≡◌, ◌≢◌, ℕ, ◌+◌, ◌<◌, ◌≤◌, ◌↔◌, All, false, length, count_by, IfOk, OnOk, OnErr, IsTrue, Err};
 ghost use Rattle.std.specs.List.{range_with_len};
-ghost use Rattle.lis_bits.specs.Rows.{SetsBits, get};
 
 use crate::edges::find;
 use crate::search::Search;
-use lis_bits::Rows;
+use lis_bits::{Flags, Rows};
 use lis_limits::MAX_PROPS;
 use std::alloc::{AllocError, Global};
 use std::marker::Model;
@@ -14,7 +13,7 @@ use std::marker::Model;
 pub enum EdgeFault {
     /// The edge is there already.
     Present,
-    /// The edge would close a circle.
+    /// The edge would close a cycle.
     Cycle,
     /// There is no such edge.
     Absent,
@@ -23,12 +22,14 @@ pub enum EdgeFault {
 // For each number an edge to its head or to the next weaker test, an axiom, and one that a change needs on its way.
 const EDGES_PER_PROP: u32 = 3;
 
-/// Edges between numbers, which never form a circle. All memory is taken by `new`.
+/// Edges between numbers, which never form a cycle. All memory is taken by `new`.
 #[derive(Drop)]
 pub struct Taxonomy {
     props: u32,
     // In the order of their left sides, and then of their right sides.
     edges: Vec<(u32, u32)>,
+    // Each number to which an edge leads, or has led, is marked: a new edge from another one closes no cycle.
+    entered: Flags,
     // For the test of a new edge.
     search: Search,
 }
@@ -45,12 +46,12 @@ impl Model for Taxonomy {
 
     ghost view = { λ t. seen t.edges.items t.props };
 
-    ghost invariant = { λ t. IsSoundTaxonomy t.edges.items t.props (vec_capacity t.edges) };
+    ghost invariant = { λ t. IsSoundTaxonomy t.edges.items t.entered t.props (vec_capacity t.edges) };
 }
 
 impl Taxonomy {
     ghost use Rattle.lis_taxonomy.specs.Search.{is_found};
-    ghost use Rattle.lis_taxonomy.specs.Taxonomy.{has_edge, edge_count, edge_room, Entails, IsAcyclic, LeadsToMarked, entails, any_entails, empty_taxonomy, with_edge, without_edge};
+    ghost use Rattle.lis_taxonomy.specs.Taxonomy.{has_edge, edge_count, edge_room, Entails, IsAcyclic, LeadsToMarked, any_entails, empty_taxonomy, with_edge, without_edge};
 
     /// A taxonomy of so many numbers, with no edge.
     pub fn new(alloc: Global, props: u32) -> Result<Taxonomy, AllocError>
@@ -60,6 +61,7 @@ impl Taxonomy {
         Ok(Taxonomy {
             props,
             edges: Vec::with_capacity(alloc, (EDGES_PER_PROP * props) as usize)?,
+            entered: Flags::new(alloc, MAX_PROPS)?,
             search: Search::new(alloc)?,
         })
     }
@@ -89,13 +91,13 @@ impl Taxonomy {
         let Err(place) = find(&self.edges, p, q) else {
             return Err(EdgeFault::Present);
         };
-        self.search.run(&self.edges, q);
-        if self.search.has(p) {
+        if self.search.reaches(&self.edges, &self.entered, q, p) {
             return Err(EdgeFault::Cycle);
         }
         let Ok(()) = self.edges.insert(place, (p, q)) else {
             unreachable!()
         };
+        self.entered.put(q, true);
         Ok(())
     }
 
@@ -123,6 +125,16 @@ impl Taxonomy {
         ensures { result ≡ has_edge self.now p q }
     {
         find(&self.edges, p, q).is_ok()
+    }
+
+    /// Finds all that the found numbers entail too.
+    pub fn close(&self, search: &mut Search)
+        requires { (q : ℕ) → IsTrue (is_found search.old q) → q < self.now.props }
+        ensures found { (q : ℕ) → is_found search.new q ≡ any_entails self.now search.old q }
+        ensures below { (q : ℕ) → IsTrue (is_found search.new q) → q < self.now.props }
+        ensures count { length search.new ≡ count_by (any_entails self.now search.old) (range_with_len 0 self.now.props) }
+    {
+        search.close(&self.edges);
     }
 
     /// Finds all that these numbers entail, themselves included.
@@ -158,16 +170,5 @@ impl Taxonomy {
         ensures { IsTrue result ↔ LeadsToMarked self.now number marks.now }
     {
         search.leads(&self.edges, number, marks)
-    }
-
-    /// Sets the bits of all that p entails in a row, to true or to false.
-    pub fn put_ups(&self, p: u32, to: &mut Rows, row: u32, value: bool, search: &mut Search)
-        requires p { p < self.now.props }
-        requires bits { to.old.bits ≡ self.now.props }
-        requires row { row < length to.old.rows }
-        ensures { SetsBits to.old to.new (length to.old.rows) self.now.props row (λ q. if entails self.now p q then value else get to.old row q) }
-    {
-        search.run(&self.edges, p);
-        search.put(to, row, value);
     }
 }

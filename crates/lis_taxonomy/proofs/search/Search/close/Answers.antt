@@ -1,4 +1,4 @@
-use Rattle.std.proofs.Common.{◌≡◌, ◌<◌, ◌≤◌, ℕ, List, ◌∙◌, get_or, length, ap, sym, subst, arith}
+use Rattle.std.proofs.Common.{◌<◌, ℕ, List, ◌∙◌, get_or, length, ap, sym, subst, arith}
 use Rattle.lis_limits.specs.declared.TheConstants.{MAX_PROPS}
 use Rattle.lis_taxonomy.specs.Inside.{MeetsRights}
 use Rattle.lis_taxonomy.proofs.Searches.{searches_start, searches_step, searches_end}

@@ -1,8 +1,6 @@
-use Rattle.std.proofs.Common.{◌≡◌, ◌∷◌, [], false, refl, sym, ap, subst, ◌∙◌, arith}
-use Rattle.lis_taxonomy.specs.Search.{is_found}
+use Rattle.std.proofs.Common.{refl, ap, subst, ◌∙◌, arith}
 use Rattle.lis_taxonomy.specs.Taxonomy.{Taxonomy, IsAcyclic, with_edge}
-use Rattle.lis_taxonomy.proofs.Searches.{has_at}
-use Rattle.lis_taxonomy.proofs.Seen.{edge_there, edge_absent, no_way_back, acyclic_seen, just_entailed, sound_added, seen_added}
+use Rattle.lis_taxonomy.proofs.Seen.{edge_there, edge_absent, no_way_back, acyclic_seen, entails_seen, seen_entails, sound_added, seen_added}
 use Rattle.lis_taxonomy.proofs.taxonomy.Taxonomy.add.Goals as goal
 
 pub returns-in_default-clause-present : goal.returns-in_default-clause-present
@@ -21,22 +19,21 @@ returns-in_default-clause-cycle c =
 pub returns-in_default-clause-acyclic : goal.returns-in_default-clause-acyclic
 returns-in_default-clause-acyclic c = subst (λ t. IsAcyclic t) c.self.view_is (acyclic_seen c.self.inside.edges.items c.self.inside.props c.self.invariant.acyclic)
 
-pub returns-then-has-clause-present : goal.returns-then-has-clause-present
-returns-then-has-clause-present c =
+pub returns-then-reaches-clause-present : goal.returns-then-reaches-clause-present
+returns-then-reaches-clause-present c =
     let m = c.self.inside in
     let gap = rw c.deref.ensures.value at c.in-Err.ensures.absent in
     let none = edge_absent m.edges.items m.props c.args.p c.args.q c.in-Err.place gap in
     rw (← c.self.view_is) (λ e. absurd cc, λ there. absurd cc)
 
-pub returns-then-has-clause-cycle : goal.returns-then-has-clause-cycle
-returns-then-has-clause-cycle c =
+pub returns-then-reaches-clause-cycle : goal.returns-then-reaches-clause-cycle
+returns-then-reaches-clause-cycle c =
     let m = c.self.inside in
-    let searched = rw c.deref-2.ensures.value at c.run.ensures in
-    let ups = just_entailed m.edges.items m.props c.run.new.self c.args.q searched in
-    rw (← c.self.view_is) (λ _. (ups c.args.p).0 (sym c.has.ensures ∙ c.if-has.true), λ _. refl)
+    let reached = rw c.deref-2.ensures.value at c.reaches.ensures in
+    rw (← c.self.view_is) (λ _. entails_seen m.edges.items m.props c.args.q c.args.p (reached.0 c.if-reaches.true), λ _. refl)
 
-pub returns-then-has-clause-acyclic : goal.returns-then-has-clause-acyclic
-returns-then-has-clause-acyclic c = acyclic_seen c.self.inside.edges.items c.self.inside.props c.self.invariant.acyclic
+pub returns-then-reaches-clause-acyclic : goal.returns-then-reaches-clause-acyclic
+returns-then-reaches-clause-acyclic c = acyclic_seen c.self.inside.edges.items c.self.inside.props c.self.invariant.acyclic
 
 pub invariant_of-self-2 : goal.invariant_of-self-2
 invariant_of-self-2 c =
@@ -44,9 +41,8 @@ invariant_of-self-2 c =
     let p_in = rw (← c.self.view_is) at c.requires.p in
     let q_in = rw (← c.self.view_is) at c.requires.q in
     let gap = rw c.deref.ensures.value at c.in-Err.ensures.absent in
-    let searched = rw c.deref-2.ensures.value at c.run.ensures in
-    let missed : is_found c.run.new.self c.args.p ≡ false = sym c.has.ensures ∙ c.if-has.false in
-    sound_added m.edges.items m.props _ c.self.invariant c.args.p c.args.q c.in-Err.place p_in q_in gap (λ chain. let found = (searched c.args.p).1 (c.args.q, has_at (c.args.q ∷ []) 0 (omega arith), chain) in cc) c.insert.new.self.items c.in-Ok.ensures.items _ (omega (arith, c.insert.ensures.capacity))
+    let reached = rw c.deref-2.ensures.value at c.reaches.ensures in
+    sound_added m.edges.items m.entered m.props _ c.self.invariant c.args.p c.args.q c.in-Err.place p_in q_in gap (λ chain. let yes = reached.1 chain in cc) c.insert.new.self.items c.in-Ok.ensures.items c.put.new.self c.put.ensures _ (omega (arith, c.insert.ensures.capacity))
 
 pub returns-clause-present : goal.returns-clause-present
 returns-clause-present c =
@@ -58,10 +54,8 @@ returns-clause-present c =
 pub returns-clause-cycle : goal.returns-clause-cycle
 returns-clause-cycle c =
     let m = c.self.inside in
-    let searched = rw c.deref-2.ensures.value at c.run.ensures in
-    let ups = just_entailed m.edges.items m.props c.run.new.self c.args.q searched in
-    let missed : is_found c.run.new.self c.args.p ≡ false = sym c.has.ensures ∙ c.if-has.false in
-    rw (← c.self.view_is) (λ e. absurd cc, λ back. absurd (let found = (ups c.args.p).1 back in cc))
+    let reached = rw c.deref-2.ensures.value at c.reaches.ensures in
+    rw (← c.self.view_is) (λ e. absurd cc, λ back. absurd (let yes = reached.1 (seen_entails m.edges.items m.props c.args.q c.args.p back) in cc))
 
 pub returns-clause-ok : goal.returns-clause-ok
 returns-clause-ok c =
@@ -69,9 +63,8 @@ returns-clause-ok c =
     let p_in = rw (← c.self.view_is) at c.requires.p in
     let q_in = rw (← c.self.view_is) at c.requires.q in
     let gap = rw c.deref.ensures.value at c.in-Err.ensures.absent in
-    let searched = rw c.deref-2.ensures.value at c.run.ensures in
-    let missed : is_found c.run.new.self c.args.p ≡ false = sym c.has.ensures ∙ c.if-has.false in
-    seen_added m.edges.items m.props _ c.self.invariant c.args.p c.args.q c.in-Err.place p_in q_in gap (λ chain. let found = (searched c.args.p).1 (c.args.q, has_at (c.args.q ∷ []) 0 (omega arith), chain) in cc) c.insert.new.self.items c.in-Ok.ensures.items
+    let reached = rw c.deref-2.ensures.value at c.reaches.ensures in
+    seen_added m.edges.items m.entered m.props _ c.self.invariant c.args.p c.args.q c.in-Err.place p_in q_in gap (λ chain. let yes = reached.1 chain in cc) c.insert.new.self.items c.in-Ok.ensures.items
     ∙ ap (λ (t : Taxonomy). with_edge t c.args.p c.args.q) c.self.view_is
 
 pub returns-clause-acyclic : goal.returns-clause-acyclic
@@ -80,7 +73,6 @@ returns-clause-acyclic c =
     let p_in = rw (← c.self.view_is) at c.requires.p in
     let q_in = rw (← c.self.view_is) at c.requires.q in
     let gap = rw c.deref.ensures.value at c.in-Err.ensures.absent in
-    let searched = rw c.deref-2.ensures.value at c.run.ensures in
-    let missed : is_found c.run.new.self c.args.p ≡ false = sym c.has.ensures ∙ c.if-has.false in
-    let sound = sound_added m.edges.items m.props _ c.self.invariant c.args.p c.args.q c.in-Err.place p_in q_in gap (λ chain. let found = (searched c.args.p).1 (c.args.q, has_at (c.args.q ∷ []) 0 (omega arith), chain) in cc) c.insert.new.self.items c.in-Ok.ensures.items _ c.insert.ensures.capacity in
+    let reached = rw c.deref-2.ensures.value at c.reaches.ensures in
+    let sound = sound_added m.edges.items m.entered m.props _ c.self.invariant c.args.p c.args.q c.in-Err.place p_in q_in gap (λ chain. let yes = reached.1 chain in cc) c.insert.new.self.items c.in-Ok.ensures.items _ refl _ c.insert.ensures.capacity in
     acyclic_seen c.insert.new.self.items m.props sound.acyclic

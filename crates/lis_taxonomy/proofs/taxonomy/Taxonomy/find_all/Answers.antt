@@ -1,9 +1,9 @@
-use Rattle.std.proofs.Common.{◌≡◌, ◌<◌, ◌∙◌, ℕ, All, List, length, count_by, take, sym, ap, subst, arith, take_all}
+use Rattle.std.proofs.Common.{◌≡◌, ◌<◌, ◌∙◌, ℕ, List, length, true, count_by, ap, subst, arith, take_all}
 use Rattle.std.specs.List.{range_with_len}
 use Rattle.lis_taxonomy.specs.Inside.{IsSearched}
 use Rattle.lis_taxonomy.specs.Taxonomy.{Taxonomy, any_entails}
 use Rattle.lis_taxonomy.specs.Search.{is_found}
-use Rattle.lis_taxonomy.proofs.Searches.{searched_as}
+use Rattle.lis_taxonomy.proofs.Searches.{at_has, searched_as}
 use Rattle.lis_taxonomy.proofs.Ups.{found_entailed, found_below, found_count}
 use Rattle.lis_taxonomy.proofs.taxonomy.Taxonomy.find_all.Goals as goal
 
@@ -18,8 +18,10 @@ searched c =
     searched_as m.edges.items l.search c.args.numbers.now c.close.new.self (λ q. l.invariant q ∙ ap (λ (ns : List ℕ). is_found ns q) (take_all l.number-index c.args.numbers.now c.loop-number-test.false))
     (subst (λ (es : List (ℕ × ℕ)). IsSearched es l.search c.close.new.self) c.deref.ensures.value c.close.ensures.found)
 
-numbers_in : (c : goal.After-close) → All (λ p. p < c.self.inside.props) c.args.numbers.now
-numbers_in c k d lt = omega (arith, c.requires k d lt, ap (λ (t : Taxonomy). t.props) c.self.view_is)
+numbers_in : (c : goal.After-close) → (q : ℕ) → is_found c.args.numbers.now q ≡ true → q < c.self.inside.props
+numbers_in c q h =
+    let k = at_has c.args.numbers.now q h in
+    subst (λ x. x < c.self.inside.props) k.2 (omega (arith, c.requires k.0 0 k.1, ap (λ (t : Taxonomy). t.props) c.self.view_is))
 
 pub returns-clause-found : goal.returns-clause-found
 returns-clause-found c = λ q.

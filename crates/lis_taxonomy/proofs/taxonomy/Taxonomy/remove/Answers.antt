@@ -16,7 +16,7 @@ pub invariant_of-self : goal.invariant_of-self
 invariant_of-self c =
     let m = c.self.inside in
     let here = rw c.deref.ensures.value at c.in-Ok.ensures.found in
-    sound_removed m.edges.items m.props _ c.self.invariant c.args.p c.args.q c.in-Ok.place here.0 here.1 c.remove.new.self.items c.remove.ensures.items _ (omega (arith, c.remove.ensures.capacity))
+    sound_removed m.edges.items m.entered m.props _ c.self.invariant c.args.p c.args.q c.in-Ok.place here.0 here.1 c.remove.new.self.items c.remove.ensures.items _ (omega (arith, c.remove.ensures.capacity))
 
 pub returns-clause-absent : goal.returns-clause-absent
 returns-clause-absent c =
@@ -29,7 +29,7 @@ pub returns-clause-ok : goal.returns-clause-ok
 returns-clause-ok c =
     let m = c.self.inside in
     let here = rw c.deref.ensures.value at c.in-Ok.ensures.found in
-    seen_removed m.edges.items m.props _ c.self.invariant c.args.p c.args.q c.in-Ok.place here.0 here.1 c.remove.new.self.items c.remove.ensures.items
+    seen_removed m.edges.items m.entered m.props _ c.self.invariant c.args.p c.args.q c.in-Ok.place here.0 here.1 c.remove.new.self.items c.remove.ensures.items
     ∙ ap (λ (t : Taxonomy). without_edge t c.args.p c.args.q) c.self.view_is
 
 pub returns-clause-acyclic : goal.returns-clause-acyclic
@@ -37,5 +37,5 @@ returns-clause-acyclic c =
     let m = c.self.inside in
     let here = rw c.deref.ensures.value at c.in-Ok.ensures.found in
     let wide : vec_capacity c.self.inside.edges ≤ vec_capacity c.remove.new.self = omega (arith, c.remove.ensures.capacity) in
-    let sound = sound_removed m.edges.items m.props _ c.self.invariant c.args.p c.args.q c.in-Ok.place here.0 here.1 c.remove.new.self.items c.remove.ensures.items _ wide in
+    let sound = sound_removed m.edges.items m.entered m.props _ c.self.invariant c.args.p c.args.q c.in-Ok.place here.0 here.1 c.remove.new.self.items c.remove.ensures.items _ wide in
     acyclic_seen c.remove.new.self.items m.props sound.acyclic
