@@ -37,7 +37,7 @@ pub record IsEmptyMemory (limits : Limits) (memory : OpeningMemory) : Type 0 whe
   pub words : memory.words ≡ no_words limits
   pub axioms : AreNoAxioms limits memory.axioms
   pub files : memory.files ≡ no_files limits
-  pub row : HasShape memory.gathering.row 1 limits.props
+  pub row : HasShape memory.row 1 limits.props
   pub marks : AreNoMarks limits memory.marks
 
 -- what memory keeps of what was read

@@ -1,9 +1,8 @@
 -- What is read of files. No public clause cites this module.
 use Rattle.std.specs.Prelude.{◌≡◌, ℕ, ◌≤◌, ◌<◌, nat_le, Bool, true, false, not, ◌&&◌, ◌||◌, is_some, Option, Some, None, List, [], ◌++◌, length, replicate, slice_set, IsTrue}
 use Rattle.std.specs.Option.{option_to_list}
-use Rattle.std.specs.List.{list_all, list_any, flat_map, Contains}
+use Rattle.std.specs.List.{list_all, flat_map, Contains}
 use Rattle.lis_limits.specs.declared.TheConstants.{MAX_DESCRIPTION}
-use Rattle.lis_bits.specs.Rows.{Rows, HasShape, get}
 use Rattle.lis_slots.specs.Slots.{slot}
 use Rattle.lis_blockmap.specs.Bitmap.{is_taken}
 use Rattle.lis_content.specs.Content.{marked, are_free}
@@ -12,7 +11,8 @@ use Rattle.lis_dict.specs.Dict.{Dict, number_of, word_of}
 use Rattle.lis_catalog.specs.Catalog.{Filed, IsCatalog, slot_of, rec_at, with_filed}
 use Rattle.lis_ext.specs.Ext.{set_of, empty_ext}
 use Rattle.lis_ext.specs.Numbers.{numbers_where}
-use Rattle.lis_taxonomy.specs.Taxonomy.{Taxonomy, entails}
+use Rattle.lis_taxonomy.specs.Search.{is_found}
+use Rattle.lis_taxonomy.specs.Taxonomy.{Taxonomy, any_entails}
 use Rattle.lis_fields.specs.Records.{FileRecord}
 use Rattle.lis_fields.specs.declared.slots.FileSlot.{FileSlot}
 use Rattle.lis_fields.specs.declared.slots.FileSlot.TheVariants.{Free as FreeFile, Used}
@@ -41,16 +41,12 @@ no_files limits = record {
 
 -- ---- descriptions
 -- The numbers of what a file has that has these by itself: all that they entail.
-abbrev pub is_described : Taxonomy → List ℕ → ℕ → Bool
-is_described t own n = list_any (λ m. entails t m n) own
-
 abbrev pub described : Taxonomy → List ℕ → List ℕ
-described t own = numbers_where t.props (is_described t own)
+described t own = numbers_where t.props (any_entails t own)
 
--- the row has what it had, and what these numbers entail
-pub record Gathered (t : Taxonomy) (old row : Rows) (numbers : List ℕ) : Type 0 where
-  pub shape : HasShape row 1 t.props
-  pub bits : (n : ℕ) → n < t.props → get row 0 n ≡ (get old 0 n || is_described t numbers n)
+-- these numbers are found too
+abbrev pub Gathered : List ℕ → List ℕ → List ℕ → Type 0
+Gathered old found numbers = (n : ℕ) → is_found found n ≡ (is_found old n || has_number numbers n)
 
 -- the word has a number, and so has its head where it is valued
 abbrev pub is_numbered : Dict → List ℕ → Bool

@@ -7,9 +7,9 @@ ghost use Rattle.std.specs.List.Sorted.{IsStrictlyIncreasing};
 ghost use Rattle.std.specs.Option.{option_map};
 ghost use Rattle.lis_ports.specs.Calls.{ReadsDisk};
 ghost use Rattle.lis_journal.specs.Images.{Fits};
-ghost use Rattle.lis_bits.specs.Rows.{HasShape, get};
 ghost use Rattle.lis_content.specs.Content.{marked, are_free};
 ghost use Rattle.lis_dict.specs.Dict.{number_of};
+ghost use Rattle.lis_taxonomy.specs.Search.{is_found};
 ghost use Rattle.lis_catalog.specs.Catalog.{slot_of};
 ghost use Rattle.lis_ext.specs.Numbers.{numbers_where};
 ghost use Rattle.lis_fields.specs.Layouts.{file_bytes, is_file, is_record};
@@ -31,7 +31,6 @@ use crate::mounting::OpenFault;
 use crate::naming::{are_assignable, numbered};
 use crate::words::Words;
 use arrayvec::ArrayVec;
-use lis_bits::Rows;
 use lis_blockmap::BlockMap;
 use lis_catalog::Catalog;
 use lis_content::Buffer;
@@ -62,13 +61,6 @@ pub struct Files {
 impl Files {
     /// Gives back their memory. A caller that lets them go by this call is not checked with the end of all that they own.
     pub fn close(self) {}
-}
-
-/// A row of numbers, and what finds those that others entail.
-#[derive(Drop)]
-pub struct Gathering {
-    pub row: Rows,
-    pub search: Search,
 }
 
 /// No files yet.
@@ -124,56 +116,35 @@ fn is_met_word(words: &Words, word: &Word, number: u16, size: u64) -> bool
     is_met(test_of(word), size) && words.declared.get(u32::from(number))
 }
 
-// Adds to the row all that the number entails.
-fn gather_one(taxonomy: &Taxonomy, number: u16, gathering: &mut Gathering)
-    requires shape { HasShape gathering.old.row 1 taxonomy.now.props }
-    requires below { number < taxonomy.now.props }
-    ensures { Gathered taxonomy.now gathering.old.row gathering.new.row (number ∷ []) }
-{
-    let search = &mut gathering.search;
-    taxonomy.put_ups(u32::from(number), &mut gathering.row, 0, true, search);
-}
-
-// Adds to the row all that the numbers entail.
-fn gather(taxonomy: &Taxonomy, numbers: &[u16], gathering: &mut Gathering)
-    requires shape { HasShape gathering.old.row 1 taxonomy.now.props }
-    requires below { IsTrue (list_all (λ n. nat_lt n taxonomy.now.props) numbers.now) }
-    ensures { Gathered taxonomy.now gathering.old.row gathering.new.row numbers.now }
+// Finds the numbers.
+fn gather(numbers: &[u16], search: &mut Search)
+    requires { IsTrue (list_all (λ n. nat_lt n MAX_PROPS) numbers.now) }
+    ensures { Gathered search.old search.new numbers.now }
 {
     for number in numbers {
-        gather_one(taxonomy, *number, gathering);
+        search.meet(u32::from(*number));
     }
 }
 
-// Adds to the row all that the derived words entail, and answers whether each of them, and its head, has a number.
-fn gather_derived(
-    words: &Words,
-    taxonomy: &Taxonomy,
-    derived: &Derived,
-    gathering: &mut Gathering,
-) -> bool
-    requires are { AreWords words.now }
-    requires props { taxonomy.now.props ≡ words.now.dict.props }
-    requires shape { HasShape gathering.old.row 1 taxonomy.now.props }
+// Finds the numbers of the derived words, and answers whether each of them, and its head, has a number.
+fn gather_derived(words: &Words, derived: &Derived, search: &mut Search) -> bool
+    requires { AreWords words.now }
     ensures all { result ≡ list_all (is_numbered words.now.dict) derived.now }
-    ensures shape { HasShape gathering.new.row 1 taxonomy.now.props }
-    ensures gathered { OnTrue result (Gathered taxonomy.now gathering.old.row gathering.new.row (numbers_of words.now.dict derived.now)) }
+    ensures gathered { OnTrue result (Gathered search.old search.new (numbers_of words.now.dict derived.now)) }
 {
     for word in derived.as_slice() {
         let Some(number) = numbered(words, word) else {
             return false;
         };
-        gather_one(taxonomy, number, gathering);
+        search.meet(u32::from(number));
     }
     true
 }
 
-// Adds to the row all that the declared tests that so many bytes meet entail.
-fn gather_met(words: &Words, taxonomy: &Taxonomy, size: u64, gathering: &mut Gathering)
-    requires are { AreWords words.now }
-    requires props { taxonomy.now.props ≡ words.now.dict.props }
-    requires shape { HasShape gathering.old.row 1 taxonomy.now.props }
-    ensures { Gathered taxonomy.now gathering.old.row gathering.new.row (numbers_of words.now.dict (met_tests (declared_words words.now) size)) }
+// Finds the numbers of the declared tests that a file of this size meets.
+fn gather_met(words: &Words, size: u64, search: &mut Search)
+    requires { AreWords words.now }
+    ensures { Gathered search.old search.new (numbers_of words.now.dict (met_tests (declared_words words.now) size)) }
 {
     let (start, end) = words.dict.tests();
     for k in start..end {
@@ -181,20 +152,19 @@ fn gather_met(words: &Words, taxonomy: &Taxonomy, size: u64, gathering: &mut Gat
             unreachable!()
         };
         if is_met_word(words, &word, number, size) {
-            gather_one(taxonomy, number, gathering);
+            search.meet(u32::from(number));
         }
     }
 }
 
-// The numbers of the row, as they rise. None comes where there are more than a description may have.
-fn list_numbers(row: &Rows) -> Option<ArrayVec<u16, MAX_DESCRIPTION>>
-    requires shape { HasShape row.now 1 row.now.bits }
-    requires few { row.now.bits ≤ MAX_PROPS }
-    ensures { AreListed (numbers_where row.now.bits (get row.now 0)) (option_map (λ listed. listed.items) result) }
+// The found numbers, in rising order. None comes if there are more than a description may have.
+fn list_numbers(search: &Search) -> Option<ArrayVec<u16, MAX_DESCRIPTION>>
+    ensures { (props : ℕ) → props ≤ MAX_PROPS → ((n : ℕ) → IsTrue (is_found search.now n) → n < props)
+        → AreListed (numbers_where props (is_found search.now)) (option_map (λ listed. listed.items) result) }
 {
     let mut numbers = ArrayVec::new();
     let mut start = 0;
-    while let Some(number) = row.next(0, start) {
+    while let Some(number) = search.next(start) {
         if numbers.is_full() {
             return None;
         }
@@ -204,32 +174,30 @@ fn list_numbers(row: &Rows) -> Option<ArrayVec<u16, MAX_DESCRIPTION>>
     Some(numbers)
 }
 
-// The numbers of a file's description: all that its own words entail. None comes where one of them has no number, or where there are
-// more than a description may have.
+// The numbers of a file's description: all that its own words entail. None comes if one of these has no number, or if there are more
+// than a description may have.
 fn describe(
     words: &Words,
     taxonomy: &Taxonomy,
     rec: &FileRec,
     bytes: &[u8],
-    gathering: &mut Gathering,
+    search: &mut Search,
 ) -> Option<ArrayVec<u16, MAX_DESCRIPTION>>
     requires are { AreWords words.now }
     requires props { taxonomy.now.props ≡ words.now.dict.props }
-    requires few { taxonomy.now.props ≤ MAX_PROPS }
-    requires shape { HasShape gathering.old.row 1 taxonomy.now.props }
     requires below { IsTrue (list_all (λ n. nat_lt n taxonomy.now.props) rec.now.tags) }
-    ensures shape { HasShape gathering.new.row 1 taxonomy.now.props }
-    ensures described { AreDescribed words.now taxonomy.now rec.now (found_words words.now rec.now.name bytes.now)
+    ensures { AreDescribed words.now taxonomy.now rec.now (found_words words.now rec.now.name bytes.now)
         (option_map (λ listed. listed.items) result) }
 {
     let derived = derive_words(&rec.name, bytes);
-    gathering.row.fill(0, false);
-    gather(taxonomy, rec.tags.as_slice(), gathering);
-    if !gather_derived(words, taxonomy, &derived, gathering) {
+    search.clear();
+    gather(rec.tags.as_slice(), search);
+    if !gather_derived(words, &derived, search) {
         return None;
     }
-    gather_met(words, taxonomy, bytes.len() as u64, gathering);
-    list_numbers(&gathering.row)
+    gather_met(words, bytes.len() as u64, search);
+    taxonomy.close(search);
+    list_numbers(search)
 }
 
 // Whether no file before has the name, and the words may be given.
@@ -275,7 +243,7 @@ fn take_record<D: Disk>(
     disk: &mut D,
     known: Known,
     files: &mut Files,
-    gathering: &mut Gathering,
+    search: &mut Search,
     bytes: &mut Buffer,
     slot: u16,
     rec: FileRec,
@@ -286,10 +254,8 @@ fn take_record<D: Disk>(
     requires props { known.axioms.now.taxonomy.props ≡ known.words.now.dict.props }
     requires ext { files.old.ext.props ≡ known.words.now.dict.props }
     requires map { length files.old.map ≡ known.limits.now.blocks }
-    requires shape { HasShape gathering.old.row 1 known.axioms.now.taxonomy.props }
     requires slot { IsFreeSlot files.old slot }
     ensures disk { ReadsDisk (D.meaning disk.old) (D.meaning disk.new) result }
-    ensures shape { HasShape gathering.new.row 1 known.entry.axioms.now.taxonomy.props }
     ensures taken { IfOk result (λ taken. OnTrue taken
         (TakesRecord known.entry.limits.now (Fits known.entry.journal.now (D.meaning disk.old)) known.entry.words.now known.entry.axioms.now.taxonomy slot rec files.old files.new)) }
     ensures refused { IfOk result (λ taken. OnFalse taken ((files.new ≡ files.old)
@@ -309,7 +275,7 @@ fn take_record<D: Disk>(
         &known.axioms.taxonomy,
         &rec,
         bytes.bytes(),
-        gathering,
+        search,
     ) {
         None => Ok(false),
         Some(numbers) => {
@@ -324,7 +290,7 @@ fn take_file<D: Disk>(
     disk: &mut D,
     known: Known,
     files: &mut Files,
-    gathering: &mut Gathering,
+    search: &mut Search,
     bytes: &mut Buffer,
     slot: u16,
     found: Option<FileSlot>,
@@ -335,10 +301,8 @@ fn take_file<D: Disk>(
     requires props { known.axioms.now.taxonomy.props ≡ known.words.now.dict.props }
     requires ext { files.old.ext.props ≡ known.words.now.dict.props }
     requires map { length files.old.map ≡ known.limits.now.blocks }
-    requires shape { HasShape gathering.old.row 1 known.axioms.now.taxonomy.props }
     requires slot { IsFreeSlot files.old slot }
     ensures disk { ReadsDisk (D.meaning disk.old) (D.meaning disk.new) result }
-    ensures shape { HasShape gathering.new.row 1 known.entry.axioms.now.taxonomy.props }
     ensures taken { IfOk result (λ taken. OnTrue taken
         (TakesFile known.entry.limits.now (Fits known.entry.journal.now (D.meaning disk.old)) known.entry.words.now known.entry.axioms.now.taxonomy slot found files.old files.new)) }
     ensures refused { IfOk result (λ taken. OnFalse taken ((files.new ≡ files.old)
@@ -348,7 +312,7 @@ fn take_file<D: Disk>(
     match found {
         None => Ok(false),
         Some(FileSlot::Free) => Ok(true),
-        Some(FileSlot::Used(rec)) => take_record(disk, known, files, gathering, bytes, slot, rec),
+        Some(FileSlot::Used(rec)) => take_record(disk, known, files, search, bytes, slot, rec),
     }
 }
 
@@ -358,15 +322,13 @@ pub fn read_files<D: Disk>(
     disk: &mut D,
     known: Known,
     files: &mut Files,
-    gathering: &mut Gathering,
+    search: &mut Search,
     bytes: &mut Buffer,
 ) -> Result<(), OpenFault>
     requires readable { IsReadable known.limits.now known.journal.now (D.meaning disk.old) }
     requires words { AreFirstWords known.limits.now known.words.now known.limits.now.props }
     requires axioms { AreFirstAxioms known.limits.now known.words.now known.axioms.now (axiom_slots known.limits.now).count }
     requires none { files.old ≡ no_files known.limits.now }
-    requires shape { HasShape gathering.old.row 1 known.limits.now.props }
-    ensures shape { HasShape gathering.new.row 1 known.entry.limits.now.props }
     ensures disk { ReadsPart (D.meaning disk.old) (D.meaning disk.new) result }
     ensures read { OnOk result (AreFirstFiles known.entry.limits.now known.entry.words.now known.entry.axioms.now files.new known.entry.limits.now.files) }
     ensures recalls { (kept : ℕ → List ℕ) → Fits known.entry.journal.now (D.meaning disk.old) kept → Recalls last.old kept → Recalls last.new kept }
@@ -377,7 +339,7 @@ pub fn read_files<D: Disk>(
 {
     for slot in 0..known.limits.files {
         let found = read_slot(last, disk, known.journal, known.limits, slot)?;
-        let is_taken = take_file(disk, known, files, gathering, bytes, slot as u16, found)?;
+        let is_taken = take_file(disk, known, files, search, bytes, slot as u16, found)?;
         if !is_taken {
             return Err(OpenFault::Damaged(Spot::File(slot)));
         }

@@ -7,7 +7,7 @@ ghost use Rattle.lis_open.specs.ReadFiles.{no_files};
 ghost use Rattle.lis_open.specs.ReadWords.{no_words, AreNoAxioms};
 
 use crate::axioms::{Axioms, no_axioms};
-use crate::files::{Files, Gathering, no_files};
+use crate::files::{Files, no_files};
 use crate::words::{Words, no_words};
 use lis_bits::{Flags, Rows};
 use lis_content::Buffer;
@@ -22,8 +22,9 @@ pub struct OpeningMemory {
     pub words: Words,
     pub axioms: Axioms,
     pub files: Files,
-    /// Each reader uses its row as it likes.
-    pub gathering: Gathering,
+    /// Each reader uses it as it likes.
+    pub row: Rows,
+    pub search: Search,
     /// The bytes of the file that is read.
     pub bytes: Buffer,
     /// By block: it is to be written.
@@ -76,7 +77,8 @@ pub fn take_memory(alloc: Global, limits: &Limits) -> Result<OpeningMemory, Allo
         words: slots.words,
         axioms: slots.axioms,
         files: slots.files,
-        gathering: Gathering { row, search },
+        row,
+        search,
         bytes,
         marks,
     })

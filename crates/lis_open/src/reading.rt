@@ -31,7 +31,7 @@ fn read_slots<D: Disk>(
 ) -> Result<(), OpenFault>
     requires readable { IsReadable limits.now journal.now (D.meaning disk.old) }
     requires memory { IsEmptyMemory limits.now memory.old }
-    ensures shape { OnOk result (HasShape memory.new.gathering.row 1 limits.now.props) }
+    ensures same { memory.new.row ≡ memory.old.row }
     ensures marks { memory.new.marks ≡ memory.old.marks }
     ensures disk { ReadsPart (D.meaning disk.old) (D.meaning disk.new) result }
     ensures read { OnOk result (AreSlotsRead limits.now memory.new.words memory.new.axioms memory.new.files) }
@@ -59,7 +59,7 @@ fn read_slots<D: Disk>(
         disk,
         known,
         &mut memory.files,
-        &mut memory.gathering,
+        &mut memory.search,
         &mut memory.bytes,
     )?;
     Ok(())
@@ -75,8 +75,8 @@ fn check_parts<D: Disk>(
 ) -> Result<(), OpenFault>
     requires readable { IsReadable limits.now journal.now (D.meaning disk.old) }
     requires read { AreSlotsRead limits.now memory.old.words memory.old.axioms memory.old.files }
-    requires shape { HasShape memory.old.gathering.row 1 limits.now.props }
-    ensures same { memory.new ≡ record memory.old { gathering = memory.new.gathering } }
+    requires shape { HasShape memory.old.row 1 limits.now.props }
+    ensures same { memory.new ≡ record memory.old { row = memory.new.row } }
     ensures disk { ReadsPart (D.meaning disk.old) (D.meaning disk.new) result }
     ensures used { OnOk result ((marks : List Bool) (n : ℕ)
         → is_stray (metadata_in limits.now memory.old.words memory.old.axioms memory.old.files marks) n ≡ false) }
@@ -89,7 +89,7 @@ fn check_parts<D: Disk>(
         &memory.words,
         &memory.axioms,
         &memory.files,
-        &mut memory.gathering.row,
+        &mut memory.row,
     )?;
     check_bitmap(disk, journal, limits, &memory.files.map)?;
     check_rows(last, disk, journal, limits, &memory.files.ext)

@@ -3,12 +3,12 @@ use Rattle.lis_store.proofs.Common.{◌≡◌, sym, ap, ◌∙◌, subst, Bool, 
 use Rattle.lis_store.specs.declared.change_fault.ChangeFault.{ChangeFault}
 use Rattle.lis_store.specs.declared.change_fault.ChangeFault.TheVariants.{Refused, Disk}
 use Rattle.lis_store.specs.Stored.{Stored, IsSound}
-use Rattle.lis_store.specs.Changes.{ChangeLeft, ChangeKeeps, ChangesDisk, CommitLeft, AreEditsFew, Ends}
-use Rattle.lis_store.specs.Saving.{SaveEnded, SaveKeeps}
+use Rattle.lis_store.specs.Changes.{ChangeLeft, ChangeKeeps, ChangesDisk, CommitLeft, AreEditsFew, Ends, EndsUnrefused}
+use Rattle.lis_store.specs.Saving.{SaveKeeps}
 use Rattle.lis_store.proofs.Edits.{edits_same}
 use Rattle.lis_journal.specs.Journal.{shape_of}
 
-left_saved : {T : Type 0} (old new : Stored) (result : Result T ChangeFault) → SaveEnded new.is_broken result → ChangeLeft old new result
+left_saved : {T : Type 0} (old new : Stored) (result : Result T ChangeFault) → EndsUnrefused new.is_broken result → ChangeLeft old new result
 left_saved old new (Ok done) whole = whole
 left_saved old new (Err (Refused refusal)) never = absurd (let e : false ≡ true = never in cc)
 left_saved old new (Err Disk) broken = broken
@@ -31,8 +31,8 @@ keeps_saved {old = old} {new = new} {result = result} view limits edits image sa
     })
 
 -- saving refuses nothing
-none_refused : {T Untouched : Type 0} (broken : Bool) (result : Result T ChangeFault) (refusal : Refusal) → SaveEnded broken result → result ≡ Err (Refused refusal) → Untouched
-none_refused {T = T} broken result refusal ended is = absurd (let e : false ≡ true = subst (λ r. SaveEnded {T = T} broken r) is ended in cc)
+none_refused : {T Untouched : Type 0} (broken : Bool) (result : Result T ChangeFault) (refusal : Refusal) → EndsUnrefused broken result → result ≡ Err (Refused refusal) → Untouched
+none_refused {T = T} broken result refusal ended is = absurd (let e : false ≡ true = subst (λ r. EndsUnrefused {T = T} broken r) is ended in cc)
 
 -- how a change ends that was saved
 pub ends_saved : {T Untouched : Type 0} {old now made new : Stored} {before after : Meaning} {result : Result T ChangeFault} → old ≡ now → IsSound old → made.metadata.limits ≡ old.metadata.limits
@@ -57,7 +57,7 @@ keeps_lost {old = old} {new = new} {result = result} view sound lost limits imag
     })
 
 -- a commit came before it
-pub keeps_behind : {T : Type 0} {old mid new : Stored} {result : Result T ChangeFault} → mid.metadata ≡ old.metadata → shape_of mid.journal ≡ shape_of old.journal → ChangeKeeps mid new result → SaveEnded new.is_broken result
+pub keeps_behind : {T : Type 0} {old mid new : Stored} {result : Result T ChangeFault} → mid.metadata ≡ old.metadata → shape_of mid.journal ≡ shape_of old.journal → ChangeKeeps mid new result → EndsUnrefused new.is_broken result
     → ChangeKeeps old new result
 keeps_behind {old = old} {new = new} {result = result} metadata image keeps ended = record {
   limits = keeps.limits ∙ ap (λ (k : Metadata). k.limits) metadata;

@@ -5,8 +5,7 @@ use Rattle.lis_store.specs.declared.change_fault.ChangeFault.{ChangeFault}
 use Rattle.lis_store.specs.declared.change_fault.ChangeFault.TheVariants.{Refused, Disk}
 use Rattle.lis_store.specs.Stands.{Stands}
 use Rattle.lis_store.specs.Stored.{Stored, IsSound, StoreHolds}
-use Rattle.lis_store.specs.Changes.{Holds, HeldEnded, Commits}
-use Rattle.lis_store.specs.Saving.{SaveEnded}
+use Rattle.lis_store.specs.Changes.{Holds, HeldEnded, Commits, EndsUnrefused}
 use Rattle.lis_store.proofs.StoreSays.{limits_told}
 use Rattle.lis_store.proofs.Holding.{held_fits, fits_held}
 
@@ -16,7 +15,7 @@ module _ (base : State) (now : Situation) (outcome : Outcome) (before between af
 
   -- The commit is done, and the change that begins behind it leaves nothing staged.
   pub held_behind_commit : {T U : Type 0} (old mid new : Stored) (done : U) (result : Result T ChangeFault) → IsSound old → StoreHolds old before base now.state → Commits base now.state mid before between (Ok done)
-      → IsSound new → OnOk result (new.journal.staged ≡ []) → SaveEnded new.is_broken result → Holds now.state now outcome new between after result → Holds base now outcome new before after result
+      → IsSound new → OnOk result (new.journal.staged ≡ []) → EndsUnrefused new.is_broken result → Holds now.state now outcome new between after result → Holds base now outcome new before after result
   held_behind_commit {T = T} old mid new done result sound held commits sound_new settled ends holds = record {
     moments = leaves_then (leaves_weaken Either commits.moments (λ image either. inl either)) (leaves_weaken Either holds.moments behind);
     past = λ n le. subst (λ (b : ℕ). KeepsPast b between after) blocks holds.past n le ∙ commits.past n le;
@@ -31,7 +30,7 @@ module _ (base : State) (now : Situation) (outcome : Outcome) (before between af
       blocks : image_blocks now.state.limits ≡ image_blocks base.limits
       blocks = ap image_blocks (sym (limits_told old.metadata (looked old.journal.staged held.kept) now.state sound.metadata sound.free held.tells) ∙ held.limits)
 
-      by : (r : Result T ChangeFault) → OnOk r (new.journal.staged ≡ []) → SaveEnded new.is_broken r → HeldEnded now.state now outcome new after r → HeldEnded base now outcome new after r
+      by : (r : Result T ChangeFault) → OnOk r (new.journal.staged ≡ []) → EndsUnrefused new.is_broken r → HeldEnded now.state now outcome new after r → HeldEnded base now outcome new after r
       by (Ok d) none whole ended = (ended.0, inr (alone ended.1))
         where
           alone : StoreHolds new after now.state outcome.next.state ⊎ StoreHolds new after outcome.next.state outcome.next.state → StoreHolds new after outcome.next.state outcome.next.state

@@ -4,8 +4,8 @@ use Rattle.lis_store.proofs.Common.{◌≡◌, sym, ap, ◌∙◌, subst, ℕ, i
 use Rattle.lis_store.specs.declared.change_fault.ChangeFault.{ChangeFault}
 use Rattle.lis_store.specs.declared.change_fault.ChangeFault.TheVariants.{Refused, Disk}
 use Rattle.lis_store.specs.Stored.{Stored, IsSound, StoreHolds}
-use Rattle.lis_store.specs.Contents.{ContentGiven, ContentEnded}
-use Rattle.lis_store.specs.Changes.{Holds, ChangeKeeps, AreEditsFew}
+use Rattle.lis_store.specs.Contents.{ContentGiven}
+use Rattle.lis_store.specs.Changes.{Holds, ChangeKeeps, AreEditsFew, EndsUnrefused}
 use Rattle.lis_store.specs.Judging.{is_among}
 use Rattle.lis_store.specs.Saving.{IsReady, Saves}
 use Rattle.lis_store.specs.Removing.{TakesOut}
@@ -35,7 +35,7 @@ given_err : (T : Type 0) (rec : FileRecord) (p q : Metadata) (journal : Held) (b
 given_err T rec p q journal before after change never = search (rules)
 
 module _ (T : Type 0) (old : Stored) (slot : ℕ) (name : List ℕ) (sound : IsSound old) (named : slot_of old.metadata.catalog name ≡ Some slot) (q : Metadata) (j : Held) (b : Bool) (change : ChangeFault) (before after : Meaning)
-    (same : j ≡ old.journal) (stays : (rec : FileRecord) → rec_at old.metadata.catalog slot ≡ Some rec → ContentGiven {T = T} rec old.metadata q old.journal before after (Err change)) (ended : ContentEnded {T = T} b (Err change)) where
+    (same : j ≡ old.journal) (stays : (rec : FileRecord) → rec_at old.metadata.catalog slot ≡ Some rec → ContentGiven {T = T} rec old.metadata q old.journal before after (Err change)) (ended : EndsUnrefused {T = T} b (Err change)) where
   lost : (change ≡ Disk) × (q ≡ old.metadata) × Asks old.journal before after
   lost =
       let found = rec_at-slot_of old.metadata.catalog name slot sound.metadata.catalog named in

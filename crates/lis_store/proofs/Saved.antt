@@ -9,8 +9,8 @@ use Rattle.lis_store.specs.declared.change_fault.ChangeFault.{ChangeFault}
 use Rattle.lis_store.specs.declared.change_fault.ChangeFault.TheVariants.{Refused, Disk}
 use Rattle.lis_store.specs.Stands.{Stands}
 use Rattle.lis_store.specs.Stored.{Stored, IsSound, StoreHolds}
-use Rattle.lis_store.specs.Changes.{Holds, HeldEnded, Commits, CommitEnded}
-use Rattle.lis_store.specs.Saving.{clean, settled, ArePlaced, IsReady, KeepsStaged, SaveEnded, SaveKeeps}
+use Rattle.lis_store.specs.Changes.{Holds, HeldEnded, Commits, CommitEnded, EndsUnrefused}
+use Rattle.lis_store.specs.Saving.{clean, settled, ArePlaced, IsReady, KeepsStaged, SaveKeeps}
 use Rattle.lis_store.proofs.Elsewhere.{tells_there}
 use Rattle.lis_store.proofs.Retaken.{in_form, sound_at, sound_lost}
 use Rattle.lis_store.proofs.Told.{retold}
@@ -33,7 +33,7 @@ module _ (p : Metadata) (j x : Held) (settles : IsSound (settled p j)) (image : 
 
   -- behind a commit of more than nothing
   pub sound_committed : {T : Type 0} (mid : Held) (before after : Meaning) (q : Metadata) (b : Bool) (result : Result T ChangeFault) → q ≡ clean p → mid.is_broken ≡ false → 0 < length mid.staged
-      → KeepsStaged mid x before after result → SaveEnded b result → IsSound (record { metadata = q; journal = x; is_broken = b })
+      → KeepsStaged mid x before after result → EndsUnrefused b result → IsSound (record { metadata = q; journal = x; is_broken = b })
   sound_committed mid before after q b (Ok done) is unbroken some keeps whole =
       let none : x.staged ≡ [] = ap (λ (h : Held). h.staged) keeps.done in
       sound_held q b is (ap (λ (h : Held). h.is_broken) keeps.done ∙ unbroken) (omega (arith, ap (λ (es : List HomeBlock). length es) none)) (ap are_whole none) (keeps.none_placed some)
@@ -41,7 +41,7 @@ module _ (p : Metadata) (j x : Held) (settles : IsSound (settled p j)) (image : 
   sound_committed mid before after q b (Err Disk) is unbroken some keeps broken = sound_broken q b is broken
 
 -- what saving keeps, by what it leaves
-pub save_keeps : {T : Type 0} (old new : Stored) {result : Result T ChangeFault} → IsSound new → new.metadata ≡ clean old.metadata → shape_of new.journal ≡ shape_of old.journal → SaveEnded new.is_broken result
+pub save_keeps : {T : Type 0} (old new : Stored) {result : Result T ChangeFault} → IsSound new → new.metadata ≡ clean old.metadata → shape_of new.journal ≡ shape_of old.journal → EndsUnrefused new.is_broken result
     → SaveKeeps old new result
 save_keeps old new sound is image ended = record {
   sound = sound;
@@ -131,11 +131,11 @@ module _ (p : Metadata) (j mid : Held) (before : Meaning) (stages : Stages p j m
     past_image : KeepsPast (image_blocks base.limits) before after
     past_image = subst (λ (n : ℕ). KeepsPast n before after) (same_blocks (stages.image ∙ (image_is ∙ ap image_shape limits))) (keeps.past kept journal_fits)
 
-    pub change_committed : (q : Metadata) (b : Bool) → q ≡ clean p → SaveEnded b result → Holds base now outcome (record { metadata = q; journal = x; is_broken = b }) before after result
+    pub change_committed : (q : Metadata) (b : Bool) → q ≡ clean p → EndsUnrefused b result → Holds base now outcome (record { metadata = q; journal = x; is_broken = b }) before after result
     change_committed q b metadata ends =
         subst (λ (k : Metadata). Holds base now outcome (record { metadata = k; journal = x; is_broken = b }) before after result) (sym metadata) (record { moments = moments; past = past_image; ended = by result keeps ends })
       where
-        by : (r : Result T ChangeFault) → KeepsStaged mid x before after r → SaveEnded b r → HeldEnded base now outcome (record { metadata = clean p; journal = x; is_broken = b }) after r
+        by : (r : Result T ChangeFault) → KeepsStaged mid x before after r → EndsUnrefused b r → HeldEnded base now outcome (record { metadata = clean p; journal = x; is_broken = b }) after r
         by (Ok done) keeps whole =
             let staged : x.staged ≡ [] = ap (λ (h : Held). h.staged) keeps.done in
             let layout : x.layout ≡ mid.layout = ap (λ (h : Held). h.layout) keeps.done in (
@@ -155,7 +155,7 @@ module _ (p : Metadata) (j mid : Held) (before : Meaning) (stages : Stages p j m
 
 -- ---- a commit of what is held back
 module _ {T : Type 0} (old : Stored) (q : Metadata) (x : Held) (b : Bool) (before after : Meaning) (result : Result T ChangeFault) (sound : IsSound old) (unbroken : old.is_broken ≡ false) (same : q ≡ old.metadata)
-    (keeps : KeepsStaged old.journal x before after result) (idle : old.journal.staged ≡ [] → x ≡ old.journal) (ends : SaveEnded b result) where
+    (keeps : KeepsStaged old.journal x before after result) (idle : old.journal.staged ≡ [] → x ≡ old.journal) (ends : EndsUnrefused b result) where
   -- nothing is placed behind a commit, and where there was none
   none_after : (0 < length old.journal.staged → x.placed ≡ []) → x.placed ≡ []
   none_after some = by old.journal.staged idle some
@@ -185,7 +185,7 @@ module _ {T : Type 0} (old : Stored) (q : Metadata) (x : Held) (b : Bool) (befor
       one_of image (inr all) =
           inr (change_stands old old.journal.layout (looked old.journal.staged kept) s sound.metadata sound.free sound.pairs holds.tells holds.written (same_layout sound.image) image all)
 
-      by : (r : Result T ChangeFault) → KeepsStaged old.journal x before after r → SaveEnded b r → CommitEnded s (record { metadata = old.metadata; journal = x; is_broken = b }) after r
+      by : (r : Result T ChangeFault) → KeepsStaged old.journal x before after r → EndsUnrefused b r → CommitEnded s (record { metadata = old.metadata; journal = x; is_broken = b }) after r
       by (Ok done) keeps whole = record {
         kept = looked old.journal.staged kept;
         journal = keeps.kept kept holds.journal;

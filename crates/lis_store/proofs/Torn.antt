@@ -3,8 +3,8 @@ use Rattle.lis_store.proofs.Common.{refl, ap, Option, ◌≡◌, sym, ◌∙◌,
 use Rattle.lis_store.specs.declared.change_fault.ChangeFault.{ChangeFault}
 use Rattle.lis_store.specs.declared.change_fault.ChangeFault.TheVariants.{Refused, Disk}
 use Rattle.lis_store.specs.Stored.{Stored, IsSound, StoreHolds}
-use Rattle.lis_store.specs.Changes.{Holds, ChangeKeeps}
-use Rattle.lis_store.specs.Contents.{ContentTorn, ContentEnded, ContentRenewed}
+use Rattle.lis_store.specs.Changes.{Holds, ChangeKeeps, EndsUnrefused}
+use Rattle.lis_store.specs.Contents.{ContentTorn, ContentRenewed}
 use Rattle.lis_store.proofs.Keeping.{keeps_lost}
 use Rattle.lis_store.proofs.Retaken.{retaken, form_retaken, in_form, sound_lost}
 use Rattle.lis_store.proofs.Steps.{holds_lost, torn_stand, torn_past}
@@ -22,7 +22,7 @@ module _ (old : Stored) (bytes : List ℕ) (q : Metadata) (j : Held) (sound : Is
       holds_lost base now outcome new before after result (torn_stand old base now.state before sound holds bytes q j after torn alone) (torn_past old base now.state before sound holds bytes q j after torn alone) broken ends
 
 -- such a fault breaks the store
-pub ended_broken : (T : Type 0) (b : Bool) (change : ChangeFault) → ContentEnded {T = T} b (Err change) → b ≡ true
+pub ended_broken : (T : Type 0) (b : Bool) (change : ChangeFault) → EndsUnrefused {T = T} b (Err change) → b ≡ true
 ended_broken T b (Refused refusal) never = absurd (let e : false ≡ true = never in cc)
 ended_broken T b Disk broken = broken
 
@@ -33,7 +33,7 @@ put_err bytes replaced p q old new before after (Refused refusal) never = absurd
 put_err bytes replaced p q old new before after Disk torn = (refl, torn)
 
 module _ (T : Type 0) (old : Stored) (sound : IsSound old) (bytes : List ℕ) (replaced : Option FileRecord) (q : Metadata) (j : Held) (b : Bool) (change : ChangeFault) (before after : Meaning)
-    (put : ContentRenewed bytes replaced old.metadata q old.journal j before after (Err change)) (ended : ContentEnded {T = T} b (Err change)) where
+    (put : ContentRenewed bytes replaced old.metadata q old.journal j before after (Err change)) (ended : EndsUnrefused {T = T} b (Err change)) where
   lost : (change ≡ Disk) × ContentTorn bytes old.metadata q old.journal j before after
   lost = put_err bytes replaced old.metadata q old.journal j before after change put
 

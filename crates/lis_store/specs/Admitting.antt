@@ -20,9 +20,13 @@ use Rattle.lis_kept.specs.Metadata.{Metadata}
 use Rattle.lis_kept.specs.Telling.{declared_of, axioms_of}
 use Rattle.lis_store.specs.Drafts.{Draft, draft_of}
 
+-- what a file would have by itself: what it was given, what is derived from it, and the declared tests that it meets
+abbrev pub described_words : Metadata → Draft → List (List ℕ)
+described_words k draft = draft.assigned ++ draft.own ++ met_tests (declared_of k) draft.size
+
 -- the description that a file would have
 abbrev pub described_by : Metadata → Draft → List (List ℕ)
-described_by k draft = all_up (declared_of k) (axioms_of k) (draft.assigned ++ draft.own ++ met_tests (declared_of k) draft.size)
+described_by k draft = all_up (declared_of k) (axioms_of k) (described_words k draft)
 
 -- the words that would be known with it
 abbrev pub known_with : Metadata → Draft → List (List ℕ)

@@ -1,10 +1,10 @@
 -- The words that would be known with a file: beside all that are known, or in the place of another file.
 use Rattle.std.specs.Prelude.{ℕ, nat_lt, Bool, not, ◌&&◌, Option, Some, None, List, [], ◌∷◌, length}
 use Rattle.lis_limits.specs.declared.TheConstants.{MAX_DESCRIPTION}
-use Rattle.lis_bits.specs.Rows.{Rows, get}
 use Rattle.lis_dict.specs.Dict.{words}
 use Rattle.lis_ext.specs.Ext.{has}
 use Rattle.lis_ext.specs.Numbers.{numbers_where}
+use Rattle.lis_taxonomy.specs.Search.{is_found}
 use Rattle.lis_model.specs.declared.refusal.Refusal.{Refusal}
 use Rattle.lis_model.specs.declared.refusal.Refusal.TheVariants.{LargeDescription, NoPropertyRoom}
 use Rattle.lis_model.specs.Sets.{with_words}
@@ -31,11 +31,11 @@ words_checks k old draft =
     ∷ (nat_lt k.limits.props (length (known_beside k old draft)), NoPropertyRoom)
     ∷ []
 
--- the description in the slot has the number, which is not in the row, and nothing else uses it
-abbrev pub is_leaving : Metadata → Rows → ℕ → ℕ → Bool
-is_leaving k row slot n = has k.ext n slot && not (get row 0 n) && not (is_used (emptied k slot) n)
+-- the description in the slot has the number, which is not one of those that are found, and nothing else uses it
+abbrev pub is_leaving : Metadata → List ℕ → ℕ → ℕ → Bool
+is_leaving k found slot n = has k.ext n slot && not (is_found found n) && not (is_used (emptied k slot) n)
 
 -- the numbers that leave with the description in the slot, if one is given
-abbrev pub leaving : Metadata → Rows → Option ℕ → List ℕ
-leaving k row None = []
-leaving k row (Some slot) = numbers_where k.limits.props (is_leaving k row slot)
+abbrev pub leaving : Metadata → List ℕ → Option ℕ → List ℕ
+leaving k found None = []
+leaving k found (Some slot) = numbers_where k.limits.props (is_leaving k found slot)

@@ -28,6 +28,12 @@ ChangeEnded now outcome new m (Ok done) = (outcome.reply ≡ ok_line) × StoreFi
 ChangeEnded now outcome new m (Err (Refused refusal)) = (outcome ≡ refused now refusal) × StoreFits new m now.state
 ChangeEnded now outcome new m (Err Disk) = new.is_broken ≡ true
 
+-- The call breaks the store exactly at a fault of the disk, and refuses nothing.
+abbrev pub EndsUnrefused : {T : Type 0} → Bool → Result T ChangeFault → Type 0
+EndsUnrefused is_broken (Ok done) = is_broken ≡ false
+EndsUnrefused is_broken (Err (Refused refusal)) = false ≡ true
+EndsUnrefused is_broken (Err Disk) = is_broken ≡ true
+
 -- At each moment in the call the image stands for the old state or for the new one, and blocks past the image stay.
 pub record Changes {T : Type 0} (now : Situation) (outcome : Outcome) (new : Stored) (before after : Meaning) (result : Result T ChangeFault) : Type 0 where
   pub moments : Leaves before after (λ image. Stands image now.state ⊎ Stands image outcome.next.state)

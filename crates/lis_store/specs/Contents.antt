@@ -26,7 +26,7 @@ use Rattle.lis_store.specs.declared.change_fault.ChangeFault.TheVariants.{Refuse
 use Rattle.lis_model.specs.Sets.{are_distinct}
 use Rattle.lis_kept.specs.Image.{image_shape}
 use Rattle.lis_store.specs.Stored.{Stored}
-use Rattle.lis_store.specs.Changes.{ChangesDisk}
+use Rattle.lis_store.specs.Changes.{ChangesDisk, EndsUnrefused}
 
 -- the blocks of the file are blocks of the image
 abbrev pub AreContentsWithin : Limits → (ℕ → List ℕ) → FileRecord → Type 0
@@ -45,16 +45,10 @@ pub record IsReadyForContent (bytes : List ℕ) (k : Stored) (m : Meaning) : Typ
   pub room : length k.journal.staged + SLOT_BLOCKS ≤ k.journal.capacity.staged
   pub alone : is_large (length bytes) ≡ true → k.journal.staged ≡ []
 
--- It breaks the store exactly at a fault of the disk, and refuses nothing.
-abbrev pub ContentEnded : {T : Type 0} → Bool → Result T ChangeFault → Type 0
-ContentEnded is_broken (Ok done) = is_broken ≡ false
-ContentEnded is_broken (Err (Refused refusal)) = false ≡ true
-ContentEnded is_broken (Err Disk) = is_broken ≡ true
-
 -- How a step ends that calls the disk before memory is saved: memory is in form, and a fault of the disk breaks the store.
 pub record StepEnded {T : Type 0} (new : Stored) (before after : Meaning) (result : Result T ChangeFault) : Type 0 where
   pub sound : AreSound new.metadata
-  pub ended : ContentEnded new.is_broken result
+  pub ended : EndsUnrefused new.is_broken result
   pub disk : ChangesDisk before after result
 
 -- The disk failed while a content was put: only what is on it counts. At any moment a crash leaves all blocks as before but spare ones that

@@ -17,6 +17,7 @@ pub mod Removing
 pub mod Replacing
 pub mod Adding
 pub mod Beside
+pub mod Finding
 pub mod Describing
 pub mod Counting
 pub mod Relating

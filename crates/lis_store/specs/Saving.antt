@@ -17,7 +17,7 @@ use Rattle.lis_store.specs.declared.change_fault.ChangeFault.{ChangeFault}
 use Rattle.lis_store.specs.declared.change_fault.ChangeFault.TheVariants.{Refused, Disk}
 use Rattle.lis_store.specs.Stands.{Stands}
 use Rattle.lis_store.specs.Stored.{Stored, IsSound}
-use Rattle.lis_store.specs.Changes.{Holds}
+use Rattle.lis_store.specs.Changes.{Holds, EndsUnrefused}
 
 -- the metadata without marks
 abbrev pub clean : Metadata → Metadata
@@ -65,12 +65,6 @@ Saves k j new before after result =
     → ((image : List ℕ) → StandsBut j.layout j.placed kept image → Stands image base)
     → (AreSound k → IsReady k (looked j.staged kept) t) → outcome ≡ changed now t → Holds base now outcome new before after result
 
--- It breaks the store exactly at a fault of the disk, and refuses nothing.
-abbrev pub SaveEnded : {T : Type 0} → Bool → Result T ChangeFault → Type 0
-SaveEnded is_broken (Ok done) = is_broken ≡ false
-SaveEnded is_broken (Err (Refused refusal)) = false ≡ true
-SaveEnded is_broken (Err Disk) = is_broken ≡ true
-
 -- What saving keeps of memory, whatever it answers.
 pub record SaveKeeps {T : Type 0} (old new : Stored) (result : Result T ChangeFault) : Type 0 where
   -- it is that of a store
@@ -79,4 +73,4 @@ pub record SaveKeeps {T : Type 0} (old new : Stored) (result : Result T ChangeFa
   pub metadata : new.metadata ≡ record old.metadata { marks = new.metadata.marks }
   pub image : shape_of new.journal ≡ shape_of old.journal
   -- a fault of the disk breaks it, and nothing else does
-  pub ended : SaveEnded new.is_broken result
+  pub ended : EndsUnrefused new.is_broken result

@@ -8,7 +8,6 @@ ghost use Rattle.lis_model.specs.Changes.{new_file};
 ghost use Rattle.lis_model.specs.Derived.{derived_words};
 ghost use Rattle.lis_model.specs.State.{file_limit, blocks_taken};
 ghost use Rattle.lis_model.specs.Step.{is_head_or_test, assigned_at};
-ghost use Rattle.lis_eval.specs.Room.{HasRoom};
 ghost use Rattle.lis_store.specs.Drafts.{drafted, draft_of};
 ghost use Rattle.lis_store.specs.Admitting.{named_checks, room_checks, add_checks_of};
 ghost use Rattle.lis_store.specs.Changes.{Judges};
@@ -17,13 +16,13 @@ use crate::assigning::{are_assignable, assigned, has_words};
 use crate::describing::{Draft, FileWords, measure};
 use arrayvec::ArrayVec;
 use lis_derive::derive_words;
-use lis_eval::Scratch;
 use lis_kept::Metadata;
 use lis_limits::{BLOCK_LEN, MAX_ASSIGNED, MAX_DESCRIPTION, MAX_FILE, MAX_LARGE_FILE};
 use lis_model::command::Tags;
 use lis_model::derived::Derived;
 use lis_model::refusal::Refusal;
 use lis_place::Place;
+use lis_taxonomy::Search;
 use lis_words::{Name, Word, is_builtin, is_head, test_of};
 
 /// How many bytes a file may have.
@@ -122,14 +121,12 @@ fn may_name(
 // Whether there is room for a new file, of so many bytes.
 fn has_room_for(
     metadata: &Metadata,
-    scratch: &mut Scratch,
+    search: &mut Search,
     draft: Draft,
     size: u64,
 ) -> Result<(), Refusal>
     requires few { length draft.assigned.now ≤ MAX_ASSIGNED }
     requires few_own { length draft.own.now ≤ MAX_DESCRIPTION }
-    requires room { HasRoom scratch.old metadata.now.limits }
-    ensures room { HasRoom scratch.new metadata.now.limits }
     ensures row { Judges (room_checks metadata.now
         (drafted draft.entry.name.now draft.entry.size draft.entry.assigned.now draft.entry.own.now) size) result }
 {
@@ -137,8 +134,7 @@ fn has_room_for(
     if metadata.file_count() >= limits.files {
         return Err(Refusal::NoFileRoom);
     }
-    let row = &mut scratch.candidates;
-    let measure = measure(metadata, row, &mut scratch.search, None, draft);
+    let measure = measure(metadata, search, None, draft);
     if measure.words > MAX_DESCRIPTION as u32 {
         return Err(Refusal::LargeDescription);
     }
@@ -154,13 +150,11 @@ fn has_room_for(
 // As `has_room_for`, with the words that are derived from these bytes. They are the answer.
 fn has_room(
     metadata: &Metadata,
-    scratch: &mut Scratch,
+    search: &mut Search,
     file: NewFile,
     words: &[Word],
 ) -> Result<Derived, Refusal>
     requires few { length words.now ≤ MAX_ASSIGNED }
-    requires room { HasRoom scratch.old metadata.now.limits }
-    ensures room { HasRoom scratch.new metadata.now.limits }
     ensures row { Judges (room_checks metadata.now (draft_of (new_file file.entry.name.now words.now file.entry.bytes.now)) file.entry.size) result }
     ensures derived { IfOk result (λ derived. derived ≡ derived_words file.entry.name.now file.entry.bytes.now) }
 {
@@ -171,7 +165,7 @@ fn has_room(
         assigned: words,
         own: derived.as_slice(),
     };
-    has_room_for(metadata, scratch, draft, file.size)?;
+    has_room_for(metadata, search, draft, file.size)?;
     Ok(derived)
 }
 
@@ -179,18 +173,16 @@ fn has_room(
 /// number counts.
 pub(crate) fn may_add(
     metadata: &Metadata,
-    scratch: &mut Scratch,
+    search: &mut Search,
     place: &Place,
     file: NewFile,
 ) -> Result<FileWords, Refusal>
-    requires room { HasRoom scratch.old metadata.now.limits }
-    ensures room { HasRoom scratch.new metadata.now.limits }
     ensures row { Judges (add_checks_of metadata.now place.now file.entry.name.now file.entry.tags.now file.entry.bytes.now file.entry.size) result }
     ensures words { IfOk result (λ words. words.assigned.items ≡ assigned_at place.now file.entry.tags.now) }
     ensures derived { IfOk result (λ words. words.derived ≡ derived_words file.entry.name.now file.entry.bytes.now) }
     ensures name { IfOk result (λ words. IsTrue (is_file_name file.entry.name.now)) }
 {
     let assigned = may_name(metadata, place, file)?;
-    let derived = has_room(metadata, scratch, file, assigned.as_slice())?;
+    let derived = has_room(metadata, search, file, assigned.as_slice())?;
     Ok(FileWords { assigned, derived })
 }

@@ -1,23 +1,24 @@
-//! Descriptions that are made anew: of some of their numbers, with all that these entail.
+//! Descriptions that are made again, of some of their numbers with all that these entail.
 
 ghost use Rattle.std.specs.Prelude.{◌≡◌, ℕ, ◌<◌, ◌≤◌, true, is_some, Some, length, IsTrue, IsSome};
 ghost use Rattle.std.specs.List.{list_all};
 ghost use Rattle.lis_dict.specs.Dict.{word_of};
 ghost use Rattle.lis_ext.specs.Ext.{has, set_of};
 ghost use Rattle.lis_kept.specs.Sound.{AreSound, FreeSlotsAreEmpty};
-ghost use Rattle.lis_store.specs.Closing.{is_entailed, closure, is_concerned, tags_at, is_base, added, base_at, has_words, rebuilt};
+ghost use Rattle.lis_store.specs.Closing.{closure, is_concerned, tags_at, is_base, added, base_at, has_words, rebuilt, FindsLost};
 ghost use Rattle.lis_store.specs.Redescribing.{SlotHas, Redescribes};
 ghost use Rattle.lis_store.specs.Stored.{DescriptionsAreShort};
 ghost use Rattle.lis_model.specs.Sets.{has_number};
 
 use crate::crowding::{find_gained, is_met_at};
+use crate::finding::numbers_found;
 use arrayvec::ArrayVec;
 use lis_kept::Metadata;
 use lis_limits::MAX_DESCRIPTION;
 use lis_taxonomy::Search;
 use lis_words::Test;
 
-/// Which descriptions are made anew, and of which numbers.
+/// Which descriptions are made again, and of which numbers.
 #[derive(Clone, Copy)]
 pub(crate) enum Rebuild {
     /// Those that have the number, of all their numbers.
@@ -40,16 +41,10 @@ pub(crate) fn all_entailed(
     ensures { result.items ≡ closure metadata.now numbers.now }
 {
     find_gained(metadata, numbers, search);
-    let mut all = ArrayVec::new();
-    let mut start = 0;
-    while let Some(number) = search.next(start) {
-        all.push(number as u16);
-        start = number + 1;
-    }
-    all
+    numbers_found(search)
 }
 
-// Whether the description in a slot is made anew.
+// Whether the description in a slot is made again.
 fn is_concerned(metadata: &Metadata, how: Rebuild, slot: u16) -> bool
     requires sound { AreSound metadata.now }
     requires words { has_words metadata.now how ≡ true }
@@ -63,18 +58,6 @@ fn is_concerned(metadata: &Metadata, how: Rebuild, slot: u16) -> bool
     }
 }
 
-// Whether the word of a number entails that of another one.
-fn entails(metadata: &Metadata, number: u16, other: u16, search: &mut Search) -> bool
-    requires sound { AreSound metadata.now }
-    requires named { IsSome (word_of metadata.now.dict number) }
-    requires other { IsSome (word_of metadata.now.dict other) }
-    ensures { result ≡ is_entailed metadata.now number other }
-{
-    metadata
-        .taxonomy()
-        .entails(u32::from(number), u32::from(other), search)
-}
-
 // Whether the file in a slot was given the word of a number.
 fn is_given(metadata: &Metadata, slot: u16, number: u16) -> bool
     ensures { result ≡ has_number (tags_at metadata.now slot) number }
@@ -85,19 +68,26 @@ fn is_given(metadata: &Metadata, slot: u16, number: u16) -> bool
     }
 }
 
-// Whether a number of the description in a slot is one of those of which it is made anew.
-fn is_base(metadata: &Metadata, how: Rebuild, slot: u16, number: u16, search: &mut Search) -> bool
+// Finds what a description may lose: all that the right number entails, if there is one.
+fn find_lost(metadata: &Metadata, how: Rebuild, search: &mut Search)
     requires sound { AreSound metadata.now }
     requires named { has_words metadata.now how ≡ true }
-    requires number { IsSome (word_of metadata.now.dict number) }
+    ensures { FindsLost metadata.now how search.new }
+{
+    search.clear();
+    if let Rebuild::Losing(_, right) = how {
+        find_gained(metadata, &[right], search);
+    }
+}
+
+// Whether a number of the description in a slot is one of those of which it is made again.
+fn is_base(metadata: &Metadata, how: Rebuild, slot: u16, number: u16, lost: &Search) -> bool
+    requires lost { FindsLost metadata.now how lost.now }
+    requires number { number < metadata.now.limits.props }
+    requires sound { AreSound metadata.now }
     ensures { result ≡ is_base metadata.now how slot number }
 {
-    match how {
-        Rebuild::Losing(_, right) => {
-            is_given(metadata, slot, number) || !entails(metadata, right, number, search)
-        }
-        Rebuild::Having(_) | Rebuild::Meeting(_, _) => true,
-    }
+    !lost.has(u32::from(number)) || is_given(metadata, slot, number)
 }
 
 // A number that a description gets which had it not.
@@ -114,7 +104,7 @@ fn added(how: Rebuild) -> ArrayVec<u16, 129>
     }
 }
 
-// The numbers of which the description in a slot, which has these, is made anew.
+// The numbers of which the description in a slot, which has these, is made again.
 fn base_at(
     metadata: &Metadata,
     how: Rebuild,
@@ -129,6 +119,7 @@ fn base_at(
     requires are { numbers.now ≡ set_of metadata.now.ext slot }
     ensures { result.items ≡ base_at metadata.now how slot }
 {
+    find_lost(metadata, how, search);
     let mut base = added(how);
     for number in numbers {
         if is_base(metadata, how, slot, *number, search) {
@@ -138,7 +129,7 @@ fn base_at(
     base
 }
 
-// Makes the description in a slot anew, if it is concerned.
+// Makes the description in a slot again, if it is concerned.
 fn rebuild_slot(metadata: &mut Metadata, how: Rebuild, slot: u16, search: &mut Search)
     requires sound { AreSound metadata.old }
     requires words { has_words metadata.old how ≡ true }
@@ -158,7 +149,7 @@ fn rebuild_slot(metadata: &mut Metadata, how: Rebuild, slot: u16, search: &mut S
     metadata.describe(slot, new.as_slice());
 }
 
-/// Makes all descriptions anew that are concerned.
+/// Makes all descriptions again that are concerned.
 pub(crate) fn rebuild_all(metadata: &mut Metadata, how: Rebuild, search: &mut Search)
     requires words { has_words metadata.old how ≡ true }
     requires free { FreeSlotsAreEmpty metadata.old }

@@ -8,7 +8,6 @@ ghost use Rattle.lis_dict.specs.Dict.{word_of};
 ghost use Rattle.lis_fields.specs.Records.{FileRecord};
 ghost use Rattle.lis_model.specs.Changes.{new_file};
 ghost use Rattle.lis_model.specs.Derived.{derived_words};
-ghost use Rattle.lis_eval.specs.Room.{HasRoom};
 ghost use Rattle.lis_kept.specs.Telling.{words_told, AreUsed};
 ghost use Rattle.lis_store.specs.Assigning.{Takes};
 ghost use Rattle.lis_store.specs.Drafts.{drafted, draft_of, own_word, own_kept};
@@ -21,11 +20,11 @@ use crate::assigning::{all_assignable, put_word};
 use crate::describing::{Draft, FileWords, measure};
 use arrayvec::ArrayVec;
 use lis_derive::derive_words;
-use lis_eval::Scratch;
 use lis_kept::Metadata;
 use lis_limits::{MAX_ASSIGNED, MAX_DESCRIPTION};
 use lis_model::derived::Derived;
 use lis_model::refusal::Refusal;
+use lis_taxonomy::Search;
 use lis_words::{Name, Word, is_builtin};
 
 // Puts the word of a number into a set of words, if there is one.
@@ -128,7 +127,7 @@ fn free_instead(metadata: &Metadata, slot: u16) -> u64
 /// Whether the words of a file may stand in the place of those of the file in a slot.
 pub(crate) fn may_stand_instead(
     metadata: &Metadata,
-    scratch: &mut Scratch,
+    search: &mut Search,
     slot: u16,
     draft: Draft,
 ) -> Result<(), Refusal>
@@ -136,8 +135,6 @@ pub(crate) fn may_stand_instead(
     requires used { AreUsed metadata.now }
     requires few { length draft.assigned.now ≤ MAX_ASSIGNED }
     requires few_own { length draft.own.now ≤ MAX_DESCRIPTION }
-    requires room { HasRoom scratch.old metadata.now.limits }
-    ensures room { HasRoom scratch.new metadata.now.limits }
     ensures row { Judges (instead_checks metadata.now slot
         (drafted draft.entry.name.now draft.entry.size draft.entry.assigned.now draft.entry.own.now)) result }
 {
@@ -146,8 +143,7 @@ pub(crate) fn may_stand_instead(
     if !all_assignable(metadata, draft.assigned) {
         return Err(Refusal::UnknownProperty);
     }
-    let row = &mut scratch.candidates;
-    let measure = measure(metadata, row, &mut scratch.search, Some(slot), draft);
+    let measure = measure(metadata, search, Some(slot), draft);
     if measure.words > MAX_DESCRIPTION as u32 {
         return Err(Refusal::LargeDescription);
     }
@@ -160,7 +156,7 @@ pub(crate) fn may_stand_instead(
 // As `may_stand_instead`, with the words that are derived from these bytes. They are the answer.
 fn has_room_instead(
     metadata: &Metadata,
-    scratch: &mut Scratch,
+    search: &mut Search,
     slot: u16,
     name: &Name,
     words: &[Word],
@@ -169,8 +165,6 @@ fn has_room_instead(
     requires there { IsSome (rec_at metadata.now.catalog slot) }
     requires used { AreUsed metadata.now }
     requires few { length words.now ≤ MAX_ASSIGNED }
-    requires room { HasRoom scratch.old metadata.now.limits }
-    ensures room { HasRoom scratch.new metadata.now.limits }
     ensures row { Judges (instead_checks metadata.now slot (draft_of (new_file name.now words.now payload.now))) result }
     ensures derived { IfOk result (λ derived. derived ≡ derived_words name.now payload.now) }
 {
@@ -181,7 +175,7 @@ fn has_room_instead(
         assigned: words,
         own: derived.as_slice(),
     };
-    may_stand_instead(metadata, scratch, slot, draft)?;
+    may_stand_instead(metadata, search, slot, draft)?;
     Ok(derived)
 }
 
@@ -189,7 +183,7 @@ fn has_room_instead(
 /// Where there are more bytes than a file may have, only their number counts.
 pub(crate) fn may_write(
     metadata: &Metadata,
-    scratch: &mut Scratch,
+    search: &mut Search,
     slot: u16,
     name: &Name,
     payload: &[u8],
@@ -197,8 +191,6 @@ pub(crate) fn may_write(
 ) -> Result<FileWords, Refusal>
     requires there { IsSome (rec_at metadata.now.catalog slot) }
     requires used { AreUsed metadata.now }
-    requires room { HasRoom scratch.old metadata.now.limits }
-    ensures room { HasRoom scratch.new metadata.now.limits }
     ensures row { (rec : FileRecord) → rec_at metadata.now.catalog slot ≡ Some rec
         → Judges (overwriting_checks metadata.now slot rec (given_before metadata.now rec name.now payload.now) size) result }
     ensures words { IfOk result (λ words. (rec : FileRecord) → rec_at metadata.now.catalog slot ≡ Some rec
@@ -206,7 +198,7 @@ pub(crate) fn may_write(
     ensures derived { IfOk result (λ words. words.derived ≡ derived_words name.now payload.now) }
 {
     let assigned = assigned_in(metadata, slot);
-    let derived = has_room_instead(metadata, scratch, slot, name, assigned.as_slice(), payload)?;
+    let derived = has_room_instead(metadata, search, slot, name, assigned.as_slice(), payload)?;
     if blocks_taken(metadata.limits().version, size) > free_instead(metadata, slot) {
         return Err(Refusal::NoSpace);
     }
@@ -217,7 +209,7 @@ pub(crate) fn may_write(
 /// bytes.
 pub(crate) fn may_rename(
     metadata: &Metadata,
-    scratch: &mut Scratch,
+    search: &mut Search,
     slot: u16,
     other: &Name,
     payload: &[u8],
@@ -225,8 +217,6 @@ pub(crate) fn may_rename(
     requires there { IsSome (rec_at metadata.now.catalog slot) }
     requires used { AreUsed metadata.now }
     requires new { slot_of metadata.now.catalog other.now ≡ None }
-    requires room { HasRoom scratch.old metadata.now.limits }
-    ensures room { HasRoom scratch.new metadata.now.limits }
     ensures row { (rec : FileRecord) → rec_at metadata.now.catalog slot ≡ Some rec
         → Judges (renaming_checks metadata.now slot (given_before metadata.now rec other.now payload.now)) result }
     ensures words { IfOk result (λ words. (rec : FileRecord) → rec_at metadata.now.catalog slot ≡ Some rec
@@ -234,6 +224,6 @@ pub(crate) fn may_rename(
     ensures derived { IfOk result (λ words. words.derived ≡ derived_words other.now payload.now) }
 {
     let assigned = assigned_in(metadata, slot);
-    let derived = has_room_instead(metadata, scratch, slot, other, assigned.as_slice(), payload)?;
+    let derived = has_room_instead(metadata, search, slot, other, assigned.as_slice(), payload)?;
     Ok(FileWords { assigned, derived })
 }

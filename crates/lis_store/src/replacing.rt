@@ -6,7 +6,6 @@ ghost use Rattle.lis_catalog.specs.Catalog.{rec_at};
 ghost use Rattle.lis_fields.specs.Layouts.{are_blocks};
 ghost use Rattle.lis_model.specs.Changes.{new_file};
 ghost use Rattle.lis_model.specs.Derived.{derived_words};
-ghost use Rattle.lis_eval.specs.Room.{HasRoom};
 ghost use Rattle.lis_kept.specs.Sound.{AreSound};
 ghost use Rattle.lis_store.specs.Drafts.{drafted, draft_of};
 ghost use Rattle.lis_store.specs.ReplacingIn.{AreInForm, record_in, MayPut, MayComeIn, IsVacant, MakesRoom, LearnsOwn, SettlesIn, RefilesIn};
@@ -15,10 +14,10 @@ use crate::adding::{learn_words, numbers_entailed, numbers_of};
 use crate::describing::{Draft, FileWords};
 use crate::removing::unfile;
 use arrayvec::ArrayVec;
-use lis_eval::Scratch;
 use lis_fields::FileRec;
 use lis_kept::Metadata;
 use lis_limits::MAX_DESCRIPTION;
+use lis_taxonomy::Search;
 use lis_words::Name;
 
 // The numbers of the words that a file is given, and those of its description.
@@ -36,25 +35,16 @@ struct NewSlot {
 }
 
 // Gives numbers to those words of a file that have none, and answers the numbers of its words.
-fn learn_own(metadata: &mut Metadata, scratch: &mut Scratch, draft: Draft) -> Numbers
+fn learn_own(metadata: &mut Metadata, search: &mut Search, draft: Draft) -> Numbers
     requires sound { AreSound metadata.old }
     requires may { MayComeIn metadata.old (drafted draft.name.now draft.size draft.assigned.now draft.own.now) }
-    requires scratch { HasRoom scratch.old metadata.old.limits }
-    ensures scratch { HasRoom scratch.new metadata.old.limits }
     ensures learnt { LearnsOwn (drafted draft.entry.name.now draft.entry.size draft.entry.assigned.now draft.entry.own.now)
         result.tags.items result.all.items metadata.old metadata.new }
 {
     learn_words(metadata, draft.assigned);
     learn_words(metadata, draft.own);
-    let tags = numbers_of(metadata, draft.assigned, &mut scratch.candidates);
-    let all = numbers_entailed(
-        metadata,
-        draft.assigned,
-        draft.own,
-        draft.size,
-        &mut scratch.candidates,
-        &mut scratch.search,
-    );
+    let tags = numbers_of(metadata, draft.assigned, search);
+    let all = numbers_entailed(metadata, draft.assigned, draft.own, draft.size, search);
     Numbers { tags, all }
 }
 
@@ -99,7 +89,7 @@ fn make_room(metadata: &mut Metadata, slot: Option<u16>) -> NewSlot
 // the record.
 fn settle_in(
     metadata: &mut Metadata,
-    scratch: &mut Scratch,
+    search: &mut Search,
     new_slot: &NewSlot,
     draft: Draft,
     blocks: ArrayVec<u16, 16>,
@@ -108,12 +98,10 @@ fn settle_in(
     requires may { MayComeIn metadata.old (drafted draft.name.now draft.size draft.assigned.now draft.own.now) }
     requires in_form { IsTrue (are_blocks metadata.old.limits.version draft.size blocks.items) }
     requires below { IsTrue (list_all (λ n. nat_lt n metadata.old.limits.blocks) blocks.items) }
-    requires scratch { HasRoom scratch.old metadata.old.limits }
-    ensures scratch { HasRoom scratch.new metadata.old.limits }
     ensures settles { SettlesIn new_slot.now.slot
         (drafted draft.entry.name.now draft.entry.size draft.entry.assigned.now draft.entry.own.now) blocks.items metadata.old metadata.new }
 {
-    let numbers = learn_own(metadata, scratch, draft);
+    let numbers = learn_own(metadata, search, draft);
     metadata.describe(new_slot.slot, numbers.all.as_slice());
     metadata.place_record(
         new_slot.slot,
@@ -129,7 +117,7 @@ fn settle_in(
 /// Files a file, in the place of the one in the slot if one is told. Its bytes stand in these blocks, which are taken already.
 pub(crate) fn replace_draft(
     metadata: &mut Metadata,
-    scratch: &mut Scratch,
+    search: &mut Search,
     slot: Option<u16>,
     draft: Draft,
     blocks: ArrayVec<u16, 16>,
@@ -138,19 +126,17 @@ pub(crate) fn replace_draft(
     requires may { MayPut metadata.old slot (drafted draft.name.now draft.size draft.assigned.now draft.own.now) }
     requires in_form { IsTrue (are_blocks metadata.old.limits.version draft.size blocks.items) }
     requires below { IsTrue (list_all (λ n. nat_lt n metadata.old.limits.blocks) blocks.items) }
-    requires scratch { HasRoom scratch.old metadata.old.limits }
-    ensures scratch { HasRoom scratch.new metadata.old.limits }
     ensures refiles { RefilesIn (record_in metadata.old slot)
         (drafted draft.entry.name.now draft.entry.size draft.entry.assigned.now draft.entry.own.now) blocks.items metadata.old metadata.new }
 {
     let new_slot = make_room(metadata, slot);
-    settle_in(metadata, scratch, &new_slot, draft, blocks);
+    settle_in(metadata, search, &new_slot, draft, blocks);
 }
 
 /// As `replace_draft`, with the words of a file and its bytes.
 pub(crate) fn replace_record(
     metadata: &mut Metadata,
-    scratch: &mut Scratch,
+    search: &mut Search,
     slot: Option<u16>,
     name: &Name,
     words: &FileWords,
@@ -162,8 +148,6 @@ pub(crate) fn replace_record(
     requires may { MayPut metadata.old slot (draft_of (new_file name.now words.now.assigned.items payload.now)) }
     requires in_form { IsTrue (are_blocks metadata.old.limits.version (length payload.now) blocks.items) }
     requires below { IsTrue (list_all (λ n. nat_lt n metadata.old.limits.blocks) blocks.items) }
-    requires scratch { HasRoom scratch.old metadata.old.limits }
-    ensures scratch { HasRoom scratch.new metadata.old.limits }
     ensures refiles { RefilesIn (record_in metadata.old slot) (draft_of (new_file name.now words.now.assigned.items payload.now)) blocks.items metadata.old metadata.new }
 {
     let draft = Draft {
@@ -172,5 +156,5 @@ pub(crate) fn replace_record(
         assigned: words.assigned.as_slice(),
         own: words.derived.as_slice(),
     };
-    replace_draft(metadata, scratch, slot, draft, blocks);
+    replace_draft(metadata, search, slot, draft, blocks);
 }

@@ -4,9 +4,9 @@ ghost use Rattle.std.specs.Prelude.{◌≡◌, ◌<◌, ◌≤◌, false, [], Ok
 ghost use Rattle.lis_journal.specs.Images.{JournalIsUsable};
 ghost use Rattle.lis_content.specs.Large.{is_large};
 ghost use Rattle.lis_store.specs.Stored.{IsUsable};
-ghost use Rattle.lis_store.specs.Changes.{ChangesDisk};
+ghost use Rattle.lis_store.specs.Changes.{ChangesDisk, EndsUnrefused};
 ghost use Rattle.lis_store.specs.Memory.{stored};
-ghost use Rattle.lis_store.specs.Saving.{KeepsStaged, MayBeSaved, SaveKeeps, Saves, SaveEnded};
+ghost use Rattle.lis_store.specs.Saving.{KeepsStaged, MayBeSaved, SaveKeeps, Saves};
 ghost use Rattle.lis_journal.specs.Journal.{shape_of};
 
 use crate::change_fault::ChangeFault;
@@ -39,7 +39,7 @@ impl Memory {
         ensures idle { self.old.journal.staged ≡ [] → (result ≡ Ok _) × (disk.new ≡ disk.old) × (self.new ≡ self.old) }
         ensures metadata { self.new.metadata ≡ self.old.metadata }
         ensures image { shape_of self.new.journal ≡ shape_of self.old.journal }
-        ensures ended { SaveEnded self.new.is_broken result }
+        ensures ended { EndsUnrefused self.new.is_broken result }
         ensures disk { ChangesDisk (D.meaning disk.old) (D.meaning disk.new) result }
     {
         if let Err(fault) = self.journal.commit(disk) {

@@ -139,7 +139,7 @@ impl Store {
             Write::Undeclare(word) => self.undeclare(disk, word),
             Write::Axiom(left, right) => self.axiom(disk, left, right, &mut scratch.search),
             Write::Unaxiom(left, right) => self.unaxiom(disk, left, right, &mut scratch.search),
-            Write::Add(file) => self.add(disk, scratch, place, file),
+            Write::Add(file) => self.add(disk, &mut scratch.search, place, file),
             Write::Write(name, bytes, size) => self.write(disk, scratch, place, name, bytes, size),
             Write::Remove(name) => self.remove(disk, scratch, place, name),
             Write::Retag(name, text) => self.retag(disk, scratch, place, name, text),

@@ -6,10 +6,8 @@ ghost use Rattle.lis_model.specs.Changes.{new_file, file_added};
 ghost use Rattle.lis_model.specs.Derived.{derived_words};
 ghost use Rattle.lis_model.specs.State.{State, file_limit};
 ghost use Rattle.lis_model.specs.Step.{Situation, changed, add};
-ghost use Rattle.lis_eval.specs.Room.{HasRoom};
 ghost use Rattle.lis_store.specs.Stored.{StoreHolds, IsUsable};
-ghost use Rattle.lis_store.specs.Changes.{Holds, Ends, ChangeKeeps, ChangesDisk};
-ghost use Rattle.lis_store.specs.Saving.{SaveEnded};
+ghost use Rattle.lis_store.specs.Changes.{Holds, Ends, EndsUnrefused, ChangeKeeps, ChangesDisk};
 ghost use Rattle.lis_store.specs.ReplacingIn.{MayPutBytes, record_in, file_gone};
 
 use crate::admitting::{NewFile, may_add};
@@ -19,9 +17,9 @@ use crate::replacing::replace_record;
 use crate::saving::most_held;
 use crate::store::Store;
 use lis_content::is_large;
-use lis_eval::Scratch;
 use lis_place::Place;
 use lis_ports::Disk;
+use lis_taxonomy::Search;
 use lis_words::Name;
 
 impl Store {
@@ -29,29 +27,27 @@ impl Store {
     pub(crate) fn add<D: Disk>(
         &mut self,
         disk: &mut D,
-        scratch: &mut Scratch,
+        search: &mut Search,
         place: &Place,
         file: NewFile,
     ) -> Result<(), ChangeFault>
         requires whole { file.size ≤ file_limit self.old.metadata.limits.version → length file.bytes.now ≡ file.size }
-        requires scratch { HasRoom scratch.old self.old.metadata.limits }
         requires usable { IsUsable self.old (D.meaning disk.old) }
-        ensures scratch { HasRoom scratch.new self.old.metadata.limits }
         ensures holds { (base : State) (s : State) → StoreHolds self.old (D.meaning disk.old) base s
             → Holds base (record { state = s; place = place.now })
             (add (record { state = s; place = place.now }) file.entry.name.now file.entry.tags.now (record { size = file.entry.size; bytes = file.entry.bytes.now }))
             self.new (D.meaning disk.old) (D.meaning disk.new) result }
         ensures ends { Ends (disk.new ≡ disk.old) self.old self.new (D.meaning disk.old) (D.meaning disk.new) result }
     {
-        let words = may_add(&self.memory.metadata, scratch, place, file)?;
-        self.put_file(disk, scratch, None, file.name, &words, file.bytes)
+        let words = may_add(&self.memory.metadata, search, place, file)?;
+        self.put_file(disk, search, None, file.name, &words, file.bytes)
     }
 
     /// Puts a file in, in the place of the one in the slot if one is told. All that is held back is committed before a large one.
     pub(crate) fn put_file<D: Disk>(
         &mut self,
         disk: &mut D,
-        scratch: &mut Scratch,
+        search: &mut Search,
         slot: Option<u16>,
         name: &Name,
         words: &FileWords,
@@ -59,12 +55,11 @@ impl Store {
     ) -> Result<(), ChangeFault>
         requires derived { words.now.derived ≡ derived_words name.now payload.now }
         requires may { MayPutBytes self.old.metadata slot (new_file name.now words.now.assigned.items payload.now) }
-        requires scratch { HasRoom scratch.old self.old.metadata.limits }
         requires usable { IsUsable self.old (D.meaning disk.old) }
-        ensures scratch { HasRoom scratch.new self.old.metadata.limits }
         ensures holds { (base : State) (now : Situation) → StoreHolds self.old (D.meaning disk.old) base now.state
             → Holds base now (changed now (file_added (file_gone now.state (record_in self.old.metadata slot)) (new_file name.now words.now.assigned.items payload.now)))
             self.new (D.meaning disk.old) (D.meaning disk.new) result }
+        ensures ended { EndsUnrefused self.new.is_broken result }
         ensures ends { Ends (disk.new ≡ disk.old) self.old self.new (D.meaning disk.old) (D.meaning disk.new) result }
     {
         // The store is in form, whatever is committed.
@@ -72,14 +67,14 @@ impl Store {
         if is_large(payload.len() as u32) {
             self.commit(disk)?;
         }
-        self.put_alone(disk, scratch, slot, name, words, payload)
+        self.put_alone(disk, search, slot, name, words, payload)
     }
 
     // The same, where nothing is held back before a large file. It is committed at once.
     fn put_alone<D: Disk>(
         &mut self,
         disk: &mut D,
-        scratch: &mut Scratch,
+        search: &mut Search,
         slot: Option<u16>,
         name: &Name,
         words: &FileWords,
@@ -88,21 +83,19 @@ impl Store {
         requires derived { words.now.derived ≡ derived_words name.now payload.now }
         requires may { MayPutBytes self.old.metadata slot (new_file name.now words.now.assigned.items payload.now) }
         requires alone { is_large (length payload.now) ≡ true → self.old.journal.staged ≡ [] }
-        requires scratch { HasRoom scratch.old self.old.metadata.limits }
         requires usable { IsUsable self.old (D.meaning disk.old) }
-        ensures scratch { HasRoom scratch.new self.old.metadata.limits }
         ensures holds { (base : State) (now : Situation) → StoreHolds self.old (D.meaning disk.old) base now.state
             → Holds base now (changed now (file_added (file_gone now.state (record_in self.old.metadata slot)) (new_file name.now words.now.assigned.items payload.now)))
             self.new (D.meaning disk.old) (D.meaning disk.new) result }
         ensures settled { is_large (length payload.now) ≡ true → OnOk result (self.new.journal.staged ≡ []) }
-        ensures ended { SaveEnded self.new.is_broken result }
+        ensures ended { EndsUnrefused self.new.is_broken result }
         ensures keeps { ChangeKeeps self.old self.new result }
         ensures disk { ChangesDisk (D.meaning disk.old) (D.meaning disk.new) result }
     {
         let blocks = self.memory.put_anew(disk, slot, payload)?;
         replace_record(
             &mut self.memory.metadata,
-            scratch,
+            search,
             slot,
             name,
             words,

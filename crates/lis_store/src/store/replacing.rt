@@ -51,8 +51,15 @@ impl Store {
         let Some(slot) = self.slot_here(scratch, place, name) else {
             return Err(ChangeFault::Refused(Refusal::NoFileHere));
         };
-        let words = may_write(&self.memory.metadata, scratch, slot, name, payload, size)?;
-        self.put_file(disk, scratch, Some(slot), name, &words, payload)
+        let words = may_write(
+            &self.memory.metadata,
+            &mut scratch.search,
+            slot,
+            name,
+            payload,
+            size,
+        )?;
+        self.put_file(disk, &mut scratch.search, Some(slot), name, &words, payload)
     }
 
     /// Gives a file another name: `rename` at the place. Its bytes are read, since words are derived from them.
@@ -91,7 +98,7 @@ impl Store {
         }
         let words = may_rename(
             &self.memory.metadata,
-            scratch,
+            &mut scratch.search,
             slot,
             new,
             self.memory.bytes.bytes(),
@@ -99,7 +106,7 @@ impl Store {
         let blocks = blocks_in(&self.memory.metadata, slot);
         replace_record(
             &mut self.memory.metadata,
-            scratch,
+            &mut scratch.search,
             Some(slot),
             new,
             &words,
@@ -140,11 +147,11 @@ impl Store {
             assigned: words.as_slice(),
             own: own.as_slice(),
         };
-        may_stand_instead(&self.memory.metadata, scratch, slot, draft)?;
+        may_stand_instead(&self.memory.metadata, &mut scratch.search, slot, draft)?;
         let blocks = blocks_in(&self.memory.metadata, slot);
         replace_draft(
             &mut self.memory.metadata,
-            scratch,
+            &mut scratch.search,
             Some(slot),
             draft,
             blocks,
