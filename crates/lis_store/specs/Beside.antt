@@ -1,4 +1,4 @@
--- The words that would be known with a file: beside all that are known, or in the place of another file.
+-- The words that would be known with a file that is added, or that replaces another file.
 use Rattle.std.specs.Prelude.{ℕ, nat_lt, Bool, not, ◌&&◌, Option, Some, None, List, [], ◌∷◌, length}
 use Rattle.lis_limits.specs.declared.TheConstants.{MAX_DESCRIPTION}
 use Rattle.lis_bits.specs.Rows.{Rows, get}
@@ -15,7 +15,7 @@ use Rattle.lis_store.specs.Drafts.{Draft}
 use Rattle.lis_store.specs.Admitting.{described_by}
 use Rattle.lis_store.specs.Replacing.{words_without}
 
--- the known words, but for those that only the file in the slot uses, if one is given
+-- the known words, except those that only the file in the slot uses, if a slot is given
 abbrev pub words_beside : Metadata → Option ℕ → List (List ℕ)
 words_beside k None = words k.dict
 words_beside k (Some slot) = words_without k slot
@@ -31,11 +31,11 @@ words_checks k old draft =
     ∷ (nat_lt k.limits.props (length (known_beside k old draft)), NoPropertyRoom)
     ∷ []
 
--- the description in the slot has the number, which is not in the row, and nothing else uses it
+-- the description in the slot has the number, the row does not have it, and nothing else uses it
 abbrev pub is_leaving : Metadata → Rows → ℕ → ℕ → Bool
 is_leaving k row slot n = has k.ext n slot && not (get row 0 n) && not (is_used (emptied k slot) n)
 
--- the numbers that leave with the description in the slot, if one is given
+-- the numbers that go out of use with the description in the slot, if a slot is given
 abbrev pub leaving : Metadata → Rows → Option ℕ → List ℕ
 leaving k row None = []
 leaving k row (Some slot) = numbers_where k.limits.props (is_leaving k row slot)
