@@ -59,8 +59,7 @@ pub enum Halt<F> {
 }
 
 /// Runs the items of an input of at most `limit` bytes, up to its end, its limit or the first fault. It takes at most one byte past the
-/// limit.
-/// Each item takes at least one byte, so there are at most `limit` items.
+/// limit. Each item takes at least one byte, so there are at most `limit` items.
 pub fn carry_all<C: Carrier, S: Source, T: Station>(
     carrier: &mut C,
     payload: &mut Payload,

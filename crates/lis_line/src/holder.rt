@@ -81,8 +81,7 @@ fn settle_unless<C: Holder, T: Station>(
 }
 
 /// Runs the items of an input of at most `limit` bytes, up to its end, its limit or the first fault. If no item is complete in what was
-/// taken
-/// from the source, the carrier settles before it reads on. So nothing is held back while the source is called.
+/// taken from the source, the carrier settles before it reads on. So nothing is held back while the source is called.
 pub fn carry_held<C: Holder, S: Source, T: Station>(
     carrier: &mut C,
     payload: &mut Payload,

@@ -140,8 +140,7 @@ impl LineReader {
     }
 
     /// What the next item of a session requests, as `read` returns it. If one is complete in what was taken, the source is not called, and
-    /// the
-    /// result is neither the end nor a fault.
+    /// the result is neither the end nor a fault.
     pub fn read_held<S: Source>(
         &mut self,
         lies_whole: bool,

@@ -20,8 +20,7 @@ lag = 256
 
 module _ (start : Situation) (items : List Item) where
   -- The image represents the state after some first items. What was shown is a prefix of their replies, and at most `lag` of these items
-  -- have
-  -- replies that were not shown whole.
+  -- have replies that were not shown whole.
   pub record LoadMoment (image shown : List ℕ) : Type 0 where
     pub count : ℕ
     pub within : count ≤ length items

@@ -21,8 +21,7 @@ answer None = ok_line
 answer (Some refusal) = refusal_line refusal
 
 -- These items were run. The replies to the first `whole` ones were shown, and those to the others wait. The images represent the state
--- after
--- `base` of them, and memory represents the state after all.
+-- after `base` of them, and memory represents the state after all.
 pub record Waits (start : Situation) (items : List Item) (before : Option (List ℕ)) (now : Loader) (m : Meaning) : Type 0 where
   pub whole : ℕ
   pub base : ℕ

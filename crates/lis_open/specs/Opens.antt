@@ -43,8 +43,7 @@ abbrev pub IsLongEnough : Meaning → Type 0
 IsLongEnough m = (need : ℕ) → IsNeeded m.bytes need → need ≤ m.len
 
 -- The disk is too short exactly if there are fewer bytes than are needed. An image is refused exactly if it is long enough and represents
--- no
--- state.
+-- no state.
 abbrev pub OpenRefused : Meaning → Meaning → OpenFault → Type 0
 OpenRefused old new (TooShort len need) = (len ≡ old.len) × (len < need) × IsNeeded old.bytes need
 OpenRefused old new (Damaged spot) = IsLongEnough old × ((s : State) → Stands old.bytes s → ⊥)

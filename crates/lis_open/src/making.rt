@@ -74,14 +74,12 @@ pub fn make<D: Disk>(disk: &mut D, limits: &Limits) -> Result<(), MakeFault>
         → Always (D.meaning disk.new) (λ image. Stands image (empty_state limits.now))) }
 
     // If nothing is unsynced at the start, a crash leaves the initial image, one of the empty state, or one of no state. In each of them
-    // the
-    // records, the data blocks and what is past the image are as they were.
+    // the records, the data blocks and what is past the image are as they were.
     ensures any_moment { IsTrue (D.meaning disk.old).is_honest → IsSettled (D.meaning disk.old) (D.meaning disk.old).bytes
         → Leaves (D.meaning disk.old) (D.meaning disk.new) (InMaking limits.now (D.meaning disk.old).bytes) }
 
     // It writes the super block, and zeros to the gate block and the home blocks before the data blocks. Every other block is as it was. If
-    // the
-    // disk failed, this holds of each block that a crash at the start left as it read.
+    // the disk failed, this holds of each block that a crash at the start left as it read.
     ensures left { OnOk result (IsTrue (D.meaning disk.old).is_honest
         → Always (D.meaning disk.new) (IsMade limits.now (D.meaning disk.old).bytes)) }
 

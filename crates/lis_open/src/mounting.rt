@@ -153,8 +153,7 @@ pub fn mount<D: Disk>(alloc: Global, disk: &mut D) -> Result<Store, OpenFault>
     ensures spot { (spot : SpotOf) → result ≡ Err (Damaged spot) → IsTrue (D.meaning disk.old).is_honest → FailsFirst (D.meaning disk.old).bytes spot }
 
     // Of any disk: at `TooShort` the first number is the disk's length, and the second is greater. A disk that is shorter than a super
-    // block is
-    // not read.
+    // block is not read.
     ensures numbers { (len need : ℕ) → result ≡ Err (TooShort len need) → (len ≡ (D.meaning disk.old).len) × (len < need) }
     ensures small { (D.meaning disk.old).len < BLOCK_LEN
         → (result ≡ Err (TooShort (D.meaning disk.old).len BLOCK_LEN)) × (disk.new ≡ disk.old) }
@@ -163,8 +162,7 @@ pub fn mount<D: Disk>(alloc: Global, disk: &mut D) -> Result<Store, OpenFault>
     ensures long { IfOk result (λ store. BLOCK_LEN * store.journal.layout.blocks ≤ (D.meaning disk.new).len) }
 
     // Whatever the image, only what an open gate requires is written. If the image represented a state, each moment represents the same
-    // one, or
-    // is an image that a crash could have left before.
+    // one, or is an image that a crash could have left before.
     ensures left { IsTrue (D.meaning disk.old).is_honest → OpenLeft (D.meaning disk.old) (D.meaning disk.new) result }
     ensures any_moment { IsTrue (D.meaning disk.old).is_honest
         → Leaves (D.meaning disk.old) (D.meaning disk.new) (InOpening (D.meaning disk.old)) }

@@ -185,8 +185,7 @@ const SONG_DAMAGES: &[(&[Patch], Spot)] = &[
     ),
     (&[(AXIOMS + 4 * 8, b"\0\0\0\0\0")], Spot::Word(2)),
     // a word without a slot, two words that are not assignable, a block past the last one, a name twice, and a block twice, in two files
-    // and in
-    // one of 4,097 bytes
+    // and in one of 4,097 bytes
     (&[(FILES + 256 + 68, b"\x06")], Spot::File(1)),
     (&[(FILES + 256 + 68, b"\x01")], Spot::File(1)),
     (&[(FILES + 256 + 68, b"\x09")], Spot::File(1)),

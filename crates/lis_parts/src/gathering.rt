@@ -103,8 +103,7 @@ impl Edited {
     }
 
     /// Replaces its bytes by all bytes of the source, and returns whether these are all. If there are more than an edited view may have, it
-    /// takes
-    /// only one byte more than that.
+    /// takes only one byte more than that.
     pub fn gather<S: Source>(&mut self, source: &mut S) -> Result<bool, Failed>
         ensures gathers { IfOk result (λ whole. (input : List ℕ) → S.left source.old ≡ Some input → Gathers input (S.left source.new) self.new whole) }
         ensures short { IfOk result (λ whole. whole ≡ true → length self.new ≤ view_limit) }

@@ -131,8 +131,7 @@ fn put_back_file<T: Station>(
 }
 
 /// Reads an edited view of the file of that name under the formula of the text, and writes what it makes of the file: the hidden lines are
-/// at
-/// their marks, and the others are those of the view. It reads the input to its end before anything is judged, and at most one byte past
+/// at their marks, and the others are those of the view. It reads the input to its end before anything is judged, and at most one byte past
 /// 8,388,608. A longer input changes and shows nothing.
 ///
 /// It is refused if the text is no formula or too large, if the state has no such file, if the input is not a view, if its marks are not

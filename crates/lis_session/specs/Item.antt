@@ -33,8 +33,7 @@ pub record Replied {P : Type 0} (next : SituationOf P) (old new : Meaning) (fits
   pub at : place ≡ next.place
 
 -- At Ok the whole reply was shown, and after a show fault a prefix of it; the step was made. After a disk fault only the moments say what
--- is
--- on the disk.
+-- is on the disk.
 abbrev pub ItemEnded : {P : Type 0} → OutcomeOf P → Meaning → Meaning → (State → Type 0) → P → Result (Unit {0}) End → Type 0
 ItemEnded outcome old new fits place (Ok done) = Replied outcome.next old new fits place outcome.reply
 ItemEnded outcome old new fits place (Err DiskFault) = Unit {0}

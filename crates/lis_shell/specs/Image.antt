@@ -78,8 +78,7 @@ pub record EntryWith (m : Meaning) (known : Type 0) (state : State) : Type 0 whe
   pub told : known
 
 -- An image that represents a state is refused only if memory runs out or the disk fails. No input was taken and nothing was shown. If
--- memory
--- ran out, the image represents the same state.
+-- memory ran out, the image represents the same state.
 abbrev pub Refused : Type 0 → State → Option (List ℕ) → Meaning → OpenFault → Type 0
 Refused told state before new NoMemory = (new.shown ≡ before) × told × Stands new.bytes state
 Refused told state before new DiskFault = (new.shown ≡ before) × told
@@ -112,15 +111,13 @@ abbrev pub writes_nothing : Work → Status → Bool
 writes_nothing work status = work.only_reads || work.undone status
 
 -- The image was opened, and nothing else was done: it is left as opening leaves it. If memory ran out, nothing was written, or only the
--- work
--- lacked memory.
+-- work lacked memory.
 abbrev pub OnlyOpened : Meaning → Meaning → Status → Type 0
 OnlyOpened old new (Opening NoMemory) = IsUnchanged old new ⊎ Recovers old new
 OnlyOpened old new status = ByOpening (FaultLeft old new) (λ halt. Recovers old new) status
 
 -- Nothing was written, and each moment leaves what a crash at the start could have left, or the initial bytes. If the disk failed in
--- opening,
--- only the moments say so.
+-- opening, only the moments say so.
 pub record NothingWritten (old new : Meaning) (status : Status) : Type 0 where
   pub left : status ≢ Opening DiskFault → Unwritten old new
   pub moments : Adds old new (λ image bytes. WasLeft old image)
@@ -151,12 +148,9 @@ pub record Barred (old new : Meaning) (status : Status) : Type 0 where
   pub past : (limits : Limits) → HasSuper limits old.bytes → (IsDiskFault status → IsSettledPast (image_blocks limits) old) → KeepsPast (image_blocks limits) old new
 
 -- An opening, and the work after it. `untouched` says that no input was taken, and `unmoved` that the station is as it was. A refusal
--- leaves
--- the input alone and shows nothing. If nothing was done, each moment says so. A work that itself writes nothing leaves what opening
--- leaves,
--- and, if no gate is open, everything as it was. What is past the image stays. If the disk failed, this holds if a crash at the start left
--- it
--- as it read.
+-- leaves the input alone and shows nothing. If nothing was done, each moment says so. A work that itself writes nothing leaves what opening
+-- leaves, and, if no gate is open, everything as it was. What is past the image stays. If the disk failed, this holds if a crash at the
+-- start left it as it read.
 pub record ImageKeeps (work : Work) (untouched unmoved : Type 0) (left left_after : Option (List ℕ)) (old new : Meaning) (status : Status) : Type 0 where
   -- a status of opening, or an end that the work may have
   pub only : ByOpening (λ fault. Unit {0}) work.may_end status

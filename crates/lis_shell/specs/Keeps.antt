@@ -41,9 +41,8 @@ pub record TryKeeps (limits : Limits) (left left_after : Option (List ℕ)) (old
       → (end : Situation) × Tries (start_of limits) (2 ^ 40) bytes left_after old.shown new.shown end status
 
 -- `make`: an image of the empty state, if the disk is long enough. If nothing is unsynced at the start, a crash leaves the initial image,
--- one
--- of the empty state, or one of no state. The records, the data blocks and what is past the image stay. If the disk failed, each block of
--- these stays that a crash at the start left as it read.
+-- one of the empty state, or one of no state. The records, the data blocks and what is past the image stay. If the disk failed, each block
+-- of these stays that a crash at the start left as it read.
 pub record MakeKeeps (limits : Limits) (unmoved : Type 0) (old new : Meaning) (status : Status) : Type 0 where
   pub made : MadeImage limits old new status
   -- nothing is shown

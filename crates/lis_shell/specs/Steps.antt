@@ -70,8 +70,7 @@ is_unbegun (Ended halt) = is_untaken halt
 is_unbegun status = is_opening status
 
 -- The work that is a step from the state, determined by an input of at most this many bytes. Of a longer input at most one byte more is
--- taken.
--- Nothing is done before the input was read to its end.
+-- taken. Nothing is done before the input was read to its end.
 abbrev pub told_stepping : ℕ → (State → List ℕ → Outcome) → Work
 told_stepping limit outcome = record {
   takes_input = true;

@@ -17,8 +17,7 @@ ghost use Rattle.lis_shell.specs.declared.status.Status.TheVariants.{Ended};
 use lis_ports::{Source, Station};
 
 /// `try` and `run` show the same. If both came to the end of the same input, and the image of `run` represented the empty state of the
-/// limits
-/// of `try`, each showed the model's replies to all commands of the input, after what had been shown before.
+/// limits of `try`, each showed the model's replies to all commands of the input, after what had been shown before.
 ///
 /// The premises are what `lisfs` states of the two words (`tries`, and `works` of `run`), of any two sources and stations.
 pub fn try_and_run_agree<R: Source, S: Source, T: Station, U: Station>()
@@ -32,9 +31,8 @@ pub fn try_and_run_agree<R: Source, S: Source, T: Station, U: Station>()
 {}
 
 /// `run` and `load` show the same and leave the same. If both came to the end of the same input, and both images represented one state,
-/// each
-/// showed the model's replies to all commands of the input, after what had been shown before. Each image represents the state after these
-/// commands, whatever a crash leaves.
+/// each showed the model's replies to all commands of the input, after what had been shown before. Each image represents the state after
+/// these commands, whatever a crash leaves.
 ///
 /// The premises are what `lisfs` states of the two words (`works`), of any two sources and stations.
 pub fn run_and_load_agree<R: Source, S: Source, T: Station, U: Station>()
@@ -60,8 +58,7 @@ pub fn run_complete<S: Source, T: Station>()
 {}
 
 /// `grow`: at any moment the image represents the model's state after some first items of the session, and what was shown is a prefix of
-/// its
-/// summary, of which nothing is shown before all items were run. Or the image is one that a stop could have left at the start.
+/// its summary, of which nothing is shown before all items were run. Or the image is one that a stop could have left at the start.
 ///
 /// The premise is what `lisfs` states of `grow` (`work_headline`), of any source and station.
 pub fn grow_headline<S: Source, T: Station>()

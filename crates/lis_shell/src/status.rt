@@ -16,15 +16,12 @@ pub enum Status {
     /// The words are in no form, or a limit or the number of `grow` is out of range. Nothing was read.
     Usage,
     /// The image was not opened, or `make` or `upgrade` did not make it. Or memory ran out for what follows an opening; in `try` this may
-    /// happen
-    /// between two commands.
+    /// happen between two commands.
     Opening(OpenFault),
     /// How what follows the opening ended. At the end of `run`, `load`, `rooms` and `try` every item of the input has its reply shown. At
-    /// the end
-    /// of `dump` the dump was shown, and of `view` the view or its refusal. At the end of `put` the input was read to its end and the reply
-    /// shown.
-    /// At the end of `grow` every item of its session was run, and the summary was shown. At the end of `make` the image was made, and of
-    /// `upgrade` the image is of version 2.
+    /// the end of `dump` the dump was shown, and of `view` the view or its refusal. At the end of `put` the input was read to its end and
+    /// the reply shown. At the end of `grow` every item of its session was run, and the summary was shown. At the end of `make` the image
+    /// was made, and of `upgrade` the image is of version 2.
     Ended(Halt<End>),
 }
 

@@ -182,8 +182,8 @@ pub fn lisfs<S: Source, T: Station>(
         → FullHeadline room_step (rooms_of state) (room_script bytes (2 ^ 40)) (T.meaning station.old) (T.meaning station.new) }
 
     // Each work on an image: each moment is a moment of the work; or the image is one that a stop could have left at the start, with
-    // nothing
-    // shown since. If the image was not opened, or the input of `put` was not read to its end, the work was not begun at any moment.
+    // nothing shown since. If the image was not opened, or the input of `put` was not read to its end, the work was not begun at any
+    // moment.
     ensures work_headline { (task : WorkNamed) → task_of (map string_bytes words.now) ≡ Some (OnImage task)
         → WorkHeadline (work_of (map string_bytes words.now) task) (S.left input.old) (T.meaning station.old) (T.meaning station.new) }
     ensures work_undone { (task : WorkNamed) → task_of (map string_bytes words.now) ≡ Some (OnImage task)

@@ -18,8 +18,8 @@ use Rattle.lis_store.proofs.Settled.{end, end_is, rec, rec_here, set_here, set_o
 use Rattle.lis_store.proofs.Told.{words_same}
 use Rattle.lis_laws.proofs.Forms as forms
 
--- Memory without the description of the slot represented s by what blocks hold. Then blocks hold the bytes of a file, which is put into
--- the slot.
+-- Memory without the description of the slot represented s by what blocks hold. Then blocks hold the bytes of a file, which is put into the
+-- slot.
 module _ (file : File) (own : List (List ℕ)) {slot : ℕ} {old : List ℕ} {blocks : List ℕ} {v q : Metadata} (vacant : IsVacant slot old v) (may : MayComeIn v (with_own file own))
     (settles : SettlesIn slot (with_own file own) blocks v q) (was : List Bool) (sound_o : AreSound (record (emptied v slot) { taken = was })) {at there : ℕ → List ℕ} {s : State} (tells : Tells (record (emptied v slot) { taken = was }) at s)
     (are_own : AreOwnWords s.declared s.axioms own file) {held : List ℕ} (housed : IsHoused v.limits was v.taken [] held file.bytes blocks at there) where

@@ -122,9 +122,9 @@ row_bit s limits contents at p i =
     is_had_by s (file_by limits contents.properties at) (word_at contents.properties p) (slice_index_or contents.files i FreeFile)
 
 -- By what each block holds, the slots are in their layouts and spell the state, which is well formed. The words of the slots are the known
--- words, each once. No two axiom slots have one pair, and those past the last number are free. No two files have one name. Index blocks
--- are well formed. No block is used twice, as a data block or as an index block. The bitmap shows exactly the blocks in use, and the rows
--- show exactly which file has which word.
+-- words, each once. No two axiom slots have one pair, and those past the last number are free. No two files have one name. Index blocks are
+-- well formed. No block is used twice, as a data block or as an index block. The bitmap shows exactly the blocks in use, and the rows show
+-- exactly which file has which word.
 pub record Spells (limits : Limits) (contents : Contents) (at : ℕ → List ℕ) (s : State) : Type 0 where
   pub properties : AreSlots prop_bytes is_prop (property_slots limits) at contents.properties
   pub axioms : AreSlots axiom_bytes is_axiom (axiom_slots limits) at contents.axioms

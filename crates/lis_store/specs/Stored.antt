@@ -75,8 +75,7 @@ pub record IsSound (k : Stored) : Type 0 where
   pub clean : k.is_broken ≡ false → k.metadata.marks ≡ replicate (length k.metadata.marks) false
 
 -- A store fits a disk at a state: its journal fits the disk, and nothing is staged. By the blocks that the disk keeps, the contents of
--- memory
--- are written there and represent the state. So every image of the disk represents the state.
+-- memory are written there and represent the state. So every image of the disk represents the state.
 pub record StoreFits (k : Stored) (m : Meaning) (s : State) : Type 0 where
   pub kept : ℕ → List ℕ
   pub journal : Fits k.journal m kept

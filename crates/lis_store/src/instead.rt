@@ -213,8 +213,8 @@ pub(crate) fn may_write(
     Ok(FileWords { assigned, derived })
 }
 
-/// The words that the file in a slot would have under another name, which no file has, or what it is refused for under that name.
-/// `payload` has its bytes.
+/// The words that the file in a slot would have under another name, which no file has, or what it is refused for under that name. `payload`
+/// has its bytes.
 pub(crate) fn may_rename(
     metadata: &Metadata,
     scratch: &mut Scratch,

@@ -134,8 +134,8 @@ fn without_tags(words: &[Word], nodes: &[Node]) -> ArrayVec<Word, 16>
     kept
 }
 
-// The words of a file, a set, without the tags of one place and with those of another. The result is `None` exactly if there are more
-// than 16.
+// The words of a file, a set, without the tags of one place and with those of another. The result is `None` exactly if there are more than
+// 16.
 fn retagged(words: &[Word], here: &Place, there: &Place) -> Option<ArrayVec<Word, 16>>
     requires here { IsSome (place_words here.now) }
     requires there { IsSome (place_words there.now) }

@@ -98,8 +98,7 @@ fn scripted(alloc: Global, words: &[&str], script: &Script) -> Result<MemStation
 }
 
 // What the first crash leaves that leaves a wrong state, by a pick of the bytes that were not synced. A crash may come just after a call,
-// or
-// just before the next one, when more replies were shown.
+// or just before the next one, when more replies were shown.
 fn wrong_state(
     alloc: Global,
     script: &Script,

@@ -14,10 +14,8 @@ use std::alloc::{AllocError, Global};
 const BLOCK_LEN: usize = 4_096;
 
 /// A station in memory with an image of the empty state of these limits, which meets the premises of the headline at the start. If `room`
-/// is
-/// not 0 it keeps a record, so that the headline says something of each moment. The result is `None` if the room is too small for making
-/// the
-/// image.
+/// is not 0 it keeps a record, so that the headline says something of each moment. The result is `None` if the room is too small for making
+/// the image.
 pub fn empty_image(
     alloc: Global,
     limits: &Limits,

@@ -18,8 +18,7 @@ const MANY_CALLS: u64 = 200;
 const REPLY_LEN: usize = 3;
 
 /// How a run of the script ended, what it showed, how many disk calls it made, and what a session that only looks shows of the image that
-/// it
-/// left.
+/// it left.
 #[derive(Drop)]
 struct Ending {
     status: Status,

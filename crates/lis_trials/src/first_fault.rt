@@ -43,8 +43,7 @@ fn case_of(line: &str) -> Result<Case<'_>, Fail> {
 }
 
 /// The session leaves open records, so the opening writes them to their homes. For `grow` there is room only for the words of the first
-/// lines:
-/// no more files are made.
+/// lines: no more files are made.
 fn cases() -> &'static str {
     "\
 try|64|64|8 =>  => mkdir music;create a music;add m 5;hello;frob;ls;cat m;cd music;pwd;props a;way a;stat;rm a;ls => take,show

@@ -35,8 +35,7 @@ static PIECES: [(&[&str], usize); 6] = [
 ];
 
 /// How the source and the station behave: how many bytes one call of the source gives, the offset at which it fails, how many bytes one
-/// call
-/// shows, and the number of the show call that fails, 0 for none.
+/// call shows, and the number of the show call that fails, 0 for none.
 #[derive(Clone, Copy)]
 pub struct Outside {
     pub step: usize,

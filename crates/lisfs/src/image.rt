@@ -31,10 +31,8 @@ fn hold_input(rt: &HostRuntime) -> io::Result<Option<File>> {
 }
 
 /// Takes the numbers of standard input, output and error that are closed, as long as the files are held. Otherwise the file of an image
-/// would
-/// get one, and replies would be written into it. Nothing can be read or shown through the held files. If this fails, the numbers stay
-/// free,
-/// and `open` refuses a file that gets one.
+/// would get one, and replies would be written into it. Nothing can be read or shown through the held files. If this fails, the numbers
+/// stay free, and `open` refuses a file that gets one.
 pub fn hold_standard(rt: &HostRuntime) -> io::Result<Vec<File>> {
     let mut held = Vec::new(rt.alloc());
     if let Some(input) = hold_input(rt)? {
@@ -64,8 +62,7 @@ fn len_of(mut file: &File) -> io::Result<u64> {
 }
 
 // Makes the file at least this long; a block device keeps its length. Syncing keeps the length and the name of the file through a power
-// loss.
-// The folder is that of the file and not that of a symbolic link to it, and it is opened before the file gets its length.
+// loss. The folder is that of the file and not that of a symbolic link to it, and it is opened before the file gets its length.
 fn lengthen(rt: &HostRuntime, path: &str, file: &File, len: u64) -> io::Result<()> {
     let real = fs::canonicalize(rt, path)?;
     let folder = File::open(rt, folder_of(real.as_path()))?;

@@ -1,8 +1,6 @@
 //! The rows. The expected results were worked out by hand from the rules of commands and listings. Long tables are results of functions: if
-//! a
-//! loop goes through a static table, each step of its check holds all rows. The longest are one text each, with a row on each line, which
-//! is
-//! checked sooner than tuples are.
+//! a loop goes through a static table, each step of its check holds all rows. The longest are one text each, with a row on each line, which
+//! is checked sooner than tuples are.
 
 use lis_model::spot::Spot;
 use lis_open::OpenFault;
@@ -253,8 +251,7 @@ pub fn failing_shows() -> &'static [(u64, &'static str, Status)] {
 }
 
 /// The limit, the bytes of a piece and the offset at which the source fails; a session that these cut off, what it shows and how it ends;
-/// and
-/// another session on the state that the first one left.
+/// and another session on the state that the first one left.
 pub type Cut = (
     u64,
     usize,
@@ -425,8 +422,7 @@ pub static LIMITED: [(&str, Status, &str, &str); 2] = [
 ];
 
 /// Sessions on an empty image, and how many bits of its extension rows they edit: one bit for each word that a file gains or loses,
-/// including
-/// its two words by size.
+/// including its two words by size.
 pub fn edit_counts() -> &'static [(&'static str, u64)] {
     &[
         ("mkdir a;mkdir b;", 0),
@@ -524,8 +520,7 @@ d ext:;d rock;ok;
 };
 
 /// Offsets at which the source of the commands on one file fails, at one byte a call, and how many of the commands are then run. At 22 and
-/// 23
-/// the second line is incomplete and complete, at 59 and 60 a payload, and at 113 the input is complete.
+/// 23 the second line is incomplete and complete, at 59 and 60 a payload, and at 113 the input is complete.
 pub static FAILING_PLACES: [(usize, usize); 6] = [
     (0, 0),
     (22, 1),
