@@ -17,8 +17,8 @@ use Rattle.lis_line.specs.declared.reader.Next.TheVariants.{Item as NextItem, En
 use Rattle.lis_line.specs.declared.reader.Item.{Item as Said}
 use Rattle.lis_line.specs.declared.reader.Item.TheVariants.{Command as SaidCommand, Bad as SaidBad, End as SaidEnd, Limit as SaidLimit}
 
--- A reader: what was taken and may still be given (the last byte lies past the limit), whether the last item was given, and whether
--- it has ended.
+-- A reader: what was taken and may still be given (the last byte is past the limit), whether the last item was given, and whether it has
+-- ended.
 pub record Reading : Type 0 where
   pub stock : Stocked
   pub is_closed : Bool
@@ -27,12 +27,12 @@ pub record Reading : Type 0 where
 abbrev pub fresh : ℕ → Reading
 fresh limit = record { stock = record { ahead = []; rest = limit + 1 }; is_closed = false; is_ended = false }
 
--- The bytes are these items, and each is whole, whatever follows. They are none where the bytes ask for nothing.
+-- The bytes are these items, and each is whole, whatever follows. There are no items if the bytes request nothing.
 pub record IsWhole {I : Type 0} (cut : Cut I) (bytes : List ℕ) (items : List I) : Type 0 where
   pub all : (more : List ℕ) → cut.all (bytes ++ more) ≡ items ++ cut.all more
   pub whole : (more : List ℕ) → cut.whole (bytes ++ more) ≡ items ++ cut.whole more
 
--- the bytes are the last item, which has no line feed of its own
+-- the bytes are the last item, which does not have its own line feed
 pub record IsLast {I : Type 0} (cut : Cut I) (bytes : List ℕ) (item : I) : Type 0 where
   pub all : cut.all bytes ≡ item ∷ []
   pub whole : cut.whole bytes ≡ []

@@ -45,7 +45,7 @@ pub trait Carrier {
             (λ fault. has_stopped start (T.meaning entry) first asked fault self.new (T.meaning station.new))) };
 }
 
-/// Where the loop over an input ended.
+/// How the loop over an input ended.
 #[derive(Clone, Copy, Debug, PartialEq, Eq)]
 pub enum Halt<F> {
     /// The input has ended.

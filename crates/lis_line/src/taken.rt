@@ -13,7 +13,7 @@ use lis_ports::{Failed, Source};
 pub enum Taken<R> {
     /// A segment with its own line feed, and what it requests.
     Whole(R),
-    /// The last segment, which has no line feed of its own.
+    /// The last segment, which does not have its own line feed.
     Last(R),
     /// The end of the input.
     NoMore,

@@ -21,7 +21,7 @@ use Rattle.lis_open.specs.declared.mounting.OpenFault.{OpenFault}
 use Rattle.lis_open.specs.declared.mounting.OpenFault.TheVariants.{TooShort, Damaged, DiskFault, NoMemory}
 use Rattle.lis_kept.specs.Image.{image_layout}
 
--- A disk fault is answered only if the count rose. With every other answer the count stays.
+-- The result is a disk fault only if the count rose. With every other result the count stays.
 abbrev pub HasOpenCause : {T : Type 0} → ℕ → ℕ → Result T OpenFault → Type 0
 HasOpenCause before now (Ok store) = now ≡ before
 HasOpenCause before now (Err (TooShort len need)) = now ≡ before

@@ -1,4 +1,4 @@
-//! What making an image leaves, and what opening answers to each kind of damage.
+//! What making an image leaves, and what opening returns for each kind of damage.
 
 use lis_memdisk::MemStation;
 use lis_model::limits::Limits;
@@ -286,7 +286,7 @@ fn opening(alloc: Global, disk: &mut MemStation) -> Result<Answer, Fail> {
     }
 }
 
-// What opening answers to an empty image with some changes, and then others.
+// What opening returns for an empty image with some changes, and then others.
 fn opening_with(alloc: Global, first: &[Patch], second: &[Patch]) -> Result<Answer, Fail> {
     let mut disk = empty_image(alloc)?;
     put_all(&mut disk, first)?;
@@ -294,7 +294,7 @@ fn opening_with(alloc: Global, first: &[Patch], second: &[Patch]) -> Result<Answ
     opening(alloc, &mut disk)
 }
 
-// Each of the damages, made to an empty image with some changes, is answered with its spot.
+// Each of the damages, made to an empty image with some changes, gives its spot.
 fn assert_found(
     rt: &impl Abort,
     alloc: Global,
@@ -324,7 +324,7 @@ fn put_chain(disk: &mut MemStation) -> Result<(), Fail> {
     Ok(())
 }
 
-// What opening answers to an image with these words and an empty file that has the word of this slot.
+// What opening returns for an image with these words and an empty file that has the word of this slot.
 fn opening_chain(alloc: Global, slot: u8) -> Result<Answer, Fail> {
     let mut disk = disk_of(alloc, 0, WIDE_LEN)?;
     put(&mut disk, 0, WIDE_START)?;

@@ -18,7 +18,7 @@ Carries outcome old new before now (Ok done) = (new ≡ outcome.next) × (now �
 Carries outcome old new before now (Err OutputFault) = (new ≡ outcome.next) × AppendsFront before now outcome.reply
 Carries outcome old new before now (Err NoMemory) = (new ≡ old) × (now ≡ before)
 
--- an output fault is answered only if the count of show faults rose
+-- the result is an output fault only if the count of show faults rose
 abbrev pub HasPlainCause : ℕ → ℕ → Result (Unit {0}) PlainEnd → Type 0
 HasPlainCause before now (Ok done) = now ≡ before
 HasPlainCause before now (Err OutputFault) = Rose before now

@@ -55,7 +55,7 @@ Does outcome fits_before place_before old new result fits place =
 abbrev pub CarriesOut : {P I : Type 0} → (SituationOf P → I → OutcomeOf P) → (State → Type 0) → P → Meaning → Meaning → Result (Unit {0}) End → (State → Type 0) → P → I → Type 0
 CarriesOut by fits_before place_before old new result fits place item = Does (λ now. by now item) fits_before place_before old new result fits place
 
--- a fault is answered only if its count rose; the other count stays
+-- the result is a fault only if its count rose; the other count stays
 abbrev pub HasEndCause : Meaning → Meaning → Result (Unit {0}) End → Type 0
 HasEndCause old new (Ok done) = (new.disk_faults ≡ old.disk_faults) × (new.show_faults ≡ old.show_faults)
 HasEndCause old new (Err DiskFault) = Rose old.disk_faults new.disk_faults × (new.show_faults ≡ old.show_faults)

@@ -74,7 +74,7 @@ MakesHeld outcome place old new before after changed =
     (base state : State) → StoreHolds old before base state
     → Holds base (record { state = state; place = place }) (outcome (record { state = state; place = place })) new before after changed
 
--- Whether the store did its part: a refusal is an answer.
+-- Whether the store did its part: a refusal is a reply, and no fault.
 abbrev pub kept_up : Result (Unit {0}) ChangeFault → Result (Unit {0}) End
 kept_up (Ok done) = Ok tt
 kept_up (Err (Refused refusal)) = Ok tt

@@ -24,7 +24,7 @@ counts m input = record { disk = m.disk_faults; input = input; show = m.show_fau
 abbrev pub DiskRose : Counts → Counts → Type 0
 DiskRose old new = Rose old.disk new.disk × (new.input ≡ old.input) × (new.show ≡ old.show)
 
--- a fault is answered only if its count rose, and then the other counts stay; every other status leaves all of them
+-- the status is a fault only if its count rose, and then the other counts stay; every other status leaves all of them
 abbrev pub HasStatusCause : Counts → Counts → Status → Type 0
 HasStatusCause old new (Opening DiskFailed) = DiskRose old new
 HasStatusCause old new (Ended (Stopped DiskFault)) = DiskRose old new

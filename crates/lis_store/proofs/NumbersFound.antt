@@ -41,7 +41,7 @@ module _ (test : ℕ → Bool) where
   pub counted_none : (n count : ℕ) → count ≡ length (found_below test n) → test n ≡ false → count ≡ length (found_below test (n + 1))
   counted_none n count was fails = was ∙ ap length (found_none n (found_below test n) refl fails)
 
-  -- the more numbers are looked at, the more are found
+  -- the more numbers are tested, the more are found
   grows : (m n : ℕ) → m ≤ n → length (found_below test m) ≤ length (found_below test n)
   grows m zero le = ap_le (omega arith)
     where

@@ -81,7 +81,7 @@ CommitLeft new (Ok done) = (new.is_broken ≡ false) × (new.journal.staged ≡ 
 CommitLeft new (Err (Refused refusal)) = false ≡ true
 CommitLeft new (Err Disk) = new.is_broken ≡ true
 
--- A disk fault is answered only if the count rose. With every other answer the count stays.
+-- The result is a disk fault only if the count rose. With every other result the count stays.
 abbrev pub HasChangeCause : {T : Type 0} → ℕ → ℕ → Result T ChangeFault → Type 0
 HasChangeCause before now (Ok done) = now ≡ before
 HasChangeCause before now (Err (Refused refusal)) = now ≡ before
@@ -93,7 +93,7 @@ pub record ChangesDisk {T : Type 0} (old new : Meaning) (result : Result T Chang
   pub cause : HasChangeCause old.disk_faults new.disk_faults result
   pub first_fault : DiskFaultEnds old new
 
--- What an answer says of a store on any disk: a refusal changes nothing, and a disk fault breaks the store.
+-- What a result says of a store on any disk: a refusal changes nothing, and a disk fault breaks the store.
 abbrev pub ChangeLeft : {T : Type 0} → Stored → Stored → Result T ChangeFault → Type 0
 ChangeLeft old new (Ok done) = new.is_broken ≡ false
 ChangeLeft old new (Err (Refused refusal)) = new ≡ old
@@ -104,11 +104,11 @@ abbrev pub differing_bits : Ext → Ext → ℕ
 differing_bits old new =
     sum (map (λ slot. length (numbers_where old.props (differs (set_of old slot) (set_of new slot)))) (range_with_len 0 (length old.sets)))
 
--- Whatever the answer, the count of edits does not fall, and the rows are edited at most as often as bits of them differ.
+-- Whatever the result, the count of edits does not fall, and the rows are edited at most as often as bits of them differ.
 abbrev pub AreEditsFew : Ext → Ext → Type 0
 AreEditsFew old new = (old.edits ≤ new.edits) × (new.edits ≤ old.edits + differing_bits old new)
 
--- What a change, or a part of one, keeps of a store on any disk, whatever it answers.
+-- What a change, or a part of one, keeps of a store on any disk, whatever the result.
 pub record ChangeKeeps {T : Type 0} (old new : Stored) (result : Result T ChangeFault) : Type 0 where
   pub limits : new.metadata.limits ≡ old.metadata.limits
   -- layout and capacity of the journal

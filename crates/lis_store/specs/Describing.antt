@@ -21,7 +21,8 @@ with_heads words = flat_map (λ word. word ∷ heads word) words
 abbrev pub with_numbers : Metadata → List (List ℕ) → List (List ℕ)
 with_numbers k words = filter (λ word. is_some (number_of k.dict word)) words
 
--- More words are gathered: the row loses the numbers of all that those with numbers entail, and those without stand in `wider`, each once.
+-- More words are gathered: the row loses the numbers of all that the words with numbers entail, and `wider` gets the words without, each
+-- once.
 pub record Gathers (k : Metadata) (more : List (List ℕ)) (old new : Rows) (fresh wider : List (List ℕ)) : Type 0 where
   pub shape : HasShape new 1 k.limits.props
   pub bits : (n : ℕ) → n < k.limits.props
@@ -30,11 +31,11 @@ pub record Gathers (k : Metadata) (more : List (List ℕ)) (old new : Rows) (fre
   pub once : IsTrue (are_distinct_words fresh) → IsTrue (are_distinct_words wider)
   pub noted : (word : List ℕ) → has_word wider word ≡ (has_word fresh word || (has_word more word && is_none (number_of k.dict word)))
 
--- The row has the numbers of the words that the file's description would have, where they have any.
+-- The row has the numbers of the words that the file's description would have, if they have any.
 abbrev pub HasNumbers : Metadata → Rows → Draft → Type 0
 HasNumbers k row draft = (n : ℕ) → n < k.limits.props → get row 0 n ≡ is_one_of (described_by k draft) (word_of k.dict n)
 
--- A description is told: the row has the numbers of its words, and `fresh` has those that have no number, each once.
+-- A description is computed: the row has the numbers of its words, and `fresh` has those that have no number, each once.
 pub record IsTold (k : Metadata) (draft : Draft) (row : Rows) (fresh : List (List ℕ)) : Type 0 where
   pub shape : HasShape row 1 k.limits.props
   pub numbers : HasNumbers k row draft

@@ -71,7 +71,7 @@ SaveEnded is_broken (Ok done) = is_broken ≡ false
 SaveEnded is_broken (Err (Refused refusal)) = false ≡ true
 SaveEnded is_broken (Err Disk) = is_broken ≡ true
 
--- What saving keeps of memory, whatever it answers.
+-- What saving keeps of memory, whatever the result.
 pub record SaveKeeps {T : Type 0} (old new : Stored) (result : Result T ChangeFault) : Type 0 where
   -- it is that of a store
   pub sound : IsSound new
