@@ -86,7 +86,7 @@ pub(crate) fn numbers_of(metadata: &Metadata, words: &[Word], row: &mut Rows) ->
     numbers_in(row, props)
 }
 
-// Takes from a row the numbers of all words that these entail.
+// Removes from a row the numbers of all words that these entail.
 fn leave_out(metadata: &Metadata, words: &[Word], row: &mut Rows, search: &mut Search)
     requires sound { AreSound metadata.now }
     requires shape { HasShape row.old 1 metadata.now.limits.props }
@@ -104,7 +104,7 @@ fn leave_out(metadata: &Metadata, words: &[Word], row: &mut Rows, search: &mut S
     }
 }
 
-// The numbers of all words that these entail, and the declared tests that so many bytes meet.
+// The numbers of all words that these entail, and of all that the declared tests entail that this many bytes meet.
 pub(crate) fn numbers_entailed(
     metadata: &Metadata,
     assigned: &[Word],

@@ -1,4 +1,4 @@
-//! Descriptions that are made anew: of some of their numbers, with all that these entail.
+//! Descriptions that are rebuilt: from some of their numbers, with all that these entail.
 
 ghost use Rattle.std.specs.Prelude.{◌≡◌, ℕ, ◌<◌, ◌≤◌, true, is_some, Some, length, IsTrue, IsSome};
 ghost use Rattle.std.specs.List.{list_all};
@@ -17,14 +17,14 @@ use lis_limits::MAX_DESCRIPTION;
 use lis_taxonomy::Search;
 use lis_words::Test;
 
-/// Which descriptions are made anew, and of which numbers.
+/// Which descriptions are rebuilt, and from which numbers.
 #[derive(Clone, Copy)]
 pub(crate) enum Rebuild {
-    /// Those that have the number, of all their numbers.
+    /// Those that have the number, from all their numbers.
     Having(u16),
-    /// Those that have the left number, of their numbers that need no axiom to the right one.
+    /// Those that have the left number, from their numbers that need no axiom to the right one.
     Losing(u16, u16),
-    /// Those of files that meet the test, of the number and all their own.
+    /// Those of files that meet the test, from the number and all their own.
     Meeting(Test, u16),
 }
 
@@ -49,7 +49,7 @@ pub(crate) fn all_entailed(
     all
 }
 
-// Whether the description in a slot is made anew.
+// Whether the description in a slot is rebuilt.
 fn is_concerned(metadata: &Metadata, how: Rebuild, slot: u16) -> bool
     requires sound { AreSound metadata.now }
     requires words { has_words metadata.now how ≡ true }
@@ -75,7 +75,7 @@ fn entails(metadata: &Metadata, number: u16, other: u16, search: &mut Search) ->
         .entails(u32::from(number), u32::from(other), search)
 }
 
-// Whether the file in a slot was given the word of a number.
+// Whether the word of a number is assigned to the file in a slot.
 fn is_given(metadata: &Metadata, slot: u16, number: u16) -> bool
     ensures { result ≡ has_number (tags_at metadata.now slot) number }
 {
@@ -85,7 +85,7 @@ fn is_given(metadata: &Metadata, slot: u16, number: u16) -> bool
     }
 }
 
-// Whether a number of the description in a slot is one of those of which it is made anew.
+// Whether a number of the description in a slot is one of those from which it is rebuilt.
 fn is_base(metadata: &Metadata, how: Rebuild, slot: u16, number: u16, search: &mut Search) -> bool
     requires sound { AreSound metadata.now }
     requires named { has_words metadata.now how ≡ true }
@@ -100,7 +100,7 @@ fn is_base(metadata: &Metadata, how: Rebuild, slot: u16, number: u16, search: &m
     }
 }
 
-// A number that a description gets which had it not.
+// A number that a description gets and did not have.
 fn added(how: Rebuild) -> ArrayVec<u16, 129>
     ensures { result.items ≡ added how }
 {
@@ -114,7 +114,7 @@ fn added(how: Rebuild) -> ArrayVec<u16, 129>
     }
 }
 
-// The numbers of which the description in a slot, which has these, is made anew.
+// The numbers from which the description in a slot, which has these, is rebuilt.
 fn base_at(
     metadata: &Metadata,
     how: Rebuild,
@@ -138,7 +138,7 @@ fn base_at(
     base
 }
 
-// Makes the description in a slot anew, if it is concerned.
+// Rebuilds the description in a slot, if it is concerned.
 fn rebuild_slot(metadata: &mut Metadata, how: Rebuild, slot: u16, search: &mut Search)
     requires sound { AreSound metadata.old }
     requires words { has_words metadata.old how ≡ true }
@@ -158,7 +158,7 @@ fn rebuild_slot(metadata: &mut Metadata, how: Rebuild, slot: u16, search: &mut S
     metadata.describe(slot, new.as_slice());
 }
 
-/// Makes all descriptions anew that are concerned.
+/// Rebuilds all descriptions that are concerned.
 pub(crate) fn rebuild_all(metadata: &mut Metadata, how: Rebuild, search: &mut Search)
     requires words { has_words metadata.old how ≡ true }
     requires free { FreeSlotsAreEmpty metadata.old }

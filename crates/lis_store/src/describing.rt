@@ -21,7 +21,7 @@ use lis_model::derived::Derived;
 use lis_taxonomy::Search;
 use lis_words::{Name, Word, head_of};
 
-/// A file as a change tells it: of its bytes only how many they are, and which words are derived from them and its name.
+/// A file as a change describes it: how many bytes it has, and which words are derived from them and its name, but not the bytes.
 #[derive(Clone, Copy)]
 pub(crate) struct Draft<'a> {
     pub(crate) name: &'a Name,
@@ -57,7 +57,7 @@ fn has(words: &[Word], word: &Word) -> bool
     words.iter().any(|held| held == word)
 }
 
-// Gathers a word: takes the numbers of all that it entails from the row, or notes it where it has no number.
+// Gathers a word: removes the numbers of all that it entails from the row, or notes the word if it has no number.
 fn gather(
     metadata: &Metadata,
     lacked: &mut Rows,
@@ -117,8 +117,8 @@ fn gather_all(
     }
 }
 
-// Tells the description of a file: `row`, a row of words to work in, has then the numbers of its words. The answer is those that
-// have none.
+// Computes the description of a file: `row`, a row of words to work in, then has the numbers of its words. Returns the words that have
+// none.
 fn tell(metadata: &Metadata, row: &mut Rows, search: &mut Search, draft: Draft) -> Fresh
     requires sound { AreSound metadata.now }
     requires shape { HasShape row.old 1 metadata.now.limits.props }
@@ -154,7 +154,7 @@ fn is_leaving(metadata: &Metadata, row: &Rows, slot: u16, number: u16) -> bool
     !metadata.is_used_without(slot, number)
 }
 
-// How many numbers of the description in a slot are not in the row, and nothing else uses them. Where no slot is given, none leave.
+// How many numbers of the description in a slot are not in the row, and nothing else uses them. If no slot is given, the result is 0.
 fn leaving(metadata: &Metadata, row: &Rows, beside: Option<u16>) -> u32
     requires there { IfSome beside (λ slot. IsSome (rec_at metadata.now.catalog slot)) }
     requires shape { HasShape row.now 1 metadata.now.limits.props }
@@ -173,7 +173,7 @@ fn leaving(metadata: &Metadata, row: &Rows, beside: Option<u16>) -> u32
     count
 }
 
-/// Measures what there would be with a file, in the place of that in a slot, if one is given. `row` is a row of words to work in.
+/// Measures what there would be with a file, instead of the one in a slot, if a slot is given. `row` is a row of words to work in.
 pub(crate) fn measure(
     metadata: &Metadata,
     row: &mut Rows,

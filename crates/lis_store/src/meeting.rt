@@ -1,4 +1,4 @@
-//! The declared tests that so many bytes meet.
+//! The declared tests that this many bytes meet.
 
 ghost use Rattle.std.specs.Prelude.{◌≡◌, ℕ, ◌<◌, not, ◌&&◌};
 ghost use Rattle.lis_bits.specs.Rows.{HasShape, get};
@@ -16,14 +16,14 @@ use lis_model::met::is_met;
 use lis_taxonomy::Search;
 use lis_words::{Word, test_of};
 
-// Whether a word is a declared test that so many bytes meet. Few words are tests, so that is asked first.
+// Whether a word is a declared test that this many bytes meet. Few words are tests, so that is checked first.
 fn is_met_word(metadata: &Metadata, word: &Word, size: u64) -> bool
     ensures { result ≡ (is_met (test_of word.now) size && is_declared metadata.now word.now) }
 {
     is_met(test_of(word), size) && metadata.is_declared(word)
 }
 
-/// Takes from a row the numbers of all that the declared tests entail that so many bytes meet.
+/// Removes from a row the numbers of all that the declared tests entail that this many bytes meet.
 pub(crate) fn leave_out_met(metadata: &Metadata, size: u64, row: &mut Rows, search: &mut Search)
     requires sound { AreSound metadata.now }
     requires shape { HasShape row.old 1 metadata.now.limits.props }
