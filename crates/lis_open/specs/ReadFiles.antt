@@ -161,7 +161,8 @@ pub record HaveWordsOf (name others bytes : List ℕ) : Type 0 where
   pub sized : length bytes ≡ length others
   pub words : derived_words name bytes ≡ derived_words name others
 
--- The bytes taken for those of a record's file give the same derived words as the bytes on the disk, and the blocks are those on the disk.
+-- The bytes taken for those of a record's file give the same derived words as the bytes that the disk keeps, and the blocks are those that
+-- the disk keeps.
 pub record AreTold (limits : Limits) (at : ℕ → List ℕ) (rec : FileRecord) (bytes blocks : List ℕ) : Type 0 where
   pub has_words : HaveWordsOf rec.name (bytes_told limits at rec) bytes
   pub indexed : HasIndex limits at rec

@@ -1,4 +1,4 @@
--- What a room hears, and where it is led, follow from what it sees.
+-- What a room hears, and the situation that it reaches, follow from what it sees.
 use Rattle.std.proofs.Common.{◌≡◌, ℕ, ◌<◌, Bool, true, false, cond, Some, List, [], ◌∷◌, ◌++◌, length, refl, ap, sym, subst, ◌∙◌}
 use Rattle.lis_model.specs.State.{State}
 use Rattle.lis_model.specs.Step.{SituationOf, Situation, step, after_by}
@@ -47,7 +47,7 @@ module _ (now : SituationOf Places) (tagged : Tagged) (items : List Tagged) (roo
         situation = rest.situation ∙ ap (λ s. reached_by s (seen next items room)) to;
       }
 
-  -- the state after an item of another room is seen, or is the one before it
+  -- the state after an item that is not the room's is seen, or is the one before it
   other_follows : is_of room tagged.room ≡ false → Follows next items room → (same : Bool) → same_state now.state next.state ≡ same
       → FollowsOn [] (cond same [] (Changed next.state ∷ []))
   other_follows other rest true same =

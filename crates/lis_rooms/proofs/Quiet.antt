@@ -18,7 +18,7 @@ seen-append now (tagged ∷ first) others room =
     ap (λ sights. sight now tagged room ++ sights) (seen-append next first others room)
     ∙ sym (append_assoc (sight now tagged room) (seen next first room) (seen (after_by room_step next first) others room))
 
--- an item of another room that leaves the state
+-- an item that is not the room's and leaves the state
 quiet_sight : (now : SituationOf Places) (tagged : Tagged) (room : ℕ) → is_of room tagged.room ≡ false → (room_step now tagged).next.state ≡ now.state
     → sight now tagged room ≡ []
 quiet_sight now tagged room other stays =

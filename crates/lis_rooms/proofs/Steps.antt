@@ -49,7 +49,7 @@ own_leads now tagged room is there =
     ap (λ o. at_room o.next room) (own_step now tagged room is)
     ∙ ap (λ (place : List Formula). record { state = after.state; place = place }) (get_or-set_same now.place room after.place [] there)
 
--- an item of another room leaves the room's place
+-- an item that is not the room's leaves the room's place
 place_of_step : (now : SituationOf Places) (of : Option ℕ) (item : Item) (room : ℕ) → is_of room of ≡ false
     → (at_room (done_in now of item).next room).place ≡ (at_room now room).place
 place_of_step now None item room other = refl

@@ -30,14 +30,14 @@ abbrev pub RoomsSeeOwn : Type 0
 RoomsSeeOwn = (now : SituationOf Places) (items others : List Tagged) (room : ℕ) → room < length now.place
     → seen now items room ≡ seen now others room → HearsTheSame now items others room
 
--- An item of another room that changes nothing may be inserted or left out anywhere. An item that changes the place of its own room is not
--- such an item: what that room does there may change the state.
+-- An item that is not the room's and changes nothing may be inserted or left out anywhere. An item that changes the place of its own room
+-- is not such an item: what that room does there may change the state.
 abbrev pub QuietIsUnseen : Type 0
 QuietIsUnseen = (now : SituationOf Places) (first others : List Tagged) (tagged : Tagged) (room : ℕ) → room < length now.place
     → is_of room tagged.room ≡ false → (room_step (after_by room_step now first) tagged).next ≡ after_by room_step now first
     → HearsTheSame now (first ++ tagged ∷ others) (first ++ others) room
 
--- each item of another room leaves the state as it was
+-- each item that is not the room's leaves the state as it was
 abbrev pub OthersAreQuiet : SituationOf Places → List Tagged → ℕ → Type 0
 OthersAreQuiet now [] room = Unit {0}
 OthersAreQuiet now (tagged ∷ items) room =
