@@ -47,7 +47,7 @@ IsFile limits at n file = IsSlot file_bytes (is_file limits.version) (file_slots
 abbrev pub AreProperties : Limits → (ℕ → List ℕ) → List PropSlot → Type 0
 AreProperties limits at properties = AreSlots prop_bytes is_prop (property_slots limits) at properties
 
--- the first axiom slots, this many, are these, all of them in the layout
+-- the first `count` axiom slots are these, all of them in the layout
 abbrev pub AreFirstAxiomSlots : Limits → (ℕ → List ℕ) → ℕ → List AxiomSlot → Type 0
 AreFirstAxiomSlots limits at count axioms = AreSlots axiom_bytes is_axiom (record (axiom_slots limits) { count = count }) at axioms
 

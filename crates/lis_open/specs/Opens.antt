@@ -84,7 +84,7 @@ pub record Unwritten (old new : Meaning) : Type 0 where
   pub bytes : new.bytes ≡ old.bytes
   pub images : (image : List ℕ) → new.images image → WasLeft old image
 
--- What opening leaves if no gate is open: nothing is written. If the disk failed, only the moments say so.
+-- What opening leaves if no gate is open: nothing is written. If the disk failed, only `moments` says what is left.
 pub record OpenUnwritten (old new : Meaning) (result : Result Stored OpenFault) : Type 0 where
   pub left : result ≢ Err DiskFault → Unwritten old new
   pub moments : Leaves old new old.images

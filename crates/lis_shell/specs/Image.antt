@@ -117,7 +117,7 @@ OnlyOpened old new (Opening NoMemory) = IsUnchanged old new ⊎ Recovers old new
 OnlyOpened old new status = ByOpening (FaultLeft old new) (λ halt. Recovers old new) status
 
 -- Nothing was written, and each moment leaves what a crash at the start could have left, or the initial bytes. If the disk failed in
--- opening, only the moments say so.
+-- opening, only `moments` says what is left.
 pub record NothingWritten (old new : Meaning) (status : Status) : Type 0 where
   pub left : status ≢ Opening DiskFault → Unwritten old new
   pub moments : Adds old new (λ image bytes. WasLeft old image)
