@@ -192,8 +192,8 @@ fn may_lead(metadata: &Metadata, here: &Place, there: &Place, text: &Text) -> Re
     Ok(())
 }
 
-/// The words that are assigned to the file in a slot at the place to which a text leads, or what the file is refused for whatever its bytes
-/// are.
+/// The words that would be assigned to the file in a slot at the place to which a text leads, or what the file is refused for whatever its
+/// bytes are.
 pub(crate) fn may_move(
     metadata: &Metadata,
     slot: u16,
